@@ -1,1 +1,4 @@
 pub mod JoinWorld
+pub mod Listing
+pub mod Places
+pub mod Search

@@ -3,11 +3,23 @@
 //! A [`JoinWorld`] is a finite semilattice with a bottom and a total order on its values, kept by
 //! whatever items it likes: contracts speak of what an item means, which is plain data. Five kinds of
 //! values of this product are such worlds, so what is proved of any world is proved once.
-//! `specs/JoinWorld.antt` says when a value is a join of some list of generators.
+//! `specs/JoinWorld.antt` says when a value is a join of some list of generators, and
+//! `specs/Listing.antt` what a whole listing is and what is evidence of more than a limit.
+//!
+//! [`join_closure`] lists the joins of all lists of generators, proved once for every world. It keeps
+//! the known values in ascending order, and beside them those whose joins with the generators were not
+//! tried yet. One of these is taken, joined with each generator, and each join that is new becomes
+//! known and untried; a value is looked for by halving the list. In the end the least value is known,
+//! and with each known value its join with each generator. So the join of any list of generators is
+//! known, by induction on the list: that of the empty list is the least value, and that of a longer
+//! one is the join of its first generator and of a value that is known already. Each known value is
+//! taken once, so there are as many joins as generators times values.
 #![tactic(auto)]
 
+mod closure;
 mod world;
 
+pub use closure::join_closure;
 use hs_list::Items;
 pub use world::JoinWorld;
 

@@ -97,3 +97,22 @@ fn three_are_joined(rt: HostRuntime) -> Result<(), Fail> {
     assert!(rt; world.same(&all, &8));
     Ok(())
 }
+
+#[test]
+fn joins_are_listed_up_to_a_limit(rt: HostRuntime) -> Result<(), Fail> {
+    let world = Below { n: 9 };
+    let generators = [3u8, 8, 5, 3];
+    match join_closure(rt.alloc(), &world, &generators, 4)? {
+        Listing::Whole(all) => assert_eq!(rt; all.as_slice(), [0u8, 3, 5, 8].as_slice()),
+        Listing::More(_) => panic!(rt; "there are four"),
+    }
+    match join_closure(rt.alloc(), &world, &generators, 3)? {
+        Listing::Whole(_) => panic!(rt; "there are more than three"),
+        Listing::More(some) => assert_eq!(rt; some.as_slice(), [0u8, 3, 5, 8].as_slice()),
+    }
+    match join_closure(rt.alloc(), &world, &[], 1)? {
+        Listing::Whole(all) => assert_eq!(rt; all.as_slice(), [0u8].as_slice()),
+        Listing::More(_) => panic!(rt; "there is one"),
+    }
+    Ok(())
+}
