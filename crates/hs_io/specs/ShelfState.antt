@@ -1,0 +1,45 @@
+-- What a shelf in memory is.
+use Rattle.std.specs.Prelude.{◌≡◌, ◌≢◌, ℕ, ◌<◌, List, Option, Some, None, true, false, cond, Contains, ◌⊎◌, length, slice_index_or}
+use Rattle.std.specs.Map.{lookup}
+use Rattle.std.specs.Str.{bytes_eq}
+use Rattle.hs_io.specs.Counts.{next_count}
+
+-- texts under names, the numbers of the loads that are to fail, how many loads there were, and the count of faults
+pub record ShelfState : Type 0 where
+  pub texts : List (List ℕ × List ℕ)
+  pub failing : List ℕ
+  pub loads : ℕ
+  pub faults : ℕ
+
+-- the text under a name
+abbrev pub held : ShelfState → List ℕ → Option (List ℕ)
+held shelf name = lookup (bytes_eq name) shelf.texts
+
+-- the next load, of this name, is to fail: it is listed, or there is no such name
+abbrev pub FailsNext : ShelfState → List ℕ → Type 0
+FailsNext shelf name = Contains shelf.failing (next_count shelf.loads) ⊎ (held shelf name ≡ None)
+
+-- the name holds these bytes afterwards, and all else stays
+pub record Replaces (old new : ShelfState) (name bytes : List ℕ) : Type 0 where
+  pub changed : held new name ≡ Some bytes
+  pub others : (other : List ℕ) → other ≢ name → held new other ≡ held old other
+  pub failing : new.failing ≡ old.failing
+  pub loads : new.loads ≡ old.loads
+  pub faults : new.faults ≡ old.faults
+
+-- what each name holds after these bytes were put under a name
+abbrev pub HoldsAlso : List (List ℕ × List ℕ) → List (List ℕ × List ℕ) → List ℕ → List ℕ → Type 0
+HoldsAlso old new name bytes =
+    (other : List ℕ) → lookup (bytes_eq other) new ≡ cond (bytes_eq other name) (Some bytes) (lookup (bytes_eq other) old)
+
+-- the name of the text at a place is another one
+abbrev pub IsOtherAt : List (List ℕ × List ℕ) → List ℕ → ℕ → Type 0
+IsOtherAt texts name place = (past : List ℕ × List ℕ) → bytes_eq name (slice_index_or texts place past).0 ≡ false
+
+-- the first place where the text of a name stands, if there is one
+abbrev pub IsPlaceOf : List (List ℕ × List ℕ) → List ℕ → Option ℕ → Type 0
+IsPlaceOf texts name None = (k : ℕ) → k < length texts → IsOtherAt texts name k
+IsPlaceOf texts name (Some place) =
+    (place < length texts)
+    × ((past : List ℕ × List ℕ) → bytes_eq name (slice_index_or texts place past).0 ≡ true)
+    × ((k : ℕ) → k < place → IsOtherAt texts name k)

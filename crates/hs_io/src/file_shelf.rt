@@ -1,0 +1,88 @@
+ghost use Rattle.std.specs.Prelude.{◌≡◌, ◌≢◌, ℕ, ◌+◌, ◌^◌, ◌<◌, ◌≤◌, List, [], None, Err, IfOk, IsErrOf, OnOk, vec_len, ⊤};
+
+use crate::{LoadFail, Shelf};
+use std::io::Read;
+use std::marker::Model;
+use std::rt::Files;
+use std::{fs, str};
+
+/// How many bytes one read asks for at most.
+const PIECE: usize = 4096;
+
+/// The files of the system, each under its path. It tells no bytes, and grants every name. Contracts see
+/// its count of faults alone, which rises at each error of the system and at a name that is no path.
+#[derive(Drop)]
+pub struct FileShelf<R: Files> {
+    files: R,
+    faults: u64,
+}
+
+impl<R: Files> Model for FileShelf<R> {
+    ghost Value = { ℕ };
+
+    ghost view = { λ s. s.faults };
+}
+
+impl<R: Files> FileShelf<R> {
+    /// A shelf of these files, with no fault so far.
+    pub fn new(files: R) -> FileShelf<R>
+        ensures { result ≡ 0 }
+    {
+        FileShelf { files, faults: 0 }
+    }
+}
+
+impl<R: Files> Shelf for FileShelf<R> {
+    ghost holds = { λ _ _. None };
+
+    ghost grants = { λ _ _. ⊤ };
+
+    ghost faults = { λ count. count };
+
+    fn load(&mut self, name: &[u8], limit: usize, into: &mut Vec<u8>) -> Result<(), LoadFail> {
+        let loaded = load_file(&self.files, name, limit, into);
+        if loaded == Err(LoadFail::Failed) {
+            self.faults = self.faults.saturating_add(1);
+        }
+        loaded
+    }
+}
+
+/// Loads one file.
+fn load_file<R: Files>(
+    files: &R,
+    name: &[u8],
+    limit: usize,
+    into: &mut Vec<u8>,
+) -> Result<(), LoadFail>
+    requires empty { into.old.items ≡ [] }
+    requires limited { limit < 2 ^ 32 }
+    ensures within { OnOk result (vec_len into.new ≤ limit) }
+    ensures one_more { IsErrOf result LoadFail.TooLong → vec_len into.new ≡ limit + 1 }
+{
+    let path = str::from_utf8(name).map_err(|_| LoadFail::Failed)?;
+    let mut file = fs::open(files, path).map_err(|_| LoadFail::Failed)?;
+    for _ in 0..limit + 1 {
+        if read_piece(&mut file, limit + 1, into)? == 0 {
+            return Ok(());
+        }
+        if into.len() > limit {
+            return Err(LoadFail::TooLong);
+        }
+    }
+    unreachable!("each turn takes a byte")
+}
+
+/// Appends some of the bytes that are left, and says how many; at the end there are none.
+fn read_piece(file: &mut impl Read, most: usize, into: &mut Vec<u8>) -> Result<usize, LoadFail>
+    requires { vec_len into.old < most }
+    ensures ok { IfOk result (λ n. vec_len into.new ≡ vec_len into.old + n) }
+    ensures most { OnOk result (vec_len into.new ≤ most) }
+    ensures err { result ≢ Err LoadFail.TooLong }
+{
+    let mut piece = [0u8; PIECE];
+    let room = PIECE.min(most - into.len());
+    let count = file.read(&mut piece[..room]).map_err(|_| LoadFail::Failed)?;
+    into.extend_from_slice(&piece[..count])?;
+    Ok(count)
+}

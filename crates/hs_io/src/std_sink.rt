@@ -1,0 +1,44 @@
+ghost use Rattle.std.specs.Prelude.{◌≡◌, ℕ, None};
+
+use crate::{Sink, SinkFail};
+use std::marker::Model;
+
+/// Standard output or standard error. It tells no bytes. Contracts see its count of faults alone, which
+/// rises at each error of the system.
+#[derive(Drop)]
+pub struct StdSink<P: Print> {
+    stream: P,
+    faults: u64,
+}
+
+impl<P: Print> Model for StdSink<P> {
+    ghost Value = { ℕ };
+
+    ghost view = { λ s. s.faults };
+}
+
+impl<P: Print> StdSink<P> {
+    /// A sink on a stream, with no fault so far: on standard output for `rt.stdout()`, on standard error
+    /// for `rt.stderr()`.
+    pub fn new(stream: P) -> StdSink<P>
+        ensures { result ≡ 0 }
+    {
+        StdSink { stream, faults: 0 }
+    }
+}
+
+impl<P: Print> Sink for StdSink<P> {
+    ghost given = { λ _. None };
+
+    ghost faults = { λ count. count };
+
+    fn put(&mut self, piece: &[u8]) -> Result<(), SinkFail> {
+        match self.stream.write_all(piece) {
+            Ok(()) => Ok(()),
+            Err(_) => {
+                self.faults = self.faults.saturating_add(1);
+                Err(SinkFail::Failed)
+            }
+        }
+    }
+}
