@@ -1,0 +1,48 @@
+#!/usr/bin/env bash
+# Times first_gap from outside, beside two plain baselines over the same cubes in the same run: `scan` asks
+# each cube once for each bit of a symbol whether it holds one symbol, and `plain` tries the symbols one by
+# one. Prints the time of one call, from the difference of many calls and none, and ratios.
+set -eu
+cd "$(dirname "$0")/../crates/bench_cubes"
+rt run -- gap lastbit 2 1 >/dev/null
+program=out/bench_cubes
+
+# the least of five runs, in microseconds
+least() {
+    local best=0 begin end took
+    for _ in 1 2 3 4 5; do
+        begin=$(date +%s%N)
+        "$program" "$@" >/dev/null
+        end=$(date +%s%N)
+        took=$(((end - begin) / 1000))
+        if [ "$best" -eq 0 ] || [ "$took" -lt "$best" ]; then best=$took; fi
+    done
+    echo "$best"
+}
+
+# the time of one call, in microseconds: question, kind, size, calls
+each() {
+    awk -v many="$(least "$1" "$2" "$3" "$4")" -v none="$(least "$1" "$2" "$3" 0)" -v calls="$4" \
+        'BEGIN { t = (many - none) / calls; print (t < 0.01 ? 0.01 : t) }'
+}
+
+# kind, size, calls of first_gap, calls of the scan
+beside_scan() {
+    awk -v kind="$1" -v size="$2" -v gap="$(each gap "$1" "$2" "$3")" -v scan="$(each scan "$1" "$2" "$4")" \
+        'BEGIN { printf "%-9s %6d  first_gap %11.3f ms  scan %9.3f ms  first_gap to scan %8.1f\n", kind, size, gap / 1000, scan / 1000, gap / scan }'
+}
+
+# width, calls of first_gap, calls of the plain search
+beside_plain() {
+    awk -v width="$1" -v gap="$(each gap minterms "$1" "$2")" -v plain="$(each plain minterms "$1" "$3")" \
+        'BEGIN { printf "minterms  %6d  plain to first_gap %8.1f\n", width, plain / gap }'
+}
+
+echo "all minterms of a width"
+for width in 12 13 14 15 16; do beside_scan minterms "$width" 20 200; done
+echo "so many cubes of width 32 that leave one gap"
+for count in 500 1000 2000 4000; do beside_scan random "$count" 5 2000; done
+echo "two cubes of width 32 that look at the last bit alone"
+beside_scan lastbit 2 20000 20000
+echo "all minterms of a width, beside the symbols one by one"
+for width in 10 12 14; do beside_plain "$width" 20 2; done

@@ -1,0 +1,13 @@
+pub mod Bits
+pub mod Places
+pub mod Masks
+pub mod Held
+pub mod Numbers
+pub mod Meeting
+pub mod Reading
+pub mod Lists
+pub mod Tails
+pub mod Halves
+pub mod Cares
+pub mod Ends
+pub mod Parts

@@ -1,0 +1,27 @@
+-- The input field of a row: characters, of which each is a bit or a dash. A dash is no bit.
+use Rattle.std.specs.Prelude.{ℕ, ◌≡◌, ◌⊎◌, zero, suc, Bool, true, false, if◌then◌else◌, List, [], ◌∷◌, Option, Some, None}
+use Rattle.cubes.specs.Symbol.{bit}
+
+-- the byte that writes a character
+abbrev pub byte_of : Option Bool → ℕ
+byte_of (Some false) = 48
+byte_of (Some true) = 49
+byte_of None = 45
+
+-- the byte is one of `0`, `1` and `-`
+abbrev pub IsCharacter : ℕ → Type 0
+IsCharacter byte = (byte ≡ 48) ⊎ (byte ≡ 49) ⊎ (byte ≡ 45)
+
+-- a character that is no dash is the symbol's bit
+abbrev pub Allows : Option Bool → Bool → Type 0
+Allows (Some wanted) b = b ≡ wanted
+Allows None b = Unit {0}
+
+-- the character at the place that counts 2 ^ place: a dash where there is no care
+abbrev pub character : ℕ → ℕ → ℕ → Option Bool
+character care value place = if bit care place then Some (bit value place) else None
+
+-- the characters of the lowest places, the one of the highest place first
+unfoldable pub characters : ℕ → ℕ → ℕ → List (Option Bool)
+characters zero care value = []
+characters (suc places) care value = character care value places ∷ characters places care value

@@ -1,0 +1,122 @@
+//! A cube: the input field of a row.
+ghost use Rattle.std.specs.Prelude.{◌≡◌, ◌<◌, ◌≤◌, ◌^◌, bit_and};
+
+/// A character of an input field: a bit, or a dash for both.
+#[derive(Clone, Copy)]
+enum Character {
+    Zero,
+    One,
+    Dash,
+}
+
+impl Character {
+    ghost use Rattle.std.specs.Prelude.{IfSome, IfNone};
+    ghost use Rattle.cubes.specs.Character.{bit_of, care_of, value_of};
+    ghost use Rattle.cubes.specs.Field.{IsCharacter, byte_of};
+
+    fn from_byte(byte: u8) -> Option<Character>
+        ensures some { IfSome result (λ character. byte_of (bit_of character) ≡ byte) }
+        ensures none { IfNone result (¬ IsCharacter byte) }
+    {
+        match byte {
+            b'0' => Some(Character::Zero),
+            b'1' => Some(Character::One),
+            b'-' => Some(Character::Dash),
+            _ => None,
+        }
+    }
+
+    /// The lowest bit of the care whose last character it is.
+    fn care(self) -> u32
+        ensures { result ≡ care_of self }
+    {
+        match self {
+            Character::Zero | Character::One => 1,
+            Character::Dash => 0,
+        }
+    }
+
+    /// The lowest bit of the value whose last character it is.
+    fn value(self) -> u32
+        ensures { result ≡ value_of self }
+    {
+        match self {
+            Character::One => 1,
+            Character::Zero | Character::Dash => 0,
+        }
+    }
+}
+
+/// Why a text is no cube of a width.
+#[derive(Clone, Copy, Debug, PartialEq, Eq)]
+pub enum CubeFail {
+    /// The text has another number of characters than the width, that many.
+    BadWidth { found: usize },
+    /// The character at this place, counted from 0, is none of `0`, `1` and `-`; it is the first such.
+    BadChar { place: usize },
+}
+
+/// The input field of a row: as many characters `0`, `1` or `-` as a symbol has bits. The first character
+/// stands for the highest of the `width` lowest bits of `care` and `value`, the last for the lowest. A dash
+/// stands where the bit of `care` is 0, and elsewhere the bit of `value`.
+#[derive(Clone, Copy, Debug, PartialEq, Eq)]
+pub struct Cube {
+    /// The places at which no dash stands.
+    pub care: u32,
+    /// The bits at those places, and 0 elsewhere.
+    pub value: u32,
+    /// The number of characters.
+    pub width: u8,
+    pub ghost width_positive: { 0 < width },
+    pub ghost width_bound: { width ≤ 32 },
+    pub ghost value_in_care: { bit_and care value ≡ value },
+    pub ghost care_in_width: { care < 2 ^ width },
+}
+
+impl Cube {
+    ghost use Rattle.std.specs.Prelude.{ℕ, IfOk, Err, IsTrue, length, ◌↔◌, ◌≢◌};
+    ghost use Rattle.cubes.specs.Cube.{HoldsNumber, IsFirstBad, Meets, text_of};
+
+    /// Reads an input field of `width` characters. The length is judged first, then the characters from
+    /// the first to the last.
+    pub fn parse(text: &[u8], width: u8) -> Result<Cube, CubeFail>
+        requires positive { 0 < width }
+        requires bound { width ≤ 32 }
+        ensures width { IfOk result (λ cube. cube.width ≡ width) }
+        ensures spelled { IfOk result (λ cube. text.now ≡ text_of cube) }
+        ensures bad_width { (found : ℕ) → (result ≡ Err (CubeFail.BadWidth found))
+            ↔ ((length text.now ≢ width) × (found ≡ length text.now)) }
+        ensures bad_char { (place : ℕ) → (result ≡ Err (CubeFail.BadChar place))
+            ↔ ((length text.now ≡ width) × IsFirstBad text.now place) }
+    {
+        if text.len() != usize::from(width) {
+            return Err(CubeFail::BadWidth { found: text.len() });
+        }
+        let mut care = 0u32;
+        let mut value = 0u32;
+        for (place, byte) in text.iter().enumerate() {
+            let Some(character) = Character::from_byte(*byte) else {
+                return Err(CubeFail::BadChar { place });
+            };
+            care = 2 * care + character.care();
+            value = 2 * value + character.value();
+        }
+        Ok(Cube { care, value, width })
+    }
+
+    /// Whether it holds the symbol of this number.
+    pub fn holds(&self, x: u32) -> bool
+        requires { x < 2 ^ self.now.width }
+        ensures { IsTrue result ↔ HoldsNumber self.now x }
+    {
+        x & self.care == self.value
+    }
+
+    /// Whether some symbol is held by both.
+    pub fn meets(&self, c: &Cube) -> bool
+        requires { self.now.width ≡ c.now.width }
+        ensures { IsTrue result ↔ Meets self.now c.now }
+    {
+        (self.value ^ c.value) & self.care & c.care == 0
+    }
+}

@@ -1,0 +1,41 @@
+//! Laws of symbols and cubes, for the crates above. Each is the contract of a function that does nothing.
+ghost use Rattle.std.specs.Prelude.{ℕ, ◌≡◌, ◌+◌, ◌<◌, ◌≤◌, ◌^◌, ◌↔◌, Bool, List, bit_and, length};
+ghost use Rattle.cubes.specs.declared.cube.Cube.{Cube};
+ghost use Rattle.cubes.specs.Cube.{DiffersAtPlace, HasBitsOf, HoldsNumber, IsBoth, IsHalf, Meets, greatest_of};
+ghost use Rattle.cubes.specs.Symbol.{bit, number_of, symbol_of};
+
+/// Symbols of a width and the numbers below its power of two stand for one another.
+pub fn symbols_are_numbers()
+    ensures number { (places x : ℕ) → x < 2 ^ places → number_of (symbol_of places x) ≡ x }
+    ensures places { (places x : ℕ) → length (symbol_of places x) ≡ places }
+    ensures symbol { (symbol : List Bool) → symbol_of (length symbol) (number_of symbol) ≡ symbol }
+    ensures below { (symbol : List Bool) → number_of symbol < 2 ^ length symbol }
+{}
+
+/// What a cube holds, place by place and by one mask.
+pub fn places_of_a_cube()
+    ensures places { (c : Cube) (x : ℕ) → HoldsNumber c x ↔ HasBitsOf c x }
+    ensures mask { (c : Cube) (x : ℕ) → HoldsNumber c x ↔ (bit_and x c.care ≡ c.value) }
+{}
+
+/// Cubes of one width that share no symbol differ at a place where neither has a dash.
+pub fn apart_cubes_differ()
+    ensures differ { (c d : Cube) → c.width ≡ d.width → (¬ Meets c d) ↔ DiffersAtPlace c d }
+{}
+
+/// The least symbol of a cube has 0 at each dash, the greatest has 1 there.
+pub fn ends_of_a_cube()
+    ensures least { (c : Cube) → HoldsNumber c c.value }
+    ensures greatest { (c : Cube) → HoldsNumber c (greatest_of c) }
+    ensures within { (c : Cube) → greatest_of c < 2 ^ c.width }
+    ensures from { (c : Cube) (x : ℕ) → HoldsNumber c x → c.value ≤ x }
+    ensures to { (c : Cube) (x : ℕ) → x < 2 ^ c.width → HoldsNumber c x → x ≤ greatest_of c }
+{}
+
+/// What two cubes that meet hold both is one cube, and the half of a cube at a dash is one.
+pub fn parts_of_cubes()
+    ensures both { (c d both : Cube) → IsBoth c d both → Meets c d
+        → (x : ℕ) → HoldsNumber both x ↔ (HoldsNumber c x × HoldsNumber d x) }
+    ensures half { (c half : Cube) (place : ℕ) (b : Bool) → IsHalf c half place b
+        → (x : ℕ) → HoldsNumber half x ↔ (HoldsNumber c x × (bit x place ≡ b)) }
+{}
