@@ -1,0 +1,88 @@
+use Rattle.std.proofs.Common.{◌≡◌, ℕ, zero, suc, ◌+◌, ◌-◌, ◌%◌, ◌<◌, ◌^◌, ◌*◌, ◌∙◌, ◌/◌, ◌↔◌, IsTrue, zero-mul, ◌==◌, true, min, bit_and, bit_xor, ap, sym, refl, inl, inr, ◌⊎◌, ⊎_elim, arith}
+use Rattle.std.specs.Int.{bit_at, bit_not, w128}
+use Rattle.std.proofs.lemmas.Nat.Bits.{bit_at-zero, bit_at-lt, bit_at_and, bit_at_xor, bit_at_not, bit_at_above, same_from_bits}
+use Rattle.std.proofs.lemmas.Nat.{and_assoc, xor_lt, pow_pos, div-add-mod'}
+use Rattle.std.proofs.Math.Nat.{mod-lt, div-eq_of_lt}
+use Rattle.std.specs.Int.Bits.{and_self}
+use Rattle.std.proofs.lemmas.Bool.{cases_lt}
+use Rattle.std.proofs.lemmas.Bool.Decides.{nat_tests}
+
+pub zero_from_test : (n : ℕ) → (n == 0) ≡ true → n ≡ 0
+zero_from_test n h = grind (arith, nat_tests)
+
+pub equal_from_test : (a b : ℕ) → (a == b) ≡ true → a ≡ b
+equal_from_test a b h = grind (arith, nat_tests)
+
+pub test_from_zero : (n : ℕ) → n ≡ 0 → (n == 0) ≡ true
+test_from_zero n h = grind (arith, nat_tests)
+
+pub bits_of_zero : (n : ℕ) → n ≡ 0 → (i : ℕ) → bit_at n i ≡ 0
+bits_of_zero n e i = ap (λ m. bit_at m i) e ∙ bit_at-zero i
+
+pub zero_from_bits : (n : ℕ) → ((i : ℕ) → bit_at n i ≡ 0) → n ≡ 0
+zero_from_bits n h = same_from_bits n 0 (λ i. h i ∙ sym (bit_at-zero i))
+
+-- on single bits
+pub zero_or_one : (b : ℕ) → b < 2 → (b ≡ 0) ⊎ (b ≡ 1)
+zero_or_one zero h = inl refl
+zero_or_one (suc b) h = inr (omega arith)
+
+pub zero_is_not_one : (b : ℕ) → b ≡ 0 → b ≡ 1 → ⊥
+zero_is_not_one b e f = omega arith
+
+pub both_one : (a b : ℕ) → a < 2 → b < 2 → min a b ≡ 1 → (a ≡ 1) × (b ≡ 1)
+both_one a b p q h = (omega arith, omega arith)
+
+pub min_with_one : (a b : ℕ) → a < 2 → b ≡ 1 → min a b ≡ a
+min_with_one a b p q = omega arith
+
+-- a number of w bits has its ones below w
+pub below_width : (w n i : ℕ) → n < 2 ^ w → bit_at n i ≡ 1 → i < w
+below_width w n i p l = ⊎_elim (λ h. h) (λ h. absurd (zero_is_not_one (bit_at n i) (bit_at_above n w i p h) l)) (cases_lt i w)
+
+-- the bits of `(a ^ b) & c & d`
+pub bit_at_differ : (a b c d i : ℕ) → bit_at (bit_and (bit_and (bit_xor a b) c) d) i ≡ min (min ((bit_at a i + bit_at b i) % 2) (bit_at c i)) (bit_at d i)
+bit_at_differ a b c d i = bit_at_and (bit_and (bit_xor a b) c) d i ∙ ap (λ m. min m (bit_at d i)) (bit_at_and (bit_xor a b) c i ∙ ap (λ m. min m (bit_at c i)) (bit_at_xor a b i))
+
+pub same_where_both : (a b c d : ℕ) → a < 2 → b < 2 → min (min ((a + b) % 2) c) d ≡ 0 → c ≡ 1 → d ≡ 1 → a ≡ b
+same_where_both a b c d p q h l m = omega arith
+
+pub none_differ : (a b c d : ℕ) → a < 2 → b < 2 → c < 2 → d < 2 → (c ≡ 1 → d ≡ 1 → a ≡ b) → min (min ((a + b) % 2) c) d ≡ 0
+none_differ a b c d p q r s h =
+    ⊎_elim (λ c0. omega arith) (λ c1.
+    ⊎_elim (λ d0. omega arith) (λ d1. let e = h c1 d1 in omega arith) (zero_or_one d s)) (zero_or_one c r)
+
+pub all_one : (a b c : ℕ) → a < 2 → b < 2 → c < 2 → min (min a b) c ≡ 1 → (a ≡ 1) × (b ≡ 1) × (c ≡ 1)
+all_one a b c p q r h = (omega arith, omega arith, omega arith)
+
+pub same_from_equal_test : (a b : ℕ) → a < 2 → b < 2 → 1 - (a + b) % 2 ≡ 1 → a ≡ b
+same_from_equal_test a b p q h = omega arith
+
+-- where `c & d & !(a ^ b)` has a 1, both looked and they agreed
+pub common_is : (a b c d i : ℕ) → a < 2 ^ 128 → b < 2 ^ 128 → c < 2 ^ 128 → bit_at (bit_and (bit_and c d) (bit_not w128 (bit_xor a b))) i ≡ 1 → (bit_at c i ≡ 1) × (bit_at d i ≡ 1) × (bit_at a i ≡ bit_at b i)
+common_is a b c d i p q r h =
+    let n = bit_not w128 (bit_xor a b) in
+    let e : bit_at (bit_and (bit_and c d) n) i ≡ min (min (bit_at c i) (bit_at d i)) (bit_at n i) =
+    bit_at_and (bit_and c d) n i ∙ ap (λ m. min m (bit_at n i)) (bit_at_and c d i) in
+    let k = all_one (bit_at c i) (bit_at d i) (bit_at n i) (bit_at-lt c i) (bit_at-lt d i) (bit_at-lt n i) (sym e ∙ h) in
+    let within = below_width 128 c i r k.0 in (
+      k.0,
+      k.1,
+      same_from_equal_test _ _ (bit_at-lt a i) (bit_at-lt b i)
+          (sym (bit_at_not w128 (bit_xor a b) i (xor_lt 128 a b p q) within ∙ ap (λ m. 1 - m) (bit_at_xor a b i)) ∙ k.2),
+    )
+
+-- `v & c` lies inside c
+pub and_inside : (v c : ℕ) → bit_and (bit_and v c) c ≡ bit_and v c
+and_inside v c = and_assoc c v c ∙ ap (bit_and v) (and_self c)
+
+-- nothing is left of a number shifted by its bits
+pub shifted_out : (n w : ℕ) → IsTrue (n / 2 ^ w == 0) ↔ (n < 2 ^ w)
+shifted_out n w =
+    (λ h. below n (2 ^ w) (pow_pos w) (zero_from_test (n / 2 ^ w) h), λ h. test_from_zero (n / 2 ^ w) (none n (2 ^ w) h))
+  where
+    below : (n m : ℕ) → 0 < m → n / m ≡ 0 → n < m
+    below n m p e = let rest = mod-lt n p in let all = div-add-mod' n m in let gone : n / m * m ≡ 0 = ap (λ q. q * m) e ∙ zero-mul m in omega arith
+
+    none : (n m : ℕ) → n < m → n / m ≡ 0
+    none n m h = div-eq_of_lt h

@@ -1,0 +1,105 @@
+use Rattle.std.proofs.Common.{◌≡◌, ℕ, ◌+◌, ◌-◌, ◌<◌, ◌∙◌, ⊎_elim, true, false, append_assoc, length-append, length-drop, add-one, drop-cons, List, [], ◌∷◌, ◌++◌, length, take, drop, get_or, Option, Some, None, suc, sym, ap, subst, refl, arith}
+use Rattle.std.specs.List.{All, Contains, remove}
+use Rattle.std.specs.Option.{is_some}
+use Rattle.std.proofs.lemmas.Bool.{cases_lt, false≢true}
+use Rattle.std.proofs.lemmas.List.{take-append-le, drop-append-le, append-nil, take_all}
+use Rattle.std.proofs.lemmas.List.Elements.{All-nil, All-push}
+use Rattle.cover_logic.specs.declared.term.Term.{Term}
+use Rattle.cover_logic.specs.Term.{Holds, IsHeld}
+use Rattle.cover_logic.specs.Rows.{Covers, EachNeeded, IsSole}
+use Rattle.cover_logic.proofs.Gaps.{IsNear, held_near, held_from_near}
+use Rattle.cover_logic.proofs.Lists.{held_push, held_push_cases, held_left, held_right, held_cases, held_cons_cases, Contains-head}
+
+-- the others hold each value that the row has in common with the terms
+abbrev pub IsShared : Term → List Term → List Term → Type 0
+IsShared row terms others = (x : ℕ) → Holds row x → IsHeld terms x → IsHeld others x
+
+pub shared_more : (row : Term) (terms others : List Term) (t : Term) → IsShared row terms others → ((x : ℕ) → Holds row x → Holds t x → IsHeld others x) → IsShared row (terms ++ t ∷ []) others
+shared_more row terms others t h one x p held = ⊎_elim (λ k. h x p k) (λ q. one x p q) (held_push_cases terms t x held)
+
+-- the rows that are kept and the rest hold what on holds, and each kept row is needed beside the rest
+pub record AreKept (on rows kept rest : List Term) : Type 0 where
+  pub among : All (Contains rows) kept
+  pub covers : Covers (kept ++ rest) on
+  pub needed : EachNeeded on kept rest
+
+pub kept_none : (on rows : List Term) → Covers rows on → AreKept on rows [] rows
+kept_none on rows covers = record { among = All-nil (Contains rows); covers = covers; needed = λ i below. absurd (omega arith) }
+
+-- an element put at the end stays there when an earlier one goes
+remove_push : (xs : List Term) (t : Term) (i : ℕ) → i < length xs → remove (xs ++ t ∷ []) i ≡ remove xs i ++ t ∷ []
+remove_push xs t i h =
+    ap (λ ys. ys ++ drop (suc i) (xs ++ t ∷ [])) (take-append-le i xs (t ∷ []) (omega arith))
+    ∙ (ap (λ ys. take i xs ++ ys) (drop-append-le (suc i) xs (t ∷ []) h) ∙ sym (append_assoc (take i xs) (drop (suc i) xs) (t ∷ [])))
+
+-- and when it goes itself, the others stay
+remove_last : (xs : List Term) (t : Term) → remove (xs ++ t ∷ []) (length xs) ≡ xs
+remove_last [] t = refl
+remove_last (x ∷ xs) t = ap (λ ys. x ∷ ys) (remove_last xs t)
+
+-- what the rest holds, it holds with one row more
+later : (row : Term) (rest : List Term) (x : ℕ) → IsHeld rest x → IsHeld (row ∷ rest) x
+later row rest x h = held_right (row ∷ []) rest x h
+
+moved : (kept rest : List Term) (row : Term) (x : ℕ) → IsHeld (kept ++ row ∷ rest) x → IsHeld ((kept ++ row ∷ []) ++ rest) x
+moved kept rest row x h =
+    ⊎_elim (λ k. held_left (kept ++ row ∷ []) rest x (held_left kept (row ∷ []) x k))
+    (λ k. ⊎_elim (λ p. held_left (kept ++ row ∷ []) rest x (held_push kept row x p)) (λ q. held_right (kept ++ row ∷ []) rest x q) (held_cons_cases row rest x k))
+    (held_cases kept (row ∷ rest) x h)
+
+moved_back : (kept rest : List Term) (row : Term) (x : ℕ) → IsHeld ((kept ++ row ∷ []) ++ rest) x → IsHeld (kept ++ row ∷ rest) x
+moved_back kept rest row x h =
+    ⊎_elim (λ k. ⊎_elim (λ q. held_left kept (row ∷ rest) x q) (λ p. held_right kept (row ∷ rest) x (row, Contains-head row rest, p)) (held_push_cases kept row x k))
+    (λ k. held_right kept (row ∷ rest) x (later row rest x k))
+    (held_cases (kept ++ row ∷ []) rest x h)
+
+-- a row with a value of on that the others do not hold is kept
+pub row_kept : (on rows kept rest others : List Term) (row : Term) (sole : Option ℕ) → AreKept on rows kept (row ∷ rest) → Contains rows row → IsNear row (kept ++ rest) others → IsSole row on others sole → is_some sole ≡ true → AreKept on rows (kept ++ row ∷ []) rest
+row_kept on rows kept rest others row None a among near sole some = absurd (false≢true some)
+row_kept on rows kept rest others row (Some x) a among near sole some = record {
+  among = All-push (Contains rows) kept row a.among among;
+  covers = λ y h. moved kept rest row y (a.covers y h);
+  needed = λ i below. ⊎_elim (λ h. earlier i h) (λ h. itself i (omega (arith, length-append kept (row ∷ [])))) (cases_lt i (length kept));
+}
+  where
+    Needed : ℕ → Type 0
+    Needed i = (y : ℕ) × IsHeld on y × (IsHeld (remove (kept ++ row ∷ []) i ++ rest) y → ⊥)
+
+    earlier : (i : ℕ) → i < length kept → Needed i
+    earlier i h =
+        let w = a.needed i h in
+        (w.0, w.1, λ held. w.2 (moved_back (remove kept i) rest row w.0 (subst (λ (ts : List Term). IsHeld (ts ++ rest) w.0) (remove_push kept row i h) held)))
+
+    itself : (i : ℕ) → i ≡ length kept → Needed i
+    itself i e = (
+      x,
+      sole.1,
+      λ held. sole.2 (held_near row (kept ++ rest) others near x sole.0
+          (subst (λ (ts : List Term). IsHeld (ts ++ rest) x) (ap (λ j. remove (kept ++ row ∷ []) j) e ∙ remove_last kept row) held)),
+    )
+
+-- a row whose values of on the others hold is left out
+pub row_left_out : (on rows kept rest others : List Term) (row : Term) (sole : Option ℕ) → AreKept on rows kept (row ∷ rest) → IsNear row (kept ++ rest) others → IsSole row on others sole → is_some sole ≡ false → AreKept on rows kept rest
+row_left_out on rows kept rest others row (Some x) a near sole none = absurd (false≢true (sym none))
+row_left_out on rows kept rest others row None a near sole none = record {
+  among = a.among;
+  covers = λ x h.
+      ⊎_elim (λ k. held_left kept rest x k)
+      (λ k. ⊎_elim (λ p. held_from_near row (kept ++ rest) others near x (sole x p h)) (λ q. held_right kept rest x q) (held_cons_cases row rest x k))
+      (held_cases kept (row ∷ rest) x (a.covers x h));
+  needed = λ i below.
+      let w = a.needed i below in
+      (w.0, w.1, λ held. w.2 (⊎_elim (λ k. held_left (remove kept i) (row ∷ rest) w.0 k) (λ k. held_right (remove kept i) (row ∷ rest) w.0 (later row rest w.0 k)) (held_cases (remove kept i) rest w.0 held)));
+}
+
+-- the rest, from its first row on
+pub rest_from : (rows : List Term) (i : ℕ) (row : Term) → i < length rows → row ≡ get_or rows i row → drop i rows ≡ row ∷ drop (i + 1) rows
+rest_from rows i row h e = rw (add-one, drop-cons rows i row) (ap (λ (t : Term). t ∷ drop (suc i) rows) (sym e))
+
+-- the slice from a place on
+pub rest_slice : (rows : List Term) (n : ℕ) → take (length rows - n) (drop n rows) ≡ drop n rows
+rest_slice rows n = take_all (length rows - n) (drop n rows) (omega (arith, length-drop n rows))
+
+-- with nothing left, the rows that are kept hold all
+pub covers_alone : (on kept rest : List Term) → rest ≡ [] → Covers (kept ++ rest) on → Covers kept on
+covers_alone on kept rest e h x p = subst (λ (ts : List Term). IsHeld ts x) (ap (λ ys. kept ++ ys) e ∙ append-nil kept) (h x p)

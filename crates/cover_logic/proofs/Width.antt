@@ -1,0 +1,81 @@
+use Rattle.std.proofs.Common.{◌≡◌, ℕ, ◌/◌, ◌%◌, ◌<◌, ◌^◌, ◌∙◌, suc, take, drop, Result, Ok, Err, IfOk, List, [], get_or, sym, ap, subst}
+use Rattle.std.specs.Int.{bit_at}
+use Rattle.std.specs.List.{All, Contains, remove}
+use Rattle.std.proofs.Math.Nat.{mod-lt}
+use Rattle.std.proofs.lemmas.Nat.{pow_pos, div-add-mod'}
+use Rattle.std.proofs.lemmas.Nat.Bits.{bit_at_cat_low}
+use Rattle.std.proofs.lemmas.List.{append-nil}
+use Rattle.std.proofs.lemmas.List.Elements.{All-append, All-contains, All-drop, All-take, Contains-get_or}
+use Rattle.cover_logic.proofs.Bits.{below_width}
+use Rattle.cover_logic.specs.declared.term.Term.{Term}
+use Rattle.cover_logic.specs.Term.{FitsWidth, Holds, HoldsWithDash, IsHeld}
+use Rattle.cover_logic.specs.Cover.{AreApart, GoodCover}
+use Rattle.cover_logic.specs.Rows.{Covers, EachNeeded, IsClear, IsPrime}
+
+-- where a value and its lowest `width` bits are the same
+same_below : (width x column : ℕ) → column < width → bit_at (x % 2 ^ width) column ≡ bit_at x column
+same_below width x column h =
+    sym (bit_at_cat_low (x / 2 ^ width) width (x % 2 ^ width) column h) ∙ ap (λ n. bit_at n column) (div-add-mod' x (2 ^ width))
+
+low_is_value : (width x : ℕ) → x % 2 ^ width < 2 ^ width
+low_is_value width x = mod-lt x (pow_pos width)
+
+-- a term holds a value where it holds its lowest bits
+holds_low : (width : ℕ) (t : Term) → FitsWidth width t → (x : ℕ) → Holds t x → Holds t (x % 2 ^ width)
+unfolding Holds
+holds_low width t fits x p column l = same_below width x column (below_width width t.care column fits l) ∙ p column l
+
+holds_from_low : (width : ℕ) (t : Term) → FitsWidth width t → (x : ℕ) → Holds t (x % 2 ^ width) → Holds t x
+unfolding Holds
+holds_from_low width t fits x p column l = sym (same_below width x column (below_width width t.care column fits l)) ∙ p column l
+
+dash_low : (width : ℕ) (t : Term) → FitsWidth width t → (dash x : ℕ) → HoldsWithDash t dash x → HoldsWithDash t dash (x % 2 ^ width)
+unfolding HoldsWithDash
+dash_low width t fits dash x p column ne l = same_below width x column (below_width width t.care column fits l) ∙ p column ne l
+
+held_low : (width : ℕ) (terms : List Term) → All (FitsWidth width) terms → (x : ℕ) → IsHeld terms x → IsHeld terms (x % 2 ^ width)
+held_low width terms fits x h = (h.0, h.1, holds_low width h.0 (All-contains (FitsWidth width) terms h.0 fits h.1) x h.2)
+
+held_from_low : (width : ℕ) (terms : List Term) → All (FitsWidth width) terms → (x : ℕ) → IsHeld terms (x % 2 ^ width) → IsHeld terms x
+held_from_low width terms fits x h = (h.0, h.1, holds_from_low width h.0 (All-contains (FitsWidth width) terms h.0 fits h.1) x h.2)
+
+-- each term of on is clear of off
+pub clear_from_apart : (width : ℕ) (on off : List Term) → All (FitsWidth width) on → All (FitsWidth width) off → AreApart width on off → All (IsClear off) on
+clear_from_apart width on off fits off_fits apart = λ k d h x p held.
+    let t = get_or on k d in
+    apart (x % 2 ^ width) (low_is_value width x)
+    (held_low width on fits x (t, Contains-get_or on k d h, p)) (held_low width off off_fits x held)
+
+-- and then no value is in both
+pub apart_from_clear : (width : ℕ) (on off : List Term) → All (IsClear off) on → AreApart width on off
+apart_from_clear width on off clear = λ x h held off_held. All-contains (IsClear off) on held.0 clear held.1 x held.2 off_held
+
+-- rows of one width that cover on, are clear of off, prime and each needed are a good cover
+pub good_cover : (width : ℕ) (rows on off : List Term) → All (FitsWidth width) rows → All (FitsWidth width) on → All (FitsWidth width) off → Covers rows on → All (IsClear off) rows → All (IsPrime off) rows → EachNeeded on rows [] → GoodCover width rows on off
+good_cover width rows on off fits on_fits off_fits covers clear prime needed = record {
+  on_held = λ x h held. covers x held;
+  off_free = λ x h off_held held. All-contains (IsClear off) rows held.0 clear held.1 x held.2 off_held;
+  literals_needed = λ k d h column l.
+      let w = prime k d h column l in
+      (w.0 % 2 ^ width, low_is_value width w.0, held_low width off off_fits w.0 w.1, dash_low width (get_or rows k d) (fits k d h) column w.0 w.2);
+  rows_needed = λ i h.
+      let w = needed i h in
+      let P : List Term → Type 0 = λ ts. IsHeld ts w.0 in (
+        w.0 % 2 ^ width,
+        low_is_value width w.0,
+        held_low width on on_fits w.0 w.1,
+        λ held. w.2 (subst P (sym (append-nil (remove rows i))) (held_from_low width (remove rows i) (rest_fits i) w.0 held)),
+      );
+}
+  where
+    rest_fits : (i : ℕ) → All (FitsWidth width) (remove rows i)
+    rest_fits i = All-append (FitsWidth width) (take i rows) (drop (suc i) rows) (All-take (FitsWidth width) i rows fits) (All-drop (FitsWidth width) (suc i) rows fits)
+
+-- what is true of the rows is true of those that are kept
+pub kept_all : (P : Term → Type 0) (rows kept : List Term) → All (Contains rows) kept → All P rows → All P kept
+kept_all P rows kept among h = λ k d below. All-contains P rows (get_or kept k d) h (among k d below)
+
+-- three facts of one result give a fourth
+pub from_three : {T E : Type 0} (r : Result T E) (P Q R S : T → Type 0) → IfOk r P → IfOk r Q → IfOk r R → ((x : T) → P x → Q x → R x → S x) → IfOk r S
+from_three (Ok x) P Q R S p q r h = h x p q r
+from_three (Err e) P Q R S p q r h = tt

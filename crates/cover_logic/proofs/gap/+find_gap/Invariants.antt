@@ -1,0 +1,5 @@
+use Rattle.std.proofs.Common.{◌-◌, ◌^◌}
+use Rattle.cover_logic.proofs.gap.+find_gap.Given as goal
+
+abbrev pub decreases-find_gap : goal.decreases-find_gap
+decreases-find_gap l = 2 ^ 128 - l.part.care

@@ -1,0 +1,27 @@
+use Rattle.std.specs.Prelude.{ℕ, ◌<◌, ◌≤◌, ◌^◌, List, All, EachIndex, remove}
+use Rattle.cover_logic.specs.declared.term.Term.{Term}
+use Rattle.cover_logic.specs.Term.{LooksAt, HoldsWithDash, IsHeld, FitsWidth}
+
+-- no value is held by both lists
+abbrev pub AreApart : ℕ → List Term → List Term → Type 0
+AreApart width on off = (x : ℕ) → x < 2 ^ width → IsHeld on x → IsHeld off x → ⊥
+
+-- what a cover is asked for: lists of terms of at most 128 columns, with no value in both
+pub record CanCover (width : ℕ) (on off : List Term) : Type 0 where
+  pub columns : width ≤ 128
+  pub on_fits : All (FitsWidth width) on
+  pub off_fits : All (FitsWidth width) off
+  pub apart : AreApart width on off
+
+-- the rows are an irredundant cover of on, over the values of `width` bits; a value of neither list is free
+pub record GoodCover (width : ℕ) (rows on off : List Term) : Type 0 where
+  -- every value of on is held by a row
+  pub on_held : (x : ℕ) → x < 2 ^ width → IsHeld on x → IsHeld rows x
+  -- no value of off is held by a row
+  pub off_free : (x : ℕ) → x < 2 ^ width → IsHeld off x → IsHeld rows x → ⊥
+  -- replacing any one literal by a dash makes its row hold a value of off
+  pub literals_needed : All (λ row. (column : ℕ) → LooksAt row column →
+      (x : ℕ) × (x < 2 ^ width) × IsHeld off x × HoldsWithDash row column x) rows
+  -- leaving out any one row leaves a value of on unheld
+  pub rows_needed : EachIndex rows (λ i.
+      (x : ℕ) × (x < 2 ^ width) × IsHeld on x × (IsHeld (remove rows i) x → ⊥))

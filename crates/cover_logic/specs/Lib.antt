@@ -1,0 +1,4 @@
+pub mod Term
+pub mod Cover
+pub mod Pair
+pub mod Rows

@@ -1,0 +1,54 @@
+ghost use Rattle.std.specs.Prelude.{◌≡◌, ◌++◌, [], All, Contains, IfOk, filter};
+ghost use Rattle.cover_logic.specs.Pair.{agree};
+ghost use Rattle.cover_logic.specs.Rows.{Covers, EachNeeded, IsSole};
+
+use crate::gap::{find_gap, touching};
+use crate::term::Term;
+use std::alloc::{AllocError, Global};
+
+/// The terms of both lists that share a value with the row.
+fn rivals(alloc: Global, row: Term, kept: &[Term], rest: &[Term]) -> Result<Vec<Term>, AllocError>
+    ensures { IfOk result (λ others. others.items ≡ filter (agree row) (kept.now ++ rest.now)) }
+{
+    let mut others = touching(alloc, row, kept)?;
+    let later = touching(alloc, row, rest)?;
+    others.extend_from_slice(&later)?;
+    Ok(others)
+}
+
+/// A value of on in the row that the others do not hold.
+fn sole_value(
+    alloc: Global,
+    row: Term,
+    on: &[Term],
+    others: &[Term],
+) -> Result<Option<u128>, AllocError>
+    ensures { IfOk result (IsSole row on.now others.now) }
+{
+    for term in on {
+        if let Some(part) = row.meet(*term) {
+            if let Some(gap) = find_gap(alloc, part, others)? {
+                return Ok(Some(gap));
+            }
+        }
+    }
+    Ok(None)
+}
+
+/// The rows that are left when each row goes whose values of on the others hold.
+pub fn without_spare(alloc: Global, rows: &[Term], on: &[Term]) -> Result<Vec<Term>, AllocError>
+    requires { Covers rows.now on.now }
+    ensures among { IfOk result (λ kept. All (Contains rows.now) kept.items) }
+    ensures covers { IfOk result (λ kept. Covers kept.items on.now) }
+    ensures needed { IfOk result (λ kept. EachNeeded on.now kept.items []) }
+{
+    let mut kept = Vec::new(alloc);
+    for (i, row) in rows.iter().enumerate() {
+        let others = rivals(alloc, *row, &kept, &rows[i + 1..])?;
+        let sole = sole_value(alloc, *row, on, &others)?;
+        if sole.is_some() {
+            kept.push(*row)?;
+        }
+    }
+    Ok(kept)
+}

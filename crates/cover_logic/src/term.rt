@@ -1,0 +1,106 @@
+ghost use Rattle.std.specs.Prelude.{◌≡◌, bit_and};
+
+/// The values that have the bits of `value` at the columns of `care`. Column c stands at 2^c in both.
+/// A column of `care` is a literal, and any other is a dash, at which `value` has no bit.
+#[derive(Clone, Copy, Debug, PartialEq, Eq)]
+pub struct Term {
+    pub care: u128,
+    pub value: u128,
+    ghost inside: { bit_and value care ≡ value },
+}
+
+impl Term {
+    ghost use Rattle.std.specs.Prelude.{◌≡◌, ℕ, ◌<◌, ◌≤◌, ◌↔◌, IsTrue, MatchOption, bit_and, if◌then◌else◌};
+    ghost use Rattle.std.specs.Int.{bit_at};
+    ghost use Rattle.cover_logic.specs.Term.{FitsWidth, Holds, HoldsWithDash, LooksAt};
+    ghost use Rattle.cover_logic.specs.Pair.{Includes, IsHalf, IsLooser, IsMeet, ShareValue, agree, refines};
+
+    /// The term with literals at the columns of `care`, by the bits of `value` there.
+    pub(crate) fn masked(care: u128, value: u128) -> Term
+        ensures care { result.care ≡ care }
+        ensures value { result.value ≡ bit_and value care }
+    {
+        Term {
+            care,
+            value: value & care,
+        }
+    }
+
+    /// Whether the term has no literal at or above the width.
+    pub(crate) fn fits(self, width: u8) -> bool
+        requires { width ≤ 128 }
+        ensures { IsTrue result ↔ FitsWidth width self }
+    {
+        width == 128 || self.care >> width == 0
+    }
+
+    /// Whether some value is held by both terms.
+    pub(crate) fn touches(self, other: Term) -> bool
+        ensures test { result ≡ agree self other }
+        ensures shared { IsTrue result ↔ ShareValue self other }
+    {
+        (self.value ^ other.value) & self.care & other.care == 0
+    }
+
+    /// Whether each value of the other term is held by this one.
+    pub(crate) fn includes(self, other: Term) -> bool
+        ensures test { result ≡ refines self other }
+        ensures includes { IsTrue result → Includes self other }
+    {
+        self.care & other.care == self.care && other.value & self.care == self.value
+    }
+
+    /// The term with a dash at the column.
+    pub(crate) fn with_dash(self, column: u32) -> Term
+        requires { column < 128 }
+        ensures holds { (x : ℕ) → Holds result x ↔ HoldsWithDash self column x }
+        ensures looser { IsLooser result self }
+        ensures dash { LooksAt result column → ⊥ }
+        ensures care { result.care ≤ self.care }
+    {
+        let keep = !(1u128 << column);
+        Term {
+            care: self.care & keep,
+            value: self.value & keep,
+        }
+    }
+
+    /// The term with a literal at a column at which it has a dash.
+    pub(crate) fn with_literal(self, column: u32, one: bool) -> Term
+        requires column { column < 128 }
+        requires dash { bit_at self.care column ≡ 0 }
+        ensures half { IsHalf self column (if one then 1 else 0) result }
+        ensures care { self.care < result.care }
+    {
+        let bit = 1u128 << column;
+        let value = if one { self.value | bit } else { self.value };
+        Term {
+            care: self.care | bit,
+            value,
+        }
+    }
+
+    /// The term with the fewest values that holds those of both.
+    pub(crate) fn joined(self, other: Term) -> Term
+        ensures left { Includes result self }
+        ensures right { Includes result other }
+        ensures care { result.care ≤ self.care }
+    {
+        let care = self.care & other.care & !(self.value ^ other.value);
+        Term::masked(care, self.value)
+    }
+
+    /// The term of the values that both hold, or none where there is no such value.
+    pub(crate) fn meet(self, other: Term) -> Option<Term>
+        ensures { MatchOption result (ShareValue self other → ⊥) (IsMeet self other) }
+    {
+        if self.touches(other) {
+            Some(Term {
+                care: self.care | other.care,
+                value: self.value | other.value,
+            })
+        } else {
+            None
+        }
+    }
+}
