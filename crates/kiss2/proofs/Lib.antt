@@ -1,0 +1,4 @@
+pub mod Known
+pub mod Cuts
+pub mod Outputs
+pub mod Rows

@@ -1,0 +1,44 @@
+//! Fronts of a text, taken off one after another.
+ghost use Rattle.std.specs.Prelude.{◌≡◌, ◌+◌, ◌<◌, ◌≤◌, ◌∷◌, ◌++◌, IfSome, length};
+ghost use Rattle.std.specs.Fmt.{decimal};
+
+/// What stands after the text at the front.
+pub(crate) fn after<'a>(bytes: &'a [u8], text: &[u8]) -> Option<&'a [u8]>
+    ensures { IfSome result (λ rest. bytes.now ≡ text.now ++ rest.now) }
+{
+    bytes.strip_prefix(text)
+}
+
+/// The first bytes, of that number, and those after them.
+pub(crate) fn cut(bytes: &[u8], count: usize) -> Option<(&[u8], &[u8])>
+    ensures parts { IfSome result (λ parts. bytes.now ≡ parts.0.now ++ parts.1.now) }
+    ensures count { IfSome result (λ parts. length parts.0.now ≡ count) }
+{
+    bytes.split_at_checked(count)
+}
+
+/// The decimal digit at the front, and the bytes after it.
+fn digit(bytes: &[u8]) -> Option<(u8, &[u8])>
+    ensures spelled { IfSome result (λ found. bytes.now ≡ (48 + found.0) ∷ found.1.now) }
+    ensures below { IfSome result (λ found. found.0 < 10) }
+{
+    match bytes {
+        [byte @ b'0'..=b'9', rest @ ..] => Some((*byte - b'0', rest)),
+        _ => None,
+    }
+}
+
+/// The decimal number of one or two digits at the front, without a leading zero, and the bytes after it.
+pub(crate) fn small_number(bytes: &[u8]) -> Option<(u8, &[u8])>
+    ensures spelled { IfSome result (λ found. bytes.now ≡ decimal found.0 ++ found.1.now) }
+    ensures positive { IfSome result (λ found. 1 ≤ found.0) }
+{
+    let (first, rest) = digit(bytes)?;
+    if first == 0 {
+        return None;
+    }
+    match digit(rest) {
+        Some((second, rest)) => Some((10 * first + second, rest)),
+        None => Some((first, rest)),
+    }
+}
