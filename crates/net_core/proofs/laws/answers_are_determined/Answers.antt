@@ -1,0 +1,5 @@
+use Rattle.net_core.proofs.Determined.{same_answers}
+use Rattle.net_core.proofs.laws.answers_are_determined.Goals as goal
+
+pub returns : goal.returns
+returns c = same_answers

@@ -1,0 +1,5 @@
+use Rattle.net_core.proofs.Determined.{denotes_one}
+use Rattle.net_core.proofs.laws.denotes_once.Goals as goal
+
+pub returns : goal.returns
+returns c = denotes_one

@@ -1,0 +1,5 @@
+use Rattle.net_core.proofs.Valuations.{sound_one}
+use Rattle.net_core.proofs.laws.sound_is_determined.Goals as goal
+
+pub returns : goal.returns
+returns c = sound_one

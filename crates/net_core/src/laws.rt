@@ -1,0 +1,20 @@
+//! Laws of networks, each the contract of a function that does nothing.
+
+ghost use Rattle.net_core.specs.Denotes.{DenotesOnce};
+ghost use Rattle.net_core.specs.Step.{AnswersAreDetermined};
+ghost use Rattle.net_core.specs.Sound.{SoundIsDetermined};
+
+/// A text denotes at most one network.
+pub fn denotes_once()
+    ensures { DenotesOnce }
+{}
+
+/// A network has at most one list of answers to a word.
+pub fn answers_are_determined()
+    ensures { AnswersAreDetermined }
+{}
+
+/// In a sound network the latch values and a symbol give each driven name one bit.
+pub fn sound_is_determined()
+    ensures { SoundIsDetermined }
+{}

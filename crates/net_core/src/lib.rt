@@ -1,0 +1,85 @@
+//! Networks of gates and latches, by the names of their signals.
+//!
+//! A [`Network`] is plain data: inputs and outputs, latches that keep a bit from one symbol to the next,
+//! and gates, each with the rows that its value is read from. What BLIF writes for the start of a latch
+//! stands in `specs/Start.antt`.
+#![tactic(auto)]
+
+ghost use Rattle.std.specs.Prelude.{◌≡◌};
+ghost use Rattle.net_core.specs.Start.{start_digit};
+
+mod laws;
+#[cfg(test)]
+mod tests;
+
+use hs_io::{Name, Names};
+use hs_list::Items;
+pub use laws::{answers_are_determined, denotes_once, sound_is_determined};
+
+/// The value of a latch before the first symbol.
+#[derive(Clone, Copy, Debug, PartialEq, Eq)]
+pub enum Start {
+    Zero,
+    One,
+    /// Either value.
+    Free,
+    /// Not said.
+    Unknown,
+}
+
+impl Start {
+    /// The digit that stands for it in BLIF.
+    pub fn digit(self) -> u8
+        ensures { result ≡ start_digit self }
+    {
+        match self {
+            Start::Zero => b'0',
+            Start::One => b'1',
+            Start::Free => b'2',
+            Start::Unknown => b'3',
+        }
+    }
+}
+
+/// A latch takes the value of its input signal at each symbol, and gives it on its output signal at the
+/// next.
+#[derive(Debug, Drop)]
+pub struct Latch {
+    pub input: Name,
+    pub output: Name,
+    pub start: Start,
+}
+
+/// Latches in order.
+pub type Latches = Items<Latch>;
+
+/// A gate. Each row is a text over `0`, `1` and `-`, with a character for each input. The value of the
+/// gate is `on` where some row holds its inputs, and the contrary elsewhere.
+#[derive(Debug, Drop)]
+pub struct Gate {
+    pub inputs: Names,
+    pub output: Name,
+    pub rows: Names,
+    pub on: bool,
+}
+
+/// Gates in order.
+pub type Gates = Items<Gate>;
+
+/// A network.
+#[derive(Debug, Drop)]
+pub struct Network {
+    pub inputs: Names,
+    pub outputs: Names,
+    pub latches: Latches,
+    pub gates: Gates,
+}
+
+/// The names of a network's signals, latch by latch for the last two.
+#[derive(Debug, Drop)]
+pub struct SignalNames {
+    pub inputs: Names,
+    pub outputs: Names,
+    pub latch_inputs: Names,
+    pub latch_outputs: Names,
+}
