@@ -1,0 +1,13 @@
+pub mod Answer
+pub mod Binary
+pub mod CodeNetwork
+pub mod CodeText
+pub mod ErrLines
+pub mod Job
+pub mod Loaded
+pub mod Made
+pub mod NetText
+pub mod Outcome
+pub mod OwnNames
+pub mod PartText
+pub mod PlainMachine

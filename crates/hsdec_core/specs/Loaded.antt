@@ -1,0 +1,28 @@
+-- What comes of the load of an operand.
+use Rattle.std.specs.Prelude.{◌≡◌, ℕ, ◌<◌, ◌≤◌, List, Option, IfSome, length, ◌⊎◌}
+use Rattle.hsdec_core.specs.declared.answering.Answer.TheVariants.{ReadFault, TooLong}
+use Rattle.hsdec_core.specs.declared.loads.TheConstants.{TEXT_LIMIT}
+use Rattle.hsdec_core.specs.declared.loads.Loaded.{Loaded}
+use Rattle.hsdec_core.specs.declared.loads.Loaded.TheVariants.{Text, Refused}
+use Rattle.hsdec_core.specs.declared.made.Outcome.{Outcome}
+use Rattle.hsdec_core.specs.ErrLines.{cannot_read_line, too_long_line}
+use Rattle.hsdec_core.specs.Outcome.{refusal}
+
+-- bytes that are longer than a text may be
+abbrev pub IsTooLong : List ℕ → Type 0
+IsTooLong bytes = TEXT_LIMIT < length bytes
+
+-- a text within the limit, which is what the shelf holds where that is told
+abbrev pub IsText : Option (List ℕ) → List ℕ → Type 0
+IsText held bytes = (length bytes ≤ TEXT_LIMIT) × IfSome held (λ told. bytes ≡ told)
+
+-- the outcome of a load that gave no text: a fault, or a text that is too long
+abbrev pub IsLoadRefusal : Option (List ℕ) → Type 0 → List ℕ → Outcome → Type 0
+IsLoadRefusal held Faulted name made =
+    (Faulted × (made ≡ refusal ReadFault (cannot_read_line name)))
+    ⊎ (IfSome held IsTooLong × (made ≡ refusal TooLong (too_long_line name)))
+
+-- what may come of a load of a name under which the shelf holds `held`, where `Faulted` says that its count of faults rose
+abbrev pub IsLoaded : Option (List ℕ) → Type 0 → List ℕ → Loaded → Type 0
+IsLoaded held Faulted name (Text bytes) = IsText held bytes
+IsLoaded held Faulted name (Refused made) = IsLoadRefusal held Faulted name made

@@ -1,0 +1,48 @@
+-- What a command makes in memory, before anything is put.
+use Rattle.std.specs.Prelude.{◌≡◌, ℕ, List, [], Option, Result, Ok, Err, ◌⊎◌}
+use Rattle.std.specs.declared.alloc.AllocError.{AllocError}
+use Rattle.hs_io.specs.Counts.{Rose}
+use Rattle.hs_io.specs.Pieces.{Appends, AppendsFront}
+use Rattle.hsdec_core.specs.declared.answering.Answer.{Answer}
+use Rattle.hsdec_core.specs.declared.answering.Answer.TheVariants.{Done, WriteFault, NoMemory}
+use Rattle.hsdec_core.specs.declared.made.Outcome.{Outcome}
+use Rattle.hsdec_core.specs.ErrLines.{cannot_write_line, no_memory_line}
+
+-- an answer with its line for err, and no text
+abbrev pub refusal : Answer → List ℕ → Outcome
+refusal answer line = record { answer = answer; text = []; line = line }
+
+-- a whole text
+abbrev pub finished : List ℕ → Outcome
+finished text = record { answer = Done; text = text; line = [] }
+
+-- the answer to what was made, if the text can be put
+abbrev pub answer_of : Result Outcome AllocError → Answer
+answer_of (Ok made) = made.answer
+answer_of (Err wanting) = NoMemory
+
+-- the text for out
+abbrev pub text_of : Result Outcome AllocError → List ℕ
+text_of (Ok made) = made.text
+text_of (Err wanting) = []
+
+-- the line for err
+abbrev pub line_of : Result Outcome AllocError → List ℕ
+line_of (Ok made) = made.line
+line_of (Err wanting) = no_memory_line
+
+-- the line for err, where the put of the text may have failed
+abbrev pub line_at : Result Outcome AllocError → Answer → List ℕ
+line_at made WriteFault = cannot_write_line
+line_at made answer = line_of made
+
+-- the text was put whole, with the answer that was made, or there was a fault and a front of it was put
+abbrev pub TextPut : Result Outcome AllocError → Answer → Option (List ℕ) → Option (List ℕ) → ℕ → ℕ → Type 0
+TextPut made answer given given' faults faults' =
+    ((answer ≡ answer_of made) × Appends given (text_of made) given')
+    ⊎ ((answer ≡ WriteFault) × AppendsFront given (text_of made) given' × Rose faults faults')
+
+-- a line was handed to a sink: it took the line whole, or there was a fault and it took a front of the line
+abbrev pub LinePut : List ℕ → Option (List ℕ) → Option (List ℕ) → ℕ → ℕ → Type 0
+LinePut line given given' faults faults' =
+    Appends given line given' ⊎ (AppendsFront given line given' × Rose faults faults')

@@ -1,0 +1,204 @@
+use super::*;
+use hs_io::{MemShelf, MemSink};
+use std::alloc::{AllocError, Global};
+use std::test::Fail;
+
+/// The toggle: two states that change at 1.
+fn toggle() -> &'static [u8] {
+    b".i 1\n.o 1\n0 a a 0\n1 a b 1\n0 b b 1\n1 b a 0\n.e\n"
+}
+
+/// That file without its last line.
+fn cut_toggle() -> &'static [u8] {
+    b".i 1\n.o 1\n0 a a 0\n1 a b 1\n0 b b 1\n1 b a 0\n"
+}
+
+/// What `code` writes for the toggle.
+fn toggle_network() -> &'static [u8] {
+    b"# hsdec code\n\
+# part 0 0,1 carrier 0,1 reads -\n\
+# code a 0\n\
+# code b 1\n\
+# latch 0 part 0 from 0,1 to 0,1\n\
+.model hsdec\n\
+.inputs x0\n\
+.outputs z0\n\
+.latch d0 q0 0\n\
+.names x0 q0 d0\n\
+01 1\n\
+10 1\n\
+.names x0 q0 z0\n\
+01 1\n\
+10 1\n\
+.end\n"
+}
+
+/// The words of a line, cut at each space; no words for an empty line.
+fn words_of(alloc: Global, line: &str) -> Result<Words, AllocError> {
+    let mut words = Words::new(alloc);
+    if !line.is_empty() {
+        for word in line.split(' ') {
+            words.push(word.as_bytes())?;
+        }
+    }
+    Ok(words)
+}
+
+/// The answer to `code T`, with T in memory, and what out and err were given.
+fn code(
+    alloc: Global,
+    text: &[u8],
+    out: &mut MemSink,
+    err: &mut MemSink,
+) -> Result<Answer, AllocError> {
+    let mut shelf = MemShelf::new(alloc);
+    shelf.add(b"T", text)?;
+    let words = words_of(alloc, "code T")?;
+    Ok(run(alloc, &words, &mut shelf, out, err))
+}
+
+#[test]
+fn keeps_words(rt: HostRuntime) -> Result<(), Fail> {
+    let words = words_of(rt.alloc(), "code  f")?;
+    let expected: [&[u8]; 3] = [b"code", b"", b"f"];
+    assert_eq!(rt; words.count(), expected.len());
+    for i in 0..3 {
+        assert_eq!(rt; words.word(i), expected[i]);
+    }
+    Ok(())
+}
+
+#[test]
+fn numbers_answers(rt: HostRuntime) {
+    let codes = [
+        (Answer::Done, 0),
+        (Answer::Usage, 2),
+        (Answer::ReadFault, 12),
+        (Answer::TooLong, 13),
+        (Answer::WriteFault, 14),
+        (Answer::NoMemory, 15),
+        (Answer::NotYet, 16),
+    ];
+    for (answer, code) in codes {
+        assert_eq!(rt; answer.code(), code);
+    }
+}
+
+#[test]
+fn refuses_words(rt: HostRuntime) -> Result<(), Fail> {
+    let lines = [
+        ("", "hsdec: usage word 1\n"),
+        ("draw f", "hsdec: usage word 1\n"),
+        ("code", "hsdec: usage word 2\n"),
+        ("code ", "hsdec: usage word 2\n"),
+        ("code --reduce f", "hsdec: usage word 2\n"),
+        ("code f g", "hsdec: usage word 3\n"),
+        ("code f --limit 5", "hsdec: usage word 3\n"),
+    ];
+    for (line, refusal) in lines {
+        let words = words_of(rt.alloc(), line)?;
+        let mut shelf = MemShelf::new(rt.alloc());
+        let mut out = MemSink::new(rt.alloc(), 4096)?;
+        let mut err = MemSink::new(rt.alloc(), 4096)?;
+        assert_eq!(rt;
+            run(rt.alloc(), &words, &mut shelf, &mut out, &mut err),
+            Answer::Usage
+        );
+        assert_eq!(rt; err.bytes(), refusal.as_bytes());
+        assert_eq!(rt; out.bytes().len(), 0);
+    }
+    Ok(())
+}
+
+#[test]
+fn writes_the_toggle(rt: HostRuntime) -> Result<(), Fail> {
+    let mut out = MemSink::new(rt.alloc(), 4096)?;
+    let mut err = MemSink::new(rt.alloc(), 4096)?;
+    assert_eq!(rt;
+        code(rt.alloc(), toggle(), &mut out, &mut err)?,
+        Answer::Done
+    );
+    assert_eq!(rt; out.bytes(), toggle_network());
+    assert_eq!(rt; err.bytes().len(), 0);
+    Ok(())
+}
+
+#[test]
+fn meets_failing_puts(rt: HostRuntime) -> Result<(), Fail> {
+    let takes: [(usize, &[u8]); 3] = [(0, b""), (5, b"# hsd"), (4096, toggle_network())];
+    for (take, given) in takes {
+        let mut out = MemSink::new(rt.alloc(), 4096)?;
+        let mut err = MemSink::new(rt.alloc(), 4096)?;
+        out.fail_at(1, take);
+        assert_eq!(rt;
+            code(rt.alloc(), toggle(), &mut out, &mut err)?,
+            Answer::WriteFault
+        );
+        assert_eq!(rt; out.bytes(), given);
+        assert_eq!(rt; err.bytes(), b"hsdec: cannot write\n".as_slice());
+    }
+    Ok(())
+}
+
+#[test]
+fn keeps_its_answer_where_err_fails(rt: HostRuntime) -> Result<(), Fail> {
+    let answers = [
+        (toggle(), 1, Answer::WriteFault),
+        (b"".as_slice(), 2, Answer::NotYet),
+    ];
+    for (text, call, answer) in answers {
+        let mut out = MemSink::new(rt.alloc(), 4096)?;
+        let mut err = MemSink::new(rt.alloc(), 4096)?;
+        out.fail_at(call, 0);
+        err.fail_at(1, 0);
+        assert_eq!(rt; code(rt.alloc(), text, &mut out, &mut err)?, answer);
+        assert_eq!(rt; out.bytes().len() + err.bytes().len(), 0);
+    }
+    Ok(())
+}
+
+#[test]
+fn refuses_what_it_cannot_read(rt: HostRuntime) -> Result<(), Fail> {
+    let lines: [(u64, &str, &[u8]); 2] = [
+        (1, "code T", b"hsdec: cannot read T\n"),
+        (2, "code U", b"hsdec: cannot read U\n"),
+    ];
+    for (call, line, refusal) in lines {
+        let mut shelf = MemShelf::new(rt.alloc());
+        shelf.add(b"T", toggle())?;
+        shelf.fail_at(call)?;
+        let mut out = MemSink::new(rt.alloc(), 4096)?;
+        let mut err = MemSink::new(rt.alloc(), 4096)?;
+        let words = words_of(rt.alloc(), line)?;
+        assert_eq!(rt;
+            run(rt.alloc(), &words, &mut shelf, &mut out, &mut err),
+            Answer::ReadFault
+        );
+        assert_eq!(rt; err.bytes(), refusal);
+        assert_eq!(rt; out.bytes().len(), 0);
+    }
+    Ok(())
+}
+
+#[test]
+fn refuses_texts(rt: HostRuntime) -> Result<(), Fail> {
+    let texts: [(&[u8], usize, Answer, &[u8]); 4] = [
+        (cut_toggle(), 0, Answer::NotYet, b"hsdec: not yet\n"),
+        (b"", 0, Answer::NotYet, b"hsdec: not yet\n"),
+        (toggle(), 4_194_304, Answer::NotYet, b"hsdec: not yet\n"),
+        (toggle(), 4_194_305, Answer::TooLong, b"hsdec: too long T\n"),
+    ];
+    for (text, length, answer, line) in texts {
+        let mut text = text.to_vec(rt.alloc())?;
+        text.resize(length.max(text.len()), b' ')?;
+        let mut out = MemSink::new(rt.alloc(), 4096)?;
+        let mut err = MemSink::new(rt.alloc(), 4096)?;
+        assert_eq!(rt;
+            code(rt.alloc(), text.as_slice(), &mut out, &mut err)?,
+            answer
+        );
+        assert_eq!(rt; err.bytes(), line);
+        assert_eq!(rt; out.bytes().len(), 0);
+    }
+    Ok(())
+}
