@@ -1,0 +1,16 @@
+pub mod FirstAppearance
+pub mod Outcomes
+pub mod Comparing
+pub mod Pairs
+pub mod Merging
+pub mod Numerals
+pub mod Pieces
+pub mod Reading
+pub mod Faults
+pub mod Nesting
+pub mod Sizes
+pub mod Words
+pub mod Rows
+pub mod RowNumbering
+pub mod Counting
+pub mod Reaching

@@ -1,0 +1,66 @@
+-- Texts and their pieces between commas.
+use Rattle.std.proofs.Common.{◌≡◌, ◌≢◌, ℕ, suc, ◌+◌, ◌-◌, ◌^◌, ◌<◌, ◌≤◌, ◌==◌, ◌⊎◌, Bool, false, true, List, [], ◌∷◌, ◌++◌, Option, Some, None, length, get_or, take, drop, map, refl, sym, ap, ◌∙◌, subst, inl, inr, arith}
+use Rattle.std.proofs.lemmas.Bool.{ne_eqb, eq-eqb}
+use Rattle.std.proofs.lemmas.List.{take-append-drop, drop_more, take_rest, length-append, length-map, get_or-map, get_or_append_left, get_or_at, append-nil, append_assoc, take_more, length-take-le, get_or-take}
+use Rattle.std.proofs.lemmas.List.Sums.{count_by-le-length}
+use Rattle.std.proofs.lemmas.List.Elements.{All-from_get_or}
+use Rattle.std.proofs.lemmas.List.Splits.{slice_split_none, slice_split_at, length-slice_split, join_with_byte-slice_split}
+use Rattle.std.proofs.lemmas.Option.{slice_get-get_or}
+use Rattle.std.specs.List.{slice_split, join_with_byte, slice_get, count_by, All}
+use Rattle.std.specs.Fmt.{decimal}
+use Rattle.partition.specs.Text.{text_of, pieces_of, pieces_after}
+use Rattle.partition.proofs.Numerals.{no_comma}
+
+abbrev comma : ℕ → Bool
+comma byte = byte == 44
+
+lacks : (text : List ℕ) → ((k : ℕ) → k < length text → get_or text k 0 ≢ 44) → All (λ byte. comma byte ≡ false) text
+lacks text none = All-from_get_or (λ byte. comma byte ≡ false) text 0 (λ k within. ne_eqb (get_or text k 0) 44 (none k within))
+
+-- a text without a comma is one piece
+pub pieces_none : (text : List ℕ) → ((k : ℕ) → k < length text → get_or text k 0 ≢ 44) → pieces_of text ≡ text ∷ []
+pieces_none text none = slice_split_none comma text (lacks text none)
+
+-- a comma ends the first piece
+pub pieces_at : (front rest : List ℕ) → ((k : ℕ) → k < length front → get_or front k 0 ≢ 44) → pieces_of (front ++ 44 ∷ rest) ≡ front ∷ pieces_of rest
+pieces_at front rest none = slice_split_at comma front 44 rest (lacks front none) refl
+
+pub pieces_cut : (text : List ℕ) (i : ℕ) → i < length text → ((k : ℕ) → k < i → get_or text k 0 ≢ 44) → get_or text i 0 ≡ 44 → pieces_of text ≡ take i text ∷ pieces_of (take (length text - (i + 1)) (drop (i + 1) text))
+pieces_cut text i within none here =
+    let front : List ℕ = take i text in
+    let rest : List ℕ = drop (i + 1) text in
+    let size : length front ≡ i = length-take-le i text (omega arith) in
+    let parts : text ≡ front ++ 44 ∷ rest = sym (take-append-drop i text) ∙ ap (λ (end : List ℕ). front ++ end) (drop_more text i 0 within ∙ ap (λ (byte : ℕ). byte ∷ rest) here) in
+    let cut : pieces_of (front ++ 44 ∷ rest) ≡ front ∷ pieces_of rest = pieces_at front rest (λ k inside comma. none k (omega arith) (sym (get_or-take i text k 0 (omega arith)) ∙ comma)) in
+    ap pieces_of parts ∙ cut ∙ ap (λ (end : List ℕ). front ∷ pieces_of end) (sym (take_rest text (i + 1)))
+
+-- there are at most as many pieces as bytes and one more, and there is a piece
+pub length-pieces_of-le : (text : List ℕ) → length (pieces_of text) ≤ length text + 1
+length-pieces_of-le text = omega (arith, length-slice_split comma text, count_by-le-length comma text)
+
+pub some_piece : (text : List ℕ) → 0 < length (pieces_of text)
+some_piece text = omega (arith, length-slice_split comma text)
+
+-- a text is that of the labels that its pieces spell
+pub text_of-pieces : (text labels : List ℕ) → pieces_of text ≡ map decimal labels → text ≡ text_of labels
+text_of-pieces text labels spelled = sym (join_with_byte-slice_split 44 text) ∙ ap (join_with_byte 44) spelled
+
+-- the pieces of a partition's text are its labels
+pub pieces_of-text_of : (labels : List ℕ) → 0 < length labels → ((place : ℕ) → place < length labels → get_or labels place 0 < 2 ^ 64) → pieces_of (text_of labels) ≡ map decimal labels
+pieces_of-text_of [] some small = absurd (omega arith)
+pieces_of-text_of (label ∷ []) some small = pieces_none (decimal label) (no_comma label (small 0 (omega arith)))
+pieces_of-text_of (label ∷ next ∷ labels) some small =
+    pieces_at (decimal label) (text_of (next ∷ labels)) (no_comma label (small 0 (omega arith))) ∙ ap (λ (pieces : List (List ℕ)). decimal label ∷ pieces) (pieces_of-text_of (next ∷ labels) (omega arith) (λ place within. small (suc place) (omega arith)))
+
+-- the text of one label more
+pub text_of-push : (labels : List ℕ) (label : ℕ) → 0 < length labels → text_of (labels ++ label ∷ []) ≡ text_of labels ++ 44 ∷ decimal label
+text_of-push [] label some = absurd (omega arith)
+text_of-push (first ∷ []) label some = refl
+text_of-push (first ∷ next ∷ labels) label some =
+    ap (λ (end : List ℕ). decimal first ++ 44 ∷ end) (text_of-push (next ∷ labels) label (omega arith)) ∙ sym (append_assoc (decimal first) (44 ∷ text_of (next ∷ labels)) (44 ∷ decimal label))
+
+pub text_of-take-none : (labels : List ℕ) (s : ℕ) → s < length labels → s ≡ 0 → text_of (take (s + 1) labels) ≡ decimal (get_or labels s 0)
+text_of-take-none labels s within none = ap text_of (take_more labels s 0 within ∙ ap (λ (k : ℕ). take k labels ++ get_or labels s 0 ∷ []) none)
+
+pub text_of-take-more : (labels : List ℕ) (s : ℕ) → s < length labels → 0 < s → text_of (take (s + 1) labels) ≡ text_of (take s labels) ++ 44 ∷ decimal (get_or labels s 0)
+text_of-take-more labels s within some = ap text_of (take_more labels s 0 within) ∙ text_of-push (take s labels) (get_or labels s 0) (omega (arith, length-take-le s labels (omega arith)))

@@ -1,0 +1,186 @@
+-- How the block of a state in a join is found on rows of bits.
+use Rattle.std.proofs.Common.{◌≡◌, ◌≢◌, ℕ, ◌+◌, ◌-◌, ◌<◌, ◌≤◌, ◌↔◌, ◌⊎◌, min, max, List, [], ◌∷◌, ◌++◌, length, get_or, set, refl, sym, ap, ◌∙◌, subst, inl, inr, arith}
+use Rattle.std.proofs.lemmas.Bool.{cases_eq, cases_lt}
+use Rattle.std.proofs.lemmas.List.{get_or-set_same, get_or-set_other}
+use Rattle.partition.specs.Partition.{Together}
+use Rattle.partition.specs.MeetAndJoin.{Leads, Chain}
+use Rattle.partition.specs.Bits.{bit_of, Has, row_of, IsRows, ReachesBy, Reaches}
+use Rattle.partition.specs.Laws.Chains.{Link, chain_on, chain_turned, chain_within}
+use Rattle.partition.proofs.Words.{bit_of-lt}
+
+-- one step on rows
+abbrev pub Step : List (List ℕ) → List (List ℕ) → ℕ → ℕ → Type 0
+Step p q s t = Has (row_of p s) t ⊎ Has (row_of q s) t
+
+pub reaches_none : (p q : List (List ℕ)) (s : ℕ) → Reaches p q s s
+reaches_none p q s = ([], refl)
+
+reaches_by_on : (p q : List (List ℕ)) (s t u : ℕ) (us : List ℕ) → ReachesBy p q s us t → Step p q t u → ReachesBy p q s (us ++ u ∷ []) u
+reaches_by_on p q s t u [] here step = subst (λ (v : ℕ). ReachesBy p q v (u ∷ []) u) (sym here) (step, refl)
+reaches_by_on p q s t u (v ∷ us) first step = (first.0, reaches_by_on p q v t u us first.1 step)
+
+pub reaches_on : (p q : List (List ℕ)) (s t u : ℕ) → Reaches p q s t → Step p q t u → Reaches p q s u
+reaches_on p q s t u reaches step = (reaches.0 ++ u ∷ [], reaches_by_on p q s t u reaches.0 reaches.1 step)
+
+reaches_by_within : (p q : List (List ℕ)) (n : ℕ) → ((s t : ℕ) → Step p q s t → t < n) → (s t : ℕ) (us : List ℕ) → s < n → ReachesBy p q s us t → t < n
+reaches_by_within p q n within s t [] inside here = subst (λ (u : ℕ). u < n) here inside
+reaches_by_within p q n within s t (u ∷ us) inside first = reaches_by_within p q n within u t us (within s u first.0) first.1
+
+-- after some states are done: what is reached so far, and where the done ones lead
+pub record IsReaching (p q : List (List ℕ)) (s : ℕ) (block done : List ℕ) : Type 0 where
+  pub start : Has block s
+  pub reached : (t : ℕ) → Has block t → Reaches p q s t
+  pub part : (t : ℕ) → Has done t → Has block t
+  pub closed : (t u : ℕ) → Has done t → Step p q t u → Has block u
+
+pub reaching_within : (p q : List (List ℕ)) (n s : ℕ) (block done : List ℕ) → ((t u : ℕ) → Step p q t u → u < n) → s < n → IsReaching p q s block done → (t : ℕ) → Has block t → t < n
+reaching_within p q n s block done within inside so_far t on =
+    let reaches = so_far.reached t on in reaches_by_within p q n within s t reaches.0 inside reaches.1
+
+pub reaching_none : (p q : List (List ℕ)) (s : ℕ) (empty block done : List ℕ) → ((t : ℕ) → bit_of empty t ≡ 0) → Has block s → ((t : ℕ) → t ≢ s → bit_of block t ≡ bit_of empty t) → ((t : ℕ) → bit_of done t ≡ 0) → IsReaching p q s block done
+reaching_none p q s empty block done none start others nothing = record {
+  start = start;
+  reached = λ t on. elim (cases_eq t s) [
+    | inl at ↦ subst (λ (u : ℕ). Reaches p q s u) (sym at) (reaches_none p q s)
+    | inr other ↦ absurd (omega (arith, on, others t other, none t))
+  ];
+  part = λ t on. absurd (omega (arith, on, nothing t));
+  closed = λ t u on. absurd (omega (arith, on, nothing t));
+}
+
+-- one state more is done
+pub reaching_step : (p q : List (List ℕ)) (s t : ℕ) (block done block' done' : List ℕ) → IsReaching p q s block done → Has block t
+    → ((u : ℕ) → bit_of block' u ≡ max (bit_of block u) (max (bit_of (row_of p t) u) (bit_of (row_of q t) u)))
+    → ((u : ℕ) → u ≢ t → bit_of done' u ≡ bit_of done u)
+    → IsReaching p q s block' done'
+reaching_step p q s t block done block' done' so_far on bits others = record {
+  start = keeps s so_far.start;
+  reached = λ u in_block. by_cases u (cases_lt (bit_of block u) 1) (cases_lt (bit_of (row_of p t) u) 1) in_block;
+  part = λ u in_done. elim (cases_eq u t) [
+    | inl at ↦ keeps u (subst (Has block) (sym at) on)
+    | inr other ↦ keeps u (so_far.part u (sym (others u other) ∙ in_done))
+  ];
+  closed = λ u v in_done step. elim (cases_eq u t) [
+    | inl at ↦ steps v (subst (λ (w : ℕ). Step p q w v) at step)
+    | inr other ↦ keeps v (so_far.closed u v (sym (others u other) ∙ in_done) step)
+  ];
+}
+  where
+    keeps : (u : ℕ) → Has block u → Has block' u
+    keeps u in_block = omega (arith, bits u, in_block, bit_of-lt (row_of p t) u, bit_of-lt (row_of q t) u)
+
+    steps : (u : ℕ) → Step p q t u → Has block' u
+    steps u (inl step) = omega (arith, bits u, step, bit_of-lt block u, bit_of-lt (row_of q t) u)
+    steps u (inr step) = omega (arith, bits u, step, bit_of-lt block u, bit_of-lt (row_of p t) u)
+
+    by_cases : (u : ℕ) → (bit_of block u < 1) ⊎ (1 ≤ bit_of block u) → (bit_of (row_of p t) u < 1) ⊎ (1 ≤ bit_of (row_of p t) u) → Has block' u → Reaches p q s u
+    by_cases u (inr old) row in_block = so_far.reached u (omega (arith, bit_of-lt block u))
+    by_cases u (inl new) (inr left) in_block = reaches_on p q s t u (so_far.reached t on) (inl (omega (arith, bit_of-lt (row_of p t) u)))
+    by_cases u (inl new) (inl none) in_block = reaches_on p q s t u (so_far.reached t on) (inr (omega (arith, in_block, bits u, bit_of-lt (row_of q t) u)))
+
+-- a bit of a difference
+pub difference_bit : (a b : ℕ) → a < 2 → b < 2 → min a (1 - b) ≡ 1 → (a ≡ 1) × (b ≡ 0)
+difference_bit a b in_a in_b on = (omega arith, omega arith)
+
+reaching_follows : (p q : List (List ℕ)) (block : List ℕ) → ((t u : ℕ) → Has block t → Step p q t u → Has block u) → (s t : ℕ) (us : List ℕ) → Has block s → ReachesBy p q s us t → Has block t
+reaching_follows p q block closed s t [] on here = subst (Has block) here on
+reaching_follows p q block closed s t (u ∷ us) on first = reaching_follows p q block closed u t us (closed s u on first.0) first.1
+
+-- all states that were reached are done
+pub reaching_all : (p q : List (List ℕ)) (s : ℕ) (block done : List ℕ) → IsReaching p q s block done → ((t : ℕ) → min (bit_of block t) (1 - bit_of done t) ≡ 0) → (t : ℕ) → Has block t ↔ Reaches p q s t
+reaching_all p q s block done all none t = (
+  (λ on. all.reached t on),
+  (λ reaches. reaching_follows p q block (λ u v on step. all.closed u v (omega (arith, none u, on, bit_of-lt done u)) step) s t reaches.0 all.start reaches.1),
+)
+
+-- on the rows of two partitions that is to have a chain between
+chain_by : (p q : List ℕ) (p_rows q_rows : List (List ℕ)) → IsRows p p_rows → IsRows q q_rows → (s t : ℕ) (us : List ℕ) → ReachesBy p_rows q_rows s us t → Leads p q s us t
+chain_by p q p_rows q_rows p_is q_is s t [] here = here
+chain_by p q p_rows q_rows p_is q_is s t (u ∷ us) first =
+    (elim first.0 [ inl left ↦ inl ((p_is.bits s u).0 left) | inr right ↦ inr ((q_is.bits s u).0 right) ], chain_by p q p_rows q_rows p_is q_is u t us first.1)
+
+reaches_by_chain : (p q : List ℕ) (p_rows q_rows : List (List ℕ)) → IsRows p p_rows → IsRows q q_rows → (s t : ℕ) (us : List ℕ) → Leads p q s us t → ReachesBy p_rows q_rows s us t
+reaches_by_chain p q p_rows q_rows p_is q_is s t [] here = here
+reaches_by_chain p q p_rows q_rows p_is q_is s t (u ∷ us) first =
+    (elim first.0 [ inl left ↦ inl ((p_is.bits s u).1 left) | inr right ↦ inr ((q_is.bits s u).1 right) ], reaches_by_chain p q p_rows q_rows p_is q_is u t us first.1)
+
+pub reaches_is_chain : (p q : List ℕ) (p_rows q_rows : List (List ℕ)) → IsRows p p_rows → IsRows q q_rows → (s t : ℕ) → s < length p → Reaches p_rows q_rows s t ↔ Chain p q s t
+reaches_is_chain p q p_rows q_rows p_is q_is s t within = (
+  (λ reaches. (within, (reaches.0, chain_by p q p_rows q_rows p_is q_is s t reaches.0 reaches.1))),
+  (λ chain. (chain.1.0, reaches_by_chain p q p_rows q_rows p_is q_is s t chain.1.0 chain.1.1)),
+)
+
+-- a block put into rows, as far as its states are done
+pub record IsFilling (block : List ℕ) (before rows : List (List ℕ)) (left : List ℕ) : Type 0 where
+  pub part : (t : ℕ) → Has left t → Has block t
+  pub filled : (t : ℕ) → Has block t → bit_of left t ≡ 0 → row_of rows t ≡ block
+  pub others : (t : ℕ) → bit_of block t ≡ 0 → row_of rows t ≡ row_of before t
+
+pub filling_step : (block : List ℕ) (before rows : List (List ℕ)) (left left' : List ℕ) (t : ℕ) → t < length rows → IsFilling block before rows left → Has left t → bit_of left' t ≡ 0 → ((u : ℕ) → u ≢ t → bit_of left' u ≡ bit_of left u) → IsFilling block before (set rows t block) left'
+filling_step block before rows left left' t within so_far on off others = record {
+  part = λ u in_left. elim (cases_eq u t) [
+    | inl at ↦ absurd (omega (arith, in_left, off, ap (bit_of left') at))
+    | inr other ↦ so_far.part u (sym (others u other) ∙ in_left)
+  ];
+  filled = λ u in_block gone. elim (cases_eq u t) [
+    | inl at ↦ subst (λ (k : ℕ). row_of (set rows t block) k ≡ block) (sym at) (get_or-set_same rows t block [] within)
+    | inr other ↦ get_or-set_other rows t u block [] other ∙ so_far.filled u in_block (sym (others u other) ∙ gone)
+  ];
+  others = λ u out. elim (cases_eq u t) [
+    | inl at ↦ absurd (omega (arith, out, ap (bit_of block) at, so_far.part t on))
+    | inr other ↦ get_or-set_other rows t u block [] other ∙ so_far.others u out
+  ];
+}
+
+-- The rows of the join as far as the first s states: each row is empty or right.
+pub record IsJoining (p q : List ℕ) (rows : List (List ℕ)) (s : ℕ) : Type 0 where
+  pub right : (t : ℕ) → t < length p → ((u : ℕ) → bit_of (row_of rows t) u ≡ 0) ⊎ ((u : ℕ) → Has (row_of rows t) u ↔ Chain p q t u)
+  pub own : (t : ℕ) → t < s → Has (row_of rows t) t
+
+pub joining_kept : (p q : List ℕ) (rows : List (List ℕ)) (s : ℕ) → IsJoining p q rows s → Has (row_of rows s) s → IsJoining p q rows (s + 1)
+joining_kept p q rows s so_far on = record {
+  right = so_far.right;
+  own = λ t below. elim (cases_eq t s) [
+    | inl at ↦ subst (λ (u : ℕ). Has (row_of rows u) u) (sym at) on
+    | inr other ↦ so_far.own t (omega arith)
+  ];
+}
+
+pub joining_filled : (p q : List ℕ) (rows rows' : List (List ℕ)) (block : List ℕ) (s : ℕ) → length q ≡ length p → s < length p → IsJoining p q rows s → ((t : ℕ) → Has block t ↔ Chain p q s t) → ((t : ℕ) → Has block t → row_of rows' t ≡ block) → ((t : ℕ) → bit_of block t ≡ 0 → row_of rows' t ≡ row_of rows t) → IsJoining p q rows' (s + 1)
+joining_filled p q rows rows' block s lengths within so_far is filled others = record {
+  right = λ t inside. elim (cases_lt (bit_of block t) 1) [
+    | inl out ↦ subst (λ (row : List ℕ). ((u : ℕ) → bit_of row u ≡ 0) ⊎ ((u : ℕ) → Has row u ↔ Chain p q t u)) (sym (others t (omega arith))) (so_far.right t inside)
+    | inr on ↦ let in_block : Has block t = omega (arith, bit_of-lt block t) in
+        inr (subst (λ (row : List ℕ). (u : ℕ) → Has row u ↔ Chain p q t u) (sym (filled t in_block)) (λ u. moved t u ((is t).0 in_block)))
+  ];
+  own = λ t below. elim (cases_lt (bit_of block t) 1) [
+    | inl out ↦ subst (λ (row : List ℕ). Has row t) (sym (others t (omega arith))) (so_far.own t (earlier t below (omega arith)))
+    | inr on ↦ let in_block : Has block t = omega (arith, bit_of-lt block t) in subst (λ (row : List ℕ). Has row t) (sym (filled t in_block)) in_block
+  ];
+}
+  where
+    moved : (t u : ℕ) → Chain p q s t → Has block u ↔ Chain p q t u
+    moved t u chain =
+        ((λ on. chain_on p q t s u (chain_turned p q s t lengths chain) ((is u).0 on)), (λ on. (is u).1 (chain_on p q s t u chain on)))
+
+    earlier : (t : ℕ) → t < s + 1 → bit_of block t ≡ 0 → t < s
+    earlier t below out =
+        elim (cases_eq t s) [
+          | inl at ↦ absurd (omega (arith, out, ap (bit_of block) at, (is s).1 (within, ([], refl))))
+          | inr other ↦ omega arith
+        ]
+
+-- all rows are right
+pub joining_all : (p q : List ℕ) (rows : List (List ℕ)) → IsJoining p q rows (length p) → (s t : ℕ) → s < length p → Has (row_of rows s) t ↔ Chain p q s t
+joining_all p q rows all s t within =
+    elim (all.right s within) [
+      | inl none ↦ absurd (omega (arith, none s, all.own s within))
+      | inr right ↦ right t
+    ]
+
+-- the block of a state on the rows of two partitions, where their slices are those rows
+pub block_is : (p q : List ℕ) (p_rows q_rows p_slice q_slice : List (List ℕ)) (s : ℕ) (block : List ℕ) → IsRows p p_rows → IsRows q q_rows → p_slice ≡ p_rows → q_slice ≡ q_rows → s < length p → ((t : ℕ) → Has block t ↔ Reaches p_slice q_slice s t) → (t : ℕ) → Has block t ↔ Chain p q s t
+block_is p q p_rows q_rows p_slice q_slice s block p_is q_is p_same q_same within is t =
+    let by_rows : Has block t ↔ Reaches p_rows q_rows s t = subst (λ (rows : List (List ℕ)). Has block t ↔ Reaches p_rows rows s t) q_same (subst (λ (rows : List (List ℕ)). Has block t ↔ Reaches rows q_slice s t) p_same (is t)) in
+    let by_chain = reaches_is_chain p q p_rows q_rows p_is q_is s t within in
+    ((λ on. by_chain.0 (by_rows.0 on)), (λ chain. by_rows.1 (by_chain.1 chain)))

@@ -1,0 +1,119 @@
+-- How a partition is read from its text, piece by piece, and why a text has one fault or none.
+use Rattle.std.proofs.Common.{◌≡◌, ◌≢◌, ℕ, ◌+◌, ◌-◌, ◌^◌, ◌<◌, ◌≤◌, ◌⊎◌, max, List, [], ◌∷◌, ◌++◌, Option, Some, None, Bor, length, get_or, take, map, refl, sym, ap, ◌∙◌, subst, inl, inr, arith}
+use Rattle.std.proofs.lemmas.Bool.{cases_order, cases_lt}
+use Rattle.std.proofs.lemmas.List.{length_push, map_push, append_assoc, append-nil, length-append, length-map, get_or-map, get_or_append_left, take_all, take-append-le, take_at, get_or-take, length-take-le, ext_get_or, get_or_at}
+use Rattle.std.proofs.lemmas.Option.{slice_get-get_or, same_Some}
+use Rattle.std.proofs.lemmas.Fmt.{decimal_injective}
+use Rattle.std.specs.List.{slice_get}
+use Rattle.std.specs.Option.{option_copied}
+use Rattle.std.specs.Fmt.{decimal}
+use Rattle.partition.specs.declared.PartFail.{PartFail}
+use Rattle.partition.specs.declared.PartFail.TheVariants.{Empty, NotCanonical, BadText, WrongLength, NoMemory}
+use Rattle.partition.specs.Partition.{blocks_of, IsNumbered, IsPartition, IsStateCount}
+use Rattle.partition.specs.Text.{text_of, pieces_of, pieces_after, BeginsWith, FirstBadPiece, OtherLength, TextFault}
+use Rattle.partition.specs.Laws.Labels.{blocks_of-push, IsNumbered-none, IsNumbered-push, blocks_of-le}
+use Rattle.partition.proofs.Pieces.{length-pieces_of-le, some_piece, text_of-pieces, pieces_of-text_of}
+
+-- After so many pieces: the labels that they spell, of which the first n are kept, and what is left.
+pub record IsReading (text : List ℕ) (n : ℕ) (labels : List ℕ) (found blocks : ℕ) (left : Option (List ℕ)) : Type 0 where
+  pub all : List ℕ
+  pub numbered : IsNumbered all
+  pub size : length all ≡ found
+  pub count : blocks ≡ blocks_of all
+  pub kept : labels ≡ take n all
+  pub pieces : pieces_of text ≡ map decimal all ++ pieces_after left
+
+-- how much is left: one more than its bytes, or nothing
+abbrev pub left_size : Option (List ℕ) → ℕ
+left_size None = 0
+left_size (Some rest) = length rest + 1
+
+pub reading_none : (text : List ℕ) (n : ℕ) → IsReading text n [] 0 0 (Some text)
+reading_none text n = record { all = []; numbered = IsNumbered-none; size = refl; count = refl; kept = sym (take_all n [] (omega arith)); pieces = refl }
+
+-- one piece more, which spells a label that may stand there
+pub reading_step : (text : List ℕ) (n : ℕ) (labels labels' : List ℕ) (found blocks blocks' : ℕ) (rest piece : List ℕ) (left : Option (List ℕ)) (label : ℕ) → IsReading text n labels found blocks (Some rest) → pieces_of rest ≡ piece ∷ pieces_after left → piece ≡ decimal label → label ≤ blocks → blocks' ≡ max blocks (label + 1)
+    → ((found < n) × (labels' ≡ labels ++ label ∷ [])) ⊎ ((n ≤ found) × (labels' ≡ labels))
+    → IsReading text n labels' (found + 1) blocks' left
+reading_step text n labels labels' found blocks blocks' rest piece left label so_far cut spelled low more keeps = record {
+  all = so_far.all ++ label ∷ [];
+  numbered = IsNumbered-push so_far.all label so_far.numbered (omega (arith, so_far.count));
+  size = length_push so_far.all label ∙ ap (λ (k : ℕ). k + 1) so_far.size;
+  count = omega (arith, more, so_far.count, blocks_of-push so_far.all label);
+  kept = kept keeps;
+  pieces = so_far.pieces ∙ ap (λ (end : List (List ℕ)). map decimal so_far.all ++ end) (cut ∙ ap (λ (p : List ℕ). p ∷ pieces_after left) spelled) ∙ sym (append_assoc (map decimal so_far.all) (decimal label ∷ []) (pieces_after left)) ∙ ap (λ (front : List (List ℕ)). front ++ pieces_after left) (sym (map_push decimal so_far.all label));
+}
+  where
+    kept : ((found < n) × (labels' ≡ labels ++ label ∷ [])) ⊎ ((n ≤ found) × (labels' ≡ labels)) → labels' ≡ take n (so_far.all ++ label ∷ [])
+    kept (inl few) = few.1 ∙ ap (λ (front : List ℕ). front ++ label ∷ []) (so_far.kept ∙ take_all n so_far.all (omega (arith, few.0, so_far.size))) ∙ sym (take_all n (so_far.all ++ label ∷ []) (omega (arith, few.0, so_far.size, length_push so_far.all label)))
+    kept (inr enough) = enough.1 ∙ so_far.kept ∙ sym (take-append-le n so_far.all (label ∷ []) (omega (arith, enough.0, so_far.size)))
+
+-- what the pieces in front spell
+front_spells : (text all : List ℕ) (more : List (List ℕ)) → pieces_of text ≡ map decimal all ++ more → (place : ℕ) → place < length all → slice_get (pieces_of text) place ≡ Some (decimal (get_or all place 0))
+front_spells text all more is place within =
+    let inside : place < length (map decimal all) = omega (arith, length-map all decimal) in
+    ap (λ (pieces : List (List ℕ)). slice_get pieces place) is ∙ slice_get-get_or (map decimal all ++ more) place [] (omega (arith, length-append (map decimal all) more)) ∙ ap (λ (piece : List ℕ). Some piece) (get_or_append_left (map decimal all) more [] place inside ∙ get_or-map decimal all place 0 [] within)
+
+-- the piece after those
+next_piece : (text all : List ℕ) (piece : List ℕ) (more : List (List ℕ)) → pieces_of text ≡ map decimal all ++ piece ∷ more → slice_get (pieces_of text) (length all) ≡ Some piece
+next_piece text all piece more is =
+    let size : length (map decimal all) ≡ length all = length-map all decimal in
+    ap (λ (pieces : List (List ℕ)). slice_get pieces (length all)) is ∙ slice_get-get_or (map decimal all ++ piece ∷ more) (length all) [] (omega (arith, length-append (map decimal all) (piece ∷ more))) ∙ ap (λ (p : List ℕ). Some p) (get_or_at (map decimal all) piece more [] (length all) size)
+
+-- the next piece is no label that may stand there
+pub reading_bad : (text : List ℕ) (n : ℕ) (labels : List ℕ) (found blocks : ℕ) (rest piece : List ℕ) (left : Option (List ℕ)) → IsReading text n labels found blocks (Some rest) → pieces_of rest ≡ piece ∷ pieces_after left → ((label : ℕ) → label ≤ blocks → piece ≢ decimal label) → FirstBadPiece text found
+reading_bad text n labels found blocks rest piece left so_far cut bad =
+    let is : pieces_of text ≡ map decimal so_far.all ++ piece ∷ pieces_after left = so_far.pieces ∙ ap (λ (end : List (List ℕ)). map decimal so_far.all ++ end) cut in
+    let here : slice_get (pieces_of text) found ≡ Some piece = subst (λ (k : ℕ). slice_get (pieces_of text) k ≡ Some piece) so_far.size (next_piece text so_far.all piece (pieces_after left) is) in
+    record {
+      labels = so_far.all;
+      size = so_far.size;
+      begins = record { numbered = so_far.numbered; spelled = front_spells text so_far.all (piece ∷ pieces_after left) is };
+      within = omega (arith, so_far.size, ap length is, length-append (map decimal so_far.all) (piece ∷ pieces_after left), length-map so_far.all decimal);
+      bad = λ label low spells. bad label (omega (arith, so_far.count)) (same_Some piece (decimal label) (sym here ∙ spells));
+    }
+
+-- all pieces are read
+whole_text : (text : List ℕ) (n : ℕ) (labels : List ℕ) (found blocks : ℕ) → (so_far : IsReading text n labels found blocks None) → text ≡ text_of so_far.all
+whole_text text n labels found blocks so_far = text_of-pieces text so_far.all (so_far.pieces ∙ append-nil (map decimal so_far.all))
+
+reading_some : (text : List ℕ) (n : ℕ) (labels : List ℕ) (found blocks : ℕ) → IsReading text n labels found blocks None → 0 < found
+reading_some text n labels found blocks so_far =
+    omega (arith, some_piece text, so_far.size, ap length (so_far.pieces ∙ append-nil (map decimal so_far.all)), length-map so_far.all decimal)
+
+pub reading_other : (text : List ℕ) (n : ℕ) (labels : List ℕ) (found blocks : ℕ) → IsReading text n labels found blocks None → found ≢ n → OtherLength n text found
+reading_other text n labels found blocks so_far other = record {
+  labels = so_far.all;
+  size = so_far.size;
+  some = reading_some text n labels found blocks so_far;
+  other = other;
+  numbered = so_far.numbered;
+  spelled = whole_text text n labels found blocks so_far;
+}
+
+pub record IsRead (n : ℕ) (text labels : List ℕ) (blocks : ℕ) : Type 0 where
+  pub lawful : IsPartition n labels
+  pub count : blocks ≡ blocks_of labels
+  pub spelled : text ≡ text_of labels
+
+pub reading_all : (text : List ℕ) (n : ℕ) (labels : List ℕ) (found blocks : ℕ) → IsStateCount n → IsReading text n labels found blocks None → found ≡ n → IsRead n text labels blocks
+reading_all text n labels found blocks states so_far same =
+    let is : so_far.all ≡ labels = sym (so_far.kept ∙ take_all n so_far.all (omega (arith, so_far.size))) in
+    subst (λ (xs : List ℕ). IsRead n text xs blocks) is record {
+      lawful = record { count = states; length = so_far.size ∙ same; numbered = so_far.numbered };
+      count = so_far.count;
+      spelled = whole_text text n labels found blocks so_far;
+    }
+
+-- there are at most as many labels as bytes
+pub reading_short : (text : List ℕ) (n : ℕ) (labels : List ℕ) (found blocks : ℕ) (rest : List ℕ) → IsReading text n labels found blocks (Some rest) → found ≤ length text
+reading_short text n labels found blocks rest so_far =
+    omega (arith, length-pieces_of-le text, some_piece rest, so_far.size, ap length so_far.pieces, length-append (map decimal so_far.all) (pieces_of rest), length-map so_far.all decimal)
+
+-- no label so far is above their number
+pub reading_blocks : (text : List ℕ) (n : ℕ) (labels : List ℕ) (found blocks : ℕ) (left : Option (List ℕ)) → IsReading text n labels found blocks left → blocks ≤ found
+reading_blocks text n labels found blocks left so_far = omega (arith, so_far.count, so_far.size, blocks_of-le so_far.all so_far.numbered)
+
+-- the same at what an option of a slice holds
+pub reading_at : {text : List ℕ} {n : ℕ} {labels : List ℕ} {found blocks : ℕ} {left : Option (Bor (List ℕ))} {held : Option (Bor (List ℕ))} → left ≡ held → IsReading text n labels found blocks (option_copied left) → IsReading text n labels found blocks (option_copied held)
+reading_at {text} {n} {labels} {found} {blocks} same so_far = subst (λ (o : Option (Bor (List ℕ))). IsReading text n labels found blocks (option_copied o)) same so_far

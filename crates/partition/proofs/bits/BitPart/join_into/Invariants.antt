@@ -1,0 +1,5 @@
+use Rattle.partition.proofs.Reaching.{IsJoining}
+use Rattle.partition.proofs.bits.BitPart.join_into.Given as goal
+
+abbrev pub invariant-loop-s : goal.invariant-loop-s
+invariant-loop-s l = IsJoining l.self l.q l.rows l.s

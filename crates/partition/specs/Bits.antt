@@ -1,0 +1,42 @@
+-- Bits in words of 64.
+use Rattle.std.specs.Prelude.{◌≡◌, ℕ, ◌+◌, ◌/◌, ◌%◌, ◌<◌, ◌↔◌, ◌⊎◌, List, [], ◌∷◌, length, slice_index, slice_index_or}
+use Rattle.std.specs.Int.{bit_at}
+use Rattle.partition.specs.Partition.{IsStateCount, Together}
+
+-- bit t stands at 2 ^ (t modulo 64) of the word whose number is t divided by 64, rounded down
+abbrev pub bit_of : List ℕ → ℕ → ℕ
+bit_of words t = bit_at (slice_index words (t / 64)) (t % 64)
+
+-- the bit is set: a set of states, kept so, has this member
+abbrev pub Has : List ℕ → ℕ → Type 0
+Has words t = bit_of words t ≡ 1
+
+-- the row of a state
+abbrev pub row_of : List (List ℕ) → ℕ → List ℕ
+row_of rows s = slice_index_or rows s []
+
+-- rows of bits for a partition: bit t of row s is 1 exactly where s and t are together
+pub record IsRows (p : List ℕ) (rows : List (List ℕ)) : Type 0 where
+  pub size : length rows ≡ length p
+  pub bits : (s t : ℕ) → Has (row_of rows s) t ↔ Together p s t
+
+-- Rows of bits for blocks: each state is in its own row, and two states of one row have each other in
+-- theirs.
+pub record AreBlocks (rows : List (List ℕ)) : Type 0 where
+  pub count : IsStateCount (length rows)
+  pub within : (s t : ℕ) → Has (row_of rows s) t → t < length rows
+  pub own : (s : ℕ) → s < length rows → Has (row_of rows s) s
+  pub alike : (s t u : ℕ) → Has (row_of rows s) t → Has (row_of rows s) u → Has (row_of rows t) u
+
+-- for each block the set of those of its states that are below t
+pub record AreSets (labels : List ℕ) (sets : List (List ℕ)) (blocks t : ℕ) : Type 0 where
+  pub size : length sets ≡ blocks
+  pub members : (block u : ℕ) → block < blocks → Has (row_of sets block) u ↔ ((u < t) × (slice_index labels u ≡ block))
+
+-- from s one goes through the states of the list to t, each of them in the row of the one before in p or q
+abbrev pub ReachesBy : List (List ℕ) → List (List ℕ) → ℕ → List ℕ → ℕ → Type 0
+ReachesBy p q s [] t = s ≡ t
+ReachesBy p q s (u ∷ us) t = (Has (row_of p s) u ⊎ Has (row_of q s) u) × ReachesBy p q u us t
+
+abbrev pub Reaches : List (List ℕ) → List (List ℕ) → ℕ → ℕ → Type 0
+Reaches p q s t = (us : List ℕ) × ReachesBy p q s us t

@@ -1,0 +1,36 @@
+-- The blocks of one partition inside the blocks of another.
+use Rattle.std.specs.Prelude.{◌≡◌, ℕ, zero, suc, ◌+◌, ◌<◌, ◌≤◌, ◌==◌, ◌&&◌, if◌then◌else◌, List, length, slice_index, count_by}
+use Rattle.std.specs.List.{position_or_len}
+use Rattle.partition.specs.Partition.{IsPartition, IsZero, blocks_of}
+
+-- the least state that is together with s
+abbrev pub least_of : List ℕ → ℕ → ℕ
+least_of q s = position_or_len (λ label. label == slice_index q s) q
+
+-- how many of the states below k are the least of their block of q and lie in that block of p: so many
+-- blocks of q have a least state below k that lies there
+abbrev pub blocks_below : List ℕ → List ℕ → ℕ → ℕ → ℕ
+blocks_below p q block zero = 0
+blocks_below p q block (suc k) = blocks_below p q block k + (if (least_of q k == k) && (slice_index p k == block) then 1 else 0)
+
+-- Each state has the number of the blocks of q that lie in its block of p and have a smaller least state
+-- than its own block of q.
+pub record IsInside (p q r : List ℕ) : Type 0 where
+  pub lawful : IsPartition (length p) r
+  pub numbers : (s : ℕ) → s < length p → slice_index r s ≡ blocks_below p q (slice_index p s) (least_of q s)
+
+-- what lies inside p where each state is a block of its own: each state has the number of the smaller
+-- states that are together with it
+pub record IsComplement (p r : List ℕ) : Type 0 where
+  pub lawful : IsPartition (length p) r
+  pub inside : (zero : List ℕ) → IsPartition (length p) zero → IsZero zero → IsInside p zero r
+
+-- how many states a block has
+abbrev pub size_of : List ℕ → ℕ → ℕ
+size_of p block = count_by (λ label. label == block) p
+
+-- so many states has the largest block
+pub record IsLargestSize (p : List ℕ) (size : ℕ) : Type 0 where
+  pub block : ℕ
+  pub reached : size_of p block ≡ size
+  pub largest : (other : ℕ) → size_of p other ≤ size

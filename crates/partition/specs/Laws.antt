@@ -1,0 +1,7 @@
+-- What follows of the definitions alone.
+pub mod Labels
+pub mod Extremes
+pub mod Chains
+pub mod Joins
+pub mod Precedence
+pub mod World

@@ -1,0 +1,42 @@
+-- Meet and join of two partitions of the same states, after Hartmanis and Stearns.
+use Rattle.std.specs.Prelude.{◌≡◌, ℕ, ◌<◌, ◌↔◌, ◌⊎◌, List, [], ◌∷◌, length, slice_index}
+use Rattle.partition.specs.Partition.{IsPartition, Together, Le, blocks_of}
+
+-- states are together in the meet where they are together in both
+pub record IsMeet (p q r : List ℕ) : Type 0 where
+  pub lawful : IsPartition (length p) r
+  pub together : (s t : ℕ) → Together r s t ↔ (Together p s t × Together q s t)
+
+-- From s one goes through the states of the list to t, and neighbours are together in p or in q.
+abbrev pub Leads : List ℕ → List ℕ → ℕ → List ℕ → ℕ → Type 0
+Leads p q s [] t = s ≡ t
+Leads p q s (u ∷ us) t = (Together p s u ⊎ Together q s u) × Leads p q u us t
+
+-- a finite chain of states leads from the one to the other
+abbrev pub Chain : List ℕ → List ℕ → ℕ → ℕ → Type 0
+Chain p q s t = (s < length p) × ((us : List ℕ) × Leads p q s us t)
+
+-- states are together in the join where a finite chain of states leads from the one to the other
+pub record IsJoin (p q r : List ℕ) : Type 0 where
+  pub lawful : IsPartition (length p) r
+  pub together : (s t : ℕ) → Together r s t ↔ Chain p q s t
+
+-- the greatest partition that is below both
+pub record IsGreatestBelow (p q r : List ℕ) : Type 0 where
+  pub lawful : IsPartition (length p) r
+  pub left : Le r p
+  pub right : Le r q
+  pub greatest : (other : List ℕ) → IsPartition (length p) other → Le other p → Le other q → Le other r
+
+-- the least partition that is above both
+pub record IsLeastAbove (p q r : List ℕ) : Type 0 where
+  pub lawful : IsPartition (length p) r
+  pub left : Le p r
+  pub right : Le q r
+  pub least : (other : List ℕ) → IsPartition (length p) other → Le p other → Le q other → Le r other
+
+-- numbers of the blocks of p, equal where a chain of states leads from the one block to the other
+pub record TiesBlocks (p q numbers : List ℕ) : Type 0 where
+  pub size : length numbers ≡ blocks_of p
+  pub small : (block : ℕ) → block < blocks_of p → slice_index numbers block < blocks_of p
+  pub tied : (s t : ℕ) → s < length p → t < length p → (slice_index numbers (slice_index p s) ≡ slice_index numbers (slice_index p t)) ↔ Chain p q s t

@@ -1,0 +1,100 @@
+//! Partitions as rows of bits.
+
+ghost use Rattle.std.specs.Prelude.{◌≡◌, ℕ, ◌+◌, ◌/◌, ◌<◌, ◌≤◌, ◌↔◌, length, IsTrue, IfOk};
+ghost use Rattle.partition.specs.Partition.{IsPartition, Together, blocks_of};
+ghost use Rattle.partition.specs.MeetAndJoin.{IsMeet, IsJoin};
+ghost use Rattle.partition.specs.Before.{Before};
+ghost use Rattle.partition.specs.Bits.{bit_of, Has, row_of, IsRows};
+
+mod lattice;
+
+use crate::Partition;
+use crate::states::StateSet;
+use std::alloc::{AllocError, Global};
+use std::marker::Model;
+
+/// A partition of n states as n rows of n bits, seen by contracts as its list of labels.
+///
+/// Bit t of row s is 1 exactly where s and t are together.
+#[derive(Debug, Drop)]
+pub struct BitPart {
+    labels: Partition,
+    rows: Vec<StateSet>,
+}
+
+impl Model for BitPart {
+    ghost use Rattle.std.specs.Prelude.{List, ℕ, length};
+    ghost use Rattle.partition.specs.Partition.{IsPartition};
+    ghost use Rattle.partition.specs.Bits.{IsRows};
+
+    ghost Value = { List ℕ };
+
+    ghost view = { λ p. p.labels };
+
+    ghost invariant = { λ p. IsPartition (length p.labels) p.labels × IsRows p.labels p.rows.items };
+}
+
+impl BitPart {
+    /// The labels of the states.
+    pub fn labels(&self, alloc: Global) -> Result<Partition, AllocError>
+        ensures labels { IfOk result (λ p. p ≡ self.now) }
+        ensures lawful { IfOk result (λ p. IsPartition (length self.now) p) }
+    {
+        self.labels.copy(alloc)
+    }
+
+    /// Row s: bit t stands at 2^(t modulo 64) of word t / 64, and is 1 exactly where s and t are
+    /// together. There are as many words as n bits need, and the bits from n on are 0.
+    pub fn row(&self, s: usize) -> &[u64]
+        requires { s < length self.now }
+        ensures words { length result.now ≡ (length self.now + 63) / 64 }
+        ensures together { (t : ℕ) → (bit_of result.now t ≡ 1) ↔ Together self.now s t }
+        ensures above { (t : ℕ) → length self.now ≤ t → bit_of result.now t ≡ 0 }
+    {
+        let count = self.labels.len().div_ceil(64);
+        self.rows[s].words(count)
+    }
+
+    /// Whether two states are together.
+    pub fn same(&self, s: usize, t: usize) -> bool
+        requires s { s < length self.now }
+        requires t { t < length self.now }
+        ensures { IsTrue result ↔ Together self.now s t }
+    {
+        self.rows[s].contains(t)
+    }
+
+    /// The number of blocks.
+    pub fn blocks(&self) -> usize
+        ensures blocks { result ≡ blocks_of self.now }
+        ensures lawful { IsPartition (length self.now) self.now }
+    {
+        self.labels.blocks()
+    }
+
+    /// Whether q has the same states together.
+    pub fn equal(&self, q: &BitPart) -> bool
+        ensures { IsTrue result ↔ (self.now ≡ q.now) }
+    {
+        self.labels.equal(&q.labels)
+    }
+
+    /// Whether this partition stands before q in a listing.
+    pub fn before(&self, q: &BitPart) -> bool
+        requires { length q.now ≡ length self.now }
+        ensures { IsTrue result ↔ Before self.now q.now }
+    {
+        self.labels.before(&q.labels)
+    }
+
+    /// The same partition again.
+    pub fn copy(&self, alloc: Global) -> Result<BitPart, AllocError>
+        ensures same { IfOk result (λ p. p ≡ self.now) }
+        ensures lawful { IfOk result (λ p. IsPartition (length self.now) p) }
+    {
+        Ok(BitPart {
+            labels: self.labels.copy(alloc)?,
+            rows: self.rows.as_slice().to_vec(alloc)?,
+        })
+    }
+}

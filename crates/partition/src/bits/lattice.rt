@@ -1,0 +1,220 @@
+//! Rows of bits made from labels, and meet and join on rows.
+
+ghost use Rattle.std.specs.Prelude.{◌≡◌, ℕ, ◌<◌, ◌≤◌, ◌↔◌, ◌⊎◌, ◌+◌, min, length, IfOk, slice_index};
+ghost use Rattle.partition.specs.Partition.{IsPartition, IsStateCount, Together, blocks_of};
+ghost use Rattle.partition.specs.MeetAndJoin.{IsMeet, IsJoin, IsGreatestBelow, IsLeastAbove, Chain};
+ghost use Rattle.partition.specs.Bits.{bit_of, Has, row_of, IsRows, AreBlocks, AreSets, Reaches};
+
+use super::BitPart;
+use crate::Partition;
+use crate::states::StateSet;
+use std::alloc::{AllocError, Global};
+
+impl BitPart {
+    /// The same partition as rows of bits.
+    pub fn of(alloc: Global, p: &Partition) -> Result<BitPart, AllocError>
+        ensures labels { IfOk result (λ q. q ≡ p.now) }
+        ensures lawful { IfOk result (λ q. IsPartition (length p.now) q) }
+    {
+        let rows = label_rows(alloc, p.labels(), p.blocks())?;
+        Ok(BitPart {
+            labels: p.copy(alloc)?,
+            rows,
+        })
+    }
+
+    /// States are together where they are together here and in q.
+    pub fn meet(&self, alloc: Global, q: &BitPart) -> Result<BitPart, AllocError>
+        requires { length q.now ≡ length self.now }
+        ensures meet { IfOk result (λ r. IsMeet self.now q.now r) }
+        ensures greatest { IfOk result (λ r. IsGreatestBelow self.now q.now r) }
+    {
+        let rows = self.common_rows(alloc, q)?;
+        Ok(BitPart {
+            labels: numbered_rows(alloc, rows.as_slice())?,
+            rows,
+        })
+    }
+
+    /// States are together where a chain of states leads from the one to the other.
+    pub fn join(&self, alloc: Global, q: &BitPart) -> Result<BitPart, AllocError>
+        requires { length q.now ≡ length self.now }
+        ensures join { IfOk result (λ r. IsJoin self.now q.now r) }
+        ensures least { IfOk result (λ r. IsLeastAbove self.now q.now r) }
+    {
+        let rows = self.joined_rows(alloc, q)?;
+        Ok(BitPart {
+            labels: numbered_rows(alloc, rows.as_slice())?,
+            rows,
+        })
+    }
+
+    /// The rows of the states between which a chain leads.
+    fn joined_rows(&self, alloc: Global, q: &BitPart) -> Result<Vec<StateSet>, AllocError>
+        requires { length q.now ≡ length self.now }
+        ensures length { IfOk result (λ v. length v.items ≡ length self.now) }
+        ensures lawful { IsPartition (length self.now) self.now }
+        ensures chains { IfOk result (λ v. (s t : ℕ) → s < length self.now
+            → Has (row_of v.items s) t ↔ Chain self.now q.now s t) }
+    {
+        let mut table = vec![in alloc; StateSet::empty(); self.rows.len()]?;
+        self.join_into(q, table.as_mut_slice());
+        Ok(table)
+    }
+
+    /// Makes each of these empty rows the row of its state in the join.
+    fn join_into(&self, q: &BitPart, rows: &mut [StateSet])
+        requires length { length q.now ≡ length self.now }
+        requires rows { length rows.old ≡ length self.now }
+        requires small { length rows.old ≤ 256 }
+        requires empty { (s t : ℕ) → s < length self.now → bit_of (row_of rows.old s) t ≡ 0 }
+        ensures { (s t : ℕ) → s < length self.now → Has (row_of rows.new s) t ↔ Chain self.now q.now s t }
+    {
+        for s in 0..rows.len() {
+            let row = rows[s];
+            if !row.contains(s) {
+                let block = self.joined_block(q, s);
+                fill(rows, &block);
+            }
+        }
+    }
+
+    /// The states to which a chain leads from s.
+    fn joined_block(&self, q: &BitPart, s: usize) -> StateSet
+        requires length { length q.now ≡ length self.now }
+        requires s { s < length self.now }
+        ensures { (t : ℕ) → Has result t ↔ Chain self.now q.now s t }
+    {
+        reached_block(self.rows.as_slice(), q.rows.as_slice(), s)
+    }
+
+    /// The rows of the states that are together here and in q.
+    fn common_rows(&self, alloc: Global, q: &BitPart) -> Result<Vec<StateSet>, AllocError>
+        requires { length q.now ≡ length self.now }
+        ensures length { IfOk result (λ v. length v.items ≡ length self.now) }
+        ensures lawful { IsPartition (length self.now) self.now }
+        ensures both { IfOk result (λ v. (s t : ℕ) → s < length self.now
+            → Has (row_of v.items s) t ↔ (Together self.now s t × Together q.now s t)) }
+    {
+        let mut rows = self.rows.as_slice().to_vec(alloc)?;
+        keep_common(rows.as_mut_slice(), q.rows.as_slice());
+        Ok(rows)
+    }
+}
+
+/// Keeps in each row the states that are in the other row too.
+fn keep_common(rows: &mut [StateSet], others: &[StateSet])
+    requires { length others.now ≡ length rows.old }
+    ensures { (s : ℕ) → s < length rows.old → (t : ℕ)
+        → bit_of (row_of rows.new s) t ≡ min (bit_of (row_of rows.old s) t) (bit_of (row_of others.now s) t) }
+{
+    for (s, other) in others.iter().enumerate() {
+        rows[s] = rows[s].intersection(other);
+    }
+}
+
+/// The rows of a partition with this number of blocks.
+fn label_rows(alloc: Global, labels: &[u16], blocks: usize) -> Result<Vec<StateSet>, AllocError>
+    requires lawful { IsPartition (length labels.now) labels.now }
+    requires blocks { blocks ≡ blocks_of labels.now }
+    ensures { IfOk result (λ v. IsRows labels.now v.items) }
+{
+    let sets = block_sets(alloc, labels, blocks)?;
+    rows_of(alloc, sets.as_slice(), labels)
+}
+
+/// The states of each block.
+fn block_sets(alloc: Global, labels: &[u16], blocks: usize) -> Result<Vec<StateSet>, AllocError>
+    requires lawful { IsPartition (length labels.now) labels.now }
+    requires blocks { blocks ≡ blocks_of labels.now }
+    ensures { IfOk result (λ v. AreSets labels.now v.items blocks (length labels.now)) }
+{
+    let mut sets = vec![in alloc; StateSet::empty(); blocks]?;
+    for (t, label) in labels.iter().enumerate() {
+        let set = &mut sets[*label as usize];
+        set.insert(t);
+    }
+    Ok(sets)
+}
+
+/// For each state the set at its label.
+fn rows_of(alloc: Global, sets: &[StateSet], labels: &[u16]) -> Result<Vec<StateSet>, AllocError>
+    requires { (s : ℕ) → s < length labels.now → slice_index labels.now s < length sets.now }
+    ensures length { IfOk result (λ v. length v.items ≡ length labels.now) }
+    ensures rows { IfOk result (λ v. (s : ℕ) → s < length labels.now
+        → row_of v.items s ≡ row_of sets.now (slice_index labels.now s)) }
+{
+    let mut rows = Vec::with_capacity(alloc, labels.len())?;
+    for label in labels {
+        rows.push(sets[*label as usize])?;
+    }
+    Ok(rows)
+}
+
+/// The labels of rows that say which states are together.
+fn numbered_rows(alloc: Global, rows: &[StateSet]) -> Result<Partition, AllocError>
+    requires { AreBlocks rows.now }
+    ensures lawful { IfOk result (λ p. IsPartition (length rows.now) p) }
+    ensures rows { IfOk result (λ p. IsRows p rows.now) }
+{
+    let mut labels = Vec::with_capacity(alloc, rows.len())?;
+    let mut blocks: u16 = 0;
+    for row in rows {
+        let label = label_of_row(row, labels.as_slice(), &mut blocks);
+        labels.push(label)?;
+    }
+    Ok(Partition {
+        labels,
+        blocks: blocks as usize,
+    })
+}
+
+/// The label of an earlier state of the row, or the next one where there is none.
+fn label_of_row(row: &StateSet, labels: &[u16], blocks: &mut u16) -> u16
+    requires { blocks.old < 256 }
+    ensures { ((t : ℕ) × (t < length labels.now) × Has row.now t
+        × (result ≡ slice_index labels.now t) × (blocks.new ≡ blocks.old))
+        ⊎ (((t : ℕ) → t < length labels.now → bit_of row.now t ≡ 0)
+        × (result ≡ blocks.old) × (blocks.new ≡ blocks.old + 1)) }
+{
+    match row.first() {
+        Some(t) if t < labels.len() => labels[t],
+        _ => {
+            let label = *blocks;
+            *blocks += 1;
+            label
+        }
+    }
+}
+
+/// The states that are reached from s by the rows of p and q, one after another.
+fn reached_block(p: &[StateSet], q: &[StateSet], s: usize) -> StateSet
+    requires length { length q.now ≡ length p.now }
+    requires small { length p.now ≤ 256 }
+    requires within { (t u : ℕ) → Has (row_of p.now t) u ⊎ Has (row_of q.now t) u → u < length p.now }
+    requires s { s < length p.now }
+    ensures { (t : ℕ) → Has result t ↔ Reaches p.now q.now s t }
+{
+    let mut block = StateSet::empty();
+    block.insert(s);
+    let mut done = StateSet::empty();
+    while let Some(t) = block.difference(&done).first() {
+        block = block.union(&p[t].union(&q[t]));
+        done.insert(t);
+    }
+    block
+}
+
+/// Makes a block the row of each of its states.
+fn fill(rows: &mut [StateSet], block: &StateSet)
+    requires within { (t : ℕ) → Has block.now t → t < length rows.old }
+    requires small { length rows.old ≤ 256 }
+    ensures members { (t : ℕ) → Has block.now t → row_of rows.new t ≡ block.now }
+    ensures others { (t : ℕ) → bit_of block.now t ≡ 0 → row_of rows.new t ≡ row_of rows.old t }
+{
+    let mut left = *block;
+    while let Some(t) = left.first() {
+        rows[t] = *block;
+        left.remove(t);
+    }
+}

@@ -1,0 +1,126 @@
+//! Worked partitions, refusals, and sizes at the edges of words.
+
+use crate::{BitPart, PartFail, Partition};
+use std::alloc::{AllocError, Global};
+use std::test::Fail;
+
+fn text_of(alloc: Global, p: &Partition) -> Result<Vec<u8>, AllocError> {
+    let mut text = Vec::new(alloc);
+    p.show(alloc, &mut text)?;
+    Ok(text)
+}
+
+/// Whether the meet and the join have these texts.
+fn meet_and_join_are(
+    alloc: Global,
+    p: &str,
+    q: &str,
+    meet: &str,
+    join: &str,
+) -> Result<bool, PartFail> {
+    let p = Partition::parse(alloc, p.as_bytes(), 4)?;
+    let q = Partition::parse(alloc, q.as_bytes(), 4)?;
+    let lower = text_of(alloc, &p.meet(alloc, &q)?)?;
+    let upper = text_of(alloc, &p.join(alloc, &q)?)?;
+    Ok(lower.as_slice() == meet.as_bytes() && upper.as_slice() == join.as_bytes())
+}
+
+#[test]
+fn meets_and_joins(rt: HostRuntime) -> Result<(), Fail> {
+    let alloc = rt.alloc();
+    let cases = [
+        ("0,1,0,2", "0,1,0,1", "0,1,0,2", "0,1,0,1"),
+        ("0,1,0,2", "0,1,2,1", "0,1,2,3", "0,1,0,1"),
+    ];
+    for (p, q, meet, join) in cases {
+        let agree = meet_and_join_are(alloc, p, q, meet, join).ok();
+        assert_eq!(rt; agree, Some(true));
+    }
+    Ok(())
+}
+
+#[test]
+fn holds_and_complements(rt: HostRuntime) -> Result<(), Fail> {
+    let alloc = rt.alloc();
+    let held = Partition::hold(alloc, 4, 0, 2)?;
+    assert_eq!(rt; text_of(alloc, &held)?.as_slice(), b"0,1,0,2".as_slice());
+    let halves = Partition::from_labels(alloc, &[0, 0, 1, 1])?;
+    let complement = halves.complement(alloc)?;
+    assert_eq!(rt;
+        text_of(alloc, &complement)?.as_slice(),
+        b"0,1,0,1".as_slice()
+    );
+    assert!(rt; held.copy(alloc)?.equal(&held));
+    Ok(())
+}
+
+#[test]
+fn blocks_inside_blocks(rt: HostRuntime) -> Result<(), Fail> {
+    let alloc = rt.alloc();
+    let halves = Partition::from_labels(alloc, &[0, 0, 1, 1])?;
+    let finer = Partition::parse(alloc, b"0,1,2,2", 4)?;
+    assert!(rt; finer.len() == 4 && halves.len() == 4);
+    if finer.len() == halves.len() && finer.le(&halves) {
+        let inside = halves.inside(alloc, &finer)?;
+        assert_eq!(rt; text_of(alloc, &inside)?.as_slice(), b"0,1,0,0".as_slice());
+    } else {
+        panic!(rt; "the one is below the other");
+    }
+    Ok(())
+}
+
+#[test]
+fn refusals_name_the_first_place(rt: HostRuntime) {
+    let alloc = rt.alloc();
+    let cases = [
+        ("0,2,1,1", 4, PartFail::BadText { place: 1 }),
+        ("0,1", 4, PartFail::WrongLength { found: 2 }),
+        ("0,1,", 2, PartFail::BadText { place: 2 }),
+        ("0,00", 2, PartFail::BadText { place: 1 }),
+        ("00", 1, PartFail::BadText { place: 0 }),
+        ("", 1, PartFail::BadText { place: 0 }),
+        ("0,+1", 2, PartFail::BadText { place: 1 }),
+    ];
+    for (text, n, fail) in cases {
+        if n >= 1 && n <= 256 {
+            let refused = Partition::parse(alloc, text.as_bytes(), n).err();
+            assert_eq!(rt; refused, Some(fail));
+        }
+    }
+    let refused = Partition::from_labels(alloc, &[0, 2]).err();
+    assert_eq!(rt; refused, Some(PartFail::NotCanonical { place: 1 }));
+    let refused = Partition::from_labels(alloc, &[]).err();
+    assert_eq!(rt; refused, Some(PartFail::Empty));
+    let refused = Partition::from_labels(alloc, &[0; 300]).err();
+    assert_eq!(rt; refused, Some(PartFail::WrongLength { found: 300 }));
+}
+
+/// The last word of the last row where all states are together, and where none are.
+fn last_words(alloc: Global, n: usize) -> Result<(Option<u64>, Option<u64>), AllocError> {
+    if n == 0 || n > 256 {
+        return Ok((None, None));
+    }
+    let one = BitPart::of(alloc, &Partition::one(alloc, n)?)?;
+    let zero = BitPart::of(alloc, &Partition::zero(alloc, n)?)?;
+    Ok((
+        one.row(n - 1).last().copied(),
+        zero.row(n - 1).last().copied(),
+    ))
+}
+
+#[test]
+fn rows_end_in_their_last_word(rt: HostRuntime) -> Result<(), Fail> {
+    let alloc = rt.alloc();
+    let cases = [
+        (1usize, 1u64, 1u64),
+        (64, u64::MAX, 1 << 63),
+        (65, 1, 1),
+        (128, u64::MAX, 1 << 63),
+        (256, u64::MAX, 1 << 63),
+    ];
+    for (n, of_one, of_zero) in cases {
+        let (one, zero) = last_words(alloc, n)?;
+        assert_eq!(rt; [one, zero], [Some(of_one), Some(of_zero)]);
+    }
+    Ok(())
+}
