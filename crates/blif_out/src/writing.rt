@@ -1,0 +1,60 @@
+//! The whole text, and that of the network alone.
+
+ghost use Rattle.std.specs.Prelude.{◌≡◌, ◌≤◌, ◌++◌, IfOk, OnErr, OnOk, length};
+ghost use Rattle.hs_io.specs.Spelling.{ArePlainFields};
+ghost use Rattle.net_core.specs.Denotes.{Denotes};
+ghost use Rattle.blif_out.specs.Head.{Head, net_text_of};
+ghost use Rattle.blif_out.specs.NetText.{net_text};
+ghost use Rattle.blif_out.specs.Order.{HasKnownStarts, HasRowsInOrder};
+ghost use Rattle.blif_out.specs.Writable.{IsWritable};
+
+use crate::Header;
+use crate::header_text::append_header;
+use crate::network_text::append_network;
+use net_core::Network;
+use std::alloc::{AllocError, Global};
+
+/// The text of a network behind the comments of its header.
+pub fn text(alloc: Global, net: &Network, header: &Header) -> Result<Vec<u8>, AllocError>
+    requires writable { IsWritable net.now }
+    requires starts { HasKnownStarts net.now }
+    requires rows { HasRowsInOrder net.now }
+    requires latches { length net.now.latches ≤ 64 }
+    requires notes { length header.now.latches ≡ length net.now.latches }
+    requires words { length header.now.words ≡ length header.now.states }
+    requires states { ArePlainFields header.now.states }
+    ensures whole { IfOk result (λ text. text.items ≡ net_text_of header.now net.now) }
+    ensures denotes { IfOk result (λ text. Denotes text.items net.now) }
+    ensures head { IfOk result (λ text. Head text.items header.now) }
+{
+    whole_text(alloc, net, header)
+}
+
+/// The lines of a header, and then those of a network.
+pub(crate) fn whole_text(
+    alloc: Global,
+    net: &Network,
+    header: &Header,
+) -> Result<Vec<u8>, AllocError>
+    requires latches { length header.now.latches ≤ 64 }
+    requires words { length header.now.words ≡ length header.now.states }
+    ensures { IfOk result (λ text. text.items ≡ net_text_of header.now net.now) }
+{
+    let mut text = Vec::new(alloc);
+    append_header(alloc, &mut text, header)?;
+    append_network(&mut text, net)?;
+    Ok(text)
+}
+
+/// Appends the text of a network without a header. Where memory is wanting, nothing is appended.
+pub fn append(alloc: Global, net: &Network, into: &mut Vec<u8>) -> Result<(), AllocError>
+    requires writable { IsWritable net.now }
+    requires starts { HasKnownStarts net.now }
+    requires rows { HasRowsInOrder net.now }
+    ensures ok { OnOk result (into.new.items ≡ into.old.items ++ net_text net.now) }
+    ensures err { OnErr result (into.new.items ≡ into.old.items) }
+{
+    let mut text = Vec::new(alloc);
+    append_network(&mut text, net)?;
+    into.extend_from_slice(text.as_slice())
+}
