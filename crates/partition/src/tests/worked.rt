@@ -124,3 +124,14 @@ fn rows_end_in_their_last_word(rt: HostRuntime) -> Result<(), Fail> {
     }
     Ok(())
 }
+
+#[test]
+fn bits_hold_two_states_together(rt: HostRuntime) -> Result<(), Fail> {
+    let alloc = rt.alloc();
+    let held = BitPart::of(alloc, &Partition::hold(alloc, 65, 1, 64)?)?;
+    let together = [held.same(1, 64), held.same(64, 1), held.same(63, 63)];
+    assert_eq!(rt; together, [true; 3]);
+    let apart = [held.same(0, 64), held.same(1, 63)];
+    assert_eq!(rt; apart, [false; 2]);
+    Ok(())
+}
