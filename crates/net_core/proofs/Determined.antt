@@ -1,6 +1,7 @@
 -- A network's answers are determined, and what a text denotes is.
 use Rattle.std.proofs.Common.{◌≡◌, [], ◌∷◌, sym, ◌∙◌, ap, subst}
 use Rattle.net_core.specs.declared.Network.{Network}
+use Rattle.net_core.specs.Blif.{BlifOnce}
 use Rattle.net_core.specs.Denotes.{DenotesOnce}
 use Rattle.net_core.specs.Step.{NetAnswers, AnswersAreDetermined}
 
@@ -13,6 +14,9 @@ same_network N M inputs outputs latches gates =
 
 pub denotes_one : DenotesOnce
 denotes_one bytes N M n m = same_network N M (n.inputs ∙ sym m.inputs) (n.outputs ∙ sym m.outputs) (n.latches ∙ sym m.latches) (n.gates ∙ sym m.gates)
+
+pub blif_one : BlifOnce
+blif_one bytes N M n m = denotes_one bytes N M n.denotes m.denotes
 
 pub same_answers : AnswersAreDetermined
 same_answers N state [] answers others h k = h ∙ sym k

@@ -1,3 +1,4 @@
 pub mod Members
 pub mod Determined
 pub mod Valuations
+pub mod Flat

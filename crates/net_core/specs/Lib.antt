@@ -5,3 +5,5 @@ pub mod Statements
 pub mod Denotes
 pub mod Step
 pub mod Sound
+pub mod Blif
+pub mod Flat

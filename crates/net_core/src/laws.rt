@@ -1,12 +1,19 @@
 //! Laws of networks, each the contract of a function that does nothing.
 
+ghost use Rattle.net_core.specs.Blif.{BlifOnce};
 ghost use Rattle.net_core.specs.Denotes.{DenotesOnce};
+ghost use Rattle.net_core.specs.Flat.{FlatIsSound, GivenIsAStep};
 ghost use Rattle.net_core.specs.Step.{AnswersAreDetermined};
 ghost use Rattle.net_core.specs.Sound.{SoundIsDetermined};
 
 /// A text denotes at most one network.
 pub fn denotes_once()
     ensures { DenotesOnce }
+{}
+
+/// A text is a BLIF text of at most one network.
+pub fn blif_once()
+    ensures { BlifOnce }
 {}
 
 /// A network has at most one list of answers to a word.
@@ -17,4 +24,14 @@ pub fn answers_are_determined()
 /// In a sound network the latch values and a symbol give each driven name one bit.
 pub fn sound_is_determined()
     ensures { SoundIsDetermined }
+{}
+
+/// A network whose gates read inputs and latch outputs alone is sound.
+pub fn flat_is_sound()
+    ensures { FlatIsSound }
+{}
+
+/// In a sound network what every valuation gives is a step.
+pub fn given_is_a_step()
+    ensures { GivenIsAStep }
 {}

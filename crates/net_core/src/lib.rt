@@ -14,7 +14,10 @@ mod tests;
 
 use hs_io::{Name, Names};
 use hs_list::Items;
-pub use laws::{answers_are_determined, denotes_once, sound_is_determined};
+pub use laws::{
+    answers_are_determined, blif_once, denotes_once, flat_is_sound, given_is_a_step,
+    sound_is_determined,
+};
 
 /// The value of a latch before the first symbol.
 #[derive(Clone, Copy, Debug, PartialEq, Eq)]

@@ -1,0 +1,5 @@
+use Rattle.net_core.proofs.Determined.{blif_one}
+use Rattle.net_core.proofs.laws.blif_once.Goals as goal
+
+pub returns : goal.returns
+returns c = blif_one

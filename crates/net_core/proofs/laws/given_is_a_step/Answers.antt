@@ -1,0 +1,5 @@
+use Rattle.net_core.proofs.Flat.{given_step}
+use Rattle.net_core.proofs.laws.given_is_a_step.Goals as goal
+
+pub returns : goal.returns
+returns c = given_step
