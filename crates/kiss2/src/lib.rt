@@ -5,15 +5,23 @@
 //! it reads is spelled so, each byte of it: `specs/Spelling` says how a machine is spelled, as a function
 //! of the machine, and `specs/First` which machines are of the plain form. Nothing is said of what is
 //! refused.
+//!
+//! `specs/Lawful` says which records a file may have, and `specs/Machine` what the machine of a file is:
+//! its next state and outputs at each state and symbol, its answers to words, and which files have one.
+//! The functions of `laws` state what follows from these definitions.
 #![tactic(auto)]
 
 mod cutting;
+mod fill;
 mod kiss_file;
+mod laws;
 mod reading;
 mod state_names;
 #[cfg(test)]
 mod tests;
 
+pub use fill::Fill;
 pub use kiss_file::{KissFile, KissRow, Rows};
+pub use laws::{next_is_a_state, plain_is_accepted, rows_decide};
 pub use reading::{FirstFail, read_first};
 pub use state_names::StateNames;

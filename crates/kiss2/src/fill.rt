@@ -1,0 +1,8 @@
+/// What becomes of a next state or an output that no row says.
+#[derive(Clone, Copy, Debug, PartialEq, Eq)]
+pub enum Fill {
+    /// The file is refused.
+    Refuse,
+    /// The machine holds its state, and the output is 0.
+    Hold,
+}

@@ -1,0 +1,19 @@
+//! Laws of files and their machines, each the contract of a function that does nothing.
+
+ghost use Rattle.kiss2.specs.Machine.{NextIsAState, PlainIsAccepted, RowsDecide};
+
+/// What rows say of a state and a symbol is the machine's next state and output, whichever of them is
+/// asked.
+pub fn rows_decide()
+    ensures { RowsDecide }
+{}
+
+/// The machine of a lawful file never leaves its states.
+pub fn next_is_a_state()
+    ensures { NextIsAState }
+{}
+
+/// A file of the plain form is lawful, and leaves nothing open.
+pub fn plain_is_accepted()
+    ensures { PlainIsAccepted }
+{}
