@@ -1,20 +1,46 @@
--- The bits of a number, one more at a time.
-use Rattle.std.proofs.Common.{◌≡◌, ℕ, suc, ◌+◌, ◌-◌, ◌<◌, List, [], ◌∷◌, ◌++◌, refl, sym, ap, ◌∙◌, arith, append_assoc}
-use Rattle.std.specs.Int.{bit_at}
-use Rattle.hsdec_core.specs.Binary.{bits}
+-- Symbols and codes as digits, one more at a time.
+use Rattle.std.proofs.Common.{◌≡◌, ℕ, suc, ◌+◌, ◌-◌, ◌^◌, ◌<◌, ◌≤◌, List, [], ◌∷◌, ◌++◌, map, refl, sym, ap, ◌∙◌, arith, append_assoc, append-nil}
+use Rattle.std.proofs.Math.Nat.{pow-le-pow_right}
+use Rattle.std.proofs.lemmas.List.{map-append}
+use Rattle.std.proofs.lemmas.List.FromFn.{map-range_with_len_more}
+use Rattle.cubes.specs.Symbol.{bit, symbol_of}
+use Rattle.hsdec_core.specs.Carries.{code_bits}
+use Rattle.hsdec_core.specs.CodeNetwork.{digit}
 
--- the bits from a place on are the digit there and those after it
-bits-from : (width place value : ℕ) → place < width → bits (width - place) value ≡ (48 + bit_at value (width - 1 - place)) ∷ bits (width - (place + 1)) value
-bits-from width place value h =
+-- the bits from a place on are the one there and those after it
+symbol_from : (width place number : ℕ) → place < width → symbol_of (width - place) number ≡ bit number (width - 1 - place) ∷ symbol_of (width - (place + 1)) number
+unfolding symbol_of
+symbol_from width place number h =
     let e : width - place ≡ suc (width - (place + 1)) = omega arith in
     let f : width - 1 - place ≡ width - (place + 1) = omega arith in
     rw (e, f) refl
 
 -- one digit more
-pub bits-more : (all text new : List ℕ) (width place value digit : ℕ) → place < width → text ++ bits (width - place) value ≡ all → new ≡ text ++ digit ∷ [] → digit ≡ 48 + bit_at value (width - 1 - place) → new ++ bits (width - (place + 1)) value ≡ all
-bits-more all text new width place value digit h before pushed e =
-    ap (λ (xs : List ℕ). xs ++ bits (width - (place + 1)) value) pushed
-    ∙ append_assoc text (digit ∷ []) (bits (width - (place + 1)) value)
-    ∙ ap (λ (d : ℕ). text ++ d ∷ bits (width - (place + 1)) value) e
-    ∙ sym (ap (λ (xs : List ℕ). text ++ xs) (bits-from width place value h))
+pub symbol_more : (all text new : List ℕ) (width place number d : ℕ) → place < width → text ++ map digit (symbol_of (width - place) number) ≡ all → new ≡ text ++ d ∷ [] → d ≡ digit (bit number (width - 1 - place)) → new ++ map digit (symbol_of (width - (place + 1)) number) ≡ all
+symbol_more all text new width place number d h before pushed e =
+    ap (λ (xs : List ℕ). xs ++ map digit (symbol_of (width - (place + 1)) number)) pushed
+    ∙ append_assoc text (d ∷ []) (map digit (symbol_of (width - (place + 1)) number))
+    ∙ ap (λ (c : ℕ). text ++ c ∷ map digit (symbol_of (width - (place + 1)) number)) e
+    ∙ sym (ap (λ xs. text ++ map digit xs) (symbol_from width place number h))
     ∙ before
+
+-- all digits
+pub symbol_done : (text all : List ℕ) (width place number : ℕ) → width ≤ place → text ++ map digit (symbol_of (width - place) number) ≡ all → text ≡ all
+unfolding symbol_of
+symbol_done text all width place number h before =
+    let none : width - place ≡ 0 = omega arith in
+    sym (append-nil text) ∙ ap (λ (n : ℕ). text ++ map digit (symbol_of n number)) (sym none) ∙ before
+
+-- one bit of a code more
+pub code_more : (start text new : List ℕ) (i word d : ℕ) → text ≡ start ++ map digit (code_bits i word) → new ≡ text ++ d ∷ [] → d ≡ digit (bit word i) → new ≡ start ++ map digit (code_bits (i + 1) word)
+code_more start text new i word d before pushed e =
+    pushed
+    ∙ ap (λ (xs : List ℕ). xs ++ d ∷ []) before
+    ∙ append_assoc start (map digit (code_bits i word)) (d ∷ [])
+    ∙ ap (λ (c : ℕ). start ++ (map digit (code_bits i word) ++ c ∷ [])) e
+    ∙ ap (λ (xs : List ℕ). start ++ xs) (sym (map-append digit (code_bits i word) (bit word i ∷ [])))
+    ∙ ap (λ bits. start ++ map digit bits) (sym (map-range_with_len_more (bit word) 0 i i (omega arith)))
+
+-- there are at most 65536 symbols of 16 bits
+pub power_small : (k : ℕ) → k ≤ 16 → 2 ^ k ≤ 2 ^ 16
+power_small k few = let two : 0 < 2 = omega arith in pow-le-pow_right two few

@@ -1,5 +1,15 @@
-pub mod Appends
 pub mod Bits
+pub mod BitLabels
+pub mod Carrying
+pub mod LawfulHeader
 pub mod Lines
+pub mod Naming
+pub mod NaturalCodes
+pub mod OnSets
+pub mod Pairs
+pub mod PlainRows
 pub mod Ranges
 pub mod Runs
+pub mod Stepping
+pub mod Whole
+pub mod Writing

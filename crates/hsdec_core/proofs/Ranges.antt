@@ -1,6 +1,6 @@
 -- One step of a loop over a range that adds an item, or some, at the end of a list.
-use Rattle.std.proofs.Common.{◌≡◌, ℕ, zero, suc, ◌+◌, List, [], ◌∷◌, ◌++◌, map, sym, ap, ◌∙◌, arith, append_assoc}
-use Rattle.std.specs.List.{flat_map, range_with_len}
+use Rattle.std.proofs.Common.{◌≡◌, ℕ, zero, suc, ◌+◌, List, [], ◌∷◌, ◌++◌, map, sym, ap, ◌∙◌, subst, arith, append_assoc}
+use Rattle.std.specs.List.{AllZip, flat_map, range_with_len}
 use Rattle.std.proofs.lemmas.List.{flat_map_more}
 use Rattle.std.proofs.lemmas.List.FromFn.{map-range_with_len_more}
 
@@ -33,3 +33,25 @@ flat_map-range-push {X} f start list new i before pushed =
     ∙ ap (λ (xs : List X). xs ++ f i) before
     ∙ flat_map_more f start (range_with_len 0 i) i
     ∙ ap (λ (numbers : List ℕ). start ++ flat_map f numbers) (sym (range-more i))
+
+-- two lists that fit item by item, with one more each
+pub zip_push : {A B : Type 0} (R : A → B → Type 0) (xs : List A) (ys : List B) (x : A) (y : B) → AllZip R xs ys → R x y → AllZip R (xs ++ x ∷ []) (ys ++ y ∷ [])
+zip_push R [] [] x y rest here = (here, tt)
+zip_push R [] (z ∷ ys) x y rest here = elim rest [ ]
+zip_push R (z ∷ xs) [] x y rest here = elim rest [ ]
+zip_push R (z ∷ xs) (w ∷ ys) x y rest here = (rest.0, zip_push R xs ys x y rest.1 here)
+
+-- a range and a list that fit, with one more each
+pub zip_range-push : {B : Type 0} (R : ℕ → B → Type 0) (i : ℕ) (ys new : List B) (y : B) → AllZip R (range_with_len 0 i) ys → R i y → new ≡ ys ++ y ∷ [] → AllZip R (range_with_len 0 (i + 1)) new
+zip_range-push {B} R i ys new y rest here pushed =
+    subst (λ (zs : List B). AllZip R (range_with_len 0 (i + 1)) zs) (sym pushed)
+    (subst (λ (numbers : List ℕ). AllZip R numbers (ys ++ y ∷ [])) (sym (range-more i)) (zip_push R (range_with_len 0 i) ys i y rest here))
+
+-- the same of the images of a range, behind others
+pub zip_map_range-push : {A B : Type 0} (R : A → B → Type 0) (f : ℕ → A) (first : List A) (i : ℕ) (ys new : List B) (y : B) → AllZip R (first ++ map f (range_with_len 0 i)) ys → R (f i) y → new ≡ ys ++ y ∷ []
+    → AllZip R (first ++ map f (range_with_len 0 (i + 1))) new
+zip_map_range-push {A} {B} R f first i ys new y rest here pushed =
+    let more : (first ++ map f (range_with_len 0 i)) ++ f i ∷ [] ≡ first ++ map f (range_with_len 0 (i + 1)) =
+    append_assoc first (map f (range_with_len 0 i)) (f i ∷ []) ∙ ap (λ (xs : List A). first ++ xs) (sym (map-range_with_len_more f 0 i i (omega arith))) in
+    subst (λ (zs : List B). AllZip R (first ++ map f (range_with_len 0 (i + 1))) zs) (sym pushed)
+    (subst (λ (xs : List A). AllZip R xs (ys ++ y ∷ [])) more (zip_push R (first ++ map f (range_with_len 0 i)) ys (f i) y rest here))

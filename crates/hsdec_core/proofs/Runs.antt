@@ -10,7 +10,8 @@ use Rattle.hsdec_core.specs.ErrLines.{line_for, err_line}
 use Rattle.hsdec_core.specs.Job.{JobOf}
 use Rattle.hsdec_core.specs.Loaded.{IsTooLong}
 use Rattle.hsdec_core.specs.Made.{IsCodedFile, IsMadeFor, IsMade, IsAsked, IsTextFor}
-use Rattle.hsdec_core.specs.CodeText.{IsCodeText}
+use Rattle.state_codes.specs.declared.split.Kind.TheVariants.{Code}
+use Rattle.hsdec_core.specs.Decomposition.{IsDecomposed}
 use Rattle.hsdec_core.specs.Outcome.{answer_of, text_of, line_at, TextPut, LinePut}
 
 -- the answer is the one that was made, or that of a failed put, which needs a text
@@ -64,7 +65,7 @@ put_text_of (Ok file) holds Faulted (Ok made) (inl (inl h)) a = let e = a.no_tex
 put_text_of (Ok file) holds Faulted (Ok made) (inl (inr h)) a = let e = a.no_text (ap (λ (m : Outcome). m.text) h.1) in cc
 put_text_of (Ok file) holds Faulted (Ok made) (inr (bytes, h, inr i)) a = let e = a.no_text (ap (λ (m : Outcome). m.text) i) in cc
 put_text_of (Ok file) holds Faulted (Ok made) (inr (bytes, h, inl (text, is_text, i))) a =
-    (bytes, h, subst (IsCodeText bytes) (sym (ap (λ (m : Outcome). m.text) i)) is_text)
+    (bytes, h, subst (λ (t : List ℕ). IsDecomposed bytes Code t) (sym (ap (λ (m : Outcome). m.text) i)) is_text)
 
 -- what is made in memory is no failed put
 made_in_memory : (job : Result (List ℕ) ℕ) (holds : List ℕ → Option (List ℕ)) (Faulted : Type 0) (made : Result Outcome AllocError) → IfOk made (IsMadeFor job holds Faulted) → answer_of made ≢ WriteFault

@@ -1,82 +1,91 @@
--- The network of the natural code: each state is coded by its number, and each gate lists every input and every state bit.
-use Rattle.std.specs.Prelude.{ℕ, ◌-◌, ◌^◌, ◌<◌, ◌==◌, true, if◌then◌else◌, List, [], ◌∷◌, ◌++◌, length, map}
-use Rattle.std.specs.Int.{bit_at}
-use Rattle.std.specs.List.{flat_map, range_with_len}
+-- The network in which each gate lists every input and every state bit, for any codes of the states.
+use Rattle.std.specs.Prelude.{◌≡◌, ℕ, ◌<◌, ◌^◌, Bool, true, Contains, if◌then◌else◌, List, [], ◌∷◌, ◌++◌, length, map, slice_index}
+use Rattle.std.specs.Cmp.Lexicographic.{slice_cmp}
+use Rattle.std.specs.List.{AllZip, flat_map, range_with_len}
+use Rattle.std.specs.List.Sorted.{IsSorted}
+use Rattle.std.specs.Ordering.{nat_cmp}
+use Rattle.cubes.specs.Symbol.{bit, symbol_of}
 use Rattle.kiss2.specs.declared.kiss_file.KissFile.{KissFile}
+use Rattle.kiss2.specs.Machine.{next, output_bit}
 use Rattle.net_core.specs.declared.Gate.{Gate}
 use Rattle.net_core.specs.declared.Latch.{Latch}
 use Rattle.net_core.specs.declared.Network.{Network}
 use Rattle.net_core.specs.declared.Start.TheVariants.{Zero, One}
-use Rattle.hsdec_core.specs.Binary.{bits}
-use Rattle.hsdec_core.specs.OwnNames.{input_letter, output_letter, next_letter, state_letter, own_name, own_names}
-use Rattle.hsdec_core.specs.PlainMachine.{next_state, output_bit}
+use Rattle.state_codes.specs.declared.Codes.{Codes}
+use Rattle.hsdec_core.specs.Carries.{code_bits}
+use Rattle.hsdec_core.specs.Named.{input_letter, output_letter, next_letter, state_letter, own_name, own_names}
 use Rattle.hsdec_core.specs.declared.signals.Signal.{Signal}
 use Rattle.hsdec_core.specs.declared.signals.Signal.TheVariants.{Next, Output}
 
--- a bit of the code of a state; bit 0 is the most significant
-abbrev pub code_bit : ℕ → ℕ → ℕ → ℕ
-code_bit width state i = bit_at state (width - 1 - i)
+-- a signal and its number are within a code and the outputs
+abbrev pub IsWithin : ℕ → ℕ → Signal → Type 0
+IsWithin bits outputs (Next i) = i < bits
+IsWithin bits outputs (Output b) = b < outputs
 
--- what a gate gives at a state and a symbol: a bit of the code of the next state, or an output bit
-abbrev pub signal_bit : KissFile → ℕ → Signal → ℕ → ℕ → ℕ
-signal_bit file width (Next i) state symbol = code_bit width (next_state file state symbol) i
-signal_bit file width (Output b) state symbol = output_bit file state symbol b
+-- what a gate gives at a state and a symbol: a bit of the code of the next state, or an output
+abbrev pub signal_bit : KissFile → List ℕ → Signal → ℕ → List Bool → Bool
+signal_bit F words (Next i) s x = bit (slice_index words (next F s x)) i
+signal_bit F words (Output b) s x = output_bit F s x b
 
--- the values of all inputs and all state bits
-abbrev pub minterm : KissFile → ℕ → ℕ → ℕ → List ℕ
-minterm file width state symbol = bits file.inputs symbol ++ bits width state
+-- bits as digits
+abbrev pub digit : Bool → ℕ
+digit b = if b then 49 else 48
 
--- the minterm of a state and a symbol, where a gate gives 1 there
-abbrev pub row_at : KissFile → ℕ → Signal → ℕ → ℕ → List (List ℕ)
-row_at file width signal symbol state =
-    if signal_bit file width signal state symbol == 1 then minterm file width state symbol ∷ [] else []
+-- the row that holds one symbol and one code
+abbrev pub minterm : Codes → ℕ → List Bool → List ℕ
+minterm codes s x = map digit (x ++ code_bits codes.bits (slice_index codes.words s))
 
--- the minterms of a symbol at which a gate gives 1, in ascending order
-abbrev pub rows_at : KissFile → ℕ → Signal → ℕ → List (List ℕ)
-rows_at file width signal symbol = flat_map (row_at file width signal symbol) (range_with_len 0 (length file.states))
+-- the row of a state and a symbol, where a gate gives 1 there
+abbrev pub row_at : KissFile → Codes → Signal → ℕ → ℕ → List (List ℕ)
+row_at F codes signal symbol s =
+    let x = symbol_of F.inputs symbol in
+    if signal_bit F codes.words signal s x then minterm codes s x ∷ [] else []
 
--- all minterms at which a gate gives 1, in ascending order
-abbrev pub on_rows : KissFile → ℕ → Signal → List (List ℕ)
-on_rows file width signal = flat_map (rows_at file width signal) (range_with_len 0 (2 ^ file.inputs))
+-- the rows of a symbol, state by state
+abbrev pub rows_at : KissFile → Codes → Signal → ℕ → List (List ℕ)
+rows_at F codes signal symbol = flat_map (row_at F codes signal symbol) (range_with_len 0 (length F.states))
 
--- a gate, which lists every input and every latch output
-abbrev pub code_gate : KissFile → ℕ → Signal → List ℕ → Gate
-code_gate file width signal output =
+-- all rows, symbol by symbol
+abbrev pub all_rows : KissFile → Codes → Signal → List (List ℕ)
+all_rows F codes signal = flat_map (rows_at F codes signal) (range_with_len 0 (2 ^ F.inputs))
+
+-- the rows are those of the states and symbols at which the gate gives 1
+pub record IsOnSet (F : KissFile) (codes : Codes) (signal : Signal) (rows : List (List ℕ)) : Type 0 where
+  pub each : (s : ℕ) (x : List Bool) → s < length F.states → length x ≡ F.inputs → signal_bit F codes.words signal s x ≡ true → Contains rows (minterm codes s x)
+  pub none_else : (row : List ℕ) → Contains rows row
+      → (s : ℕ) × (x : List Bool) × (s < length F.states) × (length x ≡ F.inputs) × (signal_bit F codes.words signal s x ≡ true) × (row ≡ minterm codes s x)
+
+-- the name of a gate's output
+abbrev pub signal_name : Signal → List ℕ
+signal_name (Next i) = own_name 0 next_letter i
+signal_name (Output b) = own_name 0 output_letter b
+
+-- the gate of a signal
+pub record IsCodeGate (F : KissFile) (codes : Codes) (signal : Signal) (gate : Gate) : Type 0 where
+  pub inputs : gate.inputs ≡ own_names 0 input_letter F.inputs ++ own_names 0 state_letter codes.bits
+  pub output : gate.output ≡ signal_name signal
+  pub rows : IsOnSet F codes signal gate.rows
+  pub in_order : IsSorted (slice_cmp nat_cmp) gate.rows
+  pub on : gate.on ≡ true
+
+-- the latch of a bit, which starts at that bit of the code of the reset state
+abbrev pub code_latch : KissFile → Codes → ℕ → Latch
+code_latch F codes i =
     record {
-      inputs = own_names input_letter file.inputs ++ own_names state_letter width;
-      output = output;
-      rows = on_rows file width signal;
-      on = true;
+      input = own_name 0 next_letter i;
+      output = own_name 0 state_letter i;
+      start = if bit (slice_index codes.words F.reset) i then One else Zero;
     }
 
--- a latch, which starts at its bit of the code of the reset state
-abbrev pub code_latch : KissFile → ℕ → ℕ → Latch
-code_latch file width i =
-    record {
-      input = own_name next_letter i;
-      output = own_name state_letter i;
-      start = if code_bit width file.reset i == 1 then One else Zero;
-    }
+-- the signals that have gates: the bits of the next code, and then the outputs
+abbrev pub next_signals : ℕ → List Signal
+next_signals bits = map Next (range_with_len 0 bits)
 
--- the gate of a latch input
-abbrev pub next_gate : KissFile → ℕ → ℕ → Gate
-next_gate file width i = code_gate file width (Next i) (own_name next_letter i)
+abbrev pub output_signals : ℕ → List Signal
+output_signals outputs = map Output (range_with_len 0 outputs)
 
--- the gate of an output
-abbrev pub output_gate : KissFile → ℕ → ℕ → Gate
-output_gate file width b = code_gate file width (Output b) (own_name output_letter b)
-
--- the whole network: the gates of the latch inputs, and then those of the outputs
-abbrev pub code_network : KissFile → ℕ → Network
-code_network file width =
-    record {
-      inputs = own_names input_letter file.inputs;
-      outputs = own_names output_letter file.outputs;
-      latches = map (code_latch file width) (range_with_len 0 width);
-      gates = map (next_gate file width) (range_with_len 0 width) ++ map (output_gate file width) (range_with_len 0 file.outputs);
-    }
-
--- the number of a bit or of an output is within its range
-abbrev pub IsWithin : ℕ → Signal → Type 0
-IsWithin width (Next i) = i < width
-IsWithin width (Output b) = b < 64
+pub record IsCodeNetwork (F : KissFile) (codes : Codes) (N : Network) : Type 0 where
+  pub inputs : N.inputs ≡ own_names 0 input_letter F.inputs
+  pub outputs : N.outputs ≡ own_names 0 output_letter F.outputs
+  pub latches : N.latches ≡ map (code_latch F codes) (range_with_len 0 codes.bits)
+  pub gates : AllZip (IsCodeGate F codes) (next_signals codes.bits ++ output_signals F.outputs) N.gates

@@ -2,7 +2,8 @@
 use Rattle.std.specs.Prelude.{◌≡◌, ℕ, List, Option, Result, Ok, Err, ◌⊎◌}
 use Rattle.hsdec_core.specs.declared.answering.Answer.TheVariants.{Usage, NotYet}
 use Rattle.hsdec_core.specs.declared.made.Outcome.{Outcome}
-use Rattle.hsdec_core.specs.CodeText.{IsCodeText}
+use Rattle.state_codes.specs.declared.split.Kind.TheVariants.{Code}
+use Rattle.hsdec_core.specs.Decomposition.{IsDecomposed}
 use Rattle.hsdec_core.specs.ErrLines.{usage_line, not_yet_line}
 use Rattle.hsdec_core.specs.Job.{JobOf}
 use Rattle.hsdec_core.specs.Loaded.{IsText, IsLoadRefusal}
@@ -11,7 +12,7 @@ use Rattle.hsdec_core.specs.Outcome.{refusal, finished}
 -- what `code` makes of a text: its network, or it is not read so far
 abbrev pub IsCoded : List ℕ → Outcome → Type 0
 IsCoded bytes made =
-    ((text : List ℕ) × IsCodeText bytes text × (made ≡ finished text))
+    ((text : List ℕ) × IsDecomposed bytes Code text × (made ≡ finished text))
     ⊎ (made ≡ refusal NotYet not_yet_line)
 
 -- what `code FILE` makes where the shelf holds `held` under FILE, and `Faulted` says that its count of faults rose
@@ -31,7 +32,7 @@ IsMade words holds Faulted made = IsMadeFor (JobOf words) holds Faulted made
 
 -- the text that a job asks for, of what the shelf holds
 abbrev pub IsAsked : Result (List ℕ) ℕ → (List ℕ → Option (List ℕ)) → List ℕ → Type 0
-IsAsked (Ok file) holds text = (bytes : List ℕ) × IsText (holds file) bytes × IsCodeText bytes text
+IsAsked (Ok file) holds text = (bytes : List ℕ) × IsText (holds file) bytes × IsDecomposed bytes Code text
 IsAsked (Err word) holds text = ⊥
 
 -- the text that the words ask for

@@ -1,3 +1,5 @@
+//! The answers of the program.
+
 ghost use Rattle.std.specs.Prelude.{◌≡◌};
 ghost use Rattle.hsdec_core.specs.Answer.{answer_code};
 

@@ -1,55 +1,46 @@
-ghost use Rattle.std.specs.Prelude.{◌≡◌, ℕ, ◌+◌, ◌<◌, ◌≤◌, ◌++◌, ◌==◌, OnOk};
-ghost use Rattle.std.specs.Int.{bit_at};
-ghost use Rattle.hsdec_core.specs.Binary.{bits, IsNeed};
+//! Bits of symbols and codes, and their digits.
+
+ghost use Rattle.std.specs.Prelude.{◌≡◌, ◌<◌, ◌≤◌, ◌++◌, OnOk, map};
+ghost use Rattle.cubes.specs.Symbol.{symbol_of};
+ghost use Rattle.cubes.specs.Symbol as symbols;
+ghost use Rattle.hsdec_core.specs.Carries.{code_bits};
+ghost use Rattle.hsdec_core.specs.CodeNetwork.{digit};
 
 use std::alloc::AllocError;
 
-/// The least number of bits that tells so many states apart.
-pub fn need(states: usize) -> u32
-    requires { states ≤ 256 }
-    ensures least { IsNeed states result }
-    ensures few { result ≤ 8 }
+/// Appends the symbol of a number, the most significant bit first.
+pub fn append_symbol(text: &mut Vec<u8>, inputs: u8, symbol: usize) -> Result<(), AllocError>
+    requires { inputs ≤ 16 }
+    ensures { OnOk result (text.new.items ≡ text.old.items ++ map digit (symbol_of inputs symbol)) }
 {
-    for width in 0..8 {
-        if states <= 1 << width {
-            return width;
-        }
-    }
-    8
-}
-
-/// Appends a number in so many bits, the most significant first.
-pub fn append_bits(text: &mut Vec<u8>, width: u32, value: usize) -> Result<(), AllocError>
-    requires { width ≤ 64 }
-    ensures { OnOk result (text.new.items ≡ text.old.items ++ bits width value) }
-{
-    for place in 0..width {
-        text.push(digit(value, width - 1 - place))?;
+    for place in 0..inputs {
+        text.push(digit_of(bit(symbol as u64, usize::from(inputs - 1 - place))))?;
     }
     Ok(())
 }
 
-/// The digit of a bit of a number.
-fn digit(value: usize, place: u32) -> u8
-    requires { place < 64 }
-    ensures { result ≡ 48 + bit_at value place }
+/// Appends so many bits of a code, bit 0 first.
+pub fn append_code(text: &mut Vec<u8>, bits: usize, word: u64) -> Result<(), AllocError>
+    requires { bits ≤ 64 }
+    ensures { OnOk result (text.new.items ≡ text.old.items ++ map digit (code_bits bits word)) }
 {
-    b'0' + bit_value(value, place)
+    for i in 0..bits {
+        text.push(digit_of(bit(word, i)))?;
+    }
+    Ok(())
 }
 
-/// A bit of a number, as 0 or 1.
-pub fn bit_value(value: usize, place: u32) -> u8
-    requires { place < 64 }
-    ensures value { result ≡ bit_at value place }
-    ensures small { result < 2 }
+/// The digit of a bit.
+fn digit_of(bit: bool) -> u8
+    ensures { result ≡ digit bit }
 {
-    (value >> place & 1) as u8
+    if bit { b'1' } else { b'0' }
 }
 
 /// Whether a bit of a number is 1.
-pub fn bit(value: u64, place: u32) -> bool
+pub fn bit(value: u64, place: usize) -> bool
     requires { place < 64 }
-    ensures { result ≡ (bit_at value place == 1) }
+    ensures { result ≡ symbols.bit value place }
 {
     value >> place & 1 == 1
 }

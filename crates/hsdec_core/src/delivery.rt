@@ -1,3 +1,5 @@
+//! Putting what a command made.
+
 ghost use Rattle.std.specs.Prelude.{◌≡◌, ◌≢◌, ◌≤◌, [], OnOk, OnErr};
 ghost use Rattle.hs_io.specs.Counts.{Rose};
 ghost use Rattle.hs_io.specs.Pieces.{Appends, AppendsFront};

@@ -1,3 +1,5 @@
+//! What the words ask for.
+
 ghost use Rattle.std.specs.Prelude.{◌≡◌, ℕ, Ok, Err, MatchResult};
 ghost use Rattle.hsdec_core.specs.Job.{JobOf, is_operand};
 

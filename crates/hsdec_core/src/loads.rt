@@ -1,3 +1,5 @@
+//! Loading the text of an operand.
+
 ghost use Rattle.std.specs.Prelude.{◌≡◌, ◌≤◌, ◌↔◌, ℕ, List, IfOk};
 ghost use Rattle.hs_io.specs.Counts.{Rose};
 ghost use Rattle.hsdec_core.specs.Loaded.{IsLoaded};

@@ -1,3 +1,5 @@
+//! What a command makes in memory.
+
 ghost use Rattle.std.specs.Prelude.{◌≡◌};
 ghost use Rattle.hsdec_core.specs.Outcome.{refusal, finished};
 

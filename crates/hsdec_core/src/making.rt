@@ -1,3 +1,5 @@
+//! From words to what is made in memory.
+
 ghost use Rattle.std.specs.Prelude.{◌≡◌, ◌≤◌, ◌↔◌, ℕ, List, IfOk, IsErr};
 ghost use Rattle.hs_io.specs.Counts.{Rose};
 ghost use Rattle.hsdec_core.specs.Job.{JobOf};

@@ -1,89 +1,87 @@
-ghost use Rattle.std.specs.Prelude.{◌≡◌, ◌<◌, ◌≤◌, ◌++◌, ◌==◌, IfOk, OnOk, if◌then◌else◌, length, map};
-ghost use Rattle.std.specs.List.{flat_map, range_with_len};
-ghost use Rattle.net_core.specs.declared.Start.TheVariants.{Zero, One};
-ghost use Rattle.hsdec_core.specs.Binary.{bits};
-ghost use Rattle.hsdec_core.specs.OwnNames.{own_names};
-ghost use Rattle.hsdec_core.specs.CodeNetwork.{IsWithin, code_bit, minterm, row_at, rows_at, on_rows, code_gate, code_latch, next_gate, output_gate, code_network};
+//! The network of any codes in which each gate lists every input and every state bit.
 
-use crate::binary::{append_bits, bit};
+ghost use Rattle.std.specs.Prelude.{◌≡◌, ◌<◌, ◌≤◌, ◌++◌, ◌^◌, if◌then◌else◌, IfOk, OnOk, length, map};
+ghost use Rattle.net_core.specs.declared.Start.TheVariants.{Zero, One};
+ghost use Rattle.std.specs.Cmp.Lexicographic.{slice_cmp};
+ghost use Rattle.std.specs.List.{AllZip, range_with_len};
+ghost use Rattle.std.specs.List.Sorted.{IsSorted};
+ghost use Rattle.std.specs.Ordering.{nat_cmp};
+ghost use Rattle.cubes.specs.Symbol.{symbol_of};
+ghost use Rattle.kiss2.specs.First.{IsPlain};
+ghost use Rattle.hsdec_core.specs.CodeNetwork.{IsWithin, minterm, row_at, rows_at, signal_name, code_latch, next_signals, output_signals, IsOnSet, IsCodeGate, IsCodeNetwork};
+
+use crate::binary::{append_code, append_symbol, bit};
 use crate::own_names::{name_of, names_of, push_names};
 use crate::signals::{Signal, gives_one};
 use hs_io::{Name, Names};
 use kiss2::KissFile;
 use net_core::{Gate, Gates, Latch, Latches, Network, Start};
+use state_codes::Codes;
 use std::alloc::{AllocError, Global};
 
-/// The network of the natural code, with so many state bits.
-pub fn build_network(alloc: Global, file: &KissFile, width: u32) -> Result<Network, AllocError>
-    requires inputs { file.now.inputs ≤ 16 }
-    requires outputs { file.now.outputs ≤ 64 }
-    requires states { length file.now.states ≤ 256 }
-    requires width { width ≤ 8 }
-    ensures { IfOk result (λ net. net ≡ code_network file.now width) }
+/// The network of these codes for the machine of a file.
+pub fn build_network(alloc: Global, file: &KissFile, codes: &Codes) -> Result<Network, AllocError>
+    requires plain { IsPlain file.now }
+    requires words { length codes.now.words ≡ length file.now.states }
+    requires short { codes.now.bits ≤ 64 }
+    ensures { IfOk result (IsCodeNetwork file.now codes.now) }
 {
     Ok(Network {
-        inputs: names_of(alloc, b'x', u32::from(file.inputs))?,
-        outputs: names_of(alloc, b'z', u32::from(file.outputs))?,
-        latches: build_latches(alloc, file, width)?,
-        gates: build_gates(alloc, file, width)?,
+        inputs: names_of(alloc, b'x', usize::from(file.inputs))?,
+        outputs: names_of(alloc, b'z', usize::from(file.outputs))?,
+        latches: build_latches(alloc, file, codes)?,
+        gates: build_gates(alloc, file, codes)?,
     })
 }
 
 /// The latches, one for each state bit.
-fn build_latches(alloc: Global, file: &KissFile, width: u32) -> Result<Latches, AllocError>
-    requires { width ≤ 8 }
+fn build_latches(alloc: Global, file: &KissFile, codes: &Codes) -> Result<Latches, AllocError>
+    requires reset { file.now.reset < length codes.now.words }
+    requires short { codes.now.bits ≤ 64 }
     ensures { IfOk result (λ latches.
-        latches ≡ map (code_latch file.now width) (range_with_len 0 width)) }
+        latches ≡ map (code_latch file.now codes.now) (range_with_len 0 codes.now.bits)) }
 {
     let mut latches = Latches::new(alloc);
-    for i in 0..width {
-        latches.push(build_latch(alloc, file, width, i)?)?;
+    for i in 0..codes.bits {
+        latches.push(build_latch(alloc, file, codes, i)?)?;
     }
     Ok(latches)
 }
 
 /// The latch of a state bit.
-fn build_latch(alloc: Global, file: &KissFile, width: u32, i: u32) -> Result<Latch, AllocError>
-    requires width { width ≤ 8 }
-    requires within { i < width }
-    ensures { IfOk result (λ latch. latch ≡ code_latch file.now width i) }
+fn build_latch(alloc: Global, file: &KissFile, codes: &Codes, i: usize) -> Result<Latch, AllocError>
+    requires reset { file.now.reset < length codes.now.words }
+    requires bit { i < 64 }
+    ensures { IfOk result (λ latch. latch ≡ code_latch file.now codes.now i) }
 {
+    let reset = codes.words.as_slice()[usize::from(file.reset)];
     Ok(Latch {
         input: name_of(alloc, b'd', i)?,
         output: name_of(alloc, b'q', i)?,
-        start: start_of(file.reset, width, i),
+        start: start_of(bit(reset, i)),
     })
 }
 
-/// The start of a latch: its bit of the code of the reset state.
-fn start_of(reset: u16, width: u32, i: u32) -> Start
-    requires width { width ≤ 8 }
-    requires within { i < width }
-    ensures { result ≡ (if code_bit width reset i == 1 then One else Zero) }
+/// The start of a latch whose first value is this bit.
+fn start_of(bit: bool) -> Start
+    ensures { result ≡ (if bit then One else Zero) }
 {
-    if bit(u64::from(reset), width - 1 - i) {
-        Start::One
-    } else {
-        Start::Zero
-    }
+    if bit { Start::One } else { Start::Zero }
 }
 
 /// The gates: one for each latch input, and then one for each output.
-fn build_gates(alloc: Global, file: &KissFile, width: u32) -> Result<Gates, AllocError>
-    requires inputs { file.now.inputs ≤ 16 }
-    requires outputs { file.now.outputs ≤ 64 }
-    requires states { length file.now.states ≤ 256 }
-    requires width { width ≤ 8 }
-    ensures { IfOk result (λ gates. gates
-        ≡ map (next_gate file.now width) (range_with_len 0 width)
-        ++ map (output_gate file.now width) (range_with_len 0 file.now.outputs)) }
+fn build_gates(alloc: Global, file: &KissFile, codes: &Codes) -> Result<Gates, AllocError>
+    requires plain { IsPlain file.now }
+    requires words { length codes.now.words ≡ length file.now.states }
+    requires short { codes.now.bits ≤ 64 }
+    ensures { IfOk result (AllZip (IsCodeGate file.now codes.now)
+        (next_signals codes.now.bits ++ output_signals file.now.outputs)) }
 {
     let mut gates = Gates::new(alloc);
-    for i in 0..width {
-        let output = name_of(alloc, b'd', i)?;
-        gates.push(build_gate(alloc, file, width, Signal::Next(i), output)?)?;
+    for i in 0..codes.bits {
+        gates.push(build_gate(alloc, file, codes, Signal::Next(i))?)?;
     }
-    push_output_gates(alloc, file, width, &mut gates)?;
+    push_output_gates(alloc, file, codes, &mut gates)?;
     Ok(gates)
 }
 
@@ -91,126 +89,152 @@ fn build_gates(alloc: Global, file: &KissFile, width: u32) -> Result<Gates, Allo
 fn push_output_gates(
     alloc: Global,
     file: &KissFile,
-    width: u32,
+    codes: &Codes,
     gates: &mut Gates,
 ) -> Result<(), AllocError>
-    requires inputs { file.now.inputs ≤ 16 }
-    requires outputs { file.now.outputs ≤ 64 }
-    requires states { length file.now.states ≤ 256 }
-    requires width { width ≤ 8 }
-    ensures { OnOk result (gates.new ≡ gates.old
-        ++ map (output_gate file.now width) (range_with_len 0 file.now.outputs)) }
+    requires plain { IsPlain file.now }
+    requires words { length codes.now.words ≡ length file.now.states }
+    requires short { codes.now.bits ≤ 64 }
+    requires before { AllZip (IsCodeGate file.now codes.now) (next_signals codes.now.bits) gates.old }
+    ensures { IfOk result (λ _. AllZip (IsCodeGate file.now codes.now)
+        (next_signals codes.now.bits ++ output_signals file.now.outputs) gates.new) }
 {
-    for b in 0..u32::from(file.outputs) {
-        let output = name_of(alloc, b'z', b)?;
-        gates.push(build_gate(alloc, file, width, Signal::Output(b), output)?)?;
+    for b in 0..usize::from(file.outputs) {
+        gates.push(build_gate(alloc, file, codes, Signal::Output(b))?)?;
     }
     Ok(())
 }
 
-/// A gate that lists every input and every state bit.
+/// The gate of a signal.
 fn build_gate(
     alloc: Global,
     file: &KissFile,
-    width: u32,
+    codes: &Codes,
     signal: Signal,
-    output: Name,
 ) -> Result<Gate, AllocError>
-    requires inputs { file.now.inputs ≤ 16 }
-    requires states { length file.now.states ≤ 256 }
-    requires width { width ≤ 8 }
-    requires within { IsWithin width signal }
-    ensures { IfOk result (λ gate. gate ≡ code_gate file.now width signal output) }
+    requires plain { IsPlain file.now }
+    requires words { length codes.now.words ≡ length file.now.states }
+    requires short { codes.now.bits ≤ 64 }
+    requires within { IsWithin codes.now.bits file.now.outputs signal }
+    ensures { IfOk result (IsCodeGate file.now codes.now signal) }
 {
-    let mut inputs = names_of(alloc, b'x', u32::from(file.inputs))?;
-    push_names(alloc, &mut inputs, b'q', width)?;
+    let mut inputs = names_of(alloc, b'x', usize::from(file.inputs))?;
+    push_names(alloc, &mut inputs, b'q', codes.bits)?;
     Ok(Gate {
         inputs,
-        output,
-        rows: build_rows(alloc, file, width, signal)?,
+        output: output_name(alloc, signal)?,
+        rows: build_rows(alloc, file, codes, signal)?,
         on: true,
     })
 }
 
-/// The minterms at which a gate gives 1, in ascending order.
+/// The name of a gate's output.
+fn output_name(alloc: Global, signal: Signal) -> Result<Name, AllocError>
+    ensures { IfOk result (λ name. name ≡ signal_name signal) }
+{
+    match signal {
+        Signal::Next(i) => name_of(alloc, b'd', i),
+        Signal::Output(b) => name_of(alloc, b'z', b),
+    }
+}
+
+/// The rows of a gate, in ascending order of their bytes: the states and symbols at which it gives 1.
 fn build_rows(
     alloc: Global,
     file: &KissFile,
-    width: u32,
+    codes: &Codes,
     signal: Signal,
 ) -> Result<Names, AllocError>
-    requires inputs { file.now.inputs ≤ 16 }
-    requires states { length file.now.states ≤ 256 }
-    requires width { width ≤ 8 }
-    requires within { IsWithin width signal }
-    ensures { IfOk result (λ rows. rows ≡ on_rows file.now width signal) }
+    requires plain { IsPlain file.now }
+    requires words { length codes.now.words ≡ length file.now.states }
+    requires short { codes.now.bits ≤ 64 }
+    requires within { IsWithin codes.now.bits file.now.outputs signal }
+    ensures on_set { IfOk result (IsOnSet file.now codes.now signal) }
+    ensures in_order { IfOk result (IsSorted (slice_cmp nat_cmp)) }
 {
-    let mut rows = Names::new(alloc);
+    let mut rows = Vec::new(alloc);
     for symbol in 0..1 << file.inputs {
-        push_rows(alloc, file, width, signal, symbol, &mut rows)?;
+        push_rows(alloc, file, codes, signal, symbol, &mut rows)?;
     }
-    Ok(rows)
+    rows.sort()?;
+    names_from(alloc, rows.as_slice())
 }
 
-/// Adds the minterms of a symbol at which a gate gives 1.
+/// Adds the rows of a symbol.
 fn push_rows(
     alloc: Global,
     file: &KissFile,
-    width: u32,
+    codes: &Codes,
     signal: Signal,
     symbol: usize,
-    rows: &mut Names,
+    rows: &mut Vec<Vec<u8>>,
 ) -> Result<(), AllocError>
-    requires inputs { file.now.inputs ≤ 16 }
-    requires states { length file.now.states ≤ 256 }
-    requires width { width ≤ 8 }
-    requires symbol { symbol < 65536 }
-    requires within { IsWithin width signal }
-    ensures { OnOk result (rows.new ≡ rows.old ++ rows_at file.now width signal symbol) }
+    requires plain { IsPlain file.now }
+    requires words { length codes.now.words ≡ length file.now.states }
+    requires short { codes.now.bits ≤ 64 }
+    requires within { IsWithin codes.now.bits file.now.outputs signal }
+    requires symbol { symbol < 2 ^ file.now.inputs }
+    ensures { OnOk result (map (λ text. text.items) rows.new.items
+        ≡ map (λ text. text.items) rows.old.items ++ rows_at file.now codes.now signal symbol) }
 {
     for state in 0..file.states.count() {
-        push_row(alloc, file, width, signal, state, symbol, rows)?;
+        push_row(alloc, file, codes, signal, symbol, state, rows)?;
     }
     Ok(())
 }
 
-/// Adds the minterm of a state and a symbol, where a gate gives 1 there.
+/// Adds the row of a state and a symbol, where a gate gives 1 there.
 fn push_row(
     alloc: Global,
     file: &KissFile,
-    width: u32,
+    codes: &Codes,
     signal: Signal,
-    state: usize,
     symbol: usize,
-    rows: &mut Names,
+    state: usize,
+    rows: &mut Vec<Vec<u8>>,
 ) -> Result<(), AllocError>
-    requires inputs { file.now.inputs ≤ 16 }
-    requires state { state < 256 }
-    requires width { width ≤ 8 }
-    requires symbol { symbol < 65536 }
-    requires within { IsWithin width signal }
-    ensures { OnOk result (rows.new ≡ rows.old ++ row_at file.now width signal symbol state) }
+    requires plain { IsPlain file.now }
+    requires words { length codes.now.words ≡ length file.now.states }
+    requires short { codes.now.bits ≤ 64 }
+    requires within { IsWithin codes.now.bits file.now.outputs signal }
+    requires symbol { symbol < 2 ^ file.now.inputs }
+    requires state { state < length file.now.states }
+    ensures { OnOk result (map (λ text. text.items) rows.new.items
+        ≡ map (λ text. text.items) rows.old.items ++ row_at file.now codes.now signal symbol state) }
 {
-    if gives_one(file, width, signal, state, symbol) {
-        rows.push(build_minterm(alloc, file, width, state, symbol)?)?;
+    if gives_one(file, codes, signal, state, symbol) {
+        rows.push(build_row(alloc, file, codes, state, symbol)?)?;
     }
     Ok(())
 }
 
-/// The values of all inputs and all state bits at a state and a symbol.
-fn build_minterm(
+/// The row of a state and a symbol.
+fn build_row(
     alloc: Global,
     file: &KissFile,
-    width: u32,
+    codes: &Codes,
     state: usize,
     symbol: usize,
-) -> Result<Name, AllocError>
+) -> Result<Vec<u8>, AllocError>
     requires inputs { file.now.inputs ≤ 16 }
-    requires width { width ≤ 8 }
-    ensures { IfOk result (λ row. row ≡ minterm file.now width state symbol) }
+    requires short { codes.now.bits ≤ 64 }
+    requires state { state < length codes.now.words }
+    ensures { IfOk result (λ row.
+        row.items ≡ minterm codes.now state (symbol_of file.now.inputs symbol)) }
 {
-    let mut plane = Vec::new(alloc);
-    append_bits(&mut plane, u32::from(file.inputs), symbol)?;
-    append_bits(&mut plane, width, state)?;
-    Name::new(alloc, plane.as_slice())
+    let mut row = Vec::new(alloc);
+    append_symbol(&mut row, file.inputs, symbol)?;
+    append_code(&mut row, codes.bits, codes.words.as_slice()[state])?;
+    Ok(row)
+}
+
+/// The texts as names.
+fn names_from(alloc: Global, texts: &[Vec<u8>]) -> Result<Names, AllocError>
+    ensures { IfOk result (λ names. names ≡ map (λ text. text.items) texts.now) }
+{
+    let mut names = Names::new(alloc);
+    for text in texts {
+        names.push(Name::new(alloc, text.as_slice())?)?;
+    }
+    Ok(names)
 }

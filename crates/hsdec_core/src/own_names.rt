@@ -1,12 +1,14 @@
+//! The names that the program gives to signals.
+
 ghost use Rattle.std.specs.Prelude.{◌≡◌, ◌++◌, IfOk, OnOk};
-ghost use Rattle.hsdec_core.specs.OwnNames.{own_name, own_names};
+ghost use Rattle.hsdec_core.specs.Named.{own_name, own_names};
 
 use hs_io::{Name, Names};
 use std::alloc::{AllocError, Global};
 
 /// The name of a letter and a number.
-pub fn name_of(alloc: Global, letter: u8, number: u32) -> Result<Name, AllocError>
-    ensures { IfOk result (λ name. name ≡ own_name letter number) }
+pub fn name_of(alloc: Global, letter: u8, number: usize) -> Result<Name, AllocError>
+    ensures { IfOk result (λ name. name ≡ own_name 0 letter number) }
 {
     let digits = number.to_string(alloc)?;
     let mut text = Vec::new(alloc);
@@ -16,8 +18,8 @@ pub fn name_of(alloc: Global, letter: u8, number: u32) -> Result<Name, AllocErro
 }
 
 /// So many names of a letter, numbered from 0.
-pub fn names_of(alloc: Global, letter: u8, count: u32) -> Result<Names, AllocError>
-    ensures { IfOk result (λ names. names ≡ own_names letter count) }
+pub fn names_of(alloc: Global, letter: u8, count: usize) -> Result<Names, AllocError>
+    ensures { IfOk result (λ names. names ≡ own_names 0 letter count) }
 {
     let mut names = Names::new(alloc);
     push_names(alloc, &mut names, letter, count)?;
@@ -29,9 +31,9 @@ pub fn push_names(
     alloc: Global,
     names: &mut Names,
     letter: u8,
-    count: u32,
+    count: usize,
 ) -> Result<(), AllocError>
-    ensures { OnOk result (names.new ≡ names.old ++ own_names letter count) }
+    ensures { OnOk result (names.new ≡ names.old ++ own_names 0 letter count) }
 {
     for number in 0..count {
         names.push(name_of(alloc, letter, number)?)?;

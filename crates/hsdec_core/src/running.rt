@@ -1,3 +1,5 @@
+//! The top call.
+
 ghost use Rattle.std.specs.Prelude.{◌≡◌, ◌≢◌, ◌≤◌, ◌↔◌, ℕ, List, IfOk, IfSome, IsErr};
 ghost use Rattle.hs_io.specs.Counts.{Rose};
 ghost use Rattle.hs_io.specs.Pieces.{Appends, AppendsFront};
@@ -34,8 +36,9 @@ pub fn run<F: Shelf, O: Sink, E: Sink>(
         IfSome (F.holds shelf.old file) (λ bytes. IsTooLong bytes → IsLongAnswer result)) }
     ensures write_fault { result ≡ Answer.WriteFault → Rose (O.faults out.old) (O.faults out.new) }
 
-    // The text is given whole at `Done`, a front of it at `WriteFault`, and else nothing is put.
-    ensures whole { result ≡ Answer.Done → (text : List ℕ)
+    // At `Done` out is given the whole text of a decomposition of the machine that the operand's bytes
+    // spell; at `WriteFault` it is given a front of such a text, and else nothing.
+    ensures headline { result ≡ Answer.Done → (text : List ℕ)
         × IsTextFor words.now (F.holds shelf.old) text
         × Appends (O.given out.old) text (O.given out.new) }
     ensures front { result ≡ Answer.WriteFault → (text : List ℕ)

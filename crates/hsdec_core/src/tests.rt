@@ -1,3 +1,6 @@
+mod stepping;
+mod whole_texts;
+
 use super::*;
 use hs_io::{MemShelf, MemSink};
 use std::alloc::{AllocError, Global};

@@ -1,3 +1,5 @@
+//! The words of a command.
+
 ghost use Rattle.std.specs.Prelude.{◌≡◌, ℕ, ◌<◌, List, [], ◌∷◌, ◌++◌, Some, OnOk, OnErr, length, slice_get};
 
 use hs_io::{Name, Names};

@@ -1,9 +1,24 @@
-use Rattle.std.proofs.Common.{[], ◌∙◌}
-use Rattle.hsdec_core.proofs.Ranges.{map-range-push}
-use Rattle.hsdec_core.specs.CodeNetwork.{code_bit}
+use Rattle.std.proofs.Common.{Err, ap, sym, ◌∙◌, subst}
+use Rattle.partition.specs.Partition.{IsPartition}
+use Rattle.hsdec_core.proofs.BitLabels.{never_refused}
 use Rattle.hsdec_core.proofs.header_of_code.bit_partition.Goals as goal
 
-pub loop-state-preserved : goal.loop-state-preserved
-loop-state-preserved c =
-    map-range-push (λ state. code_bit c.args.width state c.args.i) [] _ _ _ _ c.loop-state.invariant c.in_ok-push.ensures.items
-    (c.from.ensures ∙ c.bit_value.ensures.value)
+pub unreachable-requires : goal.unreachable-requires
+unreachable-requires c =
+    never_refused _ _ c.from_labels.result _ (subst (IsPartition _) (sym c.as_slice.ensures.value) (c.in_ok-labels.ensures.lawful c.requires.states.1)) (λ e. cc)
+    (c.in-Err-Empty.is ∙ ap Err c.in-Err-Empty.field-0-is) c.from_labels.ensures.refused
+
+pub unreachable-requires-in-Err-NotCanonical : goal.unreachable-requires-in-Err-NotCanonical
+unreachable-requires-in-Err-NotCanonical c =
+    never_refused _ _ c.from_labels.result _ (subst (IsPartition _) (sym c.as_slice.ensures.value) (c.in_ok-labels.ensures.lawful c.requires.states.1)) (λ e. cc)
+    (c.in-Err-NotCanonical.is ∙ ap Err c.in-Err-NotCanonical.field-0-is) c.from_labels.ensures.refused
+
+pub unreachable-requires-in-Err-BadText : goal.unreachable-requires-in-Err-BadText
+unreachable-requires-in-Err-BadText c =
+    never_refused _ _ c.from_labels.result _ (subst (IsPartition _) (sym c.as_slice.ensures.value) (c.in_ok-labels.ensures.lawful c.requires.states.1)) (λ e. cc)
+    (c.in-Err-BadText.is ∙ ap Err c.in-Err-BadText.field-0-is) c.from_labels.ensures.refused
+
+pub unreachable-requires-in-Err-WrongLength : goal.unreachable-requires-in-Err-WrongLength
+unreachable-requires-in-Err-WrongLength c =
+    never_refused _ _ c.from_labels.result _ (subst (IsPartition _) (sym c.as_slice.ensures.value) (c.in_ok-labels.ensures.lawful c.requires.states.1)) (λ e. cc)
+    (c.in-Err-WrongLength.is ∙ ap Err c.in-Err-WrongLength.field-0-is) c.from_labels.ensures.refused

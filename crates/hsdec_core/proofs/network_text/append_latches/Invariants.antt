@@ -1,8 +1,0 @@
--- The texts of the items so far were appended.
-use Rattle.std.proofs.Common.{◌≡◌, ◌++◌, take}
-use Rattle.std.specs.List.{flat_map}
-use Rattle.hsdec_core.specs.NetText.{latch_line}
-use Rattle.hsdec_core.proofs.network_text.append_latches.Given as goal
-
-abbrev pub invariant-loop-latch : goal.invariant-loop-latch
-invariant-loop-latch l = l.text.items ≡ l.initial.text.items ++ flat_map latch_line (take l.latch-index l.latches)
