@@ -1,6 +1,5 @@
 -- The codes of `code`, whose one part tells all states apart.
-use Rattle.std.proofs.Common.{◌≡◌, ◌≢◌, ◌⊎◌, ℕ, ◌+◌, ◌<◌, ◌≤◌, ◌==◌, inl, inr, Bool, true, List, [], ◌∷◌, length, get_or, refl, sym, ap, ◌∙◌, subst, arith}
-use Rattle.std.proofs.lemmas.Bool.{cases_eq, eq-eqb, ne_eqb, false≢true}
+use Rattle.std.proofs.Common.{◌≡◌, ◌≢◌, ◌⊎◌, ℕ, ◌+◌, ◌<◌, ◌≤◌, inl, inr, Bool, true, List, [], ◌∷◌, length, get_or, refl, sym, ap, ◌∙◌, subst, arith}
 use Rattle.std.proofs.lemmas.List.{append-nil}
 use Rattle.std.proofs.lemmas.List.Elements.{All-nil, All-cons, All-head}
 use Rattle.std.proofs.lemmas.List.FromFn.{get_or-map-range_with_len}
@@ -8,6 +7,7 @@ use Rattle.std.proofs.lemmas.Nat.Bits.{bit_at-lt}
 use Rattle.std.specs.Int.{bit_at}
 use Rattle.std.specs.List.{All, slice_index}
 use Rattle.cubes.specs.Symbol.{bit}
+use Rattle.kiss2.proofs.Found.{digit_same}
 use Rattle.partition.specs.Partition.{blocks_of, IsPartition, IsStateCount, Together, zero_of}
 use Rattle.partition.specs.Laws.Extremes.{zero_of_is_partition, zero_of_is_zero}
 use Rattle.partition.specs.Laws.Labels.{blocks_of-le}
@@ -42,24 +42,10 @@ codes_apart n codes count code s t in_s in_t agree =
     zero_of_is_zero n s t
     ((part_bits_tell n (code_parts n) codes (code_part_lawful n count) code 0 (lone_part (zero_of n)) refl s t in_s in_t).0 (λ i below owned. agree i below))
 
--- two bits that are 1 at once are equal
-same_bit : (a b : ℕ) → a < 2 → b < 2 → (a == 1) ≡ (b == 1) → a ≡ b
-same_bit a b small_a small_b same =
-    elim (cases_eq a 1) [
-      | inl one ↦ elim (cases_eq b 1) [
-        | inl two ↦ one ∙ sym two
-        | inr other ↦ absurd (false≢true (sym (ne_eqb b 1 other) ∙ sym same ∙ eq-eqb a 1 one))
-      ]
-      | inr none ↦ elim (cases_eq b 1) [
-        | inl two ↦ absurd (false≢true (sym (ne_eqb a 1 none) ∙ same ∙ eq-eqb b 1 two))
-        | inr other ↦ omega arith
-      ]
-    ]
-
 -- words with the same first bits agree at each of them
 pub same_code_bits : (bits a b : ℕ) → code_bits bits a ≡ code_bits bits b → (i : ℕ) → i < bits → bit_at a i ≡ bit_at b i
 same_code_bits bits a b same i below =
-    same_bit (bit_at a i) (bit_at b i) (bit_at-lt a i) (bit_at-lt b i)
+    digit_same (bit_at a i) (bit_at b i) (bit_at-lt a i) (bit_at-lt b i)
     (sym (get_or-map-range_with_len (bit a) 0 bits i i true below (omega arith))
     ∙ ap (λ (bools : List Bool). get_or bools i true) same
     ∙ get_or-map-range_with_len (bit b) 0 bits i i true below (omega arith))

@@ -8,8 +8,9 @@ use Rattle.hsdec_core.specs.declared.made.Outcome.{Outcome}
 use Rattle.hsdec_core.specs.Answer.{ExactlyWhere, IsLongAnswer}
 use Rattle.hsdec_core.specs.ErrLines.{line_for, err_line}
 use Rattle.hsdec_core.specs.Job.{JobOf}
-use Rattle.hsdec_core.specs.Loaded.{IsTooLong}
+use Rattle.hsdec_core.specs.Loaded.{IsText, IsTooLong}
 use Rattle.hsdec_core.specs.Made.{IsCodedFile, IsMadeFor, IsMade, IsAsked, IsTextFor}
+use Rattle.kiss2.specs.First.{IsSpelled}
 use Rattle.state_codes.specs.declared.split.Kind.TheVariants.{Code}
 use Rattle.hsdec_core.specs.Decomposition.{IsDecomposed}
 use Rattle.hsdec_core.specs.Outcome.{answer_of, text_of, line_at, TextPut, LinePut}
@@ -29,7 +30,7 @@ job_answer : (held : Option (List ℕ)) (Faulted : Type 0) (file : List ℕ) (ma
 job_answer held Faulted file made (inl (inl h)) e = cc
 job_answer held Faulted file made (inl (inr h)) e = cc
 job_answer held Faulted file made (inr (bytes, h, inl (text, is_text, i))) e = cc
-job_answer held Faulted file made (inr (bytes, h, inr i)) e = cc
+job_answer held Faulted file made (inr (bytes, h, inr (unspelled, i))) e = cc
 
 -- words are refused exactly where they are no job
 pub usage_cause : (job : Result (List ℕ) ℕ) (holds : List ℕ → Option (List ℕ)) (Faulted : Type 0) (made : Result Outcome AllocError) (result : Answer) → IfOk made (IsMadeFor job holds Faulted) → IsAnswered made result → ExactlyWhere result Usage (IsErr job)
@@ -57,13 +58,30 @@ pub longer_of : (job : Result (List ℕ) ℕ) (holds : List ℕ → Option (List
 longer_of (Err word) holds Faulted made result im a = tt
 longer_of (Ok file) holds Faulted made result im a = longer_cause (holds file) Faulted file made result im a
 
+-- a text is in no form that is read so far only where it spells no machine of the plain form
+not_yet_told : (held : Option (List ℕ)) (bytes : List ℕ) → IsText held bytes → (IsSpelled bytes → ⊥) → IfSome held (λ told. IsSpelled told → ⊥)
+not_yet_told None bytes h unspelled = tt
+not_yet_told (Some told) bytes h unspelled = subst (λ (text : List ℕ). IsSpelled text → ⊥) h.1 unspelled
+
+not_yet_made : (held : Option (List ℕ)) (Faulted : Type 0) (file : List ℕ) (made : Outcome) → IsCodedFile held Faulted file made → made.answer ≡ NotYet → IfSome held (λ told. IsSpelled told → ⊥)
+not_yet_made held Faulted file made (inl (inl h)) e = absurd cc
+not_yet_made held Faulted file made (inl (inr h)) e = absurd cc
+not_yet_made held Faulted file made (inr (bytes, h, inl (text, is_text, i))) e = absurd cc
+not_yet_made held Faulted file made (inr (bytes, h, inr (unspelled, i))) e = not_yet_told held bytes h unspelled
+
+pub not_yet_of : (job : Result (List ℕ) ℕ) (holds : List ℕ → Option (List ℕ)) (Faulted : Type 0) (made : Result Outcome AllocError) (result : Answer) → IfOk made (IsMadeFor job holds Faulted) → IsAnswered made result → result ≡ NotYet → IfOk job (λ file. IfSome (holds file) (λ told. IsSpelled told → ⊥))
+not_yet_of (Err word) holds Faulted made result im a e = tt
+not_yet_of (Ok file) holds Faulted (Err wanting) result im a e = let f = a.no_text refl in absurd cc
+not_yet_of (Ok file) holds Faulted (Ok made) result im a e =
+    elim a.either [ inl f ↦ not_yet_made (holds file) Faulted file made im (sym f ∙ e) | inr f ↦ absurd cc ]
+
 -- a put that failed was one of the text that the words ask for
 pub put_text_of : (job : Result (List ℕ) ℕ) (holds : List ℕ → Option (List ℕ)) (Faulted : Type 0) (made : Result Outcome AllocError) → IfOk made (IsMadeFor job holds Faulted) → IsAnswered made WriteFault → IsAsked job holds (text_of made)
 put_text_of job holds Faulted (Err wanting) im a = let e = a.no_text refl in cc
 put_text_of (Err word) holds Faulted (Ok made) im a = let e = a.no_text (ap (λ (m : Outcome). m.text) im) in cc
 put_text_of (Ok file) holds Faulted (Ok made) (inl (inl h)) a = let e = a.no_text (ap (λ (m : Outcome). m.text) h.1) in cc
 put_text_of (Ok file) holds Faulted (Ok made) (inl (inr h)) a = let e = a.no_text (ap (λ (m : Outcome). m.text) h.1) in cc
-put_text_of (Ok file) holds Faulted (Ok made) (inr (bytes, h, inr i)) a = let e = a.no_text (ap (λ (m : Outcome). m.text) i) in cc
+put_text_of (Ok file) holds Faulted (Ok made) (inr (bytes, h, inr (unspelled, i))) a = let e = a.no_text (ap (λ (m : Outcome). m.text) i) in cc
 put_text_of (Ok file) holds Faulted (Ok made) (inr (bytes, h, inl (text, is_text, i))) a =
     (bytes, h, subst (λ (t : List ℕ). IsDecomposed bytes Code t) (sym (ap (λ (m : Outcome). m.text) i)) is_text)
 
@@ -74,7 +92,7 @@ made_in_memory (Err word) holds Faulted (Ok made) im e = cc
 made_in_memory (Ok file) holds Faulted (Ok made) (inl (inl h)) e = cc
 made_in_memory (Ok file) holds Faulted (Ok made) (inl (inr h)) e = cc
 made_in_memory (Ok file) holds Faulted (Ok made) (inr (bytes, h, inl (text, is_text, i))) e = cc
-made_in_memory (Ok file) holds Faulted (Ok made) (inr (bytes, h, inr i)) e = cc
+made_in_memory (Ok file) holds Faulted (Ok made) (inr (bytes, h, inr (unspelled, i))) e = cc
 
 -- the front of a text that a failed put gave
 pub front_of : (words : List (List ℕ)) (holds : List ℕ → Option (List ℕ)) (Faulted : Type 0) (made : Result Outcome AllocError) (given given' : Option (List ℕ)) (faults faults' : ℕ) → IfOk made (IsMade words holds Faulted) → (result : Answer) → TextPut made result given given' faults faults' → IsAnswered made result → result ≡ WriteFault → (text : List ℕ) × IsTextFor words holds text × AppendsFront given text given'
@@ -96,7 +114,7 @@ line_for_of (Ok file) holds Faulted (Ok made) result (inl (inl h)) a undone =
 line_for_of (Ok file) holds Faulted (Ok made) result (inl (inr h)) a undone =
     let e : result ≡ TooLong = a.no_text (ap (λ (m : Outcome). m.text) h.1) ∙ ap (λ (m : Outcome). m.answer) h.1 in
     subst (λ (r : Answer). line_at (Ok made) r ≡ line_for (Ok file) r) (sym e) (ap (λ (m : Outcome). m.line) h.1)
-line_for_of (Ok file) holds Faulted (Ok made) result (inr (bytes, h, inr i)) a undone =
+line_for_of (Ok file) holds Faulted (Ok made) result (inr (bytes, h, inr (unspelled, i))) a undone =
     let e : result ≡ NotYet = a.no_text (ap (λ (m : Outcome). m.text) i) ∙ ap (λ (m : Outcome). m.answer) i in
     subst (λ (r : Answer). line_at (Ok made) r ≡ line_for (Ok file) r) (sym e) (ap (λ (m : Outcome). m.line) i)
 line_for_of (Ok file) holds Faulted (Ok made) result (inr (bytes, h, inl (text, is_text, i))) a undone =

@@ -2,6 +2,7 @@
 use Rattle.std.specs.Prelude.{◌≡◌, ℕ, List, Option, Result, Ok, Err, ◌⊎◌}
 use Rattle.hsdec_core.specs.declared.answering.Answer.TheVariants.{Usage, NotYet}
 use Rattle.hsdec_core.specs.declared.made.Outcome.{Outcome}
+use Rattle.kiss2.specs.First.{IsSpelled}
 use Rattle.state_codes.specs.declared.split.Kind.TheVariants.{Code}
 use Rattle.hsdec_core.specs.Decomposition.{IsDecomposed}
 use Rattle.hsdec_core.specs.ErrLines.{usage_line, not_yet_line}
@@ -9,11 +10,11 @@ use Rattle.hsdec_core.specs.Job.{JobOf}
 use Rattle.hsdec_core.specs.Loaded.{IsText, IsLoadRefusal}
 use Rattle.hsdec_core.specs.Outcome.{refusal, finished}
 
--- what `code` makes of a text: its network, or it is not read so far
+-- what `code` makes of a text: its network, or it spells no machine of the plain form and is not read so far
 abbrev pub IsCoded : List ℕ → Outcome → Type 0
 IsCoded bytes made =
     ((text : List ℕ) × IsDecomposed bytes Code text × (made ≡ finished text))
-    ⊎ (made ≡ refusal NotYet not_yet_line)
+    ⊎ ((IsSpelled bytes → ⊥) × (made ≡ refusal NotYet not_yet_line))
 
 -- what `code FILE` makes where the shelf holds `held` under FILE, and `Faulted` says that its count of faults rose
 abbrev pub IsCodedFile : Option (List ℕ) → Type 0 → List ℕ → Outcome → Type 0

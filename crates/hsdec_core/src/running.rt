@@ -1,6 +1,7 @@
 //! The top call.
 
 ghost use Rattle.std.specs.Prelude.{◌≡◌, ◌≢◌, ◌≤◌, ◌↔◌, ℕ, List, IfOk, IfSome, IsErr};
+ghost use Rattle.kiss2.specs.First.{IsSpelled};
 ghost use Rattle.hs_io.specs.Counts.{Rose};
 ghost use Rattle.hs_io.specs.Pieces.{Appends, AppendsFront};
 ghost use Rattle.hsdec_core.specs.Answer.{ExactlyWhere, IsLongAnswer};
@@ -34,6 +35,8 @@ pub fn run<F: Shelf, O: Sink, E: Sink>(
         IfOk (JobOf words.now) (λ file. IfSome (F.holds shelf.old file) IsTooLong) }
     ensures longer { IfOk (JobOf words.now) (λ file.
         IfSome (F.holds shelf.old file) (λ bytes. IsTooLong bytes → IsLongAnswer result)) }
+    ensures not_yet { result ≡ Answer.NotYet → IfOk (JobOf words.now) (λ file.
+        IfSome (F.holds shelf.old file) (λ bytes. IsSpelled bytes → ⊥)) }
     ensures write_fault { result ≡ Answer.WriteFault → Rose (O.faults out.old) (O.faults out.new) }
 
     // At `Done` out is given the whole text of a decomposition of the machine that the operand's bytes

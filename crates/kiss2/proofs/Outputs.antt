@@ -35,7 +35,7 @@ byte_of-bit (suc zero) lt = refl
 byte_of-bit (suc (suc d)) lt = absurd (omega arith)
 
 -- the character of an output that is given
-byte_of-given : (outputs place value d : ℕ) → place < outputs → d < 2 → bit_at value place ≡ d → byte_of (character (2 ^ outputs - 1) value place) ≡ 48 + d
+pub byte_of-given : (outputs place value d : ℕ) → place < outputs → d < 2 → bit_at value place ≡ d → byte_of (character (2 ^ outputs - 1) value place) ≡ 48 + d
 byte_of-given outputs place value d lt ld e =
     ap (λ c. byte_of (cond (eqb c 1) (Some (bit value place)) None)) (bit_at_ones outputs place lt)
     ∙ ap (λ c. byte_of (Some (eqb c 1))) e

@@ -1,9 +1,10 @@
 -- The plain form: each state has a row for each symbol, in order, and nothing is left open.
-use Rattle.std.specs.Prelude.{ℕ, ◌≡◌, ◌-◌, ◌*◌, ◌/◌, ◌%◌, ◌^◌, ◌<◌, ◌≤◌, All, List, IsNone, IsSomeAnd, length, slice_index_or}
+use Rattle.std.specs.Prelude.{ℕ, ◌≡◌, ◌-◌, ◌*◌, ◌/◌, ◌%◌, ◌^◌, ◌<◌, ◌≤◌, All, List, ◌++◌, IsNone, IsSomeAnd, length, slice_index_or}
+use Rattle.std.specs.List.{flat_map}
 use Rattle.kiss2.specs.declared.kiss_file.KissFile.{KissFile}
 use Rattle.kiss2.specs.declared.kiss_file.KissRow.{KissRow}
 use Rattle.kiss2.specs.Names.{AreDistinct, IsPlainName}
-use Rattle.kiss2.specs.Spelling.{spelling}
+use Rattle.kiss2.specs.Spelling.{last_line, row_line, spelling}
 
 -- the row of that number, where each state has 2 ^ inputs of them: its field is a symbol without a dash,
 -- it names a next state, and it gives each output
@@ -42,3 +43,19 @@ pub record IsPlain (file : KissFile) : Type 0 where
 pub record First (bytes : List ℕ) (file : KissFile) : Type 0 where
   pub plain : IsPlain file
   pub spelled : bytes ≡ spelling file
+
+-- the bytes spell some machine of the plain form
+abbrev pub IsSpelled : List ℕ → Type 0
+IsSpelled bytes = (file : KissFile) × First bytes file
+
+-- the lines spell these rows of a machine with these states, and then the ending word
+pub record AreLinesOf (inputs outputs : ℕ) (names : List (List ℕ)) (rows : List KissRow) (lines : List ℕ) : Type 0 where
+  pub some_input : 1 ≤ inputs
+  pub few_inputs : inputs ≤ 16
+  pub few_outputs : outputs ≤ 64
+  pub few_states : length names ≤ 256
+  pub distinct : AreDistinct names
+  pub plain_names : All IsPlainName names
+  pub count : length rows ≡ length names * 2 ^ inputs
+  pub plain_rows : ArePlainRows inputs outputs (length names) rows
+  pub spelled : lines ≡ flat_map (row_line names outputs) rows ++ last_line

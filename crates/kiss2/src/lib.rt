@@ -3,8 +3,8 @@
 //! A [`KissFile`] is what a text says: the numbers of inputs and outputs, the names of the states, and the
 //! rows. [`read_first`] reads the plain form, in which each state has a row for each symbol, in order. What
 //! it reads is spelled so, each byte of it: `specs/Spelling` says how a machine is spelled, as a function
-//! of the machine, and `specs/First` which machines are of the plain form. Nothing is said of what is
-//! refused.
+//! of the machine, and `specs/First` which machines are of the plain form. It refuses a text only where it
+//! spells no such machine.
 //!
 //! `specs/Lawful` says which records a file may have, and `specs/Machine` what the machine of a file is:
 //! its next state and outputs at each state and symbol, its answers to words, and which files have one.
@@ -12,6 +12,7 @@
 #![tactic(auto)]
 
 mod cutting;
+mod fields;
 mod fill;
 mod kiss_file;
 mod laws;
