@@ -3,18 +3,14 @@
 # may be covered, which looks at each pair of a term of on and a term of off. Each time is the least of
 # five runs, with the making of the lists in both.
 set -eu
+. "$(dirname "$0")/timing.sh"
 cd "$(dirname "$0")/../crates/bench_cover_logic"
 rt run -- counter 2 check > /dev/null 2>&1
 program=out/bench_cover_logic
 
 # the least of five runs, in microseconds
 least() {
-    for _ in 1 2 3 4 5; do
-        start=$(date +%s%N)
-        "$program" "$@" > /dev/null
-        end=$(date +%s%N)
-        echo $(((end - start) / 1000))
-    done | sort -n | head -n 1
+    least_of 5 "$program" "$@"
 }
 
 printf '%-16s %12s %12s %7s  %s\n' gates 'check (us)' 'cover (us)' ratio counts

@@ -3,21 +3,14 @@
 # each cube once for each bit of a symbol whether it holds one symbol, and `plain` tries the symbols one by
 # one. Prints the time of one call, from the difference of many calls and none, and ratios.
 set -eu
+. "$(dirname "$0")/timing.sh"
 cd "$(dirname "$0")/../crates/bench_cubes"
-rt run -- gap lastbit 2 1 >/dev/null
+rt run -- gap lastbit 2 1 >/dev/null 2>&1
 program=out/bench_cubes
 
 # the least of five runs, in microseconds
 least() {
-    local best=0 begin end took
-    for _ in 1 2 3 4 5; do
-        begin=$(date +%s%N)
-        "$program" "$@" >/dev/null
-        end=$(date +%s%N)
-        took=$(((end - begin) / 1000))
-        if [ "$best" -eq 0 ] || [ "$took" -lt "$best" ]; then best=$took; fi
-    done
-    echo "$best"
+    least_of 5 "$program" "$@"
 }
 
 # the time of one call, in microseconds: question, kind, size, calls

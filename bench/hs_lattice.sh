@@ -3,18 +3,14 @@
 # of the generators as the listing makes, generators times values, and nothing else. Each time is the
 # least of three runs, with the making of the generators in both.
 set -eu
+. "$(dirname "$0")/timing.sh"
 cd "$(dirname "$0")/../crates/bench_hs_lattice"
 rt run -- labels pairs 4 15 list > /dev/null 2>&1
 program=out/bench_hs_lattice
 
 # the least of three runs, in microseconds
 least() {
-    for _ in 1 2 3; do
-        start=$(date +%s%N)
-        "$program" "$@" > /dev/null
-        end=$(date +%s%N)
-        echo $(((end - start) / 1000))
-    done | sort -n | head -n 1
+    least_of 3 "$program" "$@"
 }
 
 printf '%-8s %-12s %6s  %-12s %10s %10s %7s\n' kept generators limit answer 'list (ms)' 'join (ms)' ratio

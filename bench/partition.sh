@@ -3,21 +3,14 @@
 # baseline over the same partitions in the same run: whether each pair of states is together in both.
 # Prints the time of one call, from the difference of many calls and none.
 set -eu
+. "$(dirname "$0")/timing.sh"
 cd "$(dirname "$0")/../crates/bench_partition"
 rt run -- meet bits chain 20 3 >/dev/null 2>&1
 program=out/bench_partition
 
 # the least of three runs, in microseconds
 least() {
-    local best=0 begin end took
-    for _ in 1 2 3; do
-        begin=$(date +%s%N)
-        "$program" "$@" >/dev/null
-        end=$(date +%s%N)
-        took=$(((end - begin) / 1000))
-        if [ "$best" -eq 0 ] || [ "$took" -lt "$best" ]; then best=$took; fi
-    done
-    echo "$best"
+    least_of 3 "$program" "$@"
 }
 
 # the time of one call, in microseconds: question, how partitions are kept, kind, states, calls
