@@ -26,7 +26,8 @@ pub fn sound_is_determined()
     ensures { SoundIsDetermined }
 {}
 
-/// A network whose gates read inputs and latch outputs alone is sound.
+/// A network without helper gates, in which no name is driven twice and gates drive the outputs and the
+/// latch inputs, is sound.
 pub fn flat_is_sound()
     ensures { FlatIsSound }
 {}
