@@ -1,8 +1,8 @@
 -- How one pass over the states tells whether one partition is at or below another.
-use Rattle.std.proofs.Common.{◌≡◌, ℕ, ◌+◌, ◌-◌, ◌<◌, ◌≤◌, ◌≢◌, max, List, length, get_or, set, take, refl, sym, ap, ◌∙◌, subst, inl, inr, arith}
+use Rattle.std.proofs.Common.{◌≡◌, ℕ, ◌+◌, ◌<◌, ◌≤◌, ◌≢◌, List, length, get_or, set, take, refl, sym, ap, ◌∙◌, subst, inl, inr, arith}
 use Rattle.std.proofs.lemmas.List.{get_or-set_same, get_or-set_other, length-set}
 use Rattle.std.proofs.lemmas.Bool.{cases_eq}
-use Rattle.partition.specs.Partition.{blocks_of, IsNumbered, Together, Le}
+use Rattle.partition.specs.Partition.{blocks_of, IsNumbered, Le}
 use Rattle.partition.specs.Laws.Labels.{blocks_of-take-more, label-lt-blocks_of-take, block_stands, label-le}
 
 -- after the first s states: how many blocks of p came, and the block of q in which each of them lies

@@ -1,10 +1,10 @@
 -- The labels that values get when they are numbered by first appearance.
-use Rattle.std.proofs.Common.{◌≡◌, ℕ, ◌+◌, ◌-◌, ◌<◌, ◌≤◌, ◌≢◌, List, [], ◌∷◌, ◌++◌, length, get_or, set, Option, None, Some, MatchOption, refl, sym, ap, ◌∙◌, subst, inl, inr, arith}
+use Rattle.std.proofs.Common.{◌≡◌, ℕ, ◌+◌, ◌<◌, ◌≢◌, List, [], ◌∷◌, ◌++◌, length, get_or, set, Option, None, Some, MatchOption, refl, sym, ap, ◌∙◌, subst, inl, inr, arith}
 use Rattle.std.proofs.lemmas.List.{length_push, get_or_append_left, get_or_push, get_or-set_same, get_or-set_other}
 use Rattle.std.proofs.lemmas.Option.{none-some, same_Some}
 use Rattle.std.proofs.lemmas.Bool.{cases_eq}
-use Rattle.partition.specs.Partition.{blocks_of, IsNumbered, IsPartition, IsStateCount, Together, SameTogether}
-use Rattle.partition.specs.Laws.Labels.{blocks_of-push, label-lt-blocks_of, blocks_of-le, IsNumbered-none, IsNumbered-push}
+use Rattle.partition.specs.Partition.{blocks_of, IsNumbered, IsPartition, IsStateCount, SameTogether}
+use Rattle.partition.specs.Laws.Labels.{blocks_of-push, label-lt-blocks_of, IsNumbered-none, IsNumbered-push}
 
 -- the first i values have these labels, and seen has the label of each value that came
 pub record IsNumbering (values : List ℕ) (i : ℕ) (seen : List (Option ℕ)) (labels : List ℕ) (blocks : ℕ) : Type 0 where

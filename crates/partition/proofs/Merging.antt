@@ -1,11 +1,11 @@
 -- How one pass over the states ties the blocks of p together that lie in one block of the join.
-use Rattle.std.proofs.Common.{◌≡◌, ℕ, ◌+◌, ◌-◌, ◌<◌, ◌≤◌, ◌≢◌, ◌⊎◌, ◌==◌, Bool, true, false, cond, max, List, length, get_or, set, take, refl, sym, ap, ◌∙◌, subst, inl, inr, arith}
+use Rattle.std.proofs.Common.{◌≡◌, ℕ, ◌+◌, ◌<◌, ◌≤◌, ◌≢◌, ◌⊎◌, ◌==◌, cond, List, length, get_or, set, take, refl, sym, ap, ◌∙◌, subst, inl, inr, arith}
 use Rattle.std.proofs.lemmas.List.{get_or-set_same, get_or-set_other, length-set}
 use Rattle.std.proofs.lemmas.Bool.{cases_eq, eq-eqb, ne_eqb, cond-true, cond-false}
-use Rattle.partition.specs.Partition.{blocks_of, IsNumbered, IsPartition, Together, SameTogether}
+use Rattle.partition.specs.Partition.{blocks_of, IsNumbered, IsPartition, SameTogether}
 use Rattle.partition.specs.MeetAndJoin.{Chain, TiesBlocks, IsJoin}
 use Rattle.partition.specs.Laws.Labels.{blocks_of-take-more, label-lt-blocks_of, label-lt-blocks_of-take, block_stands, label-le, IsPartition-of}
-use Rattle.partition.specs.Laws.Chains.{chain_none, chain_link, chain_on, chain_turned, chain_keeps, chain_within}
+use Rattle.partition.specs.Laws.Chains.{chain_link, chain_on, chain_turned, chain_keeps, chain_within}
 
 -- the number of the block of p in which a state lies
 abbrev pub number_of : List ℕ → List ℕ → ℕ → ℕ

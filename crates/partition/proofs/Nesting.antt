@@ -1,10 +1,10 @@
 -- How blocks are numbered inside the blocks of another partition.
-use Rattle.std.proofs.Common.{◌≡◌, ◌≢◌, ℕ, zero, suc, ◌+◌, ◌-◌, ◌<◌, ◌≤◌, ◌⊎◌, ◌==◌, ◌&&◌, Bool, true, false, cond, max, List, [], ◌∷◌, ◌++◌, length, get_or, set, take, refl, sym, ap, ◌∙◌, subst, inl, inr, arith, add-one}
-use Rattle.std.proofs.lemmas.Bool.{cases_eq, cases_lt, eq-eqb, ne_eqb, eqb-true, false≢true, and_left, and_right}
-use Rattle.std.proofs.lemmas.List.{length_push, get_or_append_left, get_or_push, get_or-set_same, get_or-set_other, length-set, get_or-take, length-take-le, take_more}
+use Rattle.std.proofs.Common.{◌≡◌, ◌≢◌, ℕ, ◌+◌, ◌<◌, ◌≤◌, ◌==◌, ◌&&◌, Bool, cond, max, List, [], ◌∷◌, ◌++◌, length, get_or, set, take, refl, sym, ap, ◌∙◌, subst, inl, inr, arith, add-one}
+use Rattle.std.proofs.lemmas.Bool.{cases_eq, cases_lt, eq-eqb, ne_eqb, false≢true}
+use Rattle.std.proofs.lemmas.List.{length_push, get_or_append_left, get_or_push, get_or-set_same, get_or-set_other, length-set}
 use Rattle.std.proofs.lemmas.List.Sums.{position_or_len_is, fails_before_first}
 use Rattle.std.specs.List.{position_or_len}
-use Rattle.partition.specs.Partition.{blocks_of, IsNumbered, IsPartition, Together, Le, IsZero}
+use Rattle.partition.specs.Partition.{blocks_of, IsNumbered, IsPartition, Le}
 use Rattle.partition.specs.Inside.{least_of, blocks_below, IsInside}
 use Rattle.partition.specs.Laws.Labels.{blocks_of-push, blocks_of-take-more, label-lt-blocks_of, label-lt-blocks_of-take, block_stands, label-le, blocks_of-le, IsNumbered-none, IsNumbered-push}
 

@@ -1,12 +1,11 @@
 -- Labels as decimal numbers without leading zeros.
-use Rattle.std.proofs.Common.{◌≡◌, ◌≢◌, ℕ, ◌^◌, ◌<◌, ◌≤◌, ◌⊎◌, List, [], ◌∷◌, Result, Ok, Err, length, get_or, refl, sym, ap, ◌∙◌, subst, inl, inr, arith}
-use Rattle.std.proofs.lemmas.Bool.{cases_eq, cases_lt}
-use Rattle.std.proofs.lemmas.Fmt.{decimal_digit, decimal_nonempty, first_decimal, digits_decimal, digits_value-decimal, decimal-digits_value, parse-decimal, IsAscii-decimal}
+use Rattle.std.proofs.Common.{◌≡◌, ◌≢◌, ℕ, ◌^◌, ◌<◌, List, Result, Ok, length, get_or, sym, ap, ◌∙◌, subst, inl, inr, arith}
+use Rattle.std.proofs.lemmas.Bool.{cases_eq}
+use Rattle.std.proofs.lemmas.Fmt.{decimal_digit, decimal_nonempty, first_decimal, digits_decimal, decimal-digits_value, parse-decimal, IsAscii-decimal}
 use Rattle.std.proofs.lemmas.Str.{IsUtf8-from_ascii}
 use Rattle.std.proofs.lemmas.Str.Parse.{IsNumeralModel, numerals_by_value, tells_digits, parse_plain, digit_at}
 use Rattle.std.proofs.lemmas.Result.{OkIff-at_ok}
 use Rattle.std.specs.Fmt.{decimal}
-use Rattle.std.specs.Int.{IsInRange}
 use Rattle.std.specs.Str.{IsUtf8}
 use Rattle.std.specs.Str.Parse.{ParsesUnsigned, AllDigits, digits_value}
 use Rattle.partition.specs.Text.{IsPlain}

@@ -1,8 +1,8 @@
 -- A number for each pair of blocks: equal numbers are equal pairs, which makes the meet.
 use Rattle.std.proofs.Common.{◌≡◌, ℕ, ◌+◌, ◌*◌, ◌<◌, ◌≤◌, List, length, get_or, sym, ap, ◌∙◌, arith}
 use Rattle.std.proofs.lemmas.Nat.{mul-add-lt, same_from_place}
-use Rattle.std.proofs.Math.Nat.{mul-le-mul, mul_comm}
-use Rattle.partition.specs.Partition.{blocks_of, IsPartition, Together, SameTogether}
+use Rattle.std.proofs.Math.Nat.{mul-le-mul}
+use Rattle.partition.specs.Partition.{blocks_of, IsPartition, SameTogether}
 use Rattle.partition.specs.MeetAndJoin.{IsMeet}
 use Rattle.partition.specs.Laws.Labels.{label-lt-blocks_of, blocks_of-le, IsPartition-of}
 

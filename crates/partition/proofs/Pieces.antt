@@ -1,14 +1,13 @@
 -- Texts and their pieces between commas.
-use Rattle.std.proofs.Common.{◌≡◌, ◌≢◌, ℕ, suc, ◌+◌, ◌-◌, ◌^◌, ◌<◌, ◌≤◌, ◌==◌, ◌⊎◌, Bool, false, true, List, [], ◌∷◌, ◌++◌, Option, Some, None, length, get_or, take, drop, map, refl, sym, ap, ◌∙◌, subst, inl, inr, arith}
-use Rattle.std.proofs.lemmas.Bool.{ne_eqb, eq-eqb}
-use Rattle.std.proofs.lemmas.List.{take-append-drop, drop_more, take_rest, length-append, length-map, get_or-map, get_or_append_left, get_or_at, append-nil, append_assoc, take_more, length-take-le, get_or-take}
+use Rattle.std.proofs.Common.{◌≡◌, ◌≢◌, ℕ, suc, ◌+◌, ◌-◌, ◌^◌, ◌<◌, ◌≤◌, ◌==◌, Bool, false, List, [], ◌∷◌, ◌++◌, length, get_or, take, drop, map, refl, sym, ap, ◌∙◌, arith}
+use Rattle.std.proofs.lemmas.Bool.{ne_eqb}
+use Rattle.std.proofs.lemmas.List.{take-append-drop, drop_more, take_rest, append_assoc, take_more, length-take-le, get_or-take}
 use Rattle.std.proofs.lemmas.List.Sums.{count_by-le-length}
 use Rattle.std.proofs.lemmas.List.Elements.{All-from_get_or}
 use Rattle.std.proofs.lemmas.List.Splits.{slice_split_none, slice_split_at, length-slice_split, join_with_byte-slice_split}
-use Rattle.std.proofs.lemmas.Option.{slice_get-get_or}
-use Rattle.std.specs.List.{slice_split, join_with_byte, slice_get, count_by, All}
+use Rattle.std.specs.List.{join_with_byte, All}
 use Rattle.std.specs.Fmt.{decimal}
-use Rattle.partition.specs.Text.{text_of, pieces_of, pieces_after}
+use Rattle.partition.specs.Text.{text_of, pieces_of}
 use Rattle.partition.proofs.Numerals.{no_comma}
 
 abbrev comma : ℕ → Bool

@@ -1,18 +1,14 @@
 -- How a partition is read from its text, piece by piece, and why a text has one fault or none.
-use Rattle.std.proofs.Common.{◌≡◌, ◌≢◌, ℕ, ◌+◌, ◌-◌, ◌^◌, ◌<◌, ◌≤◌, ◌⊎◌, max, List, [], ◌∷◌, ◌++◌, Option, Some, None, Bor, length, get_or, take, map, refl, sym, ap, ◌∙◌, subst, inl, inr, arith}
-use Rattle.std.proofs.lemmas.Bool.{cases_order, cases_lt}
-use Rattle.std.proofs.lemmas.List.{length_push, map_push, append_assoc, append-nil, length-append, length-map, get_or-map, get_or_append_left, take_all, take-append-le, take_at, get_or-take, length-take-le, ext_get_or, get_or_at}
+use Rattle.std.proofs.Common.{◌≡◌, ◌≢◌, ℕ, ◌+◌, ◌<◌, ◌≤◌, ◌⊎◌, max, List, [], ◌∷◌, ◌++◌, Option, Some, None, Bor, length, get_or, take, map, refl, sym, ap, ◌∙◌, subst, inl, inr, arith}
+use Rattle.std.proofs.lemmas.List.{length_push, map_push, append_assoc, append-nil, length-append, length-map, get_or-map, get_or_append_left, take_all, take-append-le, get_or_at}
 use Rattle.std.proofs.lemmas.Option.{slice_get-get_or, same_Some}
-use Rattle.std.proofs.lemmas.Fmt.{decimal_injective}
 use Rattle.std.specs.List.{slice_get}
 use Rattle.std.specs.Option.{option_copied}
 use Rattle.std.specs.Fmt.{decimal}
-use Rattle.partition.specs.declared.PartFail.{PartFail}
-use Rattle.partition.specs.declared.PartFail.TheVariants.{Empty, NotCanonical, BadText, WrongLength, NoMemory}
 use Rattle.partition.specs.Partition.{blocks_of, IsNumbered, IsPartition, IsStateCount}
-use Rattle.partition.specs.Text.{text_of, pieces_of, pieces_after, BeginsWith, FirstBadPiece, OtherLength, TextFault}
+use Rattle.partition.specs.Text.{text_of, pieces_of, pieces_after, FirstBadPiece, OtherLength}
 use Rattle.partition.specs.Laws.Labels.{blocks_of-push, IsNumbered-none, IsNumbered-push, blocks_of-le}
-use Rattle.partition.proofs.Pieces.{length-pieces_of-le, some_piece, text_of-pieces, pieces_of-text_of}
+use Rattle.partition.proofs.Pieces.{length-pieces_of-le, some_piece, text_of-pieces}
 
 -- After so many pieces: the labels that they spell, of which the first n are kept, and what is left.
 pub record IsReading (text : List ℕ) (n : ℕ) (labels : List ℕ) (found blocks : ℕ) (left : Option (List ℕ)) : Type 0 where

@@ -1,5 +1,5 @@
 -- Labels of rows that say which states are together.
-use Rattle.std.proofs.Common.{◌≡◌, ◌≢◌, ℕ, ◌+◌, ◌-◌, ◌%◌, ◌<◌, ◌≤◌, ◌↔◌, ◌⊎◌, List, [], ◌∷◌, ◌++◌, length, get_or, refl, sym, ap, ◌∙◌, subst, inl, inr, arith}
+use Rattle.std.proofs.Common.{◌≡◌, ◌≢◌, ℕ, ◌+◌, ◌%◌, ◌<◌, ◌≤◌, ◌↔◌, ◌⊎◌, List, [], ◌∷◌, ◌++◌, length, get_or, refl, sym, ap, ◌∙◌, subst, inl, inr, arith}
 use Rattle.std.proofs.lemmas.Bool.{cases_eq, cases_lt}
 use Rattle.std.proofs.lemmas.List.{get_or_past, get_or_append_left, get_or_push, length_push}
 use Rattle.std.proofs.lemmas.Nat.Bits.{bit_at-zero}
@@ -7,7 +7,7 @@ use Rattle.partition.specs.Partition.{blocks_of, IsNumbered, IsPartition, IsStat
 use Rattle.partition.specs.Bits.{bit_of, Has, row_of, IsRows, AreBlocks}
 use Rattle.partition.specs.MeetAndJoin.{IsMeet, IsJoin, Chain}
 use Rattle.partition.specs.Laws.Chains.{chain_none, chain_on, chain_turned, chain_within}
-use Rattle.partition.specs.Laws.Labels.{IsPartition-of, blocks_of-push, label-lt-blocks_of, blocks_of-le, IsNumbered-none, IsNumbered-push}
+use Rattle.partition.specs.Laws.Labels.{IsPartition-of, blocks_of-push, label-lt-blocks_of, IsNumbered-none, IsNumbered-push}
 
 -- a row past the last has no bits
 row_past : (rows : List (List ℕ)) (s t : ℕ) → length rows ≤ s → Has (row_of rows s) t → ⊥

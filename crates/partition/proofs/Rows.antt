@@ -1,12 +1,12 @@
 -- Rows of bits that say which states are together.
-use Rattle.std.proofs.Common.{◌≡◌, ◌≢◌, ℕ, ◌+◌, ◌-◌, ◌*◌, ◌/◌, ◌%◌, ◌<◌, ◌≤◌, ◌↔◌, ◌⊎◌, List, [], ◌∷◌, ◌++◌, length, get_or, set, take, min, max, replicate, refl, sym, ap, ◌∙◌, subst, inl, inr, arith}
+use Rattle.std.proofs.Common.{◌≡◌, ◌≢◌, ℕ, ◌+◌, ◌*◌, ◌/◌, ◌%◌, ◌<◌, ◌≤◌, ◌↔◌, List, [], ◌∷◌, ◌++◌, length, get_or, set, take, min, replicate, sym, ap, ◌∙◌, subst, inl, inr, arith}
 use Rattle.std.proofs.lemmas.Bool.{cases_eq, cases_lt}
-use Rattle.std.proofs.lemmas.List.{get_or_read, get_or-take, get_or_past, get_or_append_left, get_or_push, length_push, get_or-set_same, get_or-set_other, length-set, get_or-replicate, length-replicate}
+use Rattle.std.proofs.lemmas.List.{get_or_read, get_or-take, get_or_past, get_or_append_left, get_or_push, get_or-set_same, get_or-set_other, length-set, get_or-replicate, length-replicate}
 use Rattle.std.proofs.lemmas.Nat.Bits.{bit_at-zero}
 use Rattle.std.specs.Int.{bit_at}
-use Rattle.partition.specs.Partition.{blocks_of, IsNumbered, IsPartition, IsStateCount, Together}
+use Rattle.partition.specs.Partition.{blocks_of, Together}
 use Rattle.partition.specs.Bits.{bit_of, Has, row_of, IsRows, AreSets}
-use Rattle.partition.specs.Laws.Labels.{blocks_of-push, label-lt-blocks_of, IsNumbered-none, IsNumbered-push}
+use Rattle.partition.specs.Laws.Labels.{label-lt-blocks_of}
 use Rattle.partition.proofs.Words.{bit_of-lt, bit_of_past}
 
 -- a row that was read is the row of its state

@@ -1,10 +1,9 @@
 -- The complement of a partition: how its labels count the states of a block.
-use Rattle.std.proofs.Common.{◌≡◌, ◌≢◌, ℕ, zero, suc, ◌+◌, ◌-◌, ◌<◌, ◌≤◌, ◌⊎◌, ◌==◌, Bool, true, false, cond, max, List, [], ◌∷◌, length, get_or, take, refl, sym, ap, ◌∙◌, subst, inl, inr, arith, add-one, add-zero}
-use Rattle.std.proofs.lemmas.Bool.{cases_eq, cases_lt, eq-eqb, ne_eqb}
-use Rattle.std.proofs.lemmas.List.{take_all, length-take-le}
+use Rattle.std.proofs.Common.{◌≡◌, ℕ, zero, suc, ◌+◌, ◌-◌, ◌<◌, ◌≤◌, ◌==◌, Bool, cond, max, List, length, get_or, take, refl, sym, ap, ◌∙◌, subst, inl, inr, arith, add-one, add-zero}
+use Rattle.std.proofs.lemmas.Bool.{cases_eq, eq-eqb, ne_eqb}
+use Rattle.std.proofs.lemmas.List.{take_all}
 use Rattle.std.proofs.lemmas.List.Sums.{count_by_more_yes, count_by_more_no}
-use Rattle.std.specs.List.{count_by}
-use Rattle.partition.specs.Partition.{blocks_of, IsNumbered, IsPartition, Together, SameTogether, IsZero}
+use Rattle.partition.specs.Partition.{blocks_of, IsPartition, IsZero}
 use Rattle.partition.specs.Inside.{least_of, blocks_below, size_of, IsInside, IsComplement, IsLargestSize}
 use Rattle.partition.specs.Laws.Labels.{blocks_of-take-more, label-lt-blocks_of, block_stands}
 use Rattle.partition.specs.Laws.Extremes.{zero_once}

@@ -1,7 +1,7 @@
 -- The blocks of one partition inside the blocks of another.
 use Rattle.std.specs.Prelude.{◌≡◌, ℕ, zero, suc, ◌+◌, ◌<◌, ◌≤◌, ◌==◌, ◌&&◌, if◌then◌else◌, List, length, slice_index, count_by}
 use Rattle.std.specs.List.{position_or_len}
-use Rattle.partition.specs.Partition.{IsPartition, IsZero, blocks_of}
+use Rattle.partition.specs.Partition.{IsPartition, IsZero}
 
 -- the least state that is together with s
 abbrev pub least_of : List ℕ → ℕ → ℕ

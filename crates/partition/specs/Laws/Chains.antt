@@ -1,6 +1,6 @@
 -- Chains of states go both ways and one after another, and what a link keeps a chain keeps.
 use Rattle.std.proofs.Common.{◌≡◌, ℕ, ◌<◌, ◌⊎◌, List, [], ◌∷◌, ◌++◌, length, get_or, refl, sym, ap, ◌∙◌, subst, inl, inr, arith}
-use Rattle.partition.specs.Partition.{IsPartition, Together, Le}
+use Rattle.partition.specs.Partition.{Together}
 use Rattle.partition.specs.MeetAndJoin.{IsMeet, IsJoin, IsGreatestBelow, IsLeastAbove, Leads, Chain}
 
 -- one link of a chain

@@ -1,9 +1,9 @@
 -- Zero, one, and the partitions that hold two states together.
-use Rattle.std.proofs.Common.{◌≡◌, ℕ, zero, suc, subst, add-one, ◌+◌, ◌-◌, ◌<◌, ◌≤◌, ◌⊎◌, max, List, [], ◌∷◌, ◌++◌, length, get_or, replicate, refl, sym, ap, ◌∙◌, inl, inr, arith}
+use Rattle.std.proofs.Common.{◌≡◌, ℕ, zero, suc, subst, add-one, ◌+◌, ◌<◌, ◌⊎◌, List, [], ◌∷◌, ◌++◌, length, get_or, replicate, refl, sym, ap, ◌∙◌, inl, inr, arith}
 use Rattle.std.proofs.lemmas.List.{ext_get_or, length_push, get_or_append_left, get_or_push, get_or-replicate, length-replicate}
 use Rattle.std.proofs.lemmas.List.Recursion.{max_least}
 use Rattle.std.proofs.lemmas.Bool.{cases_eq}
-use Rattle.partition.specs.Partition.{blocks_of, IsNumbered, IsPartition, IsStateCount, Together, SameTogether, IsZero, IsOne, IsHold, zero_of}
+use Rattle.partition.specs.Partition.{blocks_of, IsNumbered, IsPartition, IsStateCount, SameTogether, IsZero, IsOne, IsHold, zero_of}
 use Rattle.partition.specs.Laws.Labels.{same_labels, blocks_of-push, label-lt-blocks_of, IsNumbered-none, IsNumbered-push}
 
 -- the numbers below s in order

@@ -1,11 +1,9 @@
 -- The join is associative, commutative and idempotent, and zero is its unit.
-use Rattle.std.proofs.Common.{◌≡◌, ℕ, zero, suc, ◌+◌, ◌<◌, ◌≤◌, ◌⊎◌, List, [], ◌∷◌, ◌++◌, length, get_or, refl, sym, ap, ◌∙◌, subst, inl, inr, arith, add-one}
-use Rattle.partition.specs.Partition.{blocks_of, IsNumbered, IsPartition, IsStateCount, Together, Le, IsZero, zero_of}
+use Rattle.std.proofs.Common.{◌≡◌, ℕ, ◌<◌, List, [], ◌∷◌, length, get_or, refl, sym, ap, ◌∙◌, subst, inl, inr, arith}
+use Rattle.partition.specs.Partition.{IsPartition, Together, Le, IsZero}
 use Rattle.partition.specs.MeetAndJoin.{IsJoin, Leads, Chain}
-use Rattle.partition.specs.Before.{Before}
 use Rattle.partition.specs.Laws.Labels.{same_labels, IsPartition-of}
 use Rattle.partition.specs.Laws.Chains.{Link, chain_none, chain_link, chain_on, chain_keeps, chain_within}
-use Rattle.partition.specs.Laws.Precedence.{before_irreflexive, before_transitive, before_total}
 
 -- a chain is also one of another kind where each of its links is
 leads_map : (p q a b : List ℕ) → length q ≡ length p → length a ≡ length p → ((s t : ℕ) → Link p q s t → Chain a b s t) → (s t : ℕ) (us : List ℕ) → s < length p → Leads p q s us t → Chain a b s t

@@ -1,4 +1,3 @@
-use Rattle.std.proofs.Common.{arith}
 use Rattle.std.proofs.lemmas.Result.{IfOk-weaker}
 use Rattle.partition.specs.MeetAndJoin.{IsJoin, IsLeastAbove}
 use Rattle.partition.specs.Laws.Chains.{join_is_least}

@@ -1,6 +1,6 @@
-use Rattle.std.proofs.Common.{◌≡◌, ℕ, replicate, sym, rules, arith}
+use Rattle.std.proofs.Common.{◌≡◌, replicate, sym, rules}
 use Rattle.partition.specs.Laws.Labels.{IsPartition-of}
-use Rattle.partition.specs.Laws.Extremes.{replicate_is_partition, blocks_of-replicate, replicate_is_one}
+use Rattle.partition.specs.Laws.Extremes.{replicate_is_partition, blocks_of-replicate}
 use Rattle.partition.proofs.Partition.one.Goals as goal
 
 pub invariant_of-result : goal.invariant_of-result

@@ -1,4 +1,4 @@
-use Rattle.std.proofs.Common.{arith, ◌+◌, ◌<◌, ◌^◌, length}
+use Rattle.std.proofs.Common.{arith}
 use Rattle.partition.proofs.Faults.{accepts, causes}
 use Rattle.partition.proofs.Partition.parse.Goals as goal
 

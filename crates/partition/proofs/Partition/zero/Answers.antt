@@ -1,5 +1,4 @@
-use Rattle.std.proofs.Common.{◌≡◌, ℕ, subst, sym, arith, List, length}
-use Rattle.partition.specs.Partition.{IsPartition, blocks_of}
+use Rattle.std.proofs.Common.{◌≡◌, ℕ, subst, arith}
 use Rattle.partition.specs.Laws.Extremes.{IsCount, count_push, count_is_zero_of}
 use Rattle.partition.proofs.Partition.zero.Goals as goal
 

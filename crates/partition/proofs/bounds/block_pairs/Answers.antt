@@ -1,4 +1,4 @@
-use Rattle.std.proofs.Common.{◌≡◌, ℕ, ◌+◌, ◌*◌, ◌<◌, get_or, ap, arith}
+use Rattle.std.proofs.Common.{◌≡◌, arith}
 use Rattle.partition.specs.Partition.{blocks_of}
 use Rattle.partition.proofs.Pairs.{pair_lt, pairs_few}
 use Rattle.partition.proofs.bounds.block_pairs.Goals as goal

@@ -1,5 +1,4 @@
-use Rattle.std.proofs.Common.{◌≡◌, ◌<◌, ◌≤◌, ℕ, length, get_or, ap, ◌∙◌, arith}
-use Rattle.partition.specs.Partition.{blocks_of}
+use Rattle.std.proofs.Common.{◌<◌, length, get_or, ap, ◌∙◌, arith}
 use Rattle.partition.specs.Laws.Labels.{blocks_of-le, label-lt-blocks_of}
 use Rattle.partition.proofs.Merging.{tied_is_join}
 use Rattle.partition.proofs.Outcomes.{IfOk-from_both}

@@ -1,5 +1,4 @@
-use Rattle.std.proofs.Common.{◌≡◌, ℕ, ◌+◌, ◌*◌, ◌<◌, ◌≤◌, List, length, get_or, ap, ◌∙◌, arith}
-use Rattle.partition.specs.Partition.{blocks_of}
+use Rattle.std.proofs.Common.{◌<◌, length, ap, ◌∙◌, arith}
 use Rattle.partition.proofs.Pairs.{pair_lt, pairs_few, pairs_are_meet}
 use Rattle.partition.proofs.Outcomes.{IfOk-from_both}
 use Rattle.partition.proofs.bounds.meet_of.Goals as goal

@@ -1,4 +1,4 @@
-use Rattle.std.proofs.Common.{◌≡◌, ℕ, ◌<◌, ◌≤◌, ◌==◌, if◌then◌else◌, length, get_or}
+use Rattle.std.proofs.Common.{◌≡◌, ℕ, ◌<◌, ◌≤◌, ◌==◌, if◌then◌else◌, get_or}
 use Rattle.partition.proofs.bounds.renumber.Given as goal
 
 abbrev pub invariant-loop-number : goal.invariant-loop-number

@@ -1,5 +1,4 @@
-use Rattle.std.proofs.Common.{◌≡◌, ◌<◌, ◌≤◌, ◌+◌, length, refl, sym, ap, subst, ℕ, List, arith}
-use Rattle.partition.specs.Partition.{blocks_of}
+use Rattle.std.proofs.Common.{◌≡◌, length, refl, subst, ℕ, arith}
 use Rattle.partition.specs.Laws.Labels.{label-le, label-lt-blocks_of}
 use Rattle.partition.proofs.Merging.{IsMerging, merging_none, merging_new, merging_old, merging_all, first_within}
 use Rattle.partition.proofs.bounds.tie_blocks.Goals as goal

@@ -1,4 +1,4 @@
-use Rattle.std.proofs.Common.{◌≡◌, ◌<◌, ◌≤◌, arith}
+use Rattle.std.proofs.Common.{arith}
 use Rattle.std.proofs.lemmas.Bool.{false≢true}
 use Rattle.partition.specs.Laws.Labels.{label-le}
 use Rattle.partition.proofs.Comparing.{above_new, above_old, above_fails}

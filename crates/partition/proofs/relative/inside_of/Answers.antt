@@ -1,7 +1,7 @@
-use Rattle.std.proofs.Common.{◌≡◌, ◌<◌, ◌≤◌, ◌+◌, ℕ, List, replicate, length, get_or, set, refl, sym, subst, arith}
+use Rattle.std.proofs.Common.{◌≡◌, ◌<◌, ℕ, List, length, get_or, set, refl, arith}
 use Rattle.std.proofs.lemmas.List.{get_or-replicate, get_or-set_same}
-use Rattle.partition.specs.Laws.Labels.{label-le, IsPartition-of}
-use Rattle.partition.proofs.Nesting.{IsNesting, nesting_none, nesting_new, nesting_old, nesting_all, counts_small}
+use Rattle.partition.specs.Laws.Labels.{label-le}
+use Rattle.partition.proofs.Nesting.{nesting_none, nesting_new, nesting_old, counts_small}
 use Rattle.partition.proofs.relative.inside_of.Goals as goal
 use Rattle.partition.proofs.relative.inside_of.Goals.{then-block-found, else-block-found}
 

@@ -1,4 +1,4 @@
-use Rattle.std.proofs.Common.{◌≡◌, ℕ, ◌+◌, ◌<◌, ◌≤◌, max, get_or, length, take, arith, below_more}
+use Rattle.std.proofs.Common.{◌≡◌, ◌+◌, max, get_or, take, arith, below_more}
 use Rattle.partition.specs.Partition.{blocks_of}
 use Rattle.partition.specs.Refusal.{IsLawfulLabel}
 use Rattle.partition.specs.Laws.Labels.{blocks_of-take-more}

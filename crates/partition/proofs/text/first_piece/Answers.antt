@@ -1,5 +1,5 @@
 use Rattle.partition.proofs.Pieces.{pieces_none, pieces_cut}
-use Rattle.std.proofs.Common.{arith, ◌<◌}
+use Rattle.std.proofs.Common.{arith}
 use Rattle.partition.proofs.text.first_piece.Goals as goal
 
 pub returns-then-byte-eq44-clause-pieces : goal.returns-then-byte-eq44-clause-pieces

@@ -1,6 +1,5 @@
-use Rattle.std.proofs.Common.{◌≡◌, ℕ, ◌<◌, ◌≤◌, ◌^◌, Ok, Err, sym, ap, ◌∙◌, subst, arith}
+use Rattle.std.proofs.Common.{◌≡◌, Ok, sym, ◌∙◌, subst, arith}
 use Rattle.std.proofs.lemmas.Bool.{false≢true}
-use Rattle.std.specs.Fmt.{decimal}
 use Rattle.partition.specs.Text.{IsPlain}
 use Rattle.partition.proofs.Numerals.{IsPlain-decimal, decimal-of_plain, reads-decimal, IsUtf8-decimal}
 use Rattle.partition.proofs.text.label_of.Goals as goal

@@ -1,7 +1,7 @@
-use Rattle.std.proofs.Common.{◌≡◌, ℕ, ◌+◌, ◌<◌, ◌≤◌, max, Some, None, Option, List, Bor, inl, inr, refl, sym, arith}
+use Rattle.std.proofs.Common.{inl, inr, refl, sym, arith}
 use Rattle.std.specs.Option.{option_copied}
 use Rattle.partition.specs.Laws.Labels.{IsPartition-of}
-use Rattle.partition.proofs.Reading.{IsReading, reading_at, reading_step, reading_bad, reading_other, reading_all, reading_short, reading_blocks}
+use Rattle.partition.proofs.Reading.{reading_at, reading_step, reading_bad, reading_other, reading_all, reading_short, reading_blocks}
 use Rattle.partition.proofs.text.read_labels.Goals as goal
 use Rattle.partition.proofs.text.read_labels.Goals.{then-found-n+in_ok-push, else-found-n}
 

@@ -1,4 +1,4 @@
-use Rattle.std.proofs.Common.{◌≡◌, ◌<◌, ℕ, List, length, refl, sym, subst, arith}
+use Rattle.std.proofs.Common.{◌≡◌, ℕ, List, length, refl, subst, arith}
 use Rattle.partition.specs.Bits.{Has, row_of}
 use Rattle.partition.specs.Laws.Chains.{chain_within}
 use Rattle.partition.proofs.Rows.{row_read}

@@ -1,4 +1,4 @@
-use Rattle.std.proofs.Common.{◌<◌, List, ℕ, length, arith}
+use Rattle.std.proofs.Common.{List, ℕ}
 use Rattle.partition.specs.Bits.{IsRows}
 use Rattle.partition.proofs.Reaching.{block_is}
 use Rattle.partition.proofs.bits.BitPart.joined_block.Goals as goal

@@ -1,5 +1,4 @@
-use Rattle.std.proofs.Common.{◌≡◌, ◌<◌, ℕ, List, length, sym, subst, arith}
-use Rattle.partition.specs.Partition.{Together}
+use Rattle.std.proofs.Common.{◌≡◌, ℕ, List, sym, subst, arith}
 use Rattle.partition.specs.Bits.{Has, row_of, IsRows}
 use Rattle.partition.proofs.Rows.{row_read}
 use Rattle.partition.proofs.bits.BitPart.same.Goals as goal

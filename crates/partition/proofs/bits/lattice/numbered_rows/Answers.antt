@@ -1,4 +1,4 @@
-use Rattle.std.proofs.Common.{◌≡◌, ◌<◌, ℕ, List, length, arith}
+use Rattle.std.proofs.Common.{◌≡◌, arith}
 use Rattle.partition.specs.Laws.Labels.{blocks_of-le}
 use Rattle.partition.specs.Bits.{row_of}
 use Rattle.partition.proofs.Rows.{row_read}

@@ -1,4 +1,4 @@
-use Rattle.std.proofs.Common.{◌<◌, ◌^◌, arith}
+use Rattle.std.proofs.Common.{arith}
 use Rattle.partition.proofs.Words.{first_bit}
 use Rattle.partition.proofs.states.StateSet.first.Goals as goal
 

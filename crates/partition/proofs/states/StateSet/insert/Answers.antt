@@ -1,4 +1,4 @@
-use Rattle.std.proofs.Common.{◌<◌, arith}
+use Rattle.std.proofs.Common.{arith}
 use Rattle.partition.proofs.Words.{bit_set, bits_set_other}
 use Rattle.partition.proofs.states.StateSet.insert.Goals as goal
 

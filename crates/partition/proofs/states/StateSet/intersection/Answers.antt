@@ -1,4 +1,3 @@
-use Rattle.std.proofs.Common.{ap, sym}
 use Rattle.partition.proofs.Words.{bits_of_and}
 use Rattle.partition.proofs.states.StateSet.intersection.Goals as goal
 

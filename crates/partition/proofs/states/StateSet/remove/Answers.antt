@@ -1,4 +1,4 @@
-use Rattle.std.proofs.Common.{◌<◌, arith}
+use Rattle.std.proofs.Common.{arith}
 use Rattle.partition.proofs.Words.{bit_cleared, bits_cleared_other}
 use Rattle.partition.proofs.states.StateSet.remove.Goals as goal
 

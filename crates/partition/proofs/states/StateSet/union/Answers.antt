@@ -1,4 +1,3 @@
-use Rattle.std.proofs.Common.{ap, sym}
 use Rattle.partition.proofs.Words.{bits_of_or}
 use Rattle.partition.proofs.states.StateSet.union.Goals as goal
 
