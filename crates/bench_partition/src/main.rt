@@ -1,8 +1,8 @@
 //! Makes two partitions, asks a question of them again and again, and prints counts. The arguments are the
 //! question, how the partitions are kept, their kind, the number of states, and how often it is asked.
 //!
-//! - `meet` and `join` make that partition, `before` compares the two, and `plain` asks of each pair of
-//!   states whether it is together in both, as a plain meet would.
+//! - `meet` and `join` make that partition, `blocks` makes the meet and counts its blocks, `before` compares
+//!   the two, and `plain` asks of each pair of states whether it is together in both, as a plain meet would.
 //! - They are kept as `labels` or as `bits`.
 //! - In the kind `few` states are together whose numbers divided by 16 leave the same rest, or the same
 //!   quotient. In the kind `chain` each state is together with the next one, in one partition or in the
@@ -11,7 +11,7 @@
 //! Nothing here is timed: a script does so from outside.
 #![tactic(auto)]
 
-ghost use Rattle.std.specs.Prelude.{◌≡◌, length};
+ghost use Rattle.std.specs.Prelude.{◌≡◌, ◌<◌, length};
 
 use anyhow::{Error, bail};
 use partition::{BitPart, Partition};
@@ -60,26 +60,37 @@ fn plain_meet(p: &Partition, q: &Partition) -> u64
     together
 }
 
-/// Asks a question of partitions that are kept as labels, and counts the blocks or the yes of the answer.
+/// Asks a question of partitions that are kept as labels, and counts what the answer says: whether the first
+/// state and the last are together, the number of blocks, or a yes.
 fn ask_labels(alloc: Global, question: &str, p: &Partition, q: &Partition) -> Result<u64, Error>
     requires { length q.now ≡ length p.now }
 {
+    let last = p.len() - 1;
     Ok(match question {
-        "meet" => p.meet(alloc, q)?.blocks() as u64,
-        "join" => p.join(alloc, q)?.blocks() as u64,
+        "meet" => u64::from(p.meet(alloc, q)?.same(0, last)),
+        "join" => u64::from(p.join(alloc, q)?.same(0, last)),
+        "blocks" => p.meet(alloc, q)?.blocks() as u64,
         "before" => u64::from(p.before(q)),
         "plain" => plain_meet(p, q),
         _ => bail!("no such question of labels"),
     })
 }
 
-/// Asks a question of partitions that are kept as rows of bits.
-fn ask_bits(alloc: Global, question: &str, p: &BitPart, q: &BitPart) -> Result<u64, Error>
-    requires { length q.now ≡ length p.now }
+/// Asks a question of partitions of states up to `last` that are kept as rows of bits.
+fn ask_bits(
+    alloc: Global,
+    question: &str,
+    p: &BitPart,
+    q: &BitPart,
+    last: usize,
+) -> Result<u64, Error>
+    requires q { length q.now ≡ length p.now }
+    requires last { last < length p.now }
 {
     Ok(match question {
-        "meet" => p.meet(alloc, q)?.blocks() as u64,
-        "join" => p.join(alloc, q)?.blocks() as u64,
+        "meet" => u64::from(p.meet(alloc, q)?.same(0, last)),
+        "join" => u64::from(p.join(alloc, q)?.same(0, last)),
+        "blocks" => p.meet(alloc, q)?.blocks() as u64,
         "before" => u64::from(p.before(q)),
         _ => bail!("no such question of bits"),
     })
@@ -109,9 +120,10 @@ fn main(rt: HostRuntime) -> Result<(), Error> {
             }
         }
         "bits" => {
+            let last = p.len() - 1;
             let (p, q) = (BitPart::of(alloc, &p)?, BitPart::of(alloc, &q)?);
             for _ in 0..times {
-                let answer = ask_bits(alloc, question.as_str(), &p, &q)?;
+                let answer = ask_bits(alloc, question.as_str(), &p, &q, last)?;
                 answers = answers.wrapping_add(answer);
             }
         }

@@ -1,12 +1,12 @@
 -- How the block of a state in a join is found on rows of bits.
-use Rattle.std.proofs.Common.{◌≡◌, ◌≢◌, ℕ, ◌+◌, ◌-◌, ◌<◌, ◌≤◌, ◌↔◌, ◌⊎◌, min, max, List, [], ◌∷◌, ◌++◌, length, get_or, set, refl, sym, ap, ◌∙◌, subst, inl, inr, arith}
+use Rattle.std.proofs.Common.{◌≡◌, ◌≢◌, ℕ, ◌+◌, ◌-◌, ◌<◌, ◌≤◌, ◌↔◌, ◌⊎◌, min, max, List, [], ◌∷◌, ◌++◌, length, set, refl, sym, ap, ◌∙◌, subst, inl, inr, arith}
 use Rattle.std.proofs.lemmas.Bool.{cases_eq, cases_lt}
 use Rattle.std.proofs.lemmas.List.{get_or-set_same, get_or-set_other}
-use Rattle.partition.specs.Partition.{Together}
 use Rattle.partition.specs.MeetAndJoin.{Leads, Chain}
-use Rattle.partition.specs.Bits.{bit_of, Has, row_of, IsRows, ReachesBy, Reaches}
-use Rattle.partition.specs.Laws.Chains.{Link, chain_on, chain_turned, chain_within}
+use Rattle.partition.specs.Bits.{bit_of, Has, row_of, IsRows, AreBlocks, ReachesBy, Reaches}
+use Rattle.partition.specs.Laws.Chains.{chain_on, chain_turned}
 use Rattle.partition.proofs.Words.{bit_of-lt}
+use Rattle.partition.proofs.Counting.{ones, ones-le, ones_kept, ones_grow}
 
 -- one step on rows
 abbrev pub Step : List (List ℕ) → List (List ℕ) → ℕ → ℕ → Type 0
@@ -26,71 +26,115 @@ reaches_by_within : (p q : List (List ℕ)) (n : ℕ) → ((s t : ℕ) → Step 
 reaches_by_within p q n within s t [] inside here = subst (λ (u : ℕ). u < n) here inside
 reaches_by_within p q n within s t (u ∷ us) inside first = reaches_by_within p q n within u t us (within s u first.0) first.1
 
--- after some states are done: what is reached so far, and where the done ones lead
-pub record IsReaching (p q : List (List ℕ)) (s : ℕ) (block done : List ℕ) : Type 0 where
+-- a step ends within the rows
+steps_within : (p q : List (List ℕ)) → AreBlocks p → AreBlocks q → length q ≡ length p → (s t : ℕ) → Step p q s t → t < length p
+steps_within p q p_are q_are lengths s t (inl left) = p_are.within s t left
+steps_within p q p_are q_are lengths s t (inr right) = omega (arith, q_are.within s t right, lengths)
+
+-- What is reached so far. The states of `left` have their row of p in the block, and those of `right` their row
+-- of q.
+pub record IsReaching (p q : List (List ℕ)) (s : ℕ) (block left right : List ℕ) : Type 0 where
   pub start : Has block s
   pub reached : (t : ℕ) → Has block t → Reaches p q s t
-  pub part : (t : ℕ) → Has done t → Has block t
-  pub closed : (t u : ℕ) → Has done t → Step p q t u → Has block u
+  pub closed_left : (t u : ℕ) → Has left t → Has (row_of p t) u → Has block u
+  pub closed_right : (t u : ℕ) → Has right t → Has (row_of q t) u → Has block u
 
-pub reaching_within : (p q : List (List ℕ)) (n s : ℕ) (block done : List ℕ) → ((t u : ℕ) → Step p q t u → u < n) → s < n → IsReaching p q s block done → (t : ℕ) → Has block t → t < n
-reaching_within p q n s block done within inside so_far t on =
-    let reaches = so_far.reached t on in reaches_by_within p q n within s t reaches.0 inside reaches.1
+pub reaching_within : (p q : List (List ℕ)) (s : ℕ) (block left right : List ℕ) → AreBlocks p → AreBlocks q → length q ≡ length p → s < length p → IsReaching p q s block left right → (t : ℕ) → Has block t → t < length p
+reaching_within p q s block left right p_are q_are lengths inside so_far t on =
+    let reaches = so_far.reached t on in reaches_by_within p q (length p) (steps_within p q p_are q_are lengths) s t reaches.0 inside reaches.1
 
-pub reaching_none : (p q : List (List ℕ)) (s : ℕ) (empty block done : List ℕ) → ((t : ℕ) → bit_of empty t ≡ 0) → Has block s → ((t : ℕ) → t ≢ s → bit_of block t ≡ bit_of empty t) → ((t : ℕ) → bit_of done t ≡ 0) → IsReaching p q s block done
-reaching_none p q s empty block done none start others nothing = record {
-  start = start;
-  reached = λ t on. elim (cases_eq t s) [
-    | inl at ↦ subst (λ (u : ℕ). Reaches p q s u) (sym at) (reaches_none p q s)
-    | inr other ↦ absurd (omega (arith, on, others t other, none t))
-  ];
-  part = λ t on. absurd (omega (arith, on, nothing t));
-  closed = λ t u on. absurd (omega (arith, on, nothing t));
+-- a state of a row of blocks has no states in its own row but those
+row_in_row : (rows : List (List ℕ)) (s t u : ℕ) → AreBlocks rows → s < length rows → Has (row_of rows s) t → Has (row_of rows t) u → Has (row_of rows s) u
+row_in_row rows s t u are inside one two = are.alike t s u (are.alike s t s one (are.own s inside)) two
+
+-- both rows of s
+pub reaching_first : (p q : List (List ℕ)) (s : ℕ) (block : List ℕ) → AreBlocks p → AreBlocks q → length q ≡ length p → s < length p → ((u : ℕ) → bit_of block u ≡ max (bit_of (row_of p s) u) (bit_of (row_of q s) u)) → IsReaching p q s block (row_of p s) (row_of q s)
+reaching_first p q s block p_are q_are lengths inside bits = record {
+  start = from_left s (p_are.own s inside);
+  reached = λ t on. reaches_on p q s s t (reaches_none p q s) (step t on (cases_lt (bit_of (row_of p s) t) 1));
+  closed_left = λ t u in_row on. from_left u (row_in_row p s t u p_are inside in_row on);
+  closed_right = λ t u in_row on. from_right u (row_in_row q s t u q_are (omega (arith, lengths)) in_row on);
 }
+  where
+    from_left : (u : ℕ) → Has (row_of p s) u → Has block u
+    from_left u on = omega (arith, bits u, on, bit_of-lt (row_of q s) u)
 
--- one state more is done
-pub reaching_step : (p q : List (List ℕ)) (s t : ℕ) (block done block' done' : List ℕ) → IsReaching p q s block done → Has block t
-    → ((u : ℕ) → bit_of block' u ≡ max (bit_of block u) (max (bit_of (row_of p t) u) (bit_of (row_of q t) u)))
-    → ((u : ℕ) → u ≢ t → bit_of done' u ≡ bit_of done u)
-    → IsReaching p q s block' done'
-reaching_step p q s t block done block' done' so_far on bits others = record {
+    from_right : (u : ℕ) → Has (row_of q s) u → Has block u
+    from_right u on = omega (arith, bits u, on, bit_of-lt (row_of p s) u)
+
+    step : (t : ℕ) → Has block t → (bit_of (row_of p s) t < 1) ⊎ (1 ≤ bit_of (row_of p s) t) → Step p q s t
+    step t on (inl none) = inr (omega (arith, on, bits t, bit_of-lt (row_of q s) t))
+    step t on (inr some) = inl (omega (arith, bit_of-lt (row_of p s) t))
+
+-- both rows of t more
+pub reaching_step : (p q : List (List ℕ)) (s t : ℕ) (block left right block' left' right' : List ℕ) → AreBlocks p → AreBlocks q → length q ≡ length p → t < length p → IsReaching p q s block left right → Has block t
+    → ((u : ℕ) → bit_of block' u ≡ max (max (bit_of block u) (bit_of (row_of p t) u)) (bit_of (row_of q t) u))
+    → ((u : ℕ) → bit_of left' u ≡ max (bit_of left u) (bit_of (row_of p t) u))
+    → ((u : ℕ) → bit_of right' u ≡ max (bit_of right u) (bit_of (row_of q t) u))
+    → IsReaching p q s block' left' right'
+reaching_step p q s t block left right block' left' right' p_are q_are lengths inside so_far on bits left_bits right_bits = record {
   start = keeps s so_far.start;
   reached = λ u in_block. by_cases u (cases_lt (bit_of block u) 1) (cases_lt (bit_of (row_of p t) u) 1) in_block;
-  part = λ u in_done. elim (cases_eq u t) [
-    | inl at ↦ keeps u (subst (Has block) (sym at) on)
-    | inr other ↦ keeps u (so_far.part u (sym (others u other) ∙ in_done))
+  closed_left = λ u v in_left step. elim (cases_lt (bit_of left u) 1) [
+    | inl new ↦ from_left v (row_in_row p t u v p_are inside (omega (arith, in_left, left_bits u, bit_of-lt (row_of p t) u)) step)
+    | inr old ↦ keeps v (so_far.closed_left u v (omega (arith, bit_of-lt left u)) step)
   ];
-  closed = λ u v in_done step. elim (cases_eq u t) [
-    | inl at ↦ steps v (subst (λ (w : ℕ). Step p q w v) at step)
-    | inr other ↦ keeps v (so_far.closed u v (sym (others u other) ∙ in_done) step)
+  closed_right = λ u v in_right step. elim (cases_lt (bit_of right u) 1) [
+    | inl new ↦ from_right v (row_in_row q t u v q_are (omega (arith, lengths)) (omega (arith, in_right, right_bits u, bit_of-lt (row_of q t) u)) step)
+    | inr old ↦ keeps v (so_far.closed_right u v (omega (arith, bit_of-lt right u)) step)
   ];
 }
   where
     keeps : (u : ℕ) → Has block u → Has block' u
     keeps u in_block = omega (arith, bits u, in_block, bit_of-lt (row_of p t) u, bit_of-lt (row_of q t) u)
 
-    steps : (u : ℕ) → Step p q t u → Has block' u
-    steps u (inl step) = omega (arith, bits u, step, bit_of-lt block u, bit_of-lt (row_of q t) u)
-    steps u (inr step) = omega (arith, bits u, step, bit_of-lt block u, bit_of-lt (row_of p t) u)
+    from_left : (u : ℕ) → Has (row_of p t) u → Has block' u
+    from_left u step = omega (arith, bits u, step, bit_of-lt block u, bit_of-lt (row_of q t) u)
+
+    from_right : (u : ℕ) → Has (row_of q t) u → Has block' u
+    from_right u step = omega (arith, bits u, step, bit_of-lt block u, bit_of-lt (row_of p t) u)
 
     by_cases : (u : ℕ) → (bit_of block u < 1) ⊎ (1 ≤ bit_of block u) → (bit_of (row_of p t) u < 1) ⊎ (1 ≤ bit_of (row_of p t) u) → Has block' u → Reaches p q s u
     by_cases u (inr old) row in_block = so_far.reached u (omega (arith, bit_of-lt block u))
-    by_cases u (inl new) (inr left) in_block = reaches_on p q s t u (so_far.reached t on) (inl (omega (arith, bit_of-lt (row_of p t) u)))
+    by_cases u (inl new) (inr there) in_block = reaches_on p q s t u (so_far.reached t on) (inl (omega (arith, bit_of-lt (row_of p t) u)))
     by_cases u (inl new) (inl none) in_block = reaches_on p q s t u (so_far.reached t on) (inr (omega (arith, in_block, bits u, bit_of-lt (row_of q t) u)))
 
--- a bit of a difference
-pub difference_bit : (a b : ℕ) → a < 2 → b < 2 → min a (1 - b) ≡ 1 → (a ≡ 1) × (b ≡ 0)
-difference_bit a b in_a in_b on = (omega arith, omega arith)
+-- a state of the block one of whose rows is not in it yet
+pub not_done : (block left right both rest : List ℕ) (t : ℕ) → ((u : ℕ) → bit_of both u ≡ min (bit_of left u) (bit_of right u)) → ((u : ℕ) → bit_of rest u ≡ min (bit_of block u) (1 - bit_of both u)) → Has rest t → Has block t × ((bit_of left t ≡ 0) ⊎ (Has left t × (bit_of right t ≡ 0)))
+not_done block left right both rest t both_bits rest_bits on =
+    elim (cases_lt (bit_of left t) 1) [
+      | inl none ↦ (omega (arith, on, rest_bits t, bit_of-lt block t), inl (omega arith))
+      | inr some ↦ (omega (arith, on, rest_bits t, bit_of-lt block t), inr (omega (arith, bit_of-lt left t), omega (arith, on, rest_bits t, both_bits t, bit_of-lt right t)))
+    ]
+
+-- with both rows of such a state more states have their rows in the block
+pub more_done : (p q : List (List ℕ)) (t : ℕ) (left right left' right' : List ℕ) → AreBlocks p → AreBlocks q → length q ≡ length p → t < length p → (bit_of left t ≡ 0) ⊎ (Has left t × (bit_of right t ≡ 0))
+    → ((u : ℕ) → bit_of left' u ≡ max (bit_of left u) (bit_of (row_of p t) u))
+    → ((u : ℕ) → bit_of right' u ≡ max (bit_of right u) (bit_of (row_of q t) u))
+    → 512 - (ones left' 256 + ones right' 256) < 512 - (ones left 256 + ones right 256)
+more_done p q t left right left' right' p_are q_are lengths inside one left_bits right_bits =
+    let small : t < 256 = omega (arith, p_are.count.1) in
+    let kept_left : (u : ℕ) → Has left u → Has left' u = λ u on. omega (arith, left_bits u, on, bit_of-lt (row_of p t) u) in
+    let kept_right : (u : ℕ) → Has right u → Has right' u = λ u on. omega (arith, right_bits u, on, bit_of-lt (row_of q t) u) in
+    let in_left : Has left' t = omega (arith, left_bits t, p_are.own t inside, bit_of-lt left t) in
+    let in_right : Has right' t = omega (arith, right_bits t, q_are.own t (omega (arith, lengths)), bit_of-lt right t) in
+    elim one [
+      | inl new ↦ omega (arith, ones_grow left left' t 256 small kept_left new in_left, ones_kept right right' 256 kept_right, ones-le left' 256, ones-le right' 256)
+      | inr both ↦ omega (arith, ones_kept left left' 256 kept_left, ones_grow right right' t 256 small kept_right both.1 in_right, ones-le left' 256, ones-le right' 256)
+    ]
 
 reaching_follows : (p q : List (List ℕ)) (block : List ℕ) → ((t u : ℕ) → Has block t → Step p q t u → Has block u) → (s t : ℕ) (us : List ℕ) → Has block s → ReachesBy p q s us t → Has block t
 reaching_follows p q block closed s t [] on here = subst (Has block) here on
 reaching_follows p q block closed s t (u ∷ us) on first = reaching_follows p q block closed u t us (closed s u on first.0) first.1
 
--- all states that were reached are done
-pub reaching_all : (p q : List (List ℕ)) (s : ℕ) (block done : List ℕ) → IsReaching p q s block done → ((t : ℕ) → min (bit_of block t) (1 - bit_of done t) ≡ 0) → (t : ℕ) → Has block t ↔ Reaches p q s t
-reaching_all p q s block done all none t = (
+-- both rows of each state that was reached are in the block
+pub reaching_all : (p q : List (List ℕ)) (s : ℕ) (block left right : List ℕ) → IsReaching p q s block left right → ((t : ℕ) → min (bit_of block t) (1 - min (bit_of left t) (bit_of right t)) ≡ 0) → (t : ℕ) → Has block t ↔ Reaches p q s t
+reaching_all p q s block left right all none t = (
   (λ on. all.reached t on),
-  (λ reaches. reaching_follows p q block (λ u v on step. all.closed u v (omega (arith, none u, on, bit_of-lt done u)) step) s t reaches.0 all.start reaches.1),
+  (λ reaches. reaching_follows p q block (λ u v on step. elim step [
+    | inl to_left ↦ all.closed_left u v (omega (arith, none u, on, bit_of-lt left u, bit_of-lt right u)) to_left
+    | inr to_right ↦ all.closed_right u v (omega (arith, none u, on, bit_of-lt left u, bit_of-lt right u)) to_right
+  ]) s t reaches.0 all.start reaches.1),
 )
 
 -- on the rows of two partitions that is to have a chain between

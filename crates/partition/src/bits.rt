@@ -4,34 +4,39 @@ ghost use Rattle.std.specs.Prelude.{◌≡◌, ℕ, ◌+◌, ◌/◌, ◌<◌, �
 ghost use Rattle.partition.specs.Partition.{IsPartition, Together, blocks_of};
 ghost use Rattle.partition.specs.MeetAndJoin.{IsMeet, IsJoin};
 ghost use Rattle.partition.specs.Before.{Before};
-ghost use Rattle.partition.specs.Bits.{bit_of, Has, row_of, IsRows};
+ghost use Rattle.partition.specs.Bits.{bit_of};
 
+mod comparing;
 mod lattice;
 
 use crate::Partition;
 use crate::states::StateSet;
+use comparing::{begun_blocks, is_smaller, same_rows};
+use lattice::numbered_rows;
 use std::alloc::{AllocError, Global};
 use std::marker::Model;
 
 /// A partition of n states as n rows of n bits, seen by contracts as its list of labels.
 ///
-/// Bit t of row s is 1 exactly where s and t are together.
+/// Bit t of row s is 1 exactly where s and t are together. The number of blocks is kept where it was counted.
 #[derive(Debug, Drop)]
 pub struct BitPart {
-    labels: Partition,
     rows: Vec<StateSet>,
+    blocks: Option<usize>,
 }
 
 impl Model for BitPart {
-    ghost use Rattle.std.specs.Prelude.{List, ℕ, length};
-    ghost use Rattle.partition.specs.Partition.{IsPartition};
-    ghost use Rattle.partition.specs.Bits.{IsRows};
+    ghost use Rattle.std.specs.Prelude.{◌≡◌, List, ℕ, length, IfSome};
+    ghost use Rattle.partition.specs.Partition.{IsPartition, blocks_of};
+    ghost use Rattle.partition.specs.Bits.{IsRows, labels_of};
 
     ghost Value = { List ℕ };
 
-    ghost view = { λ p. p.labels };
+    ghost view = { λ p. labels_of p.rows.items };
 
-    ghost invariant = { λ p. IsPartition (length p.labels) p.labels × IsRows p.labels p.rows.items };
+    ghost invariant = { λ p. IsPartition (length (labels_of p.rows.items)) (labels_of p.rows.items)
+        × IsRows (labels_of p.rows.items) p.rows.items
+        × IfSome p.blocks (λ blocks. blocks ≡ blocks_of (labels_of p.rows.items)) };
 }
 
 impl BitPart {
@@ -40,7 +45,7 @@ impl BitPart {
         ensures labels { IfOk result (λ p. p ≡ self.now) }
         ensures lawful { IfOk result (λ p. IsPartition (length self.now) p) }
     {
-        self.labels.copy(alloc)
+        numbered_rows(alloc, self.rows.as_slice())
     }
 
     /// Row s: bit t stands at 2^(t modulo 64) of word t / 64, and is 1 exactly where s and t are
@@ -51,7 +56,7 @@ impl BitPart {
         ensures together { (t : ℕ) → (bit_of result.now t ≡ 1) ↔ Together self.now s t }
         ensures above { (t : ℕ) → length self.now ≤ t → bit_of result.now t ≡ 0 }
     {
-        let count = self.labels.len().div_ceil(64);
+        let count = self.rows.len().div_ceil(64);
         self.rows[s].words(count)
     }
 
@@ -64,27 +69,35 @@ impl BitPart {
         self.rows[s].contains(t)
     }
 
-    /// The number of blocks.
+    /// The number of blocks. Those of a meet are counted here, by one look at each row.
     pub fn blocks(&self) -> usize
         ensures blocks { result ≡ blocks_of self.now }
         ensures lawful { IsPartition (length self.now) self.now }
     {
-        self.labels.blocks()
+        match self.blocks {
+            Some(blocks) => blocks,
+            None => begun_blocks(self.rows.as_slice()),
+        }
     }
 
     /// Whether q has the same states together.
     pub fn equal(&self, q: &BitPart) -> bool
         ensures { IsTrue result ↔ (self.now ≡ q.now) }
     {
-        self.labels.equal(&q.labels)
+        same_rows(self.rows.as_slice(), q.rows.as_slice())
     }
 
-    /// Whether this partition stands before q in a listing.
+    /// Whether this partition stands before q in a listing, in the order of `Partition::before`.
     pub fn before(&self, q: &BitPart) -> bool
         requires { length q.now ≡ length self.now }
         ensures { IsTrue result ↔ Before self.now q.now }
     {
-        self.labels.before(&q.labels)
+        let (blocks, others) = (self.blocks(), q.blocks());
+        if blocks == others {
+            is_smaller(self.rows.as_slice(), q.rows.as_slice())
+        } else {
+            others < blocks
+        }
     }
 
     /// The same partition again.
@@ -93,8 +106,8 @@ impl BitPart {
         ensures lawful { IfOk result (λ p. IsPartition (length self.now) p) }
     {
         Ok(BitPart {
-            labels: self.labels.copy(alloc)?,
             rows: self.rows.as_slice().to_vec(alloc)?,
+            blocks: self.blocks,
         })
     }
 }

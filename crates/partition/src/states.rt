@@ -1,6 +1,6 @@
 //! Sets of states as four words of bits.
 
-ghost use Rattle.std.specs.Prelude.{◌≡◌, ℕ, ◌-◌, ◌<◌, ◌≤◌, ◌≢◌, ◌↔◌, min, max, IsTrue, IfSome, IfNone, take, length};
+ghost use Rattle.std.specs.Prelude.{◌≡◌, ℕ, ◌+◌, ◌-◌, ◌%◌, ◌<◌, ◌≤◌, ◌≢◌, ◌↔◌, min, max, IsTrue, IfSome, IfNone, take, length};
 ghost use Rattle.partition.specs.Bits.{bit_of, Has};
 
 use std::marker::Model;
@@ -67,6 +67,16 @@ impl StateSet {
         }
     }
 
+    /// The states that are in one of the sets and not in both.
+    pub fn symmetric_difference(&self, other: &StateSet) -> StateSet
+        ensures { (t : ℕ) → bit_of result t ≡ (bit_of self.now t + bit_of other.now t) % 2 }
+    {
+        let (a, b) = (&self.words, &other.words);
+        StateSet {
+            words: [a[0] ^ b[0], a[1] ^ b[1], a[2] ^ b[2], a[3] ^ b[3]],
+        }
+    }
+
     /// Puts a state into the set.
     pub fn insert(&mut self, t: usize)
         requires { t < 256 }
@@ -85,6 +95,13 @@ impl StateSet {
         self.words[t / 64] &= !(1 << (t % 64));
     }
 
+    /// Whether the other set has the same states.
+    pub fn equal(&self, other: &StateSet) -> bool
+        ensures { IsTrue result ↔ ((t : ℕ) → bit_of self.now t ≡ bit_of other.now t) }
+    {
+        self.symmetric_difference(other).first().is_none()
+    }
+
     /// The least state of the set.
     pub fn first(&self) -> Option<usize>
         ensures some { IfSome result (λ t. Has self.now t) }
@@ -97,6 +114,15 @@ impl StateSet {
             }
         }
         None
+    }
+
+    /// The least state of a set that has the state s.
+    pub fn first_with(&self, s: usize) -> usize
+        requires { Has self.now s }
+        ensures in_set { Has self.now result }
+        ensures least { (u : ℕ) → u < result → bit_of self.now u ≡ 0 }
+    {
+        self.first().unwrap_or(s)
     }
 
     /// The first words, in which the states below 64 times their number are.

@@ -1,10 +1,10 @@
 -- Labels by first appearance: each number below the number of blocks stands, and two such lists with the
 -- same states together are one.
-use Rattle.std.proofs.Common.{◌≡◌, ℕ, suc, zero, ◌+◌, ◌-◌, ◌<◌, ◌≤◌, ◌↔◌, ◌⊎◌, inl, inr, max, List, [], ◌∷◌, ◌++◌, length, take, get_or, refl, sym, ap, ◌∙◌, subst, arith, add-one}
+use Rattle.std.proofs.Common.{◌≡◌, ℕ, suc, zero, ◌+◌, ◌<◌, ◌≤◌, ◌⊎◌, inl, inr, max, List, [], ◌∷◌, ◌++◌, length, take, get_or, refl, sym, ap, ◌∙◌, subst, arith, add-one}
 use Rattle.std.proofs.lemmas.List.{take_more, length-take-le, get_or-take, take_all, take_more_same, length_push, get_or_append_left, take-append-le, get_or_push, take_at}
-use Rattle.std.proofs.lemmas.List.Recursion.{max_bounds, max_least, max_push}
+use Rattle.std.proofs.lemmas.List.Recursion.{max_bounds, max_push}
 use Rattle.std.proofs.lemmas.Bool.{cases_eq, cases_lt}
-use Rattle.partition.specs.Partition.{blocks_of, IsNumbered, IsPartition, Together, SameTogether}
+use Rattle.partition.specs.Partition.{blocks_of, IsNumbered, IsPartition, SameTogether}
 
 pub blocks_of-push : (xs : List ℕ) (x : ℕ) → blocks_of (xs ++ x ∷ []) ≡ max (blocks_of xs) (x + 1)
 blocks_of-push xs x = max_push blocks_of (λ label. label + 1) refl (λ _ _. refl) xs x
@@ -55,7 +55,7 @@ abbrev Agree : List ℕ → List ℕ → Type 0
 Agree p q = (s t : ℕ) → s < length p → t < length p → (get_or p s 0 ≡ get_or p t 0 → get_or q s 0 ≡ get_or q t 0) × (get_or q s 0 ≡ get_or q t 0 → get_or p s 0 ≡ get_or p t 0)
 
 -- a label that is no earlier one is the number of blocks so far
-new_label : (p : List ℕ) → IsNumbered p → (s : ℕ) → s < length p → ((t : ℕ) → t < s → get_or p t 0 ≡ get_or p s 0 → ⊥) → get_or p s 0 ≡ blocks_of (take s p)
+pub new_label : (p : List ℕ) → IsNumbered p → (s : ℕ) → s < length p → ((t : ℕ) → t < s → get_or p t 0 ≡ get_or p s 0 → ⊥) → get_or p s 0 ≡ blocks_of (take s p)
 new_label p numbered s within new =
     elim (cases_lt (get_or p s 0) (blocks_of (take s p))) [
       | inl old ↦ let earlier = block_stands p numbered s (omega arith) (get_or p s 0) old in absurd (new earlier.0 earlier.1 earlier.2)

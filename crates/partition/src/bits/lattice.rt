@@ -6,6 +6,7 @@ ghost use Rattle.partition.specs.MeetAndJoin.{IsMeet, IsJoin, IsGreatestBelow, I
 ghost use Rattle.partition.specs.Bits.{bit_of, Has, row_of, IsRows, AreBlocks, AreSets, Reaches};
 
 use super::BitPart;
+use super::comparing::begun_blocks;
 use crate::Partition;
 use crate::states::StateSet;
 use std::alloc::{AllocError, Global};
@@ -16,23 +17,22 @@ impl BitPart {
         ensures labels { IfOk result (λ q. q ≡ p.now) }
         ensures lawful { IfOk result (λ q. IsPartition (length p.now) q) }
     {
-        let rows = label_rows(alloc, p.labels(), p.blocks())?;
+        let blocks = p.blocks();
         Ok(BitPart {
-            labels: p.copy(alloc)?,
-            rows,
+            rows: label_rows(alloc, p.labels(), blocks)?,
+            blocks: Some(blocks),
         })
     }
 
-    /// States are together where they are together here and in q.
+    /// States are together where they are together here and in q. Its blocks are not counted.
     pub fn meet(&self, alloc: Global, q: &BitPart) -> Result<BitPart, AllocError>
         requires { length q.now ≡ length self.now }
         ensures meet { IfOk result (λ r. IsMeet self.now q.now r) }
         ensures greatest { IfOk result (λ r. IsGreatestBelow self.now q.now r) }
     {
-        let rows = self.common_rows(alloc, q)?;
         Ok(BitPart {
-            labels: numbered_rows(alloc, rows.as_slice())?,
-            rows,
+            rows: self.common_rows(alloc, q)?,
+            blocks: None,
         })
     }
 
@@ -43,9 +43,10 @@ impl BitPart {
         ensures least { IfOk result (λ r. IsLeastAbove self.now q.now r) }
     {
         let rows = self.joined_rows(alloc, q)?;
+        let blocks = begun_blocks(rows.as_slice());
         Ok(BitPart {
-            labels: numbered_rows(alloc, rows.as_slice())?,
             rows,
+            blocks: Some(blocks),
         })
     }
 
@@ -96,21 +97,22 @@ impl BitPart {
         ensures both { IfOk result (λ v. (s t : ℕ) → s < length self.now
             → Has (row_of v.items s) t ↔ (Together self.now s t × Together q.now s t)) }
     {
-        let mut rows = self.rows.as_slice().to_vec(alloc)?;
-        keep_common(rows.as_mut_slice(), q.rows.as_slice());
-        Ok(rows)
+        common_states(alloc, self.rows.as_slice(), q.rows.as_slice())
     }
 }
 
-/// Keeps in each row the states that are in the other row too.
-fn keep_common(rows: &mut [StateSet], others: &[StateSet])
-    requires { length others.now ≡ length rows.old }
-    ensures { (s : ℕ) → s < length rows.old → (t : ℕ)
-        → bit_of (row_of rows.new s) t ≡ min (bit_of (row_of rows.old s) t) (bit_of (row_of others.now s) t) }
+/// For each state the states that both rows have.
+fn common_states(alloc: Global, p: &[StateSet], q: &[StateSet]) -> Result<Vec<StateSet>, AllocError>
+    requires { length q.now ≡ length p.now }
+    ensures length { IfOk result (λ v. length v.items ≡ length p.now) }
+    ensures both { IfOk result (λ v. (s : ℕ) → s < length p.now → (t : ℕ)
+        → bit_of (row_of v.items s) t ≡ min (bit_of (row_of p.now s) t) (bit_of (row_of q.now s) t)) }
 {
-    for (s, other) in others.iter().enumerate() {
-        rows[s] = rows[s].intersection(other);
+    let mut rows = Vec::with_capacity(alloc, p.len())?;
+    for (s, row) in p.iter().enumerate() {
+        rows.push(row.intersection(&q[s]))?;
     }
+    Ok(rows)
 }
 
 /// The rows of a partition with this number of blocks.
@@ -152,7 +154,7 @@ fn rows_of(alloc: Global, sets: &[StateSet], labels: &[u16]) -> Result<Vec<State
 }
 
 /// The labels of rows that say which states are together.
-fn numbered_rows(alloc: Global, rows: &[StateSet]) -> Result<Partition, AllocError>
+pub fn numbered_rows(alloc: Global, rows: &[StateSet]) -> Result<Partition, AllocError>
     requires { AreBlocks rows.now }
     ensures lawful { IfOk result (λ p. IsPartition (length rows.now) p) }
     ensures rows { IfOk result (λ p. IsRows p rows.now) }
@@ -188,19 +190,22 @@ fn label_of_row(row: &StateSet, labels: &[u16], blocks: &mut u16) -> u16
 }
 
 /// The states that are reached from s by the rows of p and q, one after another.
+///
+/// Each row goes into the block once: `left` and `right` are the states whose row of p, or of q, is in it.
 fn reached_block(p: &[StateSet], q: &[StateSet], s: usize) -> StateSet
+    requires p { AreBlocks p.now }
+    requires q { AreBlocks q.now }
     requires length { length q.now ≡ length p.now }
-    requires small { length p.now ≤ 256 }
-    requires within { (t u : ℕ) → Has (row_of p.now t) u ⊎ Has (row_of q.now t) u → u < length p.now }
     requires s { s < length p.now }
     ensures { (t : ℕ) → Has result t ↔ Reaches p.now q.now s t }
 {
-    let mut block = StateSet::empty();
-    block.insert(s);
-    let mut done = StateSet::empty();
-    while let Some(t) = block.difference(&done).first() {
-        block = block.union(&p[t].union(&q[t]));
-        done.insert(t);
+    let (mut left, mut right) = (p[s], q[s]);
+    let mut block = left.union(&right);
+    while let Some(t) = block.difference(&left.intersection(&right)).first() {
+        let (row, other) = (p[t], q[t]);
+        block = block.union(&row).union(&other);
+        left = left.union(&row);
+        right = right.union(&other);
     }
     block
 }

@@ -147,15 +147,22 @@ fn labels_agree(alloc: Global, p: &Partition, q: &Partition) -> Result<bool, All
     )
 }
 
-/// Whether rows of bits have the labels that partitions have.
+/// Whether rows of bits answer as labels do: meet, join, their blocks, order and equality.
 fn bits_agree(alloc: Global, p: &Partition, q: &Partition) -> Result<bool, AllocError> {
     if p.len() != 5 || q.len() != 5 {
         return Ok(false);
     }
     let (left, right) = (BitPart::of(alloc, p)?, BitPart::of(alloc, q)?);
-    let meet = left.meet(alloc, &right)?.labels(alloc)?;
-    let join = left.join(alloc, &right)?.labels(alloc)?;
-    Ok(meet.equal(&p.meet(alloc, q)?) && join.equal(&p.join(alloc, q)?))
+    let (meet, join) = (left.meet(alloc, &right)?, left.join(alloc, &right)?);
+    let (lower, upper) = (p.meet(alloc, q)?, p.join(alloc, q)?);
+    Ok(
+        meet.labels(alloc)?.equal(&lower)
+            && join.labels(alloc)?.equal(&upper)
+            && meet.blocks() == lower.blocks()
+            && join.blocks() == upper.blocks()
+            && left.before(&right) == p.before(q)
+            && left.equal(&right) == p.equal(q),
+    )
 }
 
 /// Whether p agrees with each partition of a list.

@@ -125,6 +125,51 @@ fn rows_end_in_their_last_word(rt: HostRuntime) -> Result<(), Fail> {
     Ok(())
 }
 
+/// Whether rows of bits find that these two partitions have zero for their meet and one for their join, and
+/// that zero comes first.
+fn zero_and_one_are_found(alloc: Global, p: &Partition, q: &Partition) -> Result<bool, AllocError> {
+    if p.len() != q.len() {
+        return Ok(false);
+    }
+    let zero = BitPart::of(alloc, &Partition::zero(alloc, p.len())?)?;
+    let one = BitPart::of(alloc, &Partition::one(alloc, p.len())?)?;
+    let (left, right) = (BitPart::of(alloc, p)?, BitPart::of(alloc, q)?);
+    let (meet, join) = (left.meet(alloc, &right)?, left.join(alloc, &right)?);
+    Ok(
+        meet.equal(&zero)
+            && join.equal(&one)
+            && [meet.blocks(), join.blocks()] == [p.len(), 1]
+            && meet.before(&join) == (p.len() > 1)
+            && !join.before(&one.copy(alloc)?),
+    )
+}
+
+/// The partitions of n states into pairs of neighbours, the first pair beginning with state 0 or with state 1.
+fn pairs_of_neighbours(alloc: Global, n: u16) -> Result<(Partition, Partition), PartFail> {
+    let (mut even, mut odd) = (Vec::new(alloc), Vec::new(alloc));
+    for s in 0..n {
+        even.push(s / 2)?;
+        odd.push(s / 2 + s % 2)?;
+    }
+    Ok((
+        Partition::from_labels(alloc, even.as_slice())?,
+        Partition::from_labels(alloc, odd.as_slice())?,
+    ))
+}
+
+#[test]
+fn chains_go_on_from_word_to_word(rt: HostRuntime) -> Result<(), Fail> {
+    let alloc = rt.alloc();
+    for n in [1u16, 64, 65, 128, 256] {
+        let Ok((even, odd)) = pairs_of_neighbours(alloc, n) else {
+            panic!(rt; "these are labels of partitions");
+        };
+        let found = zero_and_one_are_found(alloc, &even, &odd)?;
+        assert_eq!(rt; (n, found), (n, true));
+    }
+    Ok(())
+}
+
 #[test]
 fn bits_hold_two_states_together(rt: HostRuntime) -> Result<(), Fail> {
     let alloc = rt.alloc();

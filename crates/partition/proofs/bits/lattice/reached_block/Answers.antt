@@ -1,42 +1,51 @@
-use Rattle.std.proofs.Common.{◌≡◌, ◌<◌, ℕ, List, max, length, sym, ap, ◌∙◌, arith}
-use Rattle.partition.specs.Bits.{bit_of, Has, row_of}
-use Rattle.partition.proofs.Words.{bit_of-lt}
+use Rattle.std.proofs.Common.{◌≡◌, ◌-◌, List, ℕ, min, max, sym, ap, ◌∙◌, arith}
+use Rattle.partition.specs.Bits.{bit_of, row_of}
 use Rattle.partition.proofs.Rows.{row_read}
-use Rattle.partition.proofs.Counting.{ones_more, ones-le}
-use Rattle.partition.proofs.Reaching.{IsReaching, reaching_within, reaching_step, reaching_all, difference_bit}
+use Rattle.partition.proofs.Reaching.{reaching_first, reaching_step, reaching_within, reaching_all, not_done, more_done}
 use Rattle.partition.proofs.bits.lattice.reached_block.Goals as goal
+
+pub loop-t-init : goal.loop-t-init
+loop-t-init c =
+    let p : List (List ℕ) = c.args.p.now in
+    let q : List (List ℕ) = c.args.q.now in
+    let s : ℕ = c.args.s in
+    let row : c.index-p-s.result ≡ row_of p s = row_read p s c.index-p-s.result (omega (arith, c.requires.s)) c.index-p-s.is in
+    let other : c.index-q-s.result ≡ row_of q s = row_read q s c.index-q-s.result (omega (arith, c.requires.s, c.requires.length)) c.index-q-s.is in
+    let bits : (u : ℕ) → bit_of c.union-block.result u ≡ max (bit_of (row_of p s) u) (bit_of (row_of q s) u) = λ u. c.union-block.ensures u ∙ ap (λ (r : List ℕ). max (bit_of r u) (bit_of c.index-q-s.result u)) row ∙ ap (λ (r : List ℕ). max (bit_of (row_of p s) u) (bit_of r u)) other in
+    rw (row, other) (reaching_first p q s c.union-block.result c.requires.p c.requires.q c.requires.length c.requires.s bits)
 
 pub bounds-p-t : goal.bounds-p-t
 bounds-p-t c =
-    let t : ℕ = c.in-Some.t in
-    let is = difference_bit (bit_of c.loop-t.block t) (bit_of c.loop-t.done t) (bit_of-lt c.loop-t.block t) (bit_of-lt c.loop-t.done t) (sym (c.difference.ensures t) ∙ c.in-Some.ensures.some) in
-    reaching_within c.args.p.now c.args.q.now (length c.args.p.now) c.args.s c.loop-t.block c.loop-t.done c.requires.within c.requires.s c.loop-t.invariant t is.0
+    let found = not_done c.loop-t.block c.loop-t.left c.loop-t.right c.intersection.result c.difference.result c.in-Some.t c.intersection.ensures c.difference.ensures c.in-Some.ensures.some in
+    reaching_within c.args.p.now c.args.q.now c.args.s c.loop-t.block c.loop-t.left c.loop-t.right c.requires.p c.requires.q c.requires.length c.requires.s c.loop-t.invariant c.in-Some.t found.0
 
 pub bounds-q-t : goal.bounds-q-t
 bounds-q-t c =
-    let t : ℕ = c.in-Some.t in
-    let is = difference_bit (bit_of c.loop-t.block t) (bit_of c.loop-t.done t) (bit_of-lt c.loop-t.block t) (bit_of-lt c.loop-t.done t) (sym (c.difference.ensures t) ∙ c.in-Some.ensures.some) in
-    omega (arith, reaching_within c.args.p.now c.args.q.now (length c.args.p.now) c.args.s c.loop-t.block c.loop-t.done c.requires.within c.requires.s c.loop-t.invariant t is.0, c.requires.length)
+    let found = not_done c.loop-t.block c.loop-t.left c.loop-t.right c.intersection.result c.difference.result c.in-Some.t c.intersection.ensures c.difference.ensures c.in-Some.ensures.some in
+    omega (arith, c.requires.length, reaching_within c.args.p.now c.args.q.now c.args.s c.loop-t.block c.loop-t.left c.loop-t.right c.requires.p c.requires.q c.requires.length c.requires.s c.loop-t.invariant c.in-Some.t found.0)
 
 pub loop-t-smaller : goal.loop-t-smaller
 loop-t-smaller c =
+    let p : List (List ℕ) = c.args.p.now in
+    let q : List (List ℕ) = c.args.q.now in
     let t : ℕ = c.in-Some.t in
-    let is = difference_bit (bit_of c.loop-t.block t) (bit_of c.loop-t.done t) (bit_of-lt c.loop-t.block t) (bit_of-lt c.loop-t.done t) (sym (c.difference.ensures t) ∙ c.in-Some.ensures.some) in
-    let inside : t < length c.args.p.now = reaching_within c.args.p.now c.args.q.now (length c.args.p.now) c.args.s c.loop-t.block c.loop-t.done c.requires.within c.requires.s c.loop-t.invariant t is.0 in
-    omega (arith, ones_more c.loop-t.done c.insert-in-Some.new.self t 256 (omega (arith, c.requires.small)) is.1 c.insert-in-Some.ensures.in_set c.insert-in-Some.ensures.others, ones-le c.insert-in-Some.new.self 256)
+    let found = not_done c.loop-t.block c.loop-t.left c.loop-t.right c.intersection.result c.difference.result t c.intersection.ensures c.difference.ensures c.in-Some.ensures.some in
+    let inside = reaching_within p q c.args.s c.loop-t.block c.loop-t.left c.loop-t.right c.requires.p c.requires.q c.requires.length c.requires.s c.loop-t.invariant t found.0 in
+    let row : c.index-p-t.result ≡ row_of p t = row_read p t c.index-p-t.result inside c.index-p-t.is in
+    let other : c.index-q-t.result ≡ row_of q t = row_read q t c.index-q-t.result (omega (arith, inside, c.requires.length)) c.index-q-t.is in
+    more_done p q t c.loop-t.left c.loop-t.right c.union-left.result c.union-right.result c.requires.p c.requires.q c.requires.length inside found.1 (rw (← row) c.union-left.ensures) (rw (← other) c.union-right.ensures)
 
 pub loop-t-preserved : goal.loop-t-preserved
 loop-t-preserved c =
-    let t : ℕ = c.in-Some.t in
     let p : List (List ℕ) = c.args.p.now in
     let q : List (List ℕ) = c.args.q.now in
-    let is = difference_bit (bit_of c.loop-t.block t) (bit_of c.loop-t.done t) (bit_of-lt c.loop-t.block t) (bit_of-lt c.loop-t.done t) (sym (c.difference.ensures t) ∙ c.in-Some.ensures.some) in
-    let inside : t < length p = reaching_within p q (length p) c.args.s c.loop-t.block c.loop-t.done c.requires.within c.requires.s c.loop-t.invariant t is.0 in
-    let p_row : c.index-p-t.result ≡ row_of p t = row_read p t c.index-p-t.result inside c.index-p-t.is in
-    let q_row : c.index-q-t.result ≡ row_of q t = row_read q t c.index-q-t.result (omega (arith, c.requires.length)) c.index-q-t.is in
-    reaching_step p q c.args.s t c.loop-t.block c.loop-t.done c.union-block.result c.insert-in-Some.new.self c.loop-t.invariant is.0
-    (λ u. c.union-block.ensures u ∙ ap (max (bit_of c.loop-t.block u)) (c.union.ensures u ∙ ap (λ (row : List ℕ). max (bit_of row u) (bit_of c.index-q-t.result u)) p_row ∙ ap (λ (row : List ℕ). max (bit_of (row_of p t) u) (bit_of row u)) q_row))
-    c.insert-in-Some.ensures.others
+    let t : ℕ = c.in-Some.t in
+    let found = not_done c.loop-t.block c.loop-t.left c.loop-t.right c.intersection.result c.difference.result t c.intersection.ensures c.difference.ensures c.in-Some.ensures.some in
+    let inside = reaching_within p q c.args.s c.loop-t.block c.loop-t.left c.loop-t.right c.requires.p c.requires.q c.requires.length c.requires.s c.loop-t.invariant t found.0 in
+    let row : c.index-p-t.result ≡ row_of p t = row_read p t c.index-p-t.result inside c.index-p-t.is in
+    let other : c.index-q-t.result ≡ row_of q t = row_read q t c.index-q-t.result (omega (arith, inside, c.requires.length)) c.index-q-t.is in
+    let bits : (u : ℕ) → bit_of c.union-block-in-Some.result u ≡ max (max (bit_of c.loop-t.block u) (bit_of (row_of p t) u)) (bit_of (row_of q t) u) = λ u. c.union-block-in-Some.ensures u ∙ ap (λ (b : ℕ). max b (bit_of c.index-q-t.result u)) (c.union.ensures u) ∙ ap (λ (r : List ℕ). max (max (bit_of c.loop-t.block u) (bit_of r u)) (bit_of c.index-q-t.result u)) row ∙ ap (λ (r : List ℕ). max (max (bit_of c.loop-t.block u) (bit_of (row_of p t) u)) (bit_of r u)) other in
+    reaching_step p q c.args.s t c.loop-t.block c.loop-t.left c.loop-t.right c.union-block-in-Some.result c.union-left.result c.union-right.result c.requires.p c.requires.q c.requires.length inside c.loop-t.invariant found.0 bits (rw (← row) c.union-left.ensures) (rw (← other) c.union-right.ensures)
 
 pub returns : goal.returns
-returns c = reaching_all c.args.p.now c.args.q.now c.args.s c.loop-t.block c.loop-t.done c.loop-t.invariant (λ t. sym (c.difference.ensures t) ∙ c.in_default.ensures.none t)
+returns c = reaching_all c.args.p.now c.args.q.now c.args.s c.loop-t.block c.loop-t.left c.loop-t.right c.loop-t.invariant (λ t. ap (λ (b : ℕ). min (bit_of c.loop-t.block t) (1 - b)) (sym (c.intersection.ensures t)) ∙ sym (c.difference.ensures t) ∙ c.in_default.ensures.none t)

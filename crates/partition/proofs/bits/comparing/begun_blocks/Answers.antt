@@ -1,0 +1,34 @@
+use Rattle.std.proofs.Common.{◌≡◌, ◌<◌, ℕ, List, length, sym, ap, ◌∙◌, subst, arith}
+use Rattle.std.proofs.lemmas.List.{take_all}
+use Rattle.partition.specs.Partition.{blocks_of}
+use Rattle.partition.specs.Bits.{bit_of, Has, row_of, labels_of}
+use Rattle.partition.proofs.Rows.{row_read}
+use Rattle.partition.proofs.RowLabels.{rows_stand, begins, continues}
+use Rattle.partition.proofs.bits.comparing.begun_blocks.Goals as goal
+use Rattle.partition.proofs.bits.comparing.begun_blocks.Goals.{then-first_with-s, else-first_with-s}
+
+pub first_with-requires : goal.first_with-requires
+first_with-requires c =
+    let rows : List (List ℕ) = c.args.rows.now in
+    subst (λ (r : List ℕ). Has r c.loop-s.s) (sym (row_read rows c.loop-s.s c.index-rows-s.result (omega arith) c.index-rows-s.is)) (c.requires.own c.loop-s.s (omega arith))
+
+pub loop-s-preserved : goal.loop-s-preserved
+loop-s-preserved c =
+    let rows : List (List ℕ) = c.args.rows.now in
+    let s : ℕ = c.loop-s.s in
+    let t : ℕ = c.first_with.result in
+    let p : List ℕ = labels_of rows in
+    let stand = rows_stand rows c.requires in
+    let row : c.index-rows-s.result ≡ row_of rows s = row_read rows s c.index-rows-s.result (omega arith) c.index-rows-s.is in
+    let first : Has (row_of rows s) t = subst (λ (r : List ℕ). Has r t) row c.first_with.ensures.in_set in
+    let least : (u : ℕ) → u < t → bit_of (row_of rows s) u ≡ 0 = subst (λ (r : List ℕ). (u : ℕ) → u < t → bit_of r u ≡ 0) row c.first_with.ensures.least in
+    let within : s < length p = omega (arith, stand.0.length) in
+    elim c.if-first_with-s.branch [
+      | then-first_with-s w ↦ record { count = omega (arith, w.blocks-is, c.loop-s.invariant.count, begins rows p s t stand.0.numbered stand.1 within w.if-first_with-s.true first least); few = omega (arith, w.blocks-is, c.loop-s.invariant.few) }
+      | else-first_with-s w ↦ record { count = omega (arith, w.blocks-is, c.loop-s.invariant.count, continues rows p s t stand.0.numbered stand.1 within w.if-first_with-s.false first least); few = omega (arith, w.blocks-is, c.loop-s.invariant.few) }
+    ]
+
+pub returns : goal.returns
+returns c =
+    let p : List ℕ = labels_of c.args.rows.now in
+    c.loop-s.invariant.count ∙ ap blocks_of (take_all c.loop-s.s p (omega (arith, (rows_stand c.args.rows.now c.requires).0.length)))
