@@ -1,0 +1,76 @@
+-- What the definitions of a job say of small cases: a table with every kind of operand and every option, lines of words, and
+-- what they are to give.
+use Rattle.std.specs.Prelude.{◌≡◌, ℕ, ◌==◌, true, List, [], ◌∷◌, Some, Result, Ok, Err, codes, replicate}
+use Prim.Native.String.{String}
+use Rattle.std.specs.List.{slice_split}
+use Rattle.job_words.specs.declared.command.Command.TheVariants as commands
+use Rattle.job_words.specs.declared.jobs.Job.{Job}
+use Rattle.job_words.specs.declared.table.CommandOption.TheVariants.{Limit, Reduce, Start, Fill}
+use Rattle.job_words.specs.declared.table.OperandKind.TheVariants.{File, Net, Part, Parts, Symbols, Seed, A, B, K}
+use Rattle.job_words.specs.Job.{empty_job, judgement}
+use Rattle.job_words.specs.Table.{Row, row}
+
+-- some rows
+abbrev pub example_rows : List Row
+example_rows =
+    row commands.Closed (File ∷ []) (Limit ∷ Fill ∷ [])
+    ∷ row commands.Low (File ∷ Part ∷ []) (Fill ∷ [])
+    ∷ row commands.Assign (File ∷ Parts ∷ []) (Reduce ∷ Fill ∷ [])
+    ∷ row commands.Sim (Net ∷ Symbols ∷ []) (Start ∷ [])
+    ∷ row commands.Gen (Seed ∷ A ∷ B ∷ K ∷ []) []
+    ∷ []
+
+-- what the words of a line give, cut at each space
+abbrev pub judged_line : String → Result Job ℕ
+judged_line line = judgement example_rows (slice_split (λ byte. byte == 32) (codes line))
+
+-- a number of slashes
+abbrev pub slashes : ℕ → List ℕ
+slashes count = replicate count 47
+
+-- the command decides what may follow, and the first word that cannot stand is refused
+pub record RefusesWords : Type 0 where
+  pub no_words : judgement example_rows [] ≡ Err 1
+  pub no_command : judged_line "draw f" ≡ Err 1
+  pub option_first : judged_line "--limit 5" ≡ Err 1
+  pub empty_operand : judged_line "closed " ≡ Err 2
+  pub too_many : judged_line "closed f g --limit 0" ≡ Err 3
+  pub missing : judged_line "low f" ≡ Err 3
+  pub no_option : judged_line "closed --limits 5 f" ≡ Err 2
+  pub with_equals : judged_line "closed f --limit=5" ≡ Err 3
+  pub dashes : judged_line "closed -- f" ≡ Err 2
+  pub of_another : judged_line "closed f --reduce" ≡ Err 3
+  pub of_another_first : judged_line "closed f --start --limit 0" ≡ Err 3
+
+-- an option stands once, anywhere, and takes the next word whatever it is
+pub record TakesOptions : Type 0 where
+  pub last : judged_line "closed f --limit 10" ≡ Ok (record (empty_job commands.Closed) { file = codes "f"; limit = 10 })
+  pub first : judged_line "closed --limit 10 f" ≡ Ok (record (empty_job commands.Closed) { file = codes "f"; limit = 10 })
+  pub twice : judged_line "closed f --limit 10 --limit 10" ≡ Err 5
+  pub twice_bare : judged_line "assign f 0 --reduce --reduce" ≡ Err 5
+  pub lacking : judged_line "closed f --limit" ≡ Err 4
+  pub lacking_of_another : judged_line "closed f --start" ≡ Err 3
+  pub hold : judged_line "low --fill hold f 0,1" ≡ Ok (record (empty_job commands.Low) { file = codes "f"; second = codes "0,1"; hold = true })
+  pub keep : judged_line "low f 0,1 --fill keep" ≡ Err 5
+  pub reduce : judged_line "assign f --reduce 0/0" ≡ Ok (record (empty_job commands.Assign) { file = codes "f"; second = codes "0/0"; reduce = true })
+  pub start : judged_line "sim n s --start --start" ≡ Ok (record (empty_job commands.Sim) { file = codes "n"; second = codes "s"; start = Some (codes "--start") })
+  pub empty_start : judged_line "sim n s --start " ≡ Ok (record (empty_job commands.Sim) { file = codes "n"; second = codes "s"; start = Some [] })
+
+-- numbers have one to nine digits, and their ranges
+pub record ReadsNumbers : Type 0 where
+  pub least : judged_line "closed f --limit 0" ≡ Err 4
+  pub most : judged_line "closed f --limit 10000" ≡ Ok (record (empty_job commands.Closed) { file = codes "f"; limit = 10000 })
+  pub above : judged_line "closed f --limit 10001" ≡ Err 4
+  pub zeros : judged_line "closed f --limit 000000012" ≡ Ok (record (empty_job commands.Closed) { file = codes "f"; limit = 12 })
+  pub ten_digits : judged_line "closed f --limit 0000000012" ≡ Err 4
+  pub plus : judged_line "closed f --limit +12" ≡ Err 4
+  pub no_digits : judged_line "closed f --limit " ≡ Err 4
+  pub generator : judged_line "gen 999999999 2 128 8" ≡ Ok (record (empty_job commands.Gen) { seed = 999999999; a = 2; b = 128; k = 8 })
+  pub seed : judged_line "gen 1000000000 2 2 1" ≡ Err 2
+  pub small : judged_line "gen 7 1 2 1" ≡ Err 3
+  pub large : judged_line "gen 7 129 2 1" ≡ Err 3
+  pub product : judged_line "gen 7 128 3 9" ≡ Err 4
+  pub inputs : judged_line "gen 7 128 2 9" ≡ Err 5
+  pub no_inputs : judged_line "gen 7 128 2" ≡ Err 5
+  pub pieces : judgement example_rows (codes "assign" ∷ codes "f" ∷ slashes 255 ∷ []) ≡ Ok (record (empty_job commands.Assign) { file = codes "f"; second = slashes 255 })
+  pub more_pieces : judgement example_rows (codes "assign" ∷ codes "f" ∷ slashes 256 ∷ []) ≡ Err 3

@@ -1,0 +1,45 @@
+-- What a draft of a job has to be. Only private functions cite this.
+use Rattle.std.specs.Prelude.{◌≡◌, ℕ, Bool, true, false, List, Option, Some}
+use Rattle.job_words.specs.declared.draft.Draft.{Draft}
+use Rattle.job_words.specs.declared.draft.Refusal.{Refusal}
+use Rattle.job_words.specs.declared.draft.Refusal.TheVariants.{Word, Taken, NoMemory}
+use Rattle.job_words.specs.declared.draft.Stood.{Stood}
+use Rattle.job_words.specs.declared.items.Entry.{Entry}
+use Rattle.job_words.specs.declared.items.Entry.TheVariants as entries
+use Rattle.job_words.specs.declared.table.CommandOption.{CommandOption}
+use Rattle.job_words.specs.declared.table.CommandOption.TheVariants.{Limit, Reduce, Start, Fill}
+use Rattle.job_words.specs.Item.{Item, Operand, Chosen, Lacking, Unknown}
+use Rattle.job_words.specs.Job.{job_of, operands_in, stands}
+use Rattle.job_words.specs.Table.{Row}
+
+-- the item of an entry
+abbrev pub item_of : Entry → Item
+item_of (entries.Operand word) = Operand word.now
+item_of (entries.Chosen option word) = Chosen option word.now
+item_of (entries.Lacking option) = Lacking option
+item_of entries.Unknown = Unknown
+
+-- an option stands
+abbrev pub stood : Stood → CommandOption → Bool
+stood options Limit = options.limit
+stood options Reduce = options.reduce
+stood options Start = options.start
+stood options Fill = options.fill
+
+abbrev pub stood_with : CommandOption → Stood → Stood
+stood_with Limit options = record options { limit = true }
+stood_with Reduce options = record options { reduce = true }
+stood_with Start options = record options { start = true }
+stood_with Fill options = record options { fill = true }
+
+-- a draft is what the items give, the last one first
+pub record IsDraft (row : Row) (before : List Item) (draft : Draft) : Type 0 where
+  pub operands : draft.operands ≡ operands_in before
+  pub options : (option : CommandOption) → stood draft.stood option ≡ stands option before
+  pub job : draft.job ≡ job_of row before
+
+-- an item is refused at this place, counted from 0 in its words
+abbrev pub IsRefusal : Option ℕ → Refusal → Type 0
+IsRefusal place Word = place ≡ Some 0
+IsRefusal place Taken = place ≡ Some 1
+IsRefusal place NoMemory = Unit

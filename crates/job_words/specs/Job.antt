@@ -1,0 +1,142 @@
+-- The job of a list of words, or the number of the refused word, by a table of commands.
+use Rattle.std.specs.Prelude.{ℕ, ◌+◌, ◌*◌, ◌==◌, Bool, true, false, not, ◌&&◌, ◌||◌, nat_le, nat_lt, if◌then◌else◌, List, [], ◌∷◌, length, count_by, slice_get, Option, Some, None, Result, Ok, Err, codes}
+use Rattle.std.specs.List.{find, list_any}
+use Rattle.std.specs.Str.{bytes_eq}
+use Rattle.job_words.specs.declared.command.Command.{Command}
+use Rattle.job_words.specs.declared.jobs.Job.{Job}
+use Rattle.job_words.specs.declared.table.CommandOption.{CommandOption}
+use Rattle.job_words.specs.declared.table.CommandOption.TheVariants.{Limit, Reduce, Start, Fill}
+use Rattle.job_words.specs.declared.table.OperandKind.{OperandKind}
+use Rattle.job_words.specs.declared.table.OperandKind.TheVariants.{File, Net, Part, Parts, Symbols, Cover, Seed, A, B, K}
+use Rattle.job_words.specs.Command.{command_word}
+use Rattle.job_words.specs.Item.{Item, Operand, Chosen, Lacking, Unknown, items_of, width_of}
+use Rattle.job_words.specs.Number.{is_number, is_within, value_of}
+use Rattle.job_words.specs.Table.{Row, built}
+
+-- a job of a command before any operand or option stands
+abbrev pub empty_job : Command → Job
+empty_job command =
+    record { command = command; file = []; second = []; limit = 1000; reduce = false; start = None; seed = 0; a = 0; b = 0; k = 0; hold = false }
+
+-- a word can stand as an operand of a kind, in a job that has the operands before it
+abbrev pub fits_kind : OperandKind → Job → List ℕ → Bool
+fits_kind File job word = true
+fits_kind Net job word = true
+fits_kind Part job word = true
+fits_kind Parts job word = nat_le (count_by (λ c. c == 47) word) 255
+fits_kind Symbols job word = true
+fits_kind Cover job word = true
+fits_kind Seed job word = is_number word
+fits_kind A job word = is_within 2 128 word
+fits_kind B job word = is_within 2 128 word && nat_le (job.a * value_of word) 256
+fits_kind K job word = is_within 1 8 word
+
+-- a job with one operand more
+abbrev pub with_operand : OperandKind → List ℕ → Job → Job
+with_operand File word job = record job { file = word }
+with_operand Net word job = record job { file = word }
+with_operand Part word job = record job { second = word }
+with_operand Parts word job = record job { second = word }
+with_operand Symbols word job = record job { second = word }
+with_operand Cover word job = record job { second = word }
+with_operand Seed word job = record job { seed = value_of word }
+with_operand A word job = record job { a = value_of word }
+with_operand B word job = record job { b = value_of word }
+with_operand K word job = record job { k = value_of word }
+
+-- a word can stand behind an option
+abbrev pub fits_option : CommandOption → List ℕ → Bool
+fits_option Limit word = is_within 1 10000 word
+fits_option Reduce word = true
+fits_option Start word = true
+fits_option Fill word = bytes_eq word (codes "hold")
+
+-- a job with one option more
+abbrev pub with_option : CommandOption → List ℕ → Job → Job
+with_option Limit word job = record job { limit = value_of word }
+with_option Reduce word job = record job { reduce = true }
+with_option Start word job = record job { start = Some word }
+with_option Fill word job = record job { hold = true }
+
+abbrev pub same_option : CommandOption → CommandOption → Bool
+same_option Limit Limit = true
+same_option Reduce Reduce = true
+same_option Start Start = true
+same_option Fill Fill = true
+same_option option other = false
+
+-- In what follows `before` are the items that stand before an item, the last one first.
+
+-- how many operands stand
+abbrev pub operands_in : List Item → ℕ
+operands_in [] = 0
+operands_in (Operand word ∷ before) = operands_in before + 1
+operands_in (Chosen option word ∷ before) = operands_in before
+operands_in (Lacking option ∷ before) = operands_in before
+operands_in (Unknown ∷ before) = operands_in before
+
+-- an option stands
+abbrev pub stands : CommandOption → List Item → Bool
+stands option [] = false
+stands option (Operand word ∷ before) = stands option before
+stands option (Chosen other word ∷ before) = same_option option other || stands option before
+stands option (Lacking other ∷ before) = stands option before
+stands option (Unknown ∷ before) = stands option before
+
+-- the operand is of the kind that the command has at its place, or the command has none there
+abbrev pub with_kind : Option OperandKind → List ℕ → Job → Job
+with_kind None word job = job
+with_kind (Some kind) word job = with_operand kind word job
+
+-- the job that the items give
+abbrev pub job_of : Row → List Item → Job
+job_of row [] = empty_job row.command
+job_of row (Operand word ∷ before) = with_kind (slice_get row.operands (operands_in before)) word (job_of row before)
+job_of row (Chosen option word ∷ before) = with_option option word (job_of row before)
+job_of row (Lacking option ∷ before) = job_of row before
+job_of row (Unknown ∷ before) = job_of row before
+
+-- a word can stand as the next operand: it is not empty, the command has an operand there, and the word is of its kind
+abbrev pub fits_place : Option OperandKind → Job → List ℕ → Bool
+fits_place None job word = false
+fits_place (Some kind) job word = not (length word == 0) && fits_kind kind job word
+
+-- an option can stand: the command has it, and it does not stand yet
+abbrev pub may_stand : Row → List Item → CommandOption → Bool
+may_stand row before option = list_any (same_option option) row.options && not (stands option before)
+
+-- the place of the word that is refused in an item, counted from 0, if one is
+abbrev pub refusal : Row → List Item → Item → Option ℕ
+refusal row before (Operand word) = if fits_place (slice_get row.operands (operands_in before)) (job_of row before) word then None else Some 0
+refusal row before (Chosen option word) = if may_stand row before option then (if fits_option option word then None else Some 1) else Some 0
+refusal row before (Lacking option) = if may_stand row before option then Some 1 else Some 0
+refusal row before Unknown = Some 0
+
+-- the first refusal decides
+abbrev pub refused_or : ℕ → Option ℕ → Result Job ℕ → Result Job ℕ
+refused_or number None rest = rest
+refused_or number (Some place) rest = Err (number + place)
+
+-- what further items give, the first of which begins at the word of this number: where none is refused and an operand is
+-- missing, the number of the word after the last is refused
+abbrev pub judged : Row → List Item → ℕ → List Item → Result Job ℕ
+judged row before number [] = if nat_lt (operands_in before) (length row.operands) then Err number else Ok (job_of row before)
+judged row before number (item ∷ items) =
+    refused_or number (refusal row before item) (judged row (item ∷ before) (number + width_of item) items)
+
+abbrev pub judged_as : Option Row → List (List ℕ) → Result Job ℕ
+judged_as None words = Err 1
+judged_as (Some row) words = judged row [] 2 (items_of words)
+
+-- the row of a command, by its word
+abbrev pub row_named : List Row → List ℕ → Option Row
+row_named rows word = find (λ row. bytes_eq word (command_word row.command)) rows
+
+-- the job of the words by the rows of a table, or the number of the refused word, counted from 1
+abbrev pub judgement : List Row → List (List ℕ) → Result Job ℕ
+judgement rows [] = Err 1
+judgement rows (word ∷ words) = judged_as (row_named rows word) words
+
+-- the same by the commands that are built
+abbrev pub JobOf : List (List ℕ) → Result Job ℕ
+JobOf words = judgement built words

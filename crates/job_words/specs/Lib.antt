@@ -1,0 +1,7 @@
+pub mod Command
+pub mod Examples
+pub mod Inner
+pub mod Item
+pub mod Job
+pub mod Number
+pub mod Table

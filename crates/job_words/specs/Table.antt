@@ -1,0 +1,24 @@
+-- The table of commands: a row says the operands of a command, in order, and its options.
+use Rattle.std.specs.Prelude.{List, [], ◌∷◌}
+use Rattle.job_words.specs.declared.command.Command.{Command}
+use Rattle.job_words.specs.declared.command.Command.TheVariants as commands
+use Rattle.job_words.specs.declared.table.CommandOption.{CommandOption}
+use Rattle.job_words.specs.declared.table.Form.{Form}
+use Rattle.job_words.specs.declared.table.OperandKind.{OperandKind}
+use Rattle.job_words.specs.declared.table.OperandKind.TheVariants.{File}
+
+pub record Row : Type 0 where
+  pub command : Command
+  pub operands : List OperandKind
+  pub options : List CommandOption
+
+-- a row of the code's table
+abbrev pub row_of : Form → Row
+row_of form = record { command = form.command; operands = form.operands.now; options = form.options.now }
+
+abbrev pub row : Command → List OperandKind → List CommandOption → Row
+row command operands options = record { command = command; operands = operands; options = options }
+
+-- the commands that are built
+abbrev pub built : List Row
+built = row commands.Code (File ∷ []) [] ∷ []

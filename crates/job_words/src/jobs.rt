@@ -1,0 +1,53 @@
+//! The job of a command line.
+
+ghost use Rattle.std.specs.Prelude.{◌≡◌};
+ghost use Rattle.job_words.specs.declared.jobs.JobFail.TheVariants.{NoMemory};
+
+use crate::Command;
+use hs_io::Name;
+use std::alloc::AllocError;
+
+/// What the words ask for. What the command does not have is empty, 1,000 for `limit`, `None`, false or 0.
+#[derive(Debug, Drop)]
+pub struct Job {
+    /// The command.
+    pub command: Command,
+    /// The operand FILE or NET.
+    pub file: Name,
+    /// The operand PART, PARTS, SYMBOLS or COVER.
+    pub second: Name,
+    /// The most members of a listing.
+    pub limit: usize,
+    /// Whether to work on the quotient by alike states.
+    pub reduce: bool,
+    /// The first values of the latches.
+    pub start: Option<Name>,
+    /// The operand SEED.
+    pub seed: u64,
+    /// The operand A.
+    pub a: u16,
+    /// The operand B.
+    pub b: u16,
+    /// The operand K.
+    pub k: u8,
+    /// Whether open entries are filled, by `--fill hold`.
+    pub hold: bool,
+}
+
+/// Why words give no job.
+#[derive(Clone, Copy, Debug, PartialEq, Eq)]
+pub enum JobFail {
+    /// The words are no job: the number of the refused word, counted from 1. Where a word is missing it is one
+    /// more than there are words.
+    Usage { word: u32 },
+    /// Memory was wanting.
+    NoMemory,
+}
+
+impl From<AllocError> for JobFail {
+    ghost from_gives = { λ _ fail. fail ≡ NoMemory };
+
+    fn from(_wanting: AllocError) -> JobFail {
+        JobFail::NoMemory
+    }
+}

@@ -1,0 +1,66 @@
+//! The table of the commands that are built.
+
+ghost use Rattle.std.specs.Prelude.{◌≡◌, map};
+ghost use Rattle.job_words.specs.Table.{built, row_of};
+
+use crate::Command;
+
+/// What an operand is.
+#[derive(Clone, Copy, Debug, PartialEq, Eq)]
+pub enum OperandKind {
+    /// A file with a machine.
+    File,
+    /// A file with a network.
+    Net,
+    /// A partition.
+    Part,
+    /// Partitions, joined by `/`.
+    Parts,
+    /// A file of symbols.
+    Symbols,
+    /// The blocks of a cover.
+    Cover,
+    /// The number that a generator starts from.
+    Seed,
+    /// How many states the first factor of a generated machine has.
+    A,
+    /// How many states the second factor has.
+    B,
+    /// How many inputs a generated machine has.
+    K,
+}
+
+/// An option of a command.
+#[derive(Clone, Copy, Debug, PartialEq, Eq)]
+pub enum CommandOption {
+    /// `--limit N`, the most members of a listing.
+    Limit,
+    /// `--reduce`, to work on the quotient by alike states.
+    Reduce,
+    /// `--start BITS`, the first values of the latches.
+    Start,
+    /// `--fill hold`, to stay in the state where no next state is said.
+    Fill,
+}
+
+/// A row of the table: a command with its operands in order and its options.
+#[derive(Clone, Copy, Debug)]
+pub struct Form {
+    pub command: Command,
+    pub operands: &'static [OperandKind],
+    pub options: &'static [CommandOption],
+}
+
+/// The commands that are built.
+pub const BUILT: [Form; 1] = [Form {
+    command: Command::Code,
+    operands: &[OperandKind::File],
+    options: &[],
+}];
+
+/// The commands that are built.
+pub fn built_forms() -> &'static [Form]
+    ensures { map row_of result.now ≡ built }
+{
+    &BUILT
+}
