@@ -1,5 +1,5 @@
 -- The items of the words from a place on.
-use Rattle.std.proofs.Common.{◌≡◌, ℕ, ◌+◌, ◌<◌, Bool, true, false, List, [], ◌∷◌, length, get_or, drop, ◌≤◌, if◌then◌else◌, Option, Some, None, codes, nat_eq, refl, sym, ap, ◌∙◌, subst, add-one, arith}
+use Rattle.std.proofs.Common.{◌≡◌, ℕ, ◌+◌, Bool, true, false, List, [], ◌∷◌, length, drop, ◌≤◌, if◌then◌else◌, Some, None, codes, nat_eq, refl, sym, ap, ◌∙◌, add-one, arith}
 use Rattle.std.specs.List.{slice_get, starts_with}
 use Rattle.std.proofs.lemmas.Option.{slice_get_within, get_or_from_slice_get}
 use Rattle.std.proofs.Math.Seq.{drop-cons}

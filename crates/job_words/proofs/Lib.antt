@@ -1,3 +1,4 @@
+pub mod Commands
 pub mod Digits
 pub mod ItemsAt
 pub mod Reading

@@ -1,5 +1,5 @@
 -- The table of commands: a row says the operands of a command, in order, and its options.
-use Rattle.std.specs.Prelude.{List, [], ◌∷◌}
+use Rattle.std.specs.Prelude.{Contains, List, [], ◌∷◌, map}
 use Rattle.job_words.specs.declared.command.Command.{Command}
 use Rattle.job_words.specs.declared.command.Command.TheVariants as commands
 use Rattle.job_words.specs.declared.table.CommandOption.{CommandOption}
@@ -22,3 +22,11 @@ row command operands options = record { command = command; operands = operands; 
 -- the commands that are built
 abbrev pub built : List Row
 built = row commands.Code (File ∷ []) [] ∷ []
+
+-- the commands of rows
+abbrev pub commands_of : List Row → List Command
+commands_of rows = map (λ row. row.command) rows
+
+-- a command is built
+abbrev pub IsBuilt : Command → Type 0
+IsBuilt command = Contains (commands_of built) command

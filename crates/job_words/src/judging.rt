@@ -4,7 +4,7 @@ ghost use Rattle.std.specs.Prelude.{◌≡◌, ◌+◌, ◌-◌, ◌^◌, ◌<�
 ghost use Rattle.std.specs.Option.{option_map};
 ghost use Rattle.job_words.specs.Item.{items_of};
 ghost use Rattle.job_words.specs.Job.{JobOf, judged, judgement, row_named};
-ghost use Rattle.job_words.specs.Table.{row_of};
+ghost use Rattle.job_words.specs.Table.{IsBuilt, built, row_of};
 
 use crate::draft::{Draft, Refusal};
 use crate::items::item_at;
@@ -16,6 +16,7 @@ pub fn job(alloc: Global, words: &Words) -> Result<Job, JobFail>
     requires few { length words.now < 2 ^ 32 - 1 }
     ensures job { IfOk result (λ job. JobOf words.now ≡ Ok job) }
     ensures usage { (word : ℕ) → result ≡ Err (JobFail.Usage word) → JobOf words.now ≡ Err word }
+    ensures built { IfOk result (λ job. IsBuilt job.command) }
 {
     judge(alloc, built_forms(), words)
 }

@@ -1,5 +1,5 @@
 -- What a draft of a job has to be. Only private functions cite this.
-use Rattle.std.specs.Prelude.{◌≡◌, ℕ, Bool, true, false, List, Option, Some}
+use Rattle.std.specs.Prelude.{◌≡◌, ℕ, Bool, true, List, Option, Some}
 use Rattle.job_words.specs.declared.draft.Draft.{Draft}
 use Rattle.job_words.specs.declared.draft.Refusal.{Refusal}
 use Rattle.job_words.specs.declared.draft.Refusal.TheVariants.{Word, Taken, NoMemory}
