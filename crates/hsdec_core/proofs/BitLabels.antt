@@ -8,7 +8,7 @@ use Rattle.partition.specs.declared.PartFail.TheVariants.{Empty, NotCanonical, B
 use Rattle.partition.specs.Partition.{IsNumbered, IsPartition, blocks_of}
 use Rattle.partition.specs.Laws.Labels.{label-le}
 use Rattle.partition.specs.Refusal.{LabelFault}
-use Rattle.hsdec_core.specs.CodeHeader.{bit_label, label_of}
+use Rattle.hsdec_core.specs.Inner.CodeHeader.{bit_label, label_of}
 
 -- a label is 0 or 1
 label_small : (a b : Bool) → label_of a b ≤ 1

@@ -20,7 +20,7 @@ use Rattle.partition.specs.Laws.Extremes.{zero_of_is_partition}
 use Rattle.state_codes.specs.declared.Codes.{Codes}
 use Rattle.state_codes.specs.declared.split.Part.{Part}
 use Rattle.state_codes.specs.Code.{IsCode, Place, bit_of, code_of, places_of}
-use Rattle.hsdec_core.specs.CodeHeader.{IsCodeHeader, code_parts}
+use Rattle.hsdec_core.specs.Inner.CodeHeader.{IsCodeHeader, code_parts}
 use Rattle.hsdec_core.proofs.Naming.{notes_counted}
 use Rattle.hsdec_core.proofs.Pairs.{note_at, note_part}
 use Rattle.hsdec_core.proofs.Writing.{plain_fields}

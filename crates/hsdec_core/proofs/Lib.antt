@@ -9,7 +9,7 @@ pub mod OnSets
 pub mod Pairs
 pub mod PlainRows
 pub mod Ranges
-pub mod Runs
+pub mod Right
 pub mod Stepping
 pub mod Whole
 pub mod Writing

@@ -1,19 +1,15 @@
 -- The line that goes to err where no put of a text failed.
 use Rattle.std.proofs.Common.{◌≡◌, ◌≢◌, ℕ, List, Option, Result, Ok, refl, sym, ap, ◌∙◌, subst}
 use Rattle.std.specs.declared.alloc.AllocError.{AllocError}
-use Rattle.hsdec_core.specs.declared.answering.Answer.{Answer}
-use Rattle.hsdec_core.specs.declared.answering.Answer.TheVariants.{Done, Usage, ReadFault, TooLong, WriteFault, NoMemory, NotYet}
-use Rattle.hsdec_core.specs.declared.made.Outcome.{Outcome}
-use Rattle.hsdec_core.specs.Outcome.{answer_of, line_of, line_at, LinePut}
+use Rattle.hsdec_core.specs.declared.answers.Answer.{Answer}
+use Rattle.hsdec_core.specs.declared.answers.Answer.TheVariants.{WriteFault}
+use Rattle.hsdec_core.specs.declared.outcomes.Outcome.{Outcome}
+use Rattle.hsdec_core.specs.Inner.Made.{answer_of, line_of, line_at}
+use Rattle.hsdec_core.specs.Put.{LinePut}
 
 pub line_at-made : (made : Result Outcome AllocError) (answer : Answer) → answer ≢ WriteFault → line_at made answer ≡ line_of made
-line_at-made made Done other = refl
-line_at-made made Usage other = refl
-line_at-made made ReadFault other = refl
-line_at-made made TooLong other = refl
 line_at-made made WriteFault other = absurd (other refl)
-line_at-made made NoMemory other = refl
-line_at-made made NotYet other = refl
+line_at-made made _ other = refl
 
 -- a line that was put is the one for the answer that was made
 pub LinePut-made : (whole : Result Outcome AllocError) (made : Outcome) (result : Answer) (line : List ℕ) (given given' : Option (List ℕ)) (faults faults' : ℕ) → whole ≡ Ok made → answer_of whole ≢ WriteFault → result ≡ made.answer → line ≡ made.line → LinePut line given given' faults faults' → LinePut (line_at whole result) given given' faults faults'

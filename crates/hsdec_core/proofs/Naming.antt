@@ -23,8 +23,8 @@ use Rattle.net_core.proofs.Members.{Contains-here, Contains-none, Contains-there
 use Rattle.state_codes.specs.declared.Codes.{Codes}
 use Rattle.hsdec_core.specs.declared.signals.Signal.{Signal}
 use Rattle.hsdec_core.specs.declared.signals.Signal.TheVariants.{Next, Output}
-use Rattle.hsdec_core.specs.CodeHeader.{IsCodeHeader, IsCodeNote}
-use Rattle.hsdec_core.specs.CodeNetwork.{IsCodeGate, IsCodeNetwork, code_latch, next_signals, output_signals, signal_name}
+use Rattle.hsdec_core.specs.Inner.CodeHeader.{IsCodeHeader, IsCodeNote}
+use Rattle.hsdec_core.specs.Inner.CodeNetwork.{IsCodeGate, IsCodeNetwork, code_latch, next_signals, output_signals, signal_name}
 use Rattle.hsdec_core.specs.Named.{IsPrefixCount, Named, input_letter, next_letter, output_letter, own_name, own_names, state_letter}
 
 -- ---- how often an own name stands in a list

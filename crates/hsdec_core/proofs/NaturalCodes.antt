@@ -23,7 +23,7 @@ use Rattle.state_codes.specs.Laws.Need.{need-least}
 use Rattle.state_codes.specs.Laws.Places.{length-part_places}
 use Rattle.state_codes.specs.Split.{IsPart, lone_part}
 use Rattle.hsdec_core.specs.Carries.{code_bits}
-use Rattle.hsdec_core.specs.CodeHeader.{code_parts}
+use Rattle.hsdec_core.specs.Inner.CodeHeader.{code_parts}
 
 -- the one part is lawful
 pub code_part_lawful : (n : ℕ) → IsStateCount n → All (IsPart n) (code_parts n)

@@ -14,7 +14,7 @@ use Rattle.cubes.proofs.Numbers.{length-symbol_of, number_below, symbol_of-numbe
 use Rattle.kiss2.specs.declared.kiss_file.KissFile.{KissFile}
 use Rattle.net_core.proofs.Members.{Contains-cons, Contains-here, Contains-none}
 use Rattle.state_codes.specs.declared.Codes.{Codes}
-use Rattle.hsdec_core.specs.CodeNetwork.{IsOnSet, all_rows, minterm, row_at, rows_at, signal_bit}
+use Rattle.hsdec_core.specs.Inner.CodeNetwork.{IsOnSet, all_rows, minterm, row_at, rows_at, signal_bit}
 use Rattle.hsdec_core.specs.declared.signals.Signal.{Signal}
 
 -- ---- what lists have

@@ -27,8 +27,8 @@ use Rattle.state_codes.specs.declared.split.Part.{Part}
 use Rattle.state_codes.specs.Agreement.{AgreeAt, IsBitPartition}
 use Rattle.state_codes.specs.Code.{IsCode}
 use Rattle.state_codes.specs.Split.{IsPart, lone_part}
-use Rattle.hsdec_core.specs.CodeHeader.{IsCodeHeader, IsCodeNote, code_parts}
-use Rattle.hsdec_core.specs.CodeNetwork.{IsCodeGate, IsCodeNetwork, code_latch, next_signals, output_signals}
+use Rattle.hsdec_core.specs.Inner.CodeHeader.{IsCodeHeader, IsCodeNote, code_parts}
+use Rattle.hsdec_core.specs.Inner.CodeNetwork.{IsCodeGate, IsCodeNetwork, code_latch, next_signals, output_signals}
 use Rattle.hsdec_core.specs.Kind.{HasParts, IsBitOf, IsPartOf, IsWithinKind}
 use Rattle.hsdec_core.specs.Named.{input_letter, own_name, own_names, state_letter}
 use Rattle.hsdec_core.specs.OwnPairs.{HasOwnPair, IsReadPartition, OwnPairs, Reads}

@@ -22,7 +22,7 @@ use Rattle.net_core.proofs.Flat.{given_step}
 use Rattle.net_core.proofs.Valuations.{FitsGate, parts_of_append}
 use Rattle.state_codes.specs.declared.Codes.{Codes}
 use Rattle.hsdec_core.specs.Carries.{Carries, code_bits, code_of}
-use Rattle.hsdec_core.specs.CodeNetwork.{IsCodeGate, IsCodeNetwork, code_latch, digit, minterm, next_signals, output_signals, signal_bit, signal_name}
+use Rattle.hsdec_core.specs.Inner.CodeNetwork.{IsCodeGate, IsCodeNetwork, code_latch, digit, minterm, next_signals, output_signals, signal_bit, signal_name}
 use Rattle.hsdec_core.specs.Named.{input_letter, next_letter, output_letter, own_name, own_names, state_letter}
 use Rattle.hsdec_core.specs.declared.signals.Signal.{Signal}
 use Rattle.hsdec_core.specs.declared.signals.Signal.TheVariants.{Next, Output}

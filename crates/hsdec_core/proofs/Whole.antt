@@ -18,8 +18,8 @@ use Rattle.state_codes.specs.declared.split.Kind.TheVariants.{Code}
 use Rattle.state_codes.specs.declared.split.Part.{Part}
 use Rattle.state_codes.specs.Code.{IsCode}
 use Rattle.hsdec_core.specs.Carries.{Carries}
-use Rattle.hsdec_core.specs.CodeHeader.{IsCodeHeader, code_parts}
-use Rattle.hsdec_core.specs.CodeNetwork.{IsCodeNetwork}
+use Rattle.hsdec_core.specs.Inner.CodeHeader.{IsCodeHeader, code_parts}
+use Rattle.hsdec_core.specs.Inner.CodeNetwork.{IsCodeNetwork}
 use Rattle.hsdec_core.specs.Decomposition.{IsDecomposed, IsWritten}
 use Rattle.hsdec_core.specs.Named.{output_letter, own_names}
 use Rattle.hsdec_core.proofs.Carrying.{carried_answers}

@@ -27,7 +27,7 @@ use Rattle.state_codes.specs.declared.Codes.{Codes}
 use Rattle.hsdec_core.specs.declared.signals.Signal.{Signal}
 use Rattle.hsdec_core.specs.declared.signals.Signal.TheVariants.{Next, Output}
 use Rattle.hsdec_core.specs.Carries.{code_bits}
-use Rattle.hsdec_core.specs.CodeNetwork.{IsCodeGate, IsCodeNetwork, code_latch, digit, minterm, signal_name}
+use Rattle.hsdec_core.specs.Inner.CodeNetwork.{IsCodeGate, IsCodeNetwork, code_latch, digit, minterm, signal_name}
 use Rattle.hsdec_core.specs.Named.{input_letter, next_letter, output_letter, own_name, own_names, state_letter}
 use Rattle.hsdec_core.proofs.Naming.{IsSignalGate, each_gate}
 

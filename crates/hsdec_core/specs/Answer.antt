@@ -1,23 +1,45 @@
--- The answers of the program, and what it is to come exactly where a condition holds.
-use Rattle.std.specs.Prelude.{◌≡◌, ℕ, ◌⊎◌}
-use Rattle.hsdec_core.specs.declared.answering.Answer.{Answer}
-use Rattle.hsdec_core.specs.declared.answering.Answer.TheVariants.{Done, Usage, ReadFault, TooLong, WriteFault, NoMemory, NotYet}
+-- The answers of the program, their numbers, and what it is to come exactly where a condition holds.
+use Rattle.std.specs.Prelude.{◌≡◌, ℕ, ◌⊎◌, Bool, true, false}
+use Rattle.hsdec_core.specs.declared.answers.Answer.{Answer}
+use Rattle.hsdec_core.specs.declared.answers.Answer.TheVariants.{Done, NoSplit, Usage, KissRefused, Conflict, Unspecified, More, PartRefused, CodeTooLong, NetRefused, SymbolRefused, ReadFault, TooLong, WriteFault, NoMemory, NotYet, StateCount, CoverRefused, NotDefinite, NotReached, TooManyInputs, TooManyOutputs}
 
 -- the exit status of an answer
 abbrev pub answer_code : Answer → ℕ
 answer_code Done = 0
+answer_code NoSplit = 1
 answer_code Usage = 2
+answer_code KissRefused = 3
+answer_code Conflict = 4
+answer_code Unspecified = 5
+answer_code More = 7
+answer_code PartRefused = 8
+answer_code CodeTooLong = 9
+answer_code NetRefused = 10
+answer_code SymbolRefused = 11
 answer_code ReadFault = 12
 answer_code TooLong = 13
 answer_code WriteFault = 14
 answer_code NoMemory = 15
 answer_code NotYet = 16
+answer_code StateCount = 17
+answer_code CoverRefused = 18
+answer_code NotDefinite = 19
+answer_code NotReached = 20
+answer_code TooManyInputs = 21
+answer_code TooManyOutputs = 22
 
--- the answers to a text that is too long: that it is, an earlier fault of reading, or want of memory
-abbrev pub IsLongAnswer : Answer → Type 0
-IsLongAnswer result = (result ≡ TooLong) ⊎ (result ≡ ReadFault) ⊎ (result ≡ NoMemory)
+-- an answer with which a text was put
+abbrev pub puts_text : Answer → Bool
+puts_text Done = true
+puts_text More = true
+puts_text _ = false
 
 -- an answer comes exactly where a condition holds, but for want of memory
 abbrev pub ExactlyWhere : Answer → Answer → Type 0 → Type 0
 ExactlyWhere result answer Condition =
     (result ≡ answer → Condition) × (Condition → (result ≡ answer) ⊎ (result ≡ NoMemory))
+
+-- an answer comes exactly where a condition on what was read holds, but for want of memory and a fault of reading
+abbrev pub ExactlyWhereRead : Answer → Answer → Type 0 → Type 0
+ExactlyWhereRead result answer Condition =
+    (result ≡ answer → Condition) × (Condition → (result ≡ answer) ⊎ (result ≡ NoMemory) ⊎ (result ≡ ReadFault))

@@ -4,7 +4,7 @@ ghost use Rattle.std.specs.Prelude.{◌≡◌, ◌<◌, ◌≤◌, ◌++◌, OnO
 ghost use Rattle.cubes.specs.Symbol.{symbol_of};
 ghost use Rattle.cubes.specs.Symbol as symbols;
 ghost use Rattle.hsdec_core.specs.Carries.{code_bits};
-ghost use Rattle.hsdec_core.specs.CodeNetwork.{digit};
+ghost use Rattle.hsdec_core.specs.Inner.CodeNetwork.{digit};
 
 use std::alloc::AllocError;
 

@@ -3,11 +3,12 @@
 ghost use Rattle.std.specs.Prelude.{◌≡◌, ◌≢◌, ◌≤◌, [], OnOk, OnErr};
 ghost use Rattle.hs_io.specs.Counts.{Rose};
 ghost use Rattle.hs_io.specs.Pieces.{Appends, AppendsFront};
-ghost use Rattle.hsdec_core.specs.Outcome.{answer_of, text_of, line_at, TextPut, LinePut};
+ghost use Rattle.hsdec_core.specs.Inner.Made.{answer_of, text_of, line_at, TextPut};
+ghost use Rattle.hsdec_core.specs.Put.{LinePut};
 
-use crate::err_lines::{CANNOT_WRITE, NO_MEMORY};
 use crate::{Answer, Outcome};
 use hs_io::{Sink, SinkFail};
+use hs_texts::err_lines::{CANNOT_WRITE, NO_MEMORY};
 use std::alloc::AllocError;
 
 /// Puts what a command made, the text to `out` and then the line to `err`, and gives the answer. It takes

@@ -4,7 +4,7 @@ ghost use Rattle.std.specs.Prelude.{◌≡◌, ◌<◌, ◌≤◌, IfOk, length,
 ghost use Rattle.std.specs.List.{AllZip, range_with_len};
 ghost use Rattle.partition.specs.Partition.{IsPartition, IsStateCount};
 ghost use Rattle.state_codes.specs.Agreement.{IsBitPartition};
-ghost use Rattle.hsdec_core.specs.CodeHeader.{IsCodeNote, bit_label, label_of};
+ghost use Rattle.hsdec_core.specs.Inner.CodeHeader.{IsCodeNote, bit_label, label_of};
 
 use crate::binary::bit;
 use blif_out::{LatchNote, LatchNotes};

@@ -8,7 +8,7 @@ ghost use Rattle.std.specs.List.Sorted.{IsSorted};
 ghost use Rattle.std.specs.Ordering.{nat_cmp};
 ghost use Rattle.cubes.specs.Symbol.{symbol_of};
 ghost use Rattle.kiss2.specs.First.{IsPlain};
-ghost use Rattle.hsdec_core.specs.CodeNetwork.{IsWithin, minterm, row_at, rows_at, signal_name, code_latch, next_signals, output_signals, IsOnSet, IsCodeGate, IsCodeNetwork};
+ghost use Rattle.hsdec_core.specs.Inner.CodeNetwork.{IsWithin, minterm, row_at, rows_at, signal_name, code_latch, next_signals, output_signals, IsOnSet, IsCodeGate, IsCodeNetwork};
 
 use crate::binary::{append_code, append_symbol, bit};
 use crate::own_names::{name_of, names_of, push_names};

@@ -1,20 +1,21 @@
 //! The top call.
 
-ghost use Rattle.std.specs.Prelude.{◌≡◌, ◌≢◌, ◌≤◌, ◌↔◌, ℕ, List, IfOk, IfSome, IsErr};
-ghost use Rattle.kiss2.specs.First.{IsSpelled};
+ghost use Rattle.std.specs.Prelude.{◌≡◌, ◌≢◌, ◌-◌, ◌^◌, ◌<◌, ◌≤◌, ◌↔◌, ◌⊎◌, ℕ, List, IfOk, IfSome, IsErr, length};
 ghost use Rattle.hs_io.specs.Counts.{Rose};
 ghost use Rattle.hs_io.specs.Pieces.{Appends, AppendsFront};
-ghost use Rattle.hsdec_core.specs.Answer.{ExactlyWhere, IsLongAnswer};
-ghost use Rattle.hsdec_core.specs.ErrLines.{err_line};
-ghost use Rattle.hsdec_core.specs.Job.{JobOf};
-ghost use Rattle.hsdec_core.specs.Loaded.{IsTooLong};
-ghost use Rattle.hsdec_core.specs.Outcome.{LinePut};
-ghost use Rattle.hsdec_core.specs.Made.{IsTextFor};
+ghost use Rattle.job_words.specs.Job.{JobOf};
+ghost use Rattle.hsdec_core.specs.Answer.{ExactlyWhere, ExactlyWhereRead};
+ghost use Rattle.hsdec_core.specs.Cause.{IfTold, IsUnread, IsUnrefused};
+ghost use Rattle.hsdec_core.specs.Line.{IsLineFor};
+ghost use Rattle.hsdec_core.specs.Loading.{IsTooLong};
+ghost use Rattle.hsdec_core.specs.Promise.{IsAsked, IsDecompositionOf, kind_of};
+ghost use Rattle.hsdec_core.specs.Put.{LinePut};
 
+use crate::Answer;
 use crate::delivery::deliver;
-use crate::making::make;
-use crate::{Answer, Words};
+use crate::performing::perform;
 use hs_io::{Shelf, Sink};
+use job_words::Words;
 use std::alloc::Global;
 
 /// Does what the words ask for: loads files from the shelf, puts the text to `out`, and a line to `err`
@@ -26,33 +27,39 @@ pub fn run<F: Shelf, O: Sink, E: Sink>(
     out: &mut O,
     err: &mut E,
 ) -> Answer
-    requires granted { IfOk (JobOf words.now) (F.grants shelf.old) }
+    requires few { length words.now < 2 ^ 32 - 1 }
+    requires granted { IfOk (JobOf words.now) (λ job. F.grants shelf.old job.file) }
 
-    // Each answer has its cause.
+    // Each answer has its cause, and comes where it stands.
     ensures usage { ExactlyWhere result Answer.Usage (IsErr (JobOf words.now)) }
     ensures read_fault { result ≡ Answer.ReadFault → Rose (F.faults shelf.old) (F.faults shelf.new) }
-    ensures too_long { result ≡ Answer.TooLong →
-        IfOk (JobOf words.now) (λ file. IfSome (F.holds shelf.old file) IsTooLong) }
-    ensures longer { IfOk (JobOf words.now) (λ file.
-        IfSome (F.holds shelf.old file) (λ bytes. IsTooLong bytes → IsLongAnswer result)) }
-    ensures not_yet { result ≡ Answer.NotYet → IfOk (JobOf words.now) (λ file.
-        IfSome (F.holds shelf.old file) (λ bytes. IsSpelled bytes → ⊥)) }
+    ensures too_long { IfTold words.now (F.holds shelf.old) (λ job bytes.
+        ExactlyWhereRead result Answer.TooLong (IsTooLong bytes)) }
+    ensures not_yet { IfTold words.now (F.holds shelf.old) (λ job bytes.
+        ExactlyWhereRead result Answer.NotYet (IsUnread bytes)) }
     ensures write_fault { result ≡ Answer.WriteFault → Rose (O.faults out.old) (O.faults out.new) }
 
-    // At `Done` out is given the whole text of a decomposition of the machine that the operand's bytes
-    // spell; at `WriteFault` it is given a front of such a text, and else nothing.
-    ensures headline { result ≡ Answer.Done → (text : List ℕ)
-        × IsTextFor words.now (F.holds shelf.old) text
-        × Appends (O.given out.old) text (O.given out.new) }
-    ensures front { result ≡ Answer.WriteFault → (text : List ℕ)
-        × IsTextFor words.now (F.holds shelf.old) text
-        × AppendsFront (O.given out.old) text (O.given out.new) }
-    ensures untouched { result ≢ Answer.Done → result ≢ Answer.WriteFault → out.new ≡ out.old }
+    // Where nothing calls for a refusal and no count rises, the job is done or memory is wanting.
+    ensures complete { IfTold words.now (F.holds shelf.old) (λ job bytes. IsUnrefused job bytes
+        → (Rose (F.faults shelf.old) (F.faults shelf.new) → ⊥) → (Rose (O.faults out.old) (O.faults out.new) → ⊥)
+        → (result ≡ Answer.Done) ⊎ (result ≡ Answer.NoMemory)) }
+
+    // A command that decomposes gives out a whole decomposition of the machine of its file. Every command
+    // gives the whole text that the job asks for, a front of it at `WriteFault`, and nothing at a refusal.
+    ensures headline { result ≡ Answer.Done → IfOk (JobOf words.now) (λ job. IfSome (kind_of job.command) (λ kind.
+        (text : List ℕ) × IsDecompositionOf kind (F.holds shelf.old job.file) text
+        × Appends (O.given out.old) text (O.given out.new))) }
+    ensures text { result ≡ Answer.Done → IfOk (JobOf words.now) (λ job. (text : List ℕ)
+        × IsAsked job (F.holds shelf.old) text × Appends (O.given out.old) text (O.given out.new)) }
+    ensures front { result ≡ Answer.WriteFault → IfOk (JobOf words.now) (λ job. (text : List ℕ)
+        × IsAsked job (F.holds shelf.old) text × AppendsFront (O.given out.old) text (O.given out.new)) }
+    ensures untouched { result ≢ Answer.Done → result ≢ Answer.More → result ≢ Answer.WriteFault
+        → out.new ≡ out.old }
 
     // Every answer but `Done` hands its line to err.
     ensures silent { result ≡ Answer.Done → err.new ≡ err.old }
-    ensures line { result ≢ Answer.Done → LinePut (err_line words.now result)
-        (E.given err.old) (E.given err.new) (E.faults err.old) (E.faults err.new) }
+    ensures line { result ≢ Answer.Done → (line : List ℕ) × IsLineFor (JobOf words.now) result line
+        × LinePut line (E.given err.old) (E.given err.new) (E.faults err.old) (E.faults err.new) }
 
     // The shelf holds and grants what it did, and no count falls.
     ensures unloaded { IsErr (JobOf words.now) → shelf.new ≡ shelf.old }
@@ -62,6 +69,6 @@ pub fn run<F: Shelf, O: Sink, E: Sink>(
     ensures out_never_falls { O.faults out.old ≤ O.faults out.new }
     ensures err_never_falls { E.faults err.old ≤ E.faults err.new }
 {
-    let made = make(alloc, words, shelf);
+    let made = perform(alloc, words, shelf);
     deliver(made, out, err)
 }

@@ -4,7 +4,7 @@ ghost use Rattle.std.specs.Prelude.{◌≡◌, ◌<◌, ◌≤◌, ◌+◌, ◌*
 ghost use Rattle.cubes.specs.Symbol.{symbol_of};
 ghost use Rattle.kiss2.specs.First.{IsPlain};
 ghost use Rattle.kiss2.specs.Machine.{next};
-ghost use Rattle.hsdec_core.specs.CodeNetwork.{IsWithin, signal_bit};
+ghost use Rattle.hsdec_core.specs.Inner.CodeNetwork.{IsWithin, signal_bit};
 
 use crate::binary::bit;
 use kiss2::{KissFile, KissRow};

@@ -3,6 +3,7 @@ mod whole_texts;
 
 use super::*;
 use hs_io::{MemShelf, MemSink};
+use job_words::Words;
 use std::alloc::{AllocError, Global};
 use std::test::Fail;
 
@@ -36,15 +37,24 @@ fn toggle_network() -> &'static [u8] {
 .end\n"
 }
 
-/// The words of a line, cut at each space; no words for an empty line.
-fn words_of(alloc: Global, line: &str) -> Result<Words, AllocError> {
+/// The answer to the words of a line, cut at each space; no words for an empty line.
+fn answer(
+    alloc: Global,
+    line: &str,
+    shelf: &mut MemShelf,
+    out: &mut MemSink,
+    err: &mut MemSink,
+) -> Result<Answer, AllocError> {
     let mut words = Words::new(alloc);
     if !line.is_empty() {
         for word in line.split(' ') {
             words.push(word.as_bytes())?;
         }
     }
-    Ok(words)
+    if words.count() > 1000 {
+        return Err(AllocError);
+    }
+    Ok(run(alloc, &words, shelf, out, err))
 }
 
 /// The answer to `code T`, with T in memory, and what out and err were given.
@@ -56,31 +66,34 @@ fn code(
 ) -> Result<Answer, AllocError> {
     let mut shelf = MemShelf::new(alloc);
     shelf.add(b"T", text)?;
-    let words = words_of(alloc, "code T")?;
-    Ok(run(alloc, &words, &mut shelf, out, err))
-}
-
-#[test]
-fn keeps_words(rt: HostRuntime) -> Result<(), Fail> {
-    let words = words_of(rt.alloc(), "code  f")?;
-    let expected: [&[u8]; 3] = [b"code", b"", b"f"];
-    assert_eq!(rt; words.count(), expected.len());
-    for i in 0..3 {
-        assert_eq!(rt; words.word(i), expected[i]);
-    }
-    Ok(())
+    answer(alloc, "code T", &mut shelf, out, err)
 }
 
 #[test]
 fn numbers_answers(rt: HostRuntime) {
     let codes = [
         (Answer::Done, 0),
+        (Answer::NoSplit, 1),
         (Answer::Usage, 2),
+        (Answer::KissRefused, 3),
+        (Answer::Conflict, 4),
+        (Answer::Unspecified, 5),
+        (Answer::More, 7),
+        (Answer::PartRefused, 8),
+        (Answer::CodeTooLong, 9),
+        (Answer::NetRefused, 10),
+        (Answer::SymbolRefused, 11),
         (Answer::ReadFault, 12),
         (Answer::TooLong, 13),
         (Answer::WriteFault, 14),
         (Answer::NoMemory, 15),
         (Answer::NotYet, 16),
+        (Answer::StateCount, 17),
+        (Answer::CoverRefused, 18),
+        (Answer::NotDefinite, 19),
+        (Answer::NotReached, 20),
+        (Answer::TooManyInputs, 21),
+        (Answer::TooManyOutputs, 22),
     ];
     for (answer, code) in codes {
         assert_eq!(rt; answer.code(), code);
@@ -93,18 +106,15 @@ fn refuses_words(rt: HostRuntime) -> Result<(), Fail> {
         ("", "hsdec: usage word 1\n"),
         ("draw f", "hsdec: usage word 1\n"),
         ("code", "hsdec: usage word 2\n"),
-        ("code ", "hsdec: usage word 2\n"),
-        ("code --reduce f", "hsdec: usage word 2\n"),
         ("code f g", "hsdec: usage word 3\n"),
         ("code f --limit 5", "hsdec: usage word 3\n"),
     ];
     for (line, refusal) in lines {
-        let words = words_of(rt.alloc(), line)?;
         let mut shelf = MemShelf::new(rt.alloc());
         let mut out = MemSink::new(rt.alloc(), 4096)?;
         let mut err = MemSink::new(rt.alloc(), 4096)?;
         assert_eq!(rt;
-            run(rt.alloc(), &words, &mut shelf, &mut out, &mut err),
+            answer(rt.alloc(), line, &mut shelf, &mut out, &mut err)?,
             Answer::Usage
         );
         assert_eq!(rt; err.bytes(), refusal.as_bytes());
@@ -143,20 +153,37 @@ fn meets_failing_puts(rt: HostRuntime) -> Result<(), Fail> {
     Ok(())
 }
 
+/// The line is handed over in one put: a fault of the first put leaves what it took, and there is no second.
 #[test]
-fn keeps_its_answer_where_err_fails(rt: HostRuntime) -> Result<(), Fail> {
-    let answers = [
-        (toggle(), 1, Answer::WriteFault),
-        (b"".as_slice(), 2, Answer::NotYet),
+fn puts_its_line_once(rt: HostRuntime) -> Result<(), Fail> {
+    let puts: [(u64, usize, &[u8]); 3] = [
+        (1, 0, b""),
+        (1, 7, b"hsdec: "),
+        (2, 0, b"hsdec: not yet\n"),
     ];
-    for (text, call, answer) in answers {
+    for (call, take, given) in puts {
         let mut out = MemSink::new(rt.alloc(), 4096)?;
         let mut err = MemSink::new(rt.alloc(), 4096)?;
-        out.fail_at(call, 0);
-        err.fail_at(1, 0);
-        assert_eq!(rt; code(rt.alloc(), text, &mut out, &mut err)?, answer);
-        assert_eq!(rt; out.bytes().len() + err.bytes().len(), 0);
+        out.fail_at(1, 0);
+        err.fail_at(call, take);
+        assert_eq!(rt; code(rt.alloc(), b"", &mut out, &mut err)?, Answer::NotYet);
+        assert_eq!(rt; err.bytes(), given);
+        assert_eq!(rt; out.bytes().len(), 0);
     }
+    Ok(())
+}
+
+#[test]
+fn keeps_its_answer_where_both_fail(rt: HostRuntime) -> Result<(), Fail> {
+    let mut out = MemSink::new(rt.alloc(), 4096)?;
+    let mut err = MemSink::new(rt.alloc(), 4096)?;
+    out.fail_at(1, 0);
+    err.fail_at(1, 0);
+    assert_eq!(rt;
+        code(rt.alloc(), toggle(), &mut out, &mut err)?,
+        Answer::WriteFault
+    );
+    assert_eq!(rt; out.bytes().len() + err.bytes().len(), 0);
     Ok(())
 }
 
@@ -172,9 +199,8 @@ fn refuses_what_it_cannot_read(rt: HostRuntime) -> Result<(), Fail> {
         shelf.fail_at(call)?;
         let mut out = MemSink::new(rt.alloc(), 4096)?;
         let mut err = MemSink::new(rt.alloc(), 4096)?;
-        let words = words_of(rt.alloc(), line)?;
         assert_eq!(rt;
-            run(rt.alloc(), &words, &mut shelf, &mut out, &mut err),
+            answer(rt.alloc(), line, &mut shelf, &mut out, &mut err)?,
             Answer::ReadFault
         );
         assert_eq!(rt; err.bytes(), refusal);

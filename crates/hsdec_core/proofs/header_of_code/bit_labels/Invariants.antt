@@ -1,6 +1,6 @@
 -- The labels of the words so far.
 use Rattle.std.proofs.Common.{◌≡◌, map, slice_index, take}
-use Rattle.hsdec_core.specs.CodeHeader.{bit_label}
+use Rattle.hsdec_core.specs.Inner.CodeHeader.{bit_label}
 use Rattle.hsdec_core.proofs.header_of_code.bit_labels.Given as goal
 
 abbrev pub invariant-loop-word : goal.invariant-loop-word

@@ -1,4 +1,4 @@
-use Rattle.hsdec_core.specs.CodeHeader.{IsCodeNote}
+use Rattle.hsdec_core.specs.Inner.CodeHeader.{IsCodeNote}
 use Rattle.hsdec_core.proofs.Ranges.{zip_range-push}
 use Rattle.hsdec_core.proofs.header_of_code.build_notes.Goals as goal
 

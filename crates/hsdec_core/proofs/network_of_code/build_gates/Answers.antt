@@ -1,6 +1,6 @@
 use Rattle.std.proofs.Common.{[]}
 use Rattle.hsdec_core.proofs.Ranges.{zip_map_range-push}
-use Rattle.hsdec_core.specs.CodeNetwork.{IsCodeGate}
+use Rattle.hsdec_core.specs.Inner.CodeNetwork.{IsCodeGate}
 use Rattle.hsdec_core.specs.declared.signals.Signal.TheVariants.{Next}
 use Rattle.hsdec_core.proofs.network_of_code.build_gates.Goals as goal
 

@@ -1,6 +1,6 @@
 use Rattle.std.proofs.Common.{[]}
 use Rattle.hsdec_core.proofs.Ranges.{map-range-push}
-use Rattle.hsdec_core.specs.CodeNetwork.{code_latch}
+use Rattle.hsdec_core.specs.Inner.CodeNetwork.{code_latch}
 use Rattle.hsdec_core.proofs.network_of_code.build_latches.Goals as goal
 
 pub loop-i-preserved : goal.loop-i-preserved

@@ -4,7 +4,7 @@ use Rattle.std.proofs.lemmas.Result.{IfOk-weaker}
 use Rattle.hsdec_core.proofs.OnSets.{names_in_order, names_on_set}
 use Rattle.hsdec_core.proofs.Bits.{power_small}
 use Rattle.hsdec_core.proofs.Ranges.{flat_map-range-push}
-use Rattle.hsdec_core.specs.CodeNetwork.{rows_at}
+use Rattle.hsdec_core.specs.Inner.CodeNetwork.{rows_at}
 use Rattle.hsdec_core.proofs.network_of_code.build_rows.Goals as goal
 
 pub loop-symbol-preserved : goal.loop-symbol-preserved

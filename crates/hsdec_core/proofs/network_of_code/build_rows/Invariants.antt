@@ -1,7 +1,7 @@
 -- The rows of the symbols so far.
 use Rattle.std.proofs.Common.{◌≡◌, map}
 use Rattle.std.specs.List.{flat_map, range_with_len}
-use Rattle.hsdec_core.specs.CodeNetwork.{rows_at}
+use Rattle.hsdec_core.specs.Inner.CodeNetwork.{rows_at}
 use Rattle.hsdec_core.proofs.network_of_code.build_rows.Given as goal
 
 abbrev pub invariant-loop-symbol : goal.invariant-loop-symbol

@@ -1,5 +1,5 @@
 use Rattle.hsdec_core.proofs.Ranges.{zip_map_range-push}
-use Rattle.hsdec_core.specs.CodeNetwork.{IsCodeGate, next_signals}
+use Rattle.hsdec_core.specs.Inner.CodeNetwork.{IsCodeGate, next_signals}
 use Rattle.hsdec_core.specs.declared.signals.Signal.TheVariants.{Output}
 use Rattle.hsdec_core.proofs.network_of_code.push_output_gates.Goals as goal
 

@@ -1,5 +1,5 @@
 use Rattle.hsdec_core.proofs.Ranges.{flat_map-range-push}
-use Rattle.hsdec_core.specs.CodeNetwork.{row_at}
+use Rattle.hsdec_core.specs.Inner.CodeNetwork.{row_at}
 use Rattle.hsdec_core.proofs.network_of_code.push_rows.Goals as goal
 
 pub loop-state-preserved : goal.loop-state-preserved

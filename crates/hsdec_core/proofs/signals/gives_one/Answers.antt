@@ -1,7 +1,7 @@
 use Rattle.std.proofs.Common.{ap, sym, ◌∙◌, subst}
 use Rattle.cubes.specs.Symbol.{symbol_of}
 use Rattle.kiss2.proofs.Plain.{plain_output}
-use Rattle.hsdec_core.specs.CodeNetwork.{IsWithin, signal_bit}
+use Rattle.hsdec_core.specs.Inner.CodeNetwork.{IsWithin, signal_bit}
 use Rattle.hsdec_core.proofs.signals.gives_one.Goals as goal
 
 pub returns-in-Output : goal.returns-in-Output

@@ -1,7 +1,7 @@
 //! The lines that go to err.
 
 ghost use Rattle.std.specs.Prelude.{◌≡◌, ◌++◌, IfOk, codes};
-ghost use Rattle.hsdec_core.specs.ErrLines.{as_line, usage_line, cannot_read_line, too_long_line, cannot_write_line, no_memory_line, not_yet_line};
+ghost use Rattle.hs_texts.specs.ErrLines.{as_line, usage_line, cannot_read_line, too_long_line, cannot_write_line, no_memory_line, not_yet_line};
 
 use std::alloc::{AllocError, Global};
 

@@ -6,21 +6,27 @@ ghost use Rattle.partition.specs.Partition.{IsStateCount};
 ghost use Rattle.state_codes.specs.Agreement.{AreDistinct};
 ghost use Rattle.state_codes.specs.Code.{IsCode};
 ghost use Rattle.state_codes.specs.declared.split.Kind.TheVariants.{Code};
-ghost use Rattle.hsdec_core.specs.CodeHeader.{code_parts, IsCodeHeader};
+ghost use Rattle.job_words.specs.declared.command.Command.TheVariants as commands;
+ghost use Rattle.hsdec_core.specs.Inner.RightFor.{IsRightOn};
+ghost use Rattle.hsdec_core.specs.Loading.{IsWithin};
+ghost use Rattle.hsdec_core.specs.Inner.CodeHeader.{code_parts, IsCodeHeader};
 ghost use Rattle.hsdec_core.specs.Decomposition.{IsWritten};
-ghost use Rattle.hsdec_core.specs.Made.{IsCoded};
 
 use crate::header_of_code::build_notes;
 use crate::network_of_code::build_network;
-use crate::{Answer, Outcome, err_lines};
+use crate::{Answer, Outcome};
 use blif_out::Header;
+use hs_texts::err_lines;
+use job_words::Job;
 use kiss2::{FirstFail, KissFile, StateNames, read_first};
 use state_codes::{CodeFail, Codes, Split, encode, one_part};
 use std::alloc::{AllocError, Global};
 
 /// The command `code`, on the text of its file.
-pub fn code(alloc: Global, text: &[u8]) -> Result<Outcome, AllocError>
-    ensures { IfOk result (IsCoded text.now) }
+pub fn code(alloc: Global, job: &Job, text: &[u8]) -> Result<Outcome, AllocError>
+    requires command { job.now.command ≡ commands.Code }
+    requires within { IsWithin text.now }
+    ensures { IfOk result (IsRightOn job.now text.now) }
 {
     match read_first(alloc, text) {
         Ok(file) => {

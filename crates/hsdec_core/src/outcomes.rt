@@ -1,7 +1,7 @@
 //! What a command makes in memory.
 
 ghost use Rattle.std.specs.Prelude.{◌≡◌};
-ghost use Rattle.hsdec_core.specs.Outcome.{refusal, finished};
+ghost use Rattle.hsdec_core.specs.Inner.Made.{refusal, finished};
 
 use crate::Answer;
 use hs_list::Items;

@@ -5,7 +5,7 @@ use Rattle.net_core.specs.Denotes.{Denotes}
 use Rattle.partition.proofs.Outcomes.{IfOk-from_both}
 use Rattle.hsdec_core.proofs.Whole.{latches_short, made_of, notes_of_latches, written}
 use Rattle.hsdec_core.proofs.Writing.{code_rows, code_starts, code_writable, plain_fields}
-use Rattle.hsdec_core.proofs.coding.write_code.Goals as goal
+use Rattle.hsdec_core.proofs.code_command.write_code.Goals as goal
 
 pub text-requires-clause-writable : goal.text-requires-clause-writable
 text-requires-clause-writable c = code_writable _ _ _ c.in_ok-net.ensures

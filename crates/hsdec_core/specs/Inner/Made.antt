@@ -3,10 +3,10 @@ use Rattle.std.specs.Prelude.{◌≡◌, ℕ, List, [], Option, Result, Ok, Err,
 use Rattle.std.specs.declared.alloc.AllocError.{AllocError}
 use Rattle.hs_io.specs.Counts.{Rose}
 use Rattle.hs_io.specs.Pieces.{Appends, AppendsFront}
-use Rattle.hsdec_core.specs.declared.answering.Answer.{Answer}
-use Rattle.hsdec_core.specs.declared.answering.Answer.TheVariants.{Done, WriteFault, NoMemory}
-use Rattle.hsdec_core.specs.declared.made.Outcome.{Outcome}
-use Rattle.hsdec_core.specs.ErrLines.{cannot_write_line, no_memory_line}
+use Rattle.hsdec_core.specs.declared.answers.Answer.{Answer}
+use Rattle.hsdec_core.specs.declared.answers.Answer.TheVariants.{Done, WriteFault, NoMemory}
+use Rattle.hsdec_core.specs.declared.outcomes.Outcome.{Outcome}
+use Rattle.hs_texts.specs.ErrLines.{cannot_write_line, no_memory_line}
 
 -- an answer with its line for err, and no text
 abbrev pub refusal : Answer → List ℕ → Outcome
@@ -41,8 +41,3 @@ abbrev pub TextPut : Result Outcome AllocError → Answer → Option (List ℕ) 
 TextPut made answer given given' faults faults' =
     ((answer ≡ answer_of made) × Appends given (text_of made) given')
     ⊎ ((answer ≡ WriteFault) × AppendsFront given (text_of made) given' × Rose faults faults')
-
--- a line was handed to a sink: it took the line whole, or there was a fault and it took a front of the line
-abbrev pub LinePut : List ℕ → Option (List ℕ) → Option (List ℕ) → ℕ → ℕ → Type 0
-LinePut line given given' faults faults' =
-    Appends given line given' ⊎ (AppendsFront given line given' × Rose faults faults')

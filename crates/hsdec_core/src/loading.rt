@@ -2,14 +2,15 @@
 
 ghost use Rattle.std.specs.Prelude.{◌≡◌, ◌≤◌, ◌↔◌, ℕ, List, IfOk};
 ghost use Rattle.hs_io.specs.Counts.{Rose};
-ghost use Rattle.hsdec_core.specs.Loaded.{IsLoaded};
+ghost use Rattle.hsdec_core.specs.Inner.Load.{IsLoaded};
 
-use crate::{Answer, Bytes, Outcome, err_lines};
+use crate::{Answer, Bytes, Outcome};
 use hs_io::{LoadFail, Shelf};
+use hs_texts::err_lines;
 use std::alloc::{AllocError, Global};
 
 /// How many bytes a text has at most.
-pub const TEXT_LIMIT: usize = 4_194_304;
+const TEXT_LIMIT: usize = 4_194_304;
 
 /// What came of the load of an operand.
 #[derive(Debug, Drop)]

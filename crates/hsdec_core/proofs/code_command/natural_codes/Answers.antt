@@ -1,7 +1,7 @@
 use Rattle.std.proofs.Common.{All, sym, subst}
 use Rattle.state_codes.specs.Split.{IsPart}
 use Rattle.hsdec_core.proofs.NaturalCodes.{code_part_lawful, never_refused}
-use Rattle.hsdec_core.proofs.coding.natural_codes.Goals as goal
+use Rattle.hsdec_core.proofs.code_command.natural_codes.Goals as goal
 
 pub encode-requires-clause-parts : goal.encode-requires-clause-parts
 encode-requires-clause-parts c = subst (All (IsPart c.args.states)) (sym c.requires.parts) (code_part_lawful c.args.states c.requires.states)

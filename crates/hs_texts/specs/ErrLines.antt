@@ -1,0 +1,31 @@
+-- The lines that go to err with an answer. Each ends with a line feed.
+use Rattle.std.specs.Prelude.{ℕ, List, [], ◌∷◌, ◌++◌, codes}
+use Rattle.std.specs.Fmt.{decimal}
+
+-- a text as a line, ended by a line feed
+abbrev pub as_line : List ℕ → List ℕ
+as_line text = text ++ 10 ∷ []
+
+-- the line of refused words, with the number of the first that is refused
+abbrev pub usage_line : ℕ → List ℕ
+usage_line word = as_line (codes "hsdec: usage word " ++ decimal word)
+
+-- the line of a file that cannot be read
+abbrev pub cannot_read_line : List ℕ → List ℕ
+cannot_read_line name = as_line (codes "hsdec: cannot read " ++ name)
+
+-- the line of a file that is too long
+abbrev pub too_long_line : List ℕ → List ℕ
+too_long_line name = as_line (codes "hsdec: too long " ++ name)
+
+-- the line of a text that could not be put whole
+abbrev pub cannot_write_line : List ℕ
+cannot_write_line = as_line (codes "hsdec: cannot write")
+
+-- the line of want of memory
+abbrev pub no_memory_line : List ℕ
+no_memory_line = as_line (codes "hsdec: no memory")
+
+-- the line of a text in a form that is not read so far
+abbrev pub not_yet_line : List ℕ
+not_yet_line = as_line (codes "hsdec: not yet")

@@ -1,0 +1,6 @@
+-- What only private functions and proofs cite.
+pub mod CodeHeader
+pub mod CodeNetwork
+pub mod Load
+pub mod Made
+pub mod RightFor

@@ -1,0 +1,53 @@
+//! From words to what is made in memory.
+
+ghost use Rattle.std.specs.Prelude.{◌≡◌, ◌-◌, ◌^◌, ◌<◌, ◌≤◌, ◌↔◌, ℕ, List, IfOk, IsErr, length};
+ghost use Rattle.hs_io.specs.Counts.{Rose};
+ghost use Rattle.job_words.specs.Job.{JobOf};
+ghost use Rattle.job_words.specs.Table.{IsBuilt};
+ghost use Rattle.hsdec_core.specs.Inner.RightFor.{IsRightFor, IsRightOn};
+ghost use Rattle.hsdec_core.specs.Loading.{IsWithin};
+
+use crate::code_command::code;
+use crate::loading::{Loaded, load_operand};
+use crate::{Answer, Outcome};
+use hs_io::Shelf;
+use hs_texts::err_lines;
+use job_words::{Command, Job, JobFail, Words, job};
+use std::alloc::{AllocError, Global};
+
+/// Makes what the words ask for, in memory: judges the words, loads the operand, and hands its text to the
+/// command.
+pub fn perform<F: Shelf>(alloc: Global, words: &Words, shelf: &mut F) -> Result<Outcome, AllocError>
+    requires few { length words.now < 2 ^ 32 - 1 }
+    requires granted { IfOk (JobOf words.now) (λ job. F.grants shelf.old job.file) }
+    ensures right { IfOk result (IsRightFor
+        (JobOf words.now) (F.holds shelf.old) (Rose (F.faults shelf.old) (F.faults shelf.new))) }
+    ensures unloaded { IsErr (JobOf words.now) → shelf.new ≡ shelf.old }
+    ensures holds_the_same { (other : List ℕ) → F.holds shelf.new other ≡ F.holds shelf.old other }
+    ensures grants_the_same { (other : List ℕ) → F.grants shelf.new other ↔ F.grants shelf.old other }
+    ensures never_falls { F.faults shelf.old ≤ F.faults shelf.new }
+{
+    match job(alloc, words) {
+        Ok(job) => match load_operand(alloc, job.file.bytes(), shelf)? {
+            Loaded::Text(text) => perform_on(alloc, &job, text.as_slice()),
+            Loaded::Refused(made) => Ok(made),
+        },
+        Err(JobFail::Usage { word }) => {
+            let line = err_lines::usage(alloc, word)?;
+            Ok(Outcome::refused(alloc, Answer::Usage, line))
+        }
+        Err(JobFail::NoMemory) => Err(AllocError),
+    }
+}
+
+/// Makes what a job asks for of the text of its file.
+fn perform_on(alloc: Global, job: &Job, text: &[u8]) -> Result<Outcome, AllocError>
+    requires built { IsBuilt job.now.command }
+    requires within { IsWithin text.now }
+    ensures { IfOk result (IsRightOn job.now text.now) }
+{
+    match job.command {
+        Command::Code => code(alloc, job, text),
+        _ => unreachable!(),
+    }
+}
