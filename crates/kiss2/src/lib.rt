@@ -12,15 +12,18 @@
 #![tactic(auto)]
 
 mod cutting;
+mod fault;
 mod fields;
 mod fill;
 mod kiss_file;
 mod laws;
+mod line_kind;
 mod reading;
 mod state_names;
 #[cfg(test)]
 mod tests;
 
+pub use fault::{KissFail, KissFault, KissKind, KissLimit};
 pub use fill::Fill;
 pub use kiss_file::{KissFile, KissRow, Rows};
 pub use laws::{next_is_a_state, plain_is_accepted, rows_decide};
