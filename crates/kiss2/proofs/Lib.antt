@@ -10,3 +10,8 @@ pub mod Collected
 pub mod Refusals
 pub mod Machine
 pub mod Plain
+pub mod Digits
+pub mod Finding
+pub mod Stood
+pub mod Once
+pub mod RowStands

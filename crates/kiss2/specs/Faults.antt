@@ -76,13 +76,13 @@ names_fault count others names =
     ∷ fault_where (has_twice (others ++ names)) Repeated
     ∷ [])
 
--- a row, given the numbers of inputs and outputs, the rows before it, and the names of states with its own
-abbrev pub row_fault : Option ℕ → Option ℕ → List Line → List (List ℕ) → Line → Option KissKind
+-- a row, given the numbers of inputs and outputs, the number of rows before it, and the names of states with its own
+abbrev pub row_fault : Option ℕ → Option ℕ → ℕ → List (List ℕ) → Line → Option KissKind
 row_fault inputs outputs rows states line =
     first_of
     (fault_where (is_none inputs || is_none outputs) MissingCounts
     ∷ fault_where (not (length line.fields == 4)) BadFields
-    ∷ fault_where (not (nat_lt (length rows) 65536)) (OverLimit Rows 65537)
+    ∷ fault_where (not (nat_lt rows 65536)) (OverLimit Rows 65537)
     ∷ fault_where (not (is_character_field (unwrap_or inputs 0) (input_field line))) BadCube
     ∷ fault_where (is_open (current_field line)) AnyState
     ∷ long_name (filter is_name (current_field line ∷ next_field line ∷ []))
@@ -102,7 +102,7 @@ form_fault Reset before line = reset_fault (operands line)
 form_fault InputNames before line = names_fault (inputs_in before) (unwrap_or (names_in OutputNames before) []) (operands line)
 form_fault OutputNames before line = names_fault (outputs_in before) (unwrap_or (names_in InputNames before) []) (operands line)
 form_fault Unknown before line = Some UnknownWord
-form_fault Row before line = row_fault (inputs_in before) (outputs_in before) (rows_in before) (state_names (before ++ line ∷ [])) line
+form_fault Row before line = row_fault (inputs_in before) (outputs_in before) (length (rows_in before)) (state_names (before ++ line ∷ [])) line
 
 -- a word that may stand once, and has stood
 abbrev pub stands_again : LineKind → List Line → Bool

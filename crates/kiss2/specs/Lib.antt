@@ -7,3 +7,4 @@ pub mod Words
 pub mod Standing
 pub mod Faults
 pub mod Kiss
+pub mod Inner

@@ -15,13 +15,16 @@ mod cutting;
 mod fault;
 mod fields;
 mod fill;
+mod judging;
 mod kiss_file;
 mod laws;
 mod line_kind;
 mod reading;
+mod said;
 mod state_names;
 #[cfg(test)]
 mod tests;
+mod words;
 
 pub use fault::{KissFail, KissFault, KissKind, KissLimit};
 pub use fill::Fill;

@@ -1,3 +1,8 @@
+ghost use Rattle.std.specs.Prelude.{◌≡◌};
+ghost use Rattle.kiss2.specs.Words.{kind_of, kind_of_field};
+
+use hs_io::Line;
+
 /// What a line of a KISS2 text is, by its first field.
 #[derive(Clone, Copy, Debug, PartialEq, Eq)]
 pub(crate) enum LineKind {
@@ -23,4 +28,42 @@ pub(crate) enum LineKind {
     Unknown,
     /// A row: no dot stands first.
     Row,
+}
+
+/// What the line is.
+pub(crate) fn line_kind(line: &Line) -> LineKind
+    ensures { result ≡ kind_of line.now }
+{
+    match line.fields.as_slice() {
+        [] => LineKind::Blank,
+        [first, ..] => first_field_kind(first.bytes()),
+    }
+}
+
+/// What a line is whose first field this is.
+#[tactic(auto, unfolding(crate::specs::Words::kind_of_field))]
+fn first_field_kind(field: &[u8]) -> LineKind
+    ensures { result ≡ kind_of_field field.now }
+{
+    if field == b".e".as_slice() || field == b".end".as_slice() {
+        LineKind::End
+    } else if field == b".i".as_slice() {
+        LineKind::InputCount
+    } else if field == b".o".as_slice() {
+        LineKind::OutputCount
+    } else if field == b".p".as_slice() {
+        LineKind::RowCount
+    } else if field == b".s".as_slice() {
+        LineKind::StateCount
+    } else if field == b".r".as_slice() {
+        LineKind::Reset
+    } else if field == b".ilb".as_slice() {
+        LineKind::InputNames
+    } else if field == b".ob".as_slice() {
+        LineKind::OutputNames
+    } else if field.first() == Some(&b'.') {
+        LineKind::Unknown
+    } else {
+        LineKind::Row
+    }
 }
