@@ -10,7 +10,7 @@ use Rattle.std.proofs.lemmas.List.Sums.{position_or_len_is}
 use Rattle.std.proofs.lemmas.List.{append_assoc, drop_more, get_or_read, take-append-drop}
 use Rattle.std.proofs.lemmas.Option.{get_or_from_slice_get, slice_get-get_or, slice_get_past, slice_get_within}
 use Rattle.std.proofs.lemmas.Slice.Eq.{bytes_eq-Decides}
-use Rattle.std.specs.Option.{IfSome, is_some, option_map}
+use Rattle.std.specs.Option.{IfNone, IfSome, is_some, option_map}
 use Rattle.kiss2.specs.declared.fault.KissKind.TheVariants.{OverLimit}
 use Rattle.kiss2.specs.declared.fault.KissLimit.TheVariants.{NameBytes}
 use Rattle.kiss2.specs.Faults.{has_twice, long_name}
@@ -93,3 +93,8 @@ none_long names before = ap (λ found. option_map (λ n. OverLimit NameBytes (le
 pub contained_at : (names : List (List ℕ)) (name : List ℕ) (number : Option ℕ) → is_some number ≡ true → IfSome number (λ n. slice_get names n ≡ Some name) → Contains names name
 contained_at names name None some h = absurd (false≢true some)
 contained_at names name (Some n) some h = (n, slice_get_within names n name h, get_or_from_slice_get names n name name h)
+
+-- one that has none does not
+pub not_contained : (names : List (List ℕ)) (name : List ℕ) (number : Option ℕ) → is_some number ≡ false → IfNone number (Contains names name → ⊥) → Contains names name → ⊥
+not_contained names name None some h = h
+not_contained names name (Some n) some h = absurd (false≢true (sym some))

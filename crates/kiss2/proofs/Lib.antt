@@ -15,3 +15,7 @@ pub mod Finding
 pub mod Stood
 pub mod Once
 pub mod RowStands
+pub mod Ending
+pub mod Closing
+pub mod GoodLines
+pub mod Building

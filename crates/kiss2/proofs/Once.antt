@@ -255,3 +255,8 @@ put_few names field = few (is_name field) where
   few : (test : Bool) → length (once_after names (cond test (field ∷ []) [])) ≤ length names + 1
   few true = push (among field names)
   few false = omega arith
+
+-- lines with the same rows have the same states
+pub names_same : (lines others : List Line) → rows_in others ≡ rows_in lines → state_names others ≡ state_names lines
+unfolding state_names
+names_same lines others same = ap (λ rows. each_once (names_at 1 rows ++ names_at 2 rows)) same

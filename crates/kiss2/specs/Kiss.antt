@@ -45,11 +45,13 @@ pub record IsFirstFault (lines : List Line) (place : ℕ) (line : Line) (kind : 
   pub fault : fault_in (take place lines) line ≡ Some kind
   pub none_before : AreFaultless (take place lines)
 
--- the line and the kind of the first fault of lines
+abbrev pub IsLineFault : List Line → ℕ → KissKind → Type 0
+IsLineFault lines number kind = (place : ℕ) × (line : Line) × IsFirstFault lines place line kind × (number ≡ line.number)
+
+-- the number of its line and the kind of the first fault of lines
 abbrev pub IsFaultOf : List Line → ℕ → KissKind → Type 0
 IsFaultOf lines number kind =
-    ((place : ℕ) × (line : Line) × IsFirstFault lines place line kind × (number ≡ line.number))
-    ⊎ (AreFaultless lines × (closing_fault lines ≡ Some (record { line = number; kind = kind })))
+    IsLineFault lines number kind ⊎ (AreFaultless lines × (closing_fault lines ≡ Some (record { line = number; kind = kind })))
 
 -- the next state that a field names, if it does
 abbrev pub IsNextOf : List (List ℕ) → List ℕ → Option ℕ → Type 0

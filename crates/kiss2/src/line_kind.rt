@@ -1,5 +1,7 @@
 ghost use Rattle.std.specs.Prelude.{◌≡◌};
-ghost use Rattle.kiss2.specs.Words.{kind_of, kind_of_field};
+ghost use Rattle.kiss2.specs.Words.{ends_text, is_of_kind, kind_of, kind_of_field};
+
+ghost use Rattle.kiss2.specs.declared.line_kind.LineKind.TheVariants.{Row};
 
 use hs_io::Line;
 
@@ -38,6 +40,20 @@ pub(crate) fn line_kind(line: &Line) -> LineKind
         [] => LineKind::Blank,
         [first, ..] => first_field_kind(first.bytes()),
     }
+}
+
+/// Whether the line is a row.
+pub(crate) fn is_row(line: &Line) -> bool
+    ensures { result ≡ is_of_kind Row line.now }
+{
+    line_kind(line) == LineKind::Row
+}
+
+/// Whether the text ends before the line.
+pub(crate) fn ends(line: &Line) -> bool
+    ensures { result ≡ ends_text line.now }
+{
+    !line.bad && line_kind(line) == LineKind::End
 }
 
 /// What a line is whose first field this is.

@@ -279,7 +279,7 @@ fn judge_length(name: &[u8]) -> Result<(), KissKind>
 }
 
 /// Adds the name of a state, where the field is one.
-fn add_name(names: &mut StateNames, field: &[u8]) -> Result<(), AllocError>
+pub(crate) fn add_name(names: &mut StateNames, field: &[u8]) -> Result<(), AllocError>
     requires { length names.old ≤ 257 }
     ensures { OnOk result (names.new ≡ once_after names.old (filter is_name (field.now ∷ []))) }
 {

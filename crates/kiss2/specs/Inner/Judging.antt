@@ -1,9 +1,12 @@
 -- What the reader keeps while it judges line after line. No public contract cites it.
-use Rattle.std.specs.Prelude.{◌≡◌, ℕ, ◌<◌, ◌≤◌, List, [], ◌∷◌, Option, Some, None, ◌++◌, Result, Ok, Err, filter, if◌then◌else◌, length, unwrap_or}
+use Rattle.std.specs.Prelude.{◌≡◌, ℕ, ◌<◌, ◌≤◌, ◌^◌, All, List, [], ◌∷◌, Option, Some, None, ◌++◌, Result, Ok, Err, filter, if◌then◌else◌, length, unwrap_or}
 use Rattle.std.specs.Option.{option_map}
 use Rattle.std.specs.List.{flat_map, list_any}
 use Rattle.std.specs.Str.{bytes_eq}
 use Rattle.hs_io.specs.declared.lines.Line.{Line}
+use Rattle.kiss2.specs.declared.fault.KissFail.{KissFail}
+use Rattle.kiss2.specs.declared.fault.KissFail.TheVariants.{Refused}
+use Rattle.kiss2.specs.declared.fault.KissFail.TheVariants as fails
 use Rattle.kiss2.specs.declared.fault.KissKind.{KissKind}
 use Rattle.kiss2.specs.declared.judging.LineFail.{LineFail}
 use Rattle.kiss2.specs.declared.judging.LineFail.TheVariants.{Fault, NoMemory}
@@ -17,6 +20,11 @@ use Rattle.kiss2.specs.Standing.{each_once, has_stood, inputs_in, line_with, nam
 abbrev pub FailsWith : Option KissKind → LineFail → Type 0
 FailsWith fault (Fault kind) = fault ≡ Some kind
 FailsWith fault NoMemory = Unit {0}
+
+-- the failure of the text at the line of that number
+abbrev pub fail_at : ℕ → LineFail → KissFail
+fail_at number (Fault kind) = Refused (record { line = number; kind = kind })
+fail_at number NoMemory = fails.NoMemory
 
 -- an answer to a line with a fault, or to one with none
 abbrev pub Judges : {T : Type 0} → Result T LineFail → Option KissKind → (T → Type 0) → Type 0
@@ -57,3 +65,7 @@ pub record IsSmall (said : Said) : Type 0 where
   pub states : length said.states ≤ 256
   pub input_names : length (unwrap_or said.input_names []) < 256
   pub output_names : length (unwrap_or said.output_names []) < 256
+
+-- the fields are short enough to be measured
+abbrev pub HasShortFields : Line → Type 0
+HasShortFields line = All (λ field. length field < 2 ^ 32) line.fields
