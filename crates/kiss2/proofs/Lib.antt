@@ -19,3 +19,4 @@ pub mod Ending
 pub mod Closing
 pub mod GoodLines
 pub mod Building
+pub mod FieldBytes
