@@ -118,7 +118,11 @@ fn over(what: KissLimit, found: u32) -> KissKind {
 fn texts_are_refused(rt: HostRuntime) -> Result<(), Fail> {
     let texts: [(&[u8], u32, KissKind); 34] = [
         (b"", 0, KissKind::NoRows),
-        (b".i 1\n.o 1\n.r b\n0 a a 0\n1 a a 0", 3, KissKind::ResetUnknown),
+        (
+            b".i 1\n.o 1\n.r b\n0 a a 0\n1 a a 0",
+            3,
+            KissKind::ResetUnknown,
+        ),
         (b".i 0", 1, KissKind::BadNumber),
         (b".i 33", 1, over(KissLimit::Inputs, 33)),
         (b".i 1\n.i 1", 2, KissKind::Repeated),
