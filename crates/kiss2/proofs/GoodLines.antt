@@ -187,6 +187,12 @@ all_kept p P (x ∷ xs) each =
       | inr dropped ↦ subst (λ t. All P (cond t (x ∷ filter p xs) (filter p xs))) (sym dropped) rest
     ]
 
+-- one line more
+pub take_step : (xs : List Line) (i : ℕ) (x : Line) → slice_get xs i ≡ Some x → take (suc i) xs ≡ take i xs ++ x ∷ []
+take_step [] i x e = absurd (none-some x e)
+take_step (y ∷ ys) zero x e = ap (λ z. z ∷ []) (same_Some y x e)
+take_step (y ∷ ys) (suc i) x e = ap (λ zs. y ∷ zs) (take_step ys i x e)
+
 none_few : length (state_names []) ≤ 256
 unfolding state_names each_once
 none_few = omega arith
@@ -254,11 +260,6 @@ module _ (lines : List Line) (faultless : HaveNoFault lines) where
         at_place [] i lt = absurd (omega arith)
         at_place (x ∷ xs) zero lt = (x, refl)
         at_place (x ∷ xs) (suc i) lt = at_place xs i (omega arith)
-
-        take_step : (xs : List Line) (i : ℕ) (x : Line) → slice_get xs i ≡ Some x → take (suc i) xs ≡ take i xs ++ x ∷ []
-        take_step [] i x e = absurd (none-some x e)
-        take_step (y ∷ ys) zero x e = ap (λ z. z ∷ []) (same_Some y x e)
-        take_step (y ∷ ys) (suc i) x e = ap (λ zs. y ∷ zs) (take_step ys i x e)
 
   pub few : (length (state_names lines) ≤ 256) × (length (row_lines lines) ≤ 65536)
   few = subst (λ ls. (length (state_names ls) ≤ 256) × (length (row_lines ls) ≤ 65536)) (take_all (length lines) lines (omega arith)) (few_up_to (length lines) (omega arith))

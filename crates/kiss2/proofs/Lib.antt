@@ -20,3 +20,4 @@ pub mod Closing
 pub mod GoodLines
 pub mod Building
 pub mod FieldBytes
+pub mod OneFault
