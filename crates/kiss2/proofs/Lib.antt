@@ -21,3 +21,5 @@ pub mod GoodLines
 pub mod Building
 pub mod FieldBytes
 pub mod OneFault
+pub mod SameRecord
+pub mod Made

@@ -5,8 +5,10 @@ ghost use Rattle.kiss2.specs.Machine.{NextIsAState, PlainIsAccepted, RowsDecide}
 
 /// Bytes say one machine or have one first fault, and never both.
 pub fn read_once()
+    ensures one_file { OneFile }
     ensures one_fault { OneFault }
     ensures never_both { NeverBoth }
+    ensures always_one { AlwaysOne }
 {}
 
 /// What rows say of a state and a symbol is the machine's next state and output, whichever of them is
