@@ -173,7 +173,7 @@ row_fine (Some k) (Some o) rows states line none =
           → long_name (cond (is_name (current_field line)) (current_field line ∷ filter is_name (next_field line ∷ [])) (filter is_name (next_field line ∷ []))) ≡ None
       both e = e
 
-some_from_map : {X Y : Type 0} (f : X → Y) (o : Option X) (y : Y) → option_map f o ≡ Some y → (x : X) × (o ≡ Some x)
+pub some_from_map : {X Y : Type 0} (f : X → Y) (o : Option X) (y : Y) → option_map f o ≡ Some y → (x : X) × (o ≡ Some x)
 some_from_map f None y e = absurd (none-some y e)
 some_from_map f (Some x) y e = (x, refl)
 

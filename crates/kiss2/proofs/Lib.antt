@@ -23,3 +23,5 @@ pub mod FieldBytes
 pub mod OneFault
 pub mod SameRecord
 pub mod Made
+pub mod Exact
+pub mod ReadLawful

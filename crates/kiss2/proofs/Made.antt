@@ -129,17 +129,18 @@ spelled (b ∷ bs) (good, more) =
 a_cube : (k : ℕ) (field : List ℕ) → 1 ≤ k → k ≤ 32 → is_character_field k field ≡ true → (c : Cube) × (text_of c ≡ field)
 a_cube k field some few good =
     let long : length field ≡ k = field_length k field good in
-    let all : All IsCharacter field = λ i d lt. subst IsCharacter (get_or_default field i 0 d lt) (character_at k field i good lt) in
-    (record {
-       care = care_number field;
-       value = value_number field;
-       width = k;
-       width_positive = some;
-       width_bound = few;
-       value_in_care = and_inside field;
-       care_in_width = subst (λ n. care_number field < 2 ^ n) long (care_below field);
-     },
-     ap (λ n. map byte_of (characters n (care_number field) (value_number field))) (sym long) ∙ spelled field (recursion_from_All IsCharacter field all))
+    let all : All IsCharacter field = λ i d lt. subst IsCharacter (get_or_default field i 0 d lt) (character_at k field i good lt) in (
+      record {
+        care = care_number field;
+        value = value_number field;
+        width = k;
+        width_positive = some;
+        width_bound = few;
+        value_in_care = and_inside field;
+        care_in_width = subst (λ n. care_number field < 2 ^ n) long (care_below field);
+      },
+      ap (λ n. map byte_of (characters n (care_number field) (value_number field))) (sym long) ∙ spelled field (recursion_from_All IsCharacter field all),
+    )
 
 a_number : (states : List (List ℕ)) (name : List ℕ) → Contains states name → (n : ℕ) × (slice_get states n ≡ Some name)
 a_number states name (n, within, same) = (n, slice_get-get_or states n name within ∙ ap Some same)
@@ -155,9 +156,10 @@ a_row : (states : List (List ℕ)) (k o : ℕ) (line : Line) → 1 ≤ k → k �
 a_row states k o line some few good known =
     let cube = a_cube k (input_field line) some few good.input in
     let from = a_number states (current_field line) known.current in
-    let to = a_next states (next_field line) known.next in
-    (record { cube = cube.0; from = from.0; to = to.0; care = care_in (output_field line); value = value_in (output_field line) },
-     record { cube = cube.1; from = from.1; to = to.1; care = refl; value = refl })
+    let to = a_next states (next_field line) known.next in (
+      record { cube = cube.0; from = from.0; to = to.0; care = care_in (output_field line); value = value_in (output_field line) },
+      record { cube = cube.1; from = from.1; to = to.1; care = refl; value = refl },
+    )
 
 all_rows : (states : List (List ℕ)) (k o : ℕ) (lines : List Line) → 1 ≤ k → k ≤ 32 → All (IsGoodRow k o) lines → All (IsKnownRow states) lines → (rows : List KissRow) × AllZip (IsRowOf states) lines rows
 all_rows states k o [] some few good known = ([], tt)
@@ -188,6 +190,7 @@ a_record lines faultless closed =
     let good = rows_good lines faultless k o counts.2 counts.3 in
     let known = rows_known lines k o good in
     let rows = all_rows (state_names lines) k o (row_lines lines) range.0 range.1 good known in
-    let reset = a_reset lines k o closed known in
-    (record { inputs = k; outputs = o; reset = reset.0; states = state_names lines; rows = rows.0; input_names = names_said InputNames lines; output_names = names_said OutputNames lines },
-     record { inputs = counts.2; outputs = counts.3; states = refl; reset = reset.1; rows = rows.1; input_names = refl; output_names = refl })
+    let reset = a_reset lines k o closed known in (
+      record { inputs = k; outputs = o; reset = reset.0; states = state_names lines; rows = rows.0; input_names = names_said InputNames lines; output_names = names_said OutputNames lines },
+      record { inputs = counts.2; outputs = counts.3; states = refl; reset = reset.1; rows = rows.1; input_names = refl; output_names = refl },
+    )

@@ -31,9 +31,10 @@ module _ (lines : List Line) where
   one_line number other kind another (place, line, first, is) (place', line', first', is') =
       elim (cases_order place place') [
         | inl same ↦
-            let same_line : line ≡ line' = same_Some line line' (sym first.stands ∙ (ap (λ p. slice_get lines p) same ∙ first'.stands)) in
-            (is ∙ (ap (λ l. l.number) same_line ∙ sym is'),
-             same_Some kind another (sym first.fault ∙ (ap (λ p. fault_in (take p lines) line) same ∙ (ap (λ l. fault_in (take place' lines) l) same_line ∙ first'.fault))))
+            let same_line : line ≡ line' = same_Some line line' (sym first.stands ∙ (ap (λ p. slice_get lines p) same ∙ first'.stands)) in (
+              is ∙ (ap (λ l. l.number) same_line ∙ sym is'),
+              same_Some kind another (sym first.fault ∙ (ap (λ p. fault_in (take p lines) line) same ∙ (ap (λ l. fault_in (take place' lines) l) same_line ∙ first'.fault))),
+            )
         | inr (inl less) ↦ absurd (earlier place place' line kind less first first'.none_before)
         | inr (inr more) ↦ absurd (earlier place' place line' another more first' first.none_before)
       ]

@@ -155,13 +155,12 @@ module _ (c d : Cube) (same : text_of c ≡ text_of d) where
               | inr past ↦ absurd (zero_one (sym (bit_at_above c.care c.width k c.care_in_width past) ∙ one))
             ]
 
-
   -- cubes with one text are one
   pub same_cube : c ≡ d
   same_cube = same_numbers c d same_care (same_from_bits c.value d.value value_bits) same_width
 
 -- a state's number is one
-number_once : (names : List (List ℕ)) (name : List ℕ) (i j : ℕ) → AreDistinct names → slice_get names i ≡ Some name → slice_get names j ≡ Some name → i ≡ j
+pub number_once : (names : List (List ℕ)) (name : List ℕ) (i j : ℕ) → AreDistinct names → slice_get names i ≡ Some name → slice_get names j ≡ Some name → i ≡ j
 number_once names name i j distinct first second =
     elim (cases_order i j) [
       | inl same ↦ same
@@ -202,7 +201,7 @@ pub states_distinct : (lines : List Line) → AreDistinct (state_names lines)
 unfolding state_names
 states_distinct lines = distinct_from_once _ (once-each_once _)
 
-reset_there : (lines : List Line) → 0 < length (row_lines lines) → (name : List ℕ) × (reset_name lines ≡ Some name)
+pub reset_there : (lines : List Line) → 0 < length (row_lines lines) → (name : List ℕ) × (reset_name lines ≡ Some name)
 reset_there lines some = either (option_map (field_at 1) (line_with Reset lines)) (row_lines lines) some where
   either : (named : Option (List ℕ)) (rows : List Line) → 0 < length rows → (name : List ℕ) × (option_or named (option_map current_field (slice_get rows 0)) ≡ Some name)
   either (Some name) rows some = (name, refl)

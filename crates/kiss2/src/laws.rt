@@ -11,6 +11,11 @@ pub fn read_once()
     ensures always_one { AlwaysOne }
 {}
 
+/// What is read is lawful.
+pub fn read_is_lawful()
+    ensures { ReadIsLawful }
+{}
+
 /// What rows say of a state and a symbol is the machine's next state and output, whichever of them is
 /// asked.
 pub fn rows_decide()

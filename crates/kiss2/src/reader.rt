@@ -21,6 +21,8 @@ pub fn read(alloc: Global, bytes: &[u8]) -> Result<KissFile, KissFail>
     requires { length bytes.now < 2 ^ 32 }
     ensures read { IfOk result (λ file. Kiss bytes.now file) }
     ensures refused { (fault : KissFault) → result ≡ Err (KissFail.Refused fault) → IsKissFault bytes.now fault.line fault.kind }
+    ensures never_refused { (file : KissFile) → Kiss bytes.now file → MatchResult result (λ read. read ≡ file) (λ fail. fail ≡ KissFail.NoMemory) }
+    ensures never_read { (fault : KissFault) → IsKissFault bytes.now fault.line fault.kind → MatchResult result (λ _. ⊥) (λ fail. (fail ≡ KissFail.Refused fault) ⊎ (fail ≡ KissFail.NoMemory)) }
 {
     let lines = cut_lines(alloc, bytes)?;
     read_lines(alloc, &lines)
