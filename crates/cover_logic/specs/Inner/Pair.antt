@@ -1,3 +1,4 @@
+-- Two terms, and the values that they hold. Private functions need it; no public contract cites it.
 use Rattle.std.specs.Prelude.{◌≡◌, ℕ, ◌↔◌, Bool, ◌==◌, ◌&&◌, bit_and, bit_xor}
 use Rattle.std.specs.Int.{bit_at}
 use Rattle.cover_logic.specs.declared.term.Term.{Term}
@@ -26,9 +27,9 @@ abbrev pub Includes : Term → Term → Type 0
 Includes wide narrow = (x : ℕ) → Holds narrow x → Holds wide x
 
 -- the term holds the values that both terms hold
-abbrev pub IsMeet : Term → Term → Term → Type 0
-IsMeet a b both = (x : ℕ) → Holds both x ↔ (Holds a x × Holds b x)
+abbrev pub IsIntersection : Term → Term → Term → Type 0
+IsIntersection a b both = (x : ℕ) → Holds both x ↔ (Holds a x × Holds b x)
 
 -- the term holds the values of the first that have the given bit at the column
-abbrev pub IsHalf : Term → ℕ → ℕ → Term → Type 0
-IsHalf t column bit half = (x : ℕ) → Holds half x ↔ (Holds t x × (bit_at x column ≡ bit))
+abbrev pub IsColumnHalf : Term → ℕ → ℕ → Term → Type 0
+IsColumnHalf t column bit half = (x : ℕ) → Holds half x ↔ (Holds t x × (bit_at x column ≡ bit))

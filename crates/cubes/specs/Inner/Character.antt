@@ -1,4 +1,4 @@
--- A character as the code keeps it.
+-- A character as the code keeps it. Private functions need it; no public contract cites it.
 use Rattle.std.specs.Prelude.{ℕ, Bool, true, false, Option, Some, None}
 use Rattle.cubes.specs.declared.cube.Character.{Character}
 use Rattle.cubes.specs.declared.cube.Character.TheVariants.{Zero, One, Dash}

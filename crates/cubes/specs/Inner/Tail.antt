@@ -1,4 +1,5 @@
--- The lowest places of a cube, while the symbols are halved by the bits above them.
+-- The lowest places of a cube, while the symbols are halved by the bits above them. Private
+-- functions need it; no public contract cites it.
 use Rattle.std.specs.Prelude.{ℕ, ◌≡◌, ◌<◌, ◌≤◌, ◌||◌, Bool, false, not, List, Any}
 use Rattle.std.specs.Bool.{beq}
 use Rattle.std.specs.List.{AllZip}
