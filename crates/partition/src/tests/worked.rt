@@ -1,6 +1,6 @@
 //! Worked partitions, refusals, and sizes at the edges of words.
 
-use crate::{BitPart, PartFail, Partition};
+use crate::{BitPart, PartFail, Partition, parse_of_show};
 use std::alloc::{AllocError, Global};
 use std::test::Fail;
 
@@ -184,5 +184,16 @@ fn bits_hold_two_states_together(rt: HostRuntime) -> Result<(), Fail> {
     assert_eq!(rt; together, [true; 3]);
     let apart = [held.same(0, 64), held.same(1, 63)];
     assert_eq!(rt; apart, [false; 2]);
+    Ok(())
+}
+
+#[test]
+fn shown_texts_are_read_back(rt: HostRuntime) -> Result<(), Fail> {
+    let alloc = rt.alloc();
+    for n in [1usize, 10, 101, 256] {
+        let zero = Partition::zero(alloc, n)?;
+        assert!(rt; parse_of_show(alloc, &zero)?.equal(&zero));
+        assert_eq!(rt; BitPart::of(alloc, &zero)?.len(), n);
+    }
     Ok(())
 }
