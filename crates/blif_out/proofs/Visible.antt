@@ -7,7 +7,7 @@ use Rattle.std.proofs.lemmas.Bool.Decides.{nat_tests}
 use Rattle.std.proofs.lemmas.Nat.Bits.{bit_at-lt}
 use Rattle.hs_io.specs.Spelling.{spaced, ArePlainFields, IsFieldByte, IsComment}
 use Rattle.hs_io.proofs.Spelled.{all_append, all_weaker}
-use Rattle.partition.specs.Text.{text_of}
+use Rattle.partition.specs.Text.{labels_text}
 use Rattle.state_codes.specs.declared.split.Kind.{Kind}
 use Rattle.state_codes.specs.declared.split.Kind.TheVariants.{Code, Assign, Parallel, Serial, Cascade, Feedback, Least}
 use Rattle.state_codes.specs.declared.split.Part.{Part}
@@ -45,11 +45,11 @@ pub decimal_visible : (n : ℕ) → IsVisible (decimal n)
 unfolding digits
 decimal_visible n = digits_visible 64 n [] tt
 
-pub text_visible : (labels : List ℕ) → IsVisible (text_of labels)
+pub text_visible : (labels : List ℕ) → IsVisible (labels_text labels)
 text_visible [] = tt
 text_visible (label ∷ []) = decimal_visible label
 text_visible (label ∷ next ∷ labels) =
-    all_append IsFieldByte (decimal label) (44 ∷ text_of (next ∷ labels)) (decimal_visible label) (record { low = omega arith; high = omega arith; no_comment = λ e. absurd (omega arith) }, text_visible (next ∷ labels))
+    all_append IsFieldByte (decimal label) (44 ∷ labels_text (next ∷ labels)) (decimal_visible label) (record { low = omega arith; high = omega arith; no_comment = λ e. absurd (omega arith) }, text_visible (next ∷ labels))
 
 numbers_visible : (numbers : List ℕ) → IsVisible (numbers_text numbers)
 numbers_visible [] = (name_word (codes "-") (omega arith) refl).field.visible

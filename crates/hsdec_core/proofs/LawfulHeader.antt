@@ -19,7 +19,7 @@ use Rattle.partition.specs.Partition.{IsPartition, IsStateCount, zero_of}
 use Rattle.partition.specs.Laws.Extremes.{zero_of_is_partition}
 use Rattle.state_codes.specs.declared.Codes.{Codes}
 use Rattle.state_codes.specs.declared.split.Part.{Part}
-use Rattle.state_codes.specs.Code.{IsCode, Place, bit_of, code_of, places_of}
+use Rattle.state_codes.specs.Code.{IsCode, Place, bit_of, state_code, places_of}
 use Rattle.hsdec_core.specs.CodeHeader.{IsCodeHeader, code_parts}
 use Rattle.hsdec_core.proofs.Naming.{notes_counted}
 use Rattle.hsdec_core.proofs.Pairs.{note_at, note_part}
@@ -57,7 +57,7 @@ word_below n codes code s in_s =
     let places : List Place = places_of 0 (code_parts n) code.inners in
     below_from_bits codes.bits (get_or codes.words s 0) (λ i past.
     code.written.spelled s in_s i
-    ∙ get_or_past (code_of places s) i 0 (omega (arith, past, code.written.size, length-map places (bit_of s))))
+    ∙ get_or_past (state_code places s) i 0 (omega (arith, past, code.written.size, length-map places (bit_of s))))
 
 -- so is each word
 words_below : (n : ℕ) (codes : Codes) → IsCode n (code_parts n) codes → All (λ word. word < 2 ^ codes.bits) codes.words

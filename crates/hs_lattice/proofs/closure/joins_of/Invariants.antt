@@ -1,7 +1,7 @@
 use Rattle.std.proofs.Common.{◌+◌, ◌-◌, ◌≤◌, length, map}
 use Rattle.hs_lattice.specs.JoinWorld.{IsGenerated}
-use Rattle.hs_lattice.specs.Search.{IsSearch, IsClosed}
-use Rattle.hs_lattice.proofs.closure.join_closure.Given as goal
+use Rattle.hs_lattice.specs.Inner.Search.{IsSearch, IsClosed}
+use Rattle.hs_lattice.proofs.closure.joins_of.Given as goal
 
 abbrev pub invariant-loop-value : goal.invariant-loop-value
 invariant-loop-value g l =

@@ -3,7 +3,7 @@ use Rattle.partition.specs.Laws.Labels.{blocks_of-le}
 use Rattle.partition.specs.Bits.{row_of}
 use Rattle.partition.proofs.Rows.{row_read}
 use Rattle.partition.proofs.RowNumbering.{row_numbering_step}
-use Rattle.partition.proofs.bits.lattice.numbered_rows.Goals as goal
+use Rattle.partition.proofs.bits.conversion.numbered_rows.Goals as goal
 
 pub label_of_row-label-requires : goal.label_of_row-label-requires
 label_of_row-label-requires c =

@@ -1,6 +1,6 @@
 use Rattle.std.proofs.Common.{◌≡◌, ℕ, ◌<◌, length, get_or}
 use Rattle.partition.specs.Bits.{row_of}
-use Rattle.partition.proofs.bits.lattice.rows_of.Given as goal
+use Rattle.partition.proofs.bits.conversion.rows_of.Given as goal
 
 abbrev pub invariant-loop-label : goal.invariant-loop-label
 invariant-loop-label l = record {

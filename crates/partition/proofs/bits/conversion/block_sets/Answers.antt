@@ -2,7 +2,7 @@ use Rattle.std.proofs.Common.{◌<◌, ℕ, List, get_or, ap, ◌∙◌, arith}
 use Rattle.partition.specs.Laws.Labels.{label-lt-blocks_of}
 use Rattle.partition.specs.Bits.{bit_of}
 use Rattle.partition.proofs.Rows.{row_read, sets_step}
-use Rattle.partition.proofs.bits.lattice.block_sets.Goals as goal
+use Rattle.partition.proofs.bits.conversion.block_sets.Goals as goal
 
 pub index_mut-set-requires : goal.index_mut-set-requires
 index_mut-set-requires c =

@@ -2,8 +2,8 @@ use Rattle.std.proofs.Common.{◌≡◌, ◌<◌, ℕ, List, length, get_or, set
 use Rattle.std.proofs.lemmas.List.{get_or-replicate, get_or-set_same}
 use Rattle.partition.specs.Laws.Labels.{label-le}
 use Rattle.partition.proofs.Nesting.{nesting_none, nesting_new, nesting_old, counts_small}
-use Rattle.partition.proofs.relative.inside_of.Goals as goal
-use Rattle.partition.proofs.relative.inside_of.Goals.{then-block-found, else-block-found}
+use Rattle.partition.proofs.inside.inside_of.Goals as goal
+use Rattle.partition.proofs.inside.inside_of.Goals.{then-block-found, else-block-found}
 
 pub loop-s-init : goal.loop-s-init
 loop-s-init c = rw c.in_ok-labels.ensures.items (nesting_none c.args.p.now c.args.q.now _ _ refl refl (λ block within. get_or-replicate {A = ℕ} 256 block 0 0 within))

@@ -4,7 +4,7 @@ ghost use Rattle.std.specs.Prelude.{◌≡◌, length, IfOk};
 ghost use Rattle.partition.specs.Partition.{IsPartition, Le, blocks_of};
 ghost use Rattle.partition.specs.Inside.{IsInside, IsComplement, IsLargestSize};
 
-use crate::Partition;
+use crate::{MOST_STATES, Partition};
 use std::alloc::{AllocError, Global};
 
 impl Partition {
@@ -34,8 +34,8 @@ fn inside_of(alloc: Global, p: &[u16], q: &[u16]) -> Result<Partition, AllocErro
     requires le { Le q.now p.now }
     ensures { IfOk result (λ r. IsInside p.now q.now r) }
 {
-    let mut counts = [0; 256];
-    let mut inner = [0; 256];
+    let mut counts = [0; MOST_STATES];
+    let mut inner = [0; MOST_STATES];
     let mut found = 0;
     let mut blocks: usize = 0;
     let mut labels = Vec::with_capacity(alloc, p.len())?;

@@ -4,7 +4,7 @@ use Rattle.partition.specs.Bits.{AreSets}
 use Rattle.partition.specs.Laws.Labels.{label-lt-blocks_of}
 use Rattle.partition.proofs.Outcomes.{IfOk-from_both}
 use Rattle.partition.proofs.Rows.{sets_are_rows}
-use Rattle.partition.proofs.bits.lattice.label_rows.Goals as goal
+use Rattle.partition.proofs.bits.conversion.label_rows.Goals as goal
 
 pub rows_of-requires : goal.rows_of-requires
 rows_of-requires c s within =
