@@ -13,7 +13,7 @@ use std::alloc::{AllocError, Global};
 use std::env;
 
 /// So many rows of so many fields of four bytes.
-fn text_of(alloc: Global, rows: u32, fields: u32) -> Result<Vec<u8>, AllocError> {
+fn rows_text(alloc: Global, rows: u32, fields: u32) -> Result<Vec<u8>, AllocError> {
     let mut text = Vec::new(alloc);
     for _ in 0..rows {
         for _ in 0..fields {
@@ -90,7 +90,7 @@ fn main(rt: HostRuntime) -> Result<(), Error> {
         bail!("a number of fields and a number of times are needed");
     };
     let times = times.as_str().parse::<u32>()?;
-    let text = text_of(
+    let text = rows_text(
         alloc,
         rows.as_str().parse::<u32>()?,
         fields.as_str().parse::<u32>()?,

@@ -4,7 +4,7 @@ ghost use Rattle.std.specs.Prelude.{◌≡◌, ◌+◌, ◌<◌, ◌≤◌, ◌^
 ghost use Rattle.std.specs.List.{list_all, position_or_len};
 ghost use Rattle.std.specs.Str.Lines.{strip_carriage_return};
 ghost use Rattle.hs_io.specs.Lines.{content, fields_in, fields_of, is_allowed, line_of, lines_of};
-ghost use Rattle.hs_io.specs.Cut.{cuts};
+ghost use Rattle.hs_io.specs.Inner.Cut.{cuts};
 
 use super::{Fields, Line};
 use crate::Name;
