@@ -9,7 +9,7 @@ use Rattle.std.proofs.lemmas.Slice.Zip.{length-zip, get_or-zip}
 use Rattle.hs_io.specs.Spelling.{spaced, line_text}
 use Rattle.partition.specs.Text.{labels_text}
 use Rattle.blif_out.specs.Head.{bits_of}
-use Rattle.blif_out.specs.Pieces.{comma_number}
+use Rattle.blif_out.specs.Inner.Pieces.{comma_number}
 
 -- one text and then another
 pub text_more : (start text new first second : List ℕ) → text ≡ start ++ first → new ≡ text ++ second → new ≡ start ++ (first ++ second)

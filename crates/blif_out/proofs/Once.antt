@@ -21,7 +21,7 @@ use Rattle.state_codes.specs.declared.split.Kind.TheVariants.{Code, Assign, Para
 use Rattle.state_codes.specs.declared.split.Part.{Part}
 use Rattle.blif_out.specs.declared.header.Header.{Header}
 use Rattle.blif_out.specs.declared.header.LatchNote.{LatchNote}
-use Rattle.blif_out.specs.Head.{kind_word, classes_fields, numbers_text, part_fields, bits_of, bit_text, state_fields, latch_fields, head_fields, head_lines, comment_text}
+use Rattle.blif_out.specs.Head.{kind_word, classes_fields, numbers_text, part_fields, bits_of, bit_text, state_fields, note_fields, head_fields, head_lines, comment_text}
 use Rattle.blif_out.specs.HeadLaw.{IsLawfulPartition, IsLawfulPart, IsLawfulNote, IsLawfulHeader, HeadOnce}
 use Rattle.blif_out.proofs.Cutting.{rest_of, pieces_once, fields_once, images_once}
 use Rattle.blif_out.proofs.Denoting.{comment_inside}
@@ -148,10 +148,10 @@ parts_once xs ys p q e =
     (enumerate_from 0 xs) (enumerate_from 0 ys) (each_numbered IsLawfulPart 0 xs p) (each_numbered IsLawfulPart 0 ys q) e
     ∙ items_of 0 ys
 
-notes_once : (xs ys : List LatchNote) → AllByRecursion IsLawfulNote xs → AllByRecursion IsLawfulNote ys → map latch_fields (enumerate_from 0 xs) ≡ map latch_fields (enumerate_from 0 ys) → xs ≡ ys
+notes_once : (xs ys : List LatchNote) → AllByRecursion IsLawfulNote xs → AllByRecursion IsLawfulNote ys → map note_fields (enumerate_from 0 xs) ≡ map note_fields (enumerate_from 0 ys) → xs ≡ ys
 notes_once xs ys p q e =
     sym (items_of 0 xs)
-    ∙ images_once latch_fields (λ (x : ℕ × LatchNote). x.1) (λ x. IsLawfulNote x.1)
+    ∙ images_once note_fields (λ (x : ℕ × LatchNote). x.1) (λ x. IsLawfulNote x.1)
     (λ x y a b f. note_once x.1 y.1 a b (ap (λ (t : List (List ℕ)). get_or t 3 []) f) (ap (λ (t : List (List ℕ)). get_or t 5 []) f) (ap (λ (t : List (List ℕ)). get_or t 7 []) f))
     (enumerate_from 0 xs) (enumerate_from 0 ys) (each_numbered IsLawfulNote 0 xs p) (each_numbered IsLawfulNote 0 ys q) e
     ∙ items_of 0 ys
@@ -222,7 +222,7 @@ body_of H =
     classes_fields H.classes
     ++ map part_fields (enumerate_from 0 H.parts)
     ++ map (state_fields (length H.latches)) (zip H.states H.words)
-    ++ map latch_fields (enumerate_from 0 H.latches)
+    ++ map note_fields (enumerate_from 0 H.latches)
 
 four_kept : (test : List (List ℕ) → Bool) (c p s l c' p' s' l' : List (List (List ℕ))) → filter test c ≡ c' → filter test p ≡ p' → filter test s ≡ s' → filter test l ≡ l' → filter test (c ++ p ++ s ++ l) ≡ c' ++ p' ++ s' ++ l'
 four_kept test c p s l c' p' s' l' hc hp hs hl =
@@ -234,32 +234,32 @@ classes_lines : (H : Header) → filter (begins (codes "classes")) (body_of H) �
 classes_lines H =
     let test : List (List ℕ) → Bool = begins (codes "classes") in
     let c : List (List (List ℕ)) = classes_fields H.classes in
-    four_kept test c (map part_fields (enumerate_from 0 H.parts)) (map (state_fields (length H.latches)) (zip H.states H.words)) (map latch_fields (enumerate_from 0 H.latches)) c [] [] []
-    (classes_kept H.classes) (none_kept part_fields test (λ x. refl) (enumerate_from 0 H.parts)) (none_kept (state_fields (length H.latches)) test (λ x. refl) (zip H.states H.words)) (none_kept latch_fields test (λ x. refl) (enumerate_from 0 H.latches))
+    four_kept test c (map part_fields (enumerate_from 0 H.parts)) (map (state_fields (length H.latches)) (zip H.states H.words)) (map note_fields (enumerate_from 0 H.latches)) c [] [] []
+    (classes_kept H.classes) (none_kept part_fields test (λ x. refl) (enumerate_from 0 H.parts)) (none_kept (state_fields (length H.latches)) test (λ x. refl) (zip H.states H.words)) (none_kept note_fields test (λ x. refl) (enumerate_from 0 H.latches))
     ∙ append-nil (c ++ [] ++ []) ∙ append-nil (c ++ []) ∙ append-nil c
 
 part_lines : (H : Header) → filter (begins (codes "part")) (body_of H) ≡ map part_fields (enumerate_from 0 H.parts)
 part_lines H =
     let test : List (List ℕ) → Bool = begins (codes "part") in
     let p : List (List (List ℕ)) = map part_fields (enumerate_from 0 H.parts) in
-    four_kept test (classes_fields H.classes) p (map (state_fields (length H.latches)) (zip H.states H.words)) (map latch_fields (enumerate_from 0 H.latches)) [] p [] []
-    (no_classes_kept test (λ labels. refl) H.classes) (all_kept part_fields test (λ x. refl) (enumerate_from 0 H.parts)) (none_kept (state_fields (length H.latches)) test (λ x. refl) (zip H.states H.words)) (none_kept latch_fields test (λ x. refl) (enumerate_from 0 H.latches))
+    four_kept test (classes_fields H.classes) p (map (state_fields (length H.latches)) (zip H.states H.words)) (map note_fields (enumerate_from 0 H.latches)) [] p [] []
+    (no_classes_kept test (λ labels. refl) H.classes) (all_kept part_fields test (λ x. refl) (enumerate_from 0 H.parts)) (none_kept (state_fields (length H.latches)) test (λ x. refl) (zip H.states H.words)) (none_kept note_fields test (λ x. refl) (enumerate_from 0 H.latches))
     ∙ append-nil (p ++ []) ∙ append-nil p
 
 state_lines : (H : Header) → filter (begins (codes "code")) (body_of H) ≡ map (state_fields (length H.latches)) (zip H.states H.words)
 state_lines H =
     let test : List (List ℕ) → Bool = begins (codes "code") in
     let s : List (List (List ℕ)) = map (state_fields (length H.latches)) (zip H.states H.words) in
-    four_kept test (classes_fields H.classes) (map part_fields (enumerate_from 0 H.parts)) s (map latch_fields (enumerate_from 0 H.latches)) [] [] s []
-    (no_classes_kept test (λ labels. refl) H.classes) (none_kept part_fields test (λ x. refl) (enumerate_from 0 H.parts)) (all_kept (state_fields (length H.latches)) test (λ x. refl) (zip H.states H.words)) (none_kept latch_fields test (λ x. refl) (enumerate_from 0 H.latches))
+    four_kept test (classes_fields H.classes) (map part_fields (enumerate_from 0 H.parts)) s (map note_fields (enumerate_from 0 H.latches)) [] [] s []
+    (no_classes_kept test (λ labels. refl) H.classes) (none_kept part_fields test (λ x. refl) (enumerate_from 0 H.parts)) (all_kept (state_fields (length H.latches)) test (λ x. refl) (zip H.states H.words)) (none_kept note_fields test (λ x. refl) (enumerate_from 0 H.latches))
     ∙ append-nil s
 
-note_lines : (H : Header) → filter (begins (codes "latch")) (body_of H) ≡ map latch_fields (enumerate_from 0 H.latches)
+note_lines : (H : Header) → filter (begins (codes "latch")) (body_of H) ≡ map note_fields (enumerate_from 0 H.latches)
 note_lines H =
     let test : List (List ℕ) → Bool = begins (codes "latch") in
-    let l : List (List (List ℕ)) = map latch_fields (enumerate_from 0 H.latches) in
+    let l : List (List (List ℕ)) = map note_fields (enumerate_from 0 H.latches) in
     four_kept test (classes_fields H.classes) (map part_fields (enumerate_from 0 H.parts)) (map (state_fields (length H.latches)) (zip H.states H.words)) l [] [] [] l
-    (no_classes_kept test (λ labels. refl) H.classes) (none_kept part_fields test (λ x. refl) (enumerate_from 0 H.parts)) (none_kept (state_fields (length H.latches)) test (λ x. refl) (zip H.states H.words)) (all_kept latch_fields test (λ x. refl) (enumerate_from 0 H.latches))
+    (no_classes_kept test (λ labels. refl) H.classes) (none_kept part_fields test (λ x. refl) (enumerate_from 0 H.parts)) (none_kept (state_fields (length H.latches)) test (λ x. refl) (zip H.states H.words)) (all_kept note_fields test (λ x. refl) (enumerate_from 0 H.latches))
 
 -- the fields of the lines tell the header
 header_once : (H H' : Header) → IsLawfulHeader H → IsLawfulHeader H' → head_fields H ≡ head_fields H' → H ≡ H'

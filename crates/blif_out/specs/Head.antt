@@ -56,8 +56,8 @@ abbrev pub state_fields : ℕ → List ℕ × ℕ → List (List ℕ)
 state_fields bits (name, word) = codes "code" ∷ name ∷ bit_text (bits_of bits word) ∷ []
 
 -- a latch with its number
-abbrev pub latch_fields : ℕ × LatchNote → List (List ℕ)
-latch_fields (number, latch) =
+abbrev pub note_fields : ℕ × LatchNote → List (List ℕ)
+note_fields (number, latch) =
     codes "latch" ∷ decimal number ∷ codes "part" ∷ decimal latch.part ∷ codes "from" ∷ labels_text latch.from ∷ codes "to" ∷ labels_text latch.to ∷ []
 
 -- the fields of each line, behind the mark; a code has a bit for each latch
@@ -67,7 +67,7 @@ head_fields H =
     ∷ (classes_fields H.classes
     ++ map part_fields (enumerate_from 0 H.parts)
     ++ map (state_fields (length H.latches)) (zip H.states H.words)
-    ++ map latch_fields (enumerate_from 0 H.latches))
+    ++ map note_fields (enumerate_from 0 H.latches))
 
 -- a comment of these fields
 abbrev pub comment_text : List (List ℕ) → List ℕ

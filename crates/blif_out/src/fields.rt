@@ -7,7 +7,7 @@ ghost use Rattle.std.specs.List.{flat_map};
 ghost use Rattle.hs_io.specs.Spelling.{spaced};
 ghost use Rattle.partition.specs.Text.{labels_text};
 ghost use Rattle.blif_out.specs.Head.{numbers_text, bits_of, bit_text};
-ghost use Rattle.blif_out.specs.Pieces.{comma_number};
+ghost use Rattle.blif_out.specs.Inner.Pieces.{comma_number};
 
 use hs_io::Name;
 use itoa::Buffer;

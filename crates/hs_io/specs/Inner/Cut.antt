@@ -1,4 +1,4 @@
--- What a text is cut at.
+-- For private functions and proofs alone: what a text is cut at.
 use Rattle.std.specs.Prelude.{ℕ, Bool}
 use Rattle.hs_io.specs.Lines.{begins_comment, ends_line, is_blank}
 use Rattle.hs_io.specs.declared.lines.cutting.Cut.{Cut}

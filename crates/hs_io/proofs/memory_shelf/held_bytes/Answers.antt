@@ -1,6 +1,6 @@
 use Rattle.std.proofs.Common.{Some, sym, ap, ◌∙◌}
 use Rattle.hs_io.proofs.Lookups.{lookup-none, lookup-some}
-use Rattle.hs_io.proofs.memory_shelf.text_of.Goals as goal
+use Rattle.hs_io.proofs.memory_shelf.held_bytes.Goals as goal
 
 pub returns-in-Some : goal.returns-in-Some
 returns-in-Some c =
