@@ -1,19 +1,17 @@
 -- The text of a network denotes it.
-use Rattle.std.proofs.Common.{◌≡◌, ◌≢◌, ℕ, ◌+◌, Bool, false, not, cond, List, [], ◌∷◌, ◌++◌, length-append, map, count_by, append_assoc, append-nil, sym, ◌∙◌, refl, ap, subst, arith, codes}
+use Rattle.std.proofs.Common.{◌≡◌, ◌≢◌, ℕ, not, List, [], ◌∷◌, ◌++◌, map, append_assoc, append-nil, sym, ◌∙◌, refl, ap, arith}
 use Rattle.std.specs.List.{flat_map, AllByRecursion, take_while, filter}
 use Rattle.std.proofs.lemmas.Grind.{flat_map-append}
-use Rattle.std.proofs.lemmas.List.Elements.{All-from_recursion}
 use Rattle.std.proofs.lemmas.List.Folds.{flat_map-map}
-use Rattle.std.proofs.lemmas.List.Sums.{sum_by-append}
 use Rattle.hs_io.specs.Lines.{lines_of, lines_from}
 use Rattle.hs_io.specs.Spelling.{ended, line_text, ArePlainFields, IsPlainField, IsComment}
 use Rattle.hs_io.proofs.Spelled.{IsLineByte, line_bytes, all_weaker, physical_lines-all}
 use Rattle.net_core.specs.declared.Network.{Network}
 use Rattle.net_core.specs.Joined.{joined, read_lines, ends_text}
 use Rattle.net_core.specs.Statements.{numbered_of, is_skipped, statements_of, said_in, inputs_in, outputs_in, clocks_in}
-use Rattle.net_core.specs.Words.{model_word, inputs_word, outputs_word, end_word}
-use Rattle.blif_out.specs.NetText.{net_fields, net_text, latch_fields, gate_fields, row_fields}
-use Rattle.blif_out.specs.Writable.{IsSignalName, IsWritable, IsPlane}
+use Rattle.net_core.specs.Words.{end_word}
+use Rattle.blif_out.specs.NetText.{net_fields, net_text}
+use Rattle.blif_out.specs.Writable.{IsSignalName, IsWritable}
 use Rattle.blif_out.specs.Law.{NetTextDenotes}
 use Rattle.blif_out.proofs.Grammar.{on_lines, said-on_lines, net_statements, net_said, net_faultless, flat_map-tail, latches_read, gates_read}
 use Rattle.blif_out.proofs.Reading.{numbered, HasNoBackslash, GoesOn, lines_from-comments, joined-numbered, take_while-numbered, statements-comments}

@@ -3,15 +3,14 @@ use Rattle.std.proofs.Common.{◌≡◌, ℕ, ◌+◌, ◌-◌, ◌&&◌, Bool, 
 use Rattle.std.specs.List.{flat_map, filter_map, list_all, AllByRecursion}
 use Rattle.std.proofs.Math.Seq.{take-append_seam, get_or-append_seam}
 use Rattle.std.proofs.lemmas.Bool.Decides.{nat_tests}
-use Rattle.std.proofs.lemmas.Grind.{flat_map-append}
 use Rattle.net_core.specs.declared.Gate.{Gate}
 use Rattle.net_core.specs.declared.Latch.{Latch}
 use Rattle.net_core.specs.declared.Network.{Network}
 use Rattle.net_core.specs.declared.Start.{Start}
 use Rattle.net_core.specs.declared.Start.TheVariants.{Zero, One, Free, Unknown}
 use Rattle.net_core.specs.Start.{start_digit}
-use Rattle.net_core.specs.Statements.{Statement, Model, Inputs, Outputs, LatchLine, Names, Row, NumberedStatement, OpenGate, statement_of, latch_in, start_of, latch_from, latch_parts, latch_of, is_plane_character, rows_of, gates_of, gate_from, plane_of, bit_of, lists_on, open_gate}
-use Rattle.net_core.specs.Faults.{BadByte, NoModel, Unsupported, BadFields, BadRow, MixedCover, LatchKind, Clocks, IsFaultless, AreFaultless, is_row_for, differs_from, is_bad_row_of, mixes_cover_of}
+use Rattle.net_core.specs.Statements.{Statement, Model, Inputs, Outputs, LatchLine, Names, Row, NumberedStatement, statement_of, latch_in, start_of, is_plane_character, rows_of, gates_of, gate_from, plane_of, bit_of, lists_on, open_gate}
+use Rattle.net_core.specs.Faults.{BadByte, BadFields, BadRow, MixedCover, IsFaultless, AreFaultless, is_row_for, differs_from, is_bad_row_of, mixes_cover_of}
 use Rattle.blif_out.specs.NetText.{row_fields, gate_fields, latch_fields, net_fields}
 use Rattle.blif_out.specs.Writable.{IsPlane, IsWritable, IsWritableGate}
 
