@@ -10,3 +10,13 @@ pub mod Collected
 pub mod Refusals
 pub mod Machine
 pub mod Plain
+pub mod Digits
+pub mod Finding
+pub mod Stood
+pub mod Once
+pub mod RowStands
+pub mod Ending
+pub mod Closing
+pub mod GoodLines
+pub mod Building
+pub mod FieldBytes
