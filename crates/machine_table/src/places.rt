@@ -1,5 +1,5 @@
 //! Where the rows of each state stand.
-ghost use Rattle.std.specs.Prelude.{◌<◌, All, IfOk, length};
+ghost use Rattle.std.specs.Prelude.{◌<◌, All, IfOk, [], length, replicate, ◌≡◌};
 ghost use Rattle.machine_table.specs.Inner.Places.{ArePlaces};
 
 use hs_list::Items;
@@ -19,9 +19,11 @@ pub fn places_of_states(alloc: Global, rows: &[KissRow], states: usize) -> Resul
 }
 
 /// An empty list for each of so many states.
-fn no_places(alloc: Global, states: usize) -> Result<Vec<Items<usize>>, AllocError> {
+fn no_places(alloc: Global, states: usize) -> Result<Vec<Items<usize>>, AllocError>
+    ensures { IfOk result (λ places. places.items ≡ replicate states []) }
+{
     let mut places = Vec::with_capacity(alloc, states)?;
-    for _ in 0..states {
+    for i in 0..states {
         places.push(Items::new(alloc))?;
     }
     Ok(places)
