@@ -1,2 +1,3 @@
+pub mod Against
 pub mod Outputs
 pub mod RowNumbers

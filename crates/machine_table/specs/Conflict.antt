@@ -1,5 +1,5 @@
 -- The first two rows that contradict one another.
-use Rattle.std.specs.Prelude.{ℕ, ◌+◌, ◌-◌, ◌≡◌, ◌<◌, ◌≤◌, ◌⊎◌, Some, length, slice_get}
+use Rattle.std.specs.Prelude.{ℕ, ◌+◌, ◌≡◌, ◌<◌, ◌≤◌, ◌⊎◌, List, Some, slice_get}
 use Rattle.cubes.specs.Cube.{Meets}
 use Rattle.kiss2.specs.declared.kiss_file.KissFile.{KissFile}
 use Rattle.kiss2.specs.declared.kiss_file.KissRow.{KissRow}
@@ -11,14 +11,16 @@ pub record Contradicts (row other : KissRow) : Type 0 where
   pub symbol : Meets row.cube other.cube
   pub said : NameTwo row other ⊎ (GiveBoth row other ⊎ GiveBoth other row)
 
--- the rows of these numbers, counted from 1, do so
-abbrev pub ContradictsAt : KissFile → ℕ → ℕ → Type 0
-ContradictsAt F a b = (row other : KissRow) × (slice_get F.rows (a - 1) ≡ Some row) × (slice_get F.rows (b - 1) ≡ Some other) × Contradicts row other
+-- the rows of these numbers, counted from 0, do so
+abbrev pub ContradictAt : List KissRow → ℕ → ℕ → Type 0
+ContradictAt rows i j = (row other : KissRow) × (slice_get rows i ≡ Some row) × (slice_get rows j ≡ Some other) × Contradicts row other
 
--- the first two such rows: the second is the least, and then the first
-pub record IsFirstConflict (F : KissFile) (a b : ℕ) : Type 0 where
-  pub counted : 1 ≤ a
-  pub order : a < b
-  pub within : b ≤ length F.rows
-  pub at_them : ContradictsAt F a b
-  pub first : (i j : ℕ) → 1 ≤ i → i < j → j ≤ length F.rows → ContradictsAt F i j → (b < j) ⊎ ((b ≡ j) × (a ≤ i))
+-- the first two such rows: the second of them is the least, and then the first
+pub record AreFirstTwo (rows : List KissRow) (i j : ℕ) : Type 0 where
+  pub order : i < j
+  pub contradict : ContradictAt rows i j
+  pub first : (k l : ℕ) → k < l → ContradictAt rows k l → (j < l) ⊎ ((j ≡ l) × (i ≤ k))
+
+-- the first two, counted from 1
+abbrev pub IsFirstConflict : KissFile → ℕ → ℕ → Type 0
+IsFirstConflict F a b = (i j : ℕ) × (a ≡ i + 1) × (b ≡ j + 1) × AreFirstTwo F.rows i j
