@@ -1,8 +1,8 @@
 -- Where two rows give 0 and 1 at one output.
-use Rattle.std.proofs.Common.{◌≡◌, ◌≢◌, ℕ, ◌+◌, ◌%◌, ◌^◌, ◌<◌, ◌⊎◌, min, Bool, true, false, Some, None, Option, ap, sym, ◌∙◌, arith, bit_and, eqb, not, inl, inr, w64, if◌then◌else◌, refl}
+use Rattle.std.proofs.Common.{◌≡◌, ◌≢◌, ℕ, ◌+◌, ◌-◌, ◌%◌, ◌^◌, ◌<◌, ◌⊎◌, min, Bool, true, false, Some, None, IsSome, Option, subst, ap, sym, ◌∙◌, arith, bit_and, eqb, not, inl, inr, w64, if◌then◌else◌, refl}
 use Rattle.std.proofs.lemmas.Bool.{cases_Bool}
 use Rattle.std.proofs.lemmas.Bool.Decides.{nat_tests}
-use Rattle.std.proofs.lemmas.Nat.Bits.{bit_at_and, bit_at_xor, bit_at-lt, bit_at-zero, bit_at-trailing_zeros}
+use Rattle.std.proofs.lemmas.Nat.Bits.{bit_at_and, bit_at_xor, bit_at-lt, bit_at-zero, bit_at_ones, bit_at-trailing_zeros}
 use Rattle.std.specs.Int.{bit_at, trailing_zeros}
 use Rattle.std.specs.Int.RustNames.{bit_xor}
 use Rattle.cubes.specs.Symbol.{bit}
@@ -83,3 +83,10 @@ clash_from_both_back row other (k, zero_there, one_there) none =
         (omega (arith, zero_from_bit other.value k (value_of_given other k false zero_there), one_from_bit row.value k (value_of_given row k true one_there))) in
     let zero_digit = ap (λ n. bit_at n k) none ∙ bit_at-zero k in
     omega (arith, digit, clash, zero_digit)
+
+-- a row that gives each of so many outputs gives each below
+pub given_in_all : (row : KissRow) (outputs b : ℕ) → row.care ≡ 2 ^ outputs - 1 → b < outputs → IsSome (given_bit b row)
+given_in_all row outputs b all within =
+    let cares : bit row.care b ≡ true = bit_from_one row.care b (ap (λ n. bit_at n b) all ∙ bit_at_ones outputs b within) in
+    let given : given_bit b row ≡ Some (bit row.value b) = given_at row b (bit row.value b) (one_from_bit row.care b cares) refl in
+    subst (λ (o : Option Bool). IsSome o) (sym given) refl

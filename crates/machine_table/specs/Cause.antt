@@ -9,6 +9,12 @@ use Rattle.machine_table.specs.declared.building.BuildFail.TheVariants.{Conflict
 use Rattle.machine_table.specs.Conflict.{IsFirstConflict}
 use Rattle.machine_table.specs.Said.{IsFirstOpen}
 
+-- the refusal names the first conflict, or memory was wanting
+abbrev pub IsConflictOf : KissFile → BuildFail → Type 0
+IsConflictOf F (Conflict row_a row_b) = IsFirstConflict F row_a row_b
+IsConflictOf F (Unspecified state symbol part) = ⊥
+IsConflictOf F NoMemory = ⊤
+
 -- no two rows contradict one another, what is open is refused, and the entry is the first that no row says
 pub record IsRefusedAt (F : KissFile) (fill : Fill) (open_first : Type 0) : Type 0 where
   pub refused : fill ≡ Refuse

@@ -13,6 +13,7 @@ mod building;
 mod contradiction;
 mod machine;
 mod missing;
+mod open_entry;
 mod places;
 #[cfg(test)]
 mod tests;

@@ -1,7 +1,11 @@
 //! What a machine keeps, and the questions about one state and one symbol.
-ghost use Rattle.std.specs.Prelude.{◌≡◌, ◌<◌, ◌^◌, ◌↔◌, IfOk, IsTrue, length};
+ghost use Rattle.std.specs.Prelude.{ℕ, ◌≡◌, ◌<◌, ◌≤◌, ◌^◌, All, Contains, Some, length, slice_get};
 ghost use Rattle.cubes.specs.Symbol.{symbol_of};
-ghost use Rattle.kiss2.specs.Machine.{next, output_bit};
+ghost use Rattle.kiss2.specs.Lawful.{IsLawfulRow};
+ghost use Rattle.kiss2.specs.Machine.{Conflicting, given_bit, next, output_bit};
+ghost use Rattle.kiss2.specs.declared.kiss_file.KissRow.{KissRow};
+ghost use Rattle.machine_table.specs.Inner.Places.{IsNumberOf};
+ghost use Rattle.machine_table.specs.Table.{IsTable};
 
 use hs_list::Items;
 use kiss2::KissRow;
@@ -36,31 +40,50 @@ impl Model for Machine {
         IsTable file × (Conflicting file → ⊥) × ArePlaces m.rows.items (length m.places.items) (length m.rows.items) m.places.items };
 }
 
+/// The bit that a row gives at an output, if it gives one.
+pub(crate) fn given(row: &KissRow, b: u8) -> Option<bool>
+    requires { b < 64 }
+    ensures { result ≡ given_bit b row.now }
+{
+    if (row.care >> b) & 1 == 1 {
+        Some((row.value >> b) & 1 == 1)
+    } else {
+        None
+    }
+}
+
 impl Machine {
     /// The number of states.
     pub fn states(&self) -> usize
-        ensures { result ≡ length self.now.states }
+        ensures count { result ≡ length self.now.states }
+        ensures some { 0 < result }
+        ensures limit { result ≤ 256 }
     {
         self.places.len()
     }
 
     /// The number of input bits.
     pub fn inputs(&self) -> u8
-        ensures { result ≡ self.now.inputs }
+        ensures count { result ≡ self.now.inputs }
+        ensures some { 0 < result }
+        ensures limit { result ≤ 32 }
     {
         self.inputs
     }
 
     /// The number of outputs.
     pub fn outputs(&self) -> u8
-        ensures { result ≡ self.now.outputs }
+        ensures count { result ≡ self.now.outputs }
+        ensures some { 0 < result }
+        ensures limit { result ≤ 64 }
     {
         self.outputs
     }
 
     /// The number of the reset state.
     pub fn reset(&self) -> usize
-        ensures { result ≡ self.now.reset }
+        ensures number { result ≡ self.now.reset }
+        ensures state { result < length self.now.states }
     {
         usize::from(self.reset)
     }
@@ -73,8 +96,8 @@ impl Machine {
         ensures next { result ≡ next self.now s (symbol_of self.now.inputs x) }
         ensures state { result < length self.now.states }
     {
-        for number in self.places[s].as_slice() {
-            let row = &self.rows[*number];
+        for number in self.numbers_of(s) {
+            let row = self.row(*number);
             if row.cube.holds(x) && let Some(t) = row.to {
                 return usize::from(t);
             }
@@ -90,12 +113,33 @@ impl Machine {
         requires b { b < self.now.outputs }
         ensures { result ≡ output_bit self.now s (symbol_of self.now.inputs x) b }
     {
-        for number in self.places[s].as_slice() {
-            let row = &self.rows[*number];
-            if row.cube.holds(x) && (row.care >> b) & 1 == 1 {
-                return (row.value >> b) & 1 == 1;
+        for number in self.numbers_of(s) {
+            let row = self.row(*number);
+            if row.cube.holds(x) && let Some(bit) = given(row, b) {
+                return bit;
             }
         }
         false
+    }
+
+    /// The numbers of the rows of a state, ascending.
+    pub(crate) fn numbers_of(&self, s: usize) -> &[usize]
+        requires { s < length self.now.states }
+        ensures inside { All (λ i. i < length self.now.rows) result.now }
+        ensures own { (i : ℕ) → Contains result.now i → IsNumberOf self.now s i }
+        ensures each { (i : ℕ) (row : KissRow) → slice_get self.now.rows i ≡ Some row → row.from ≡ s → Contains result.now i }
+        ensures table { IsTable self.now }
+        ensures no_conflict { Conflicting self.now → ⊥ }
+    {
+        self.places[s].as_slice()
+    }
+
+    /// The row of that number.
+    pub(crate) fn row(&self, number: usize) -> &KissRow
+        requires { number < length self.now.rows }
+        ensures row { slice_get self.now.rows number ≡ Some result.now }
+        ensures lawful { IsLawfulRow self.now.inputs self.now.outputs (length self.now.states) result.now }
+    {
+        &self.rows[number]
     }
 }

@@ -1,5 +1,6 @@
 -- Where the rows of each state stand. Private functions need it; no public contract cites it.
 use Rattle.std.specs.Prelude.{ℕ, ◌≡◌, ◌<◌, AllPairs, List, Contains, Some, [], length, slice_get, slice_index_or}
+use Rattle.kiss2.specs.declared.kiss_file.KissFile.{KissFile}
 use Rattle.kiss2.specs.declared.kiss_file.KissRow.{KissRow}
 use Rattle.machine_table.specs.Conflict.{Contradicts}
 
@@ -26,3 +27,7 @@ AreNumbersOf rows state width numbers =
 -- all cubes are of one width
 abbrev pub HaveOneWidth : List KissRow → Type 0
 HaveOneWidth rows = AllPairs (λ row other. row.cube.width ≡ other.cube.width) rows
+
+-- the row of that number is one of the state
+abbrev pub IsNumberOf : KissFile → (state number : ℕ) → Type 0
+IsNumberOf F state number = (row : KissRow) × (slice_get F.rows number ≡ Some row) × (row.from ≡ state)
