@@ -1,14 +1,11 @@
--- A file is conflicting exactly where two of its rows contradict one another; its names do not matter.
+-- A file is conflicting exactly where two of its rows contradict one another.
 use Rattle.std.proofs.Common.{◌≡◌, ◌≢◌, ℕ, ◌+◌, ◌<◌, ◌^◌, ◌⊎◌, Bool, true, false, All, Contains, List, [], length, get_or, replicate, Some, Option, slice_get, inl, inr, sym, ◌∙◌, subst, refl, arith, ap}
 use Rattle.std.proofs.lemmas.Bool.{cases_lt, true≢false}
-use Rattle.std.proofs.lemmas.List.{length-replicate}
 use Rattle.std.proofs.lemmas.Option.{get_or_from_slice_get, slice_get_within}
 use Rattle.kiss2.specs.declared.kiss_file.KissFile.{KissFile}
 use Rattle.kiss2.specs.declared.kiss_file.KissRow.{KissRow}
-use Rattle.kiss2.specs.Lawful.{IsLawfulRow}
 use Rattle.kiss2.specs.Machine.{Conflicting, GiveBoth, NameTwo, given_bit}
 use Rattle.machine_table.specs.Conflict.{AreFirstTwo, ContradictAt, Contradicts}
-use Rattle.machine_table.specs.Table.{IsTable, nameless, without_names}
 use Rattle.machine_table.proofs.Asking.{number_of_row}
 
 module _ (F : KissFile) where
@@ -59,24 +56,6 @@ module _ (F : KissFile) where
     back : NameTwo row other ⊎ GiveBoth row other → NameTwo other row ⊎ (GiveBoth other row ⊎ GiveBoth row other)
     back (inl (t, u, goes, other_goes, apart)) = inl (u, t, other_goes, goes, λ same. apart (sym same))
     back (inr both) = inr (inr both)
-
--- the file of these numbers is the one without its names
-pub is_without_names : (F : KissFile) (states : ℕ) (rows : List KissRow) → states ≡ length F.states → rows ≡ F.rows
-    → nameless F.inputs F.outputs F.reset states rows ≡ without_names F
-is_without_names F states rows count same =
-    ap (λ (n : ℕ). nameless F.inputs F.outputs F.reset n rows) count ∙ ap (λ (list : List KissRow). nameless F.inputs F.outputs F.reset (length F.states) list) same
-
--- it is a table where the file is
-pub nameless_is_table : (F : KissFile) → IsTable F → IsTable (without_names F)
-nameless_is_table F table = record {
-  some_input = table.some_input;
-  inputs = table.inputs;
-  some_output = table.some_output;
-  outputs = table.outputs;
-  states = omega (arith, length-replicate {A = List ℕ} (length F.states) [], table.states);
-  rows = subst (λ (n : ℕ). All (IsLawfulRow F.inputs F.outputs n) F.rows) (sym (length-replicate (length F.states) [])) table.rows;
-  reset = omega (arith, length-replicate {A = List ℕ} (length F.states) [], table.reset)
-}
 
 -- where rows contradict one another their numbers, counted from 1, fit
 pub few_rows : (F : KissFile) (read : List KissRow) (i j : ℕ) → read ≡ F.rows → (Conflicting F → length F.rows < 2 ^ 32) → AreFirstTwo read i j

@@ -1,7 +1,9 @@
 pub mod Against
 pub mod Asking
 pub mod Conflicts
+pub mod Copies
 pub mod OpenCubes
 pub mod OpenParts
 pub mod Outputs
 pub mod RowNumbers
+pub mod Specified

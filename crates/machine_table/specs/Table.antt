@@ -1,25 +1,7 @@
--- A file as a table: what a machine keeps of it.
-use Rattle.std.specs.Prelude.{ℕ, ◌≤◌, ◌<◌, All, List, [], None, length, replicate}
+-- The files of which machines are built.
+use Rattle.std.specs.Prelude.{◌≤◌, ◌<◌, All, length}
 use Rattle.kiss2.specs.declared.kiss_file.KissFile.{KissFile}
-use Rattle.kiss2.specs.declared.kiss_file.KissRow.{KissRow}
 use Rattle.kiss2.specs.Lawful.{IsLawfulRow}
-
--- the file with these numbers of inputs, outputs and states, this reset state and these rows, in which all names are
--- left out: each state has the empty name
-abbrev pub nameless : (inputs outputs reset states : ℕ) → List KissRow → KissFile
-nameless inputs outputs reset states rows = record {
-  inputs = inputs;
-  outputs = outputs;
-  reset = reset;
-  states = replicate states [];
-  rows = rows;
-  input_names = None;
-  output_names = None
-}
-
--- the file without its names
-abbrev pub without_names : KissFile → KissFile
-without_names F = nameless F.inputs F.outputs F.reset (length F.states) F.rows
 
 -- the counts are within the limits, and each row and the reset state are of these counts; a lawful file is such, and
 -- of the number of its rows nothing is asked

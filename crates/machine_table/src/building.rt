@@ -2,9 +2,10 @@
 ghost use Rattle.std.specs.Prelude.{◌≡◌, ◌^◌, ◌<◌, IfOk, IfErr, length};
 ghost use Rattle.kiss2.specs.Machine.{Accepted, Conflicting};
 ghost use Rattle.machine_table.specs.Cause.{Caused, IsConflictOf};
-ghost use Rattle.machine_table.specs.Table.{IsTable, without_names};
+ghost use Rattle.machine_table.specs.Table.{IsTable};
 
 use crate::contradiction::first_conflict;
+use crate::copying::copied_file;
 use crate::places::places_of_states;
 use crate::{Machine, Missing};
 use kiss2::{Fill, KissFile};
@@ -39,43 +40,41 @@ impl Machine {
     pub fn build(alloc: Global, file: &KissFile, fill: Fill) -> Result<Machine, BuildFail>
         requires table { IsTable file.now }
         requires numbered { Conflicting file.now → length file.now.rows < 2 ^ 32 }
-        ensures machine { IfOk result (λ machine. machine ≡ without_names file.now) }
+        ensures machine { IfOk result (λ machine. machine ≡ file.now) }
         ensures accepted { IfOk result (λ machine. Accepted file.now fill) }
         ensures caused { IfErr result (Caused file.now fill) }
     {
         let machine = Machine::of_rows(alloc, file)?;
-        if fill == Fill::Refuse && let Some(entry) = machine.first_open(alloc)? {
-            return Err(BuildFail::Unspecified {
-                state: entry.state,
-                symbol: entry.symbol,
-                part: entry.part,
-            });
+        match fill {
+            Fill::Hold => Ok(machine),
+            Fill::Refuse => match machine.first_open(alloc)? {
+                None => Ok(machine),
+                Some(entry) => Err(BuildFail::Unspecified {
+                    state: entry.state,
+                    symbol: entry.symbol,
+                    part: entry.part,
+                }),
+            },
         }
-        Ok(machine)
     }
 
     /// The machine of a file whose rows do not contradict one another, whatever they leave open.
     fn of_rows(alloc: Global, file: &KissFile) -> Result<Machine, BuildFail>
         requires table { IsTable file.now }
         requires numbered { Conflicting file.now → length file.now.rows < 2 ^ 32 }
-        ensures machine { IfOk result (λ machine. machine ≡ without_names file.now) }
+        ensures machine { IfOk result (λ machine. machine ≡ file.now) }
         ensures no_conflict { IfOk result (λ machine. Conflicting file.now → ⊥) }
         ensures caused { IfErr result (IsConflictOf file.now) }
     {
-        let rows = file.rows.as_slice().to_vec(alloc)?;
-        let places = places_of_states(alloc, &rows, file.states.count())?;
-        if let Some((earlier, later)) = first_conflict(&rows, &places) {
+        let rows = file.rows.as_slice();
+        let places = places_of_states(alloc, rows, file.states.count())?;
+        if let Some((earlier, later)) = first_conflict(rows, &places) {
             return Err(BuildFail::Conflict {
                 row_a: earlier as u32 + 1,
                 row_b: later as u32 + 1,
             });
         }
-        Ok(Machine {
-            inputs: file.inputs,
-            outputs: file.outputs,
-            reset: file.reset,
-            rows,
-            places,
-        })
+        let file = copied_file(alloc, file)?;
+        Ok(Machine { file, places })
     }
 }

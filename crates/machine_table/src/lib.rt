@@ -11,6 +11,7 @@
 
 mod building;
 mod contradiction;
+mod copying;
 mod machine;
 mod missing;
 mod open_entry;

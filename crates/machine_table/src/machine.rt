@@ -8,19 +8,15 @@ ghost use Rattle.machine_table.specs.Inner.Places.{IsNumberOf};
 ghost use Rattle.machine_table.specs.Table.{IsTable};
 
 use hs_list::Items;
-use kiss2::KissRow;
+use kiss2::{KissFile, KissRow};
 use std::marker::Model;
 
-/// The machine of a file, seen by contracts as the file without its names.
+/// The machine of a file, seen by contracts as that file.
 ///
 /// A symbol is given by its number: its text read in binary, the first input the most significant bit.
 #[derive(Drop)]
 pub struct Machine {
-    pub(crate) inputs: u8,
-    pub(crate) outputs: u8,
-    pub(crate) reset: u16,
-    /// The rows in the order of the file.
-    pub(crate) rows: Vec<KissRow>,
+    pub(crate) file: KissFile,
     /// For each state the numbers of its rows, ascending.
     pub(crate) places: Vec<Items<usize>>,
 }
@@ -29,15 +25,15 @@ impl Model for Machine {
     ghost use Rattle.std.specs.Prelude.{length};
     ghost use Rattle.kiss2.specs.declared.kiss_file.KissFile.{KissFile};
     ghost use Rattle.kiss2.specs.Machine.{Conflicting};
-    ghost use Rattle.machine_table.specs.Table.{IsTable, nameless};
+    ghost use Rattle.machine_table.specs.Table.{IsTable};
     ghost use Rattle.machine_table.specs.Inner.Places.{ArePlaces};
 
     ghost Value = { KissFile };
 
-    ghost view = { λ m. nameless m.inputs m.outputs m.reset (length m.places.items) m.rows.items };
+    ghost view = { λ m. m.file };
 
-    ghost invariant = { λ m. let file = nameless m.inputs m.outputs m.reset (length m.places.items) m.rows.items in
-        IsTable file × (Conflicting file → ⊥) × ArePlaces m.rows.items (length m.places.items) (length m.rows.items) m.places.items };
+    ghost invariant = { λ m. IsTable m.file × (Conflicting m.file → ⊥)
+        × ArePlaces m.file.rows (length m.file.states) (length m.file.rows) m.places.items };
 }
 
 /// The bit that a row gives at an output, if it gives one.
@@ -59,7 +55,7 @@ impl Machine {
         ensures some { 0 < result }
         ensures limit { result ≤ 256 }
     {
-        self.places.len()
+        self.file.states.count()
     }
 
     /// The number of input bits.
@@ -68,7 +64,7 @@ impl Machine {
         ensures some { 0 < result }
         ensures limit { result ≤ 32 }
     {
-        self.inputs
+        self.file.inputs
     }
 
     /// The number of outputs.
@@ -77,7 +73,7 @@ impl Machine {
         ensures some { 0 < result }
         ensures limit { result ≤ 64 }
     {
-        self.outputs
+        self.file.outputs
     }
 
     /// The number of the reset state.
@@ -85,7 +81,7 @@ impl Machine {
         ensures number { result ≡ self.now.reset }
         ensures state { result < length self.now.states }
     {
-        usize::from(self.reset)
+        usize::from(self.file.reset)
     }
 
     /// The next state at the symbol of that number: the one that a row names, and the state itself where
@@ -140,6 +136,6 @@ impl Machine {
         ensures row { slice_get self.now.rows number ≡ Some result.now }
         ensures lawful { IsLawfulRow self.now.inputs self.now.outputs (length self.now.states) result.now }
     {
-        &self.rows[number]
+        &self.file.rows.as_slice()[number]
     }
 }

@@ -1,26 +1,27 @@
-use Rattle.std.proofs.Common.{ℕ, ◌≡◌, ◌<◌, List, [], All, Contains, length, get_or, replicate, slice_get, Some, refl, sym, ap, ◌∙◌, subst, arith}
-use Rattle.std.proofs.lemmas.List.{length-replicate}
+use Rattle.std.proofs.Common.{ℕ, ◌≡◌, ◌<◌, List, [], All, Contains, length, get_or, slice_get, Some, refl, sym, ap, ◌∙◌, subst, arith}
 use Rattle.std.proofs.lemmas.List.Elements.{Contains-get_or}
 use Rattle.std.proofs.lemmas.Option.{slice_get_within}
 use Rattle.kiss2.specs.declared.kiss_file.KissFile.{KissFile}
-use Rattle.kiss2.specs.declared.kiss_file.KissRow.{KissRow}
 use Rattle.kiss2.specs.Machine.{Conflicting}
 use Rattle.machine_table.specs.Inner.Places.{ArePlaces, IsNumberOf, places_of}
-use Rattle.machine_table.specs.Table.{IsTable, nameless}
+use Rattle.machine_table.specs.Table.{IsTable}
 use Rattle.machine_table.proofs.Against.{list_at}
 use Rattle.machine_table.proofs.machine.Machine.numbers_of.Goals as goal
+
+-- what stands in the places of a machine
+stand : (c : goal.After-as_slice) → ArePlaces c.args.self.now.rows (length c.args.self.now.states) (length c.args.self.now.rows) c.self.inside.places.items
+stand c = subst (λ (F : KissFile). ArePlaces F.rows (length F.states) (length F.rows) c.self.inside.places.items) c.self.view_is c.self.invariant.2
 
 -- the list that is lent is that of the state
 lent : (c : goal.After-as_slice) → c.as_slice.result.now ≡ places_of c.self.inside.places.items c.args.s
 lent c =
-    let states : length c.args.self.now.states ≡ length c.self.inside.places.items =
-        ap (λ (F : KissFile). length F.states) (sym c.self.view_is) ∙ length-replicate (length c.self.inside.places.items) [] in
-    list_at c.self.inside.places.items c.args.s c.args.s c.index.result.now c.as_slice.result.now (omega (arith, c.requires)) refl c.index.ensures c.as_slice.ensures
+    list_at c.self.inside.places.items c.args.s c.args.s c.index.result.now c.as_slice.result.now (omega (arith, c.requires, (stand c).size)) refl
+    c.index.ensures c.as_slice.ensures
 
 own_of : (c : goal.After-as_slice) (i : ℕ) → Contains c.as_slice.result.now i → IsNumberOf c.args.self.now c.args.s i
 own_of c i among =
-    let found = c.self.invariant.2.own c.args.s i (subst (λ (numbers : List ℕ). Contains numbers i) (lent c) among) in
-    (found.0, ap (λ (F : KissFile). slice_get F.rows i) (sym c.self.view_is) ∙ found.2, found.3)
+    let found = (stand c).own c.args.s i (subst (λ (numbers : List ℕ). Contains numbers i) (lent c) among) in
+    (found.0, found.2, found.3)
 
 pub returns-clause-inside : goal.returns-clause-inside
 returns-clause-inside c k d within =
@@ -32,10 +33,9 @@ returns-clause-own c = own_of c
 
 pub returns-clause-each : goal.returns-clause-each
 returns-clause-each c i row at_i from =
-    let at_inside : slice_get c.self.inside.rows.items i ≡ Some row = ap (λ (F : KissFile). slice_get F.rows i) c.self.view_is ∙ at_i in
     subst (λ (numbers : List ℕ). Contains numbers i) (sym (lent c))
     (subst (λ (s : ℕ). Contains (places_of c.self.inside.places.items s) i) from
-    (c.self.invariant.2.each i row (slice_get_within c.self.inside.rows.items i row at_inside) at_inside))
+    ((stand c).each i row (slice_get_within c.args.self.now.rows i row at_i) at_i))
 
 pub returns-clause-table : goal.returns-clause-table
 returns-clause-table c = subst IsTable c.self.view_is c.self.invariant.0
