@@ -2,6 +2,7 @@ pub mod Against
 pub mod Asking
 pub mod Conflicts
 pub mod Copies
+pub mod Lawful
 pub mod OpenCubes
 pub mod OpenParts
 pub mod Outputs

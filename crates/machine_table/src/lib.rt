@@ -12,6 +12,7 @@
 mod building;
 mod contradiction;
 mod copying;
+mod laws;
 mod machine;
 mod missing;
 mod open_entry;
@@ -20,5 +21,6 @@ mod places;
 mod tests;
 
 pub use building::BuildFail;
+pub use laws::lawful_is_a_table;
 pub use machine::Machine;
 pub use missing::Missing;
