@@ -1,34 +1,37 @@
 #!/usr/bin/env bash
-# Times `cover` on large gates from outside, beside a plain baseline on the same lists: the test that they
-# may be covered, which looks at each pair of a term of on and a term of off. Each time is the least of
-# five runs, with the making of the lists in both.
+# Times `cover` on large gates from outside, beside two plain baselines on the same lists in the same run: the
+# test that they may be covered, which looks at each pair of a term of on and a term of off, and the cover that
+# has each term of on once, as it stands. Prints the time of one call, from the difference of many calls and
+# none, so that the start of the program and the making of the lists are in no column.
 set -eu
 . "$(dirname "$0")/timing.sh"
 cd "$(dirname "$0")/../crates/bench_cover_logic"
-rt run -- counter 2 check > /dev/null 2>&1
+rt run -- counter 2 check 1 >/dev/null 2>&1
 program=out/bench_cover_logic
 
-# the least of five runs, in microseconds
-least() {
-    least_of 5 "$program" "$@"
+# the time of one call, in microseconds: kind, size, work, calls
+each() {
+    awk -v many="$(least_of 5 "$program" "$1" "$2" "$3" "$4")" -v none="$(least_of 5 "$program" "$1" "$2" "$3" 0)" -v calls="$4" \
+        'BEGIN { printf "%.1f", (many - none) / calls }'
 }
 
-printf '%-16s %12s %12s %7s  %s\n' gates 'check (us)' 'cover (us)' ratio counts
-while read -r kind size; do
-    check=$(least "$kind" "$size" check)
-    cover=$(least "$kind" "$size" cover)
-    ratio=$(awk "BEGIN { printf \"%.1f\", $cover / $check }")
-    counts=$("$program" "$kind" "$size" cover)
-    printf '%-16s %12s %12s %7s  %s\n' "$kind $size" "$check" "$cover" "$ratio" "$counts"
+printf '%-16s %10s %10s %10s  %8s %8s  %s\n' us check plain cover 'to check' 'to plain' counts
+while read -r kind size calls; do
+    check=$(each "$kind" "$size" check $((10 * calls)))
+    plain=$(each "$kind" "$size" plain $((10 * calls)))
+    cover=$(each "$kind" "$size" cover "$calls")
+    ratios=$(awk "BEGIN { printf \"%8.1f %8.1f\", $cover / $check, $cover / $plain }")
+    counts=$("$program" "$kind" "$size" cover 1)
+    printf '%-16s %10s %10s %10s  %s  %s\n' "$kind $size" "$check" "$plain" "$cover" "$ratios" "$counts"
 done <<'CASES'
-minterms 128
-minterms 256
-minterms 512
-counter 6
-counter 8
-counter 10
-terms 250
-terms 500
-terms 1000
-terms 2000
+minterms 128 100
+minterms 256 50
+minterms 512 20
+counter 6 100
+counter 8 20
+counter 10 4
+terms 250 20
+terms 500 10
+terms 1000 4
+terms 2000 1
 CASES

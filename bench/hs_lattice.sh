@@ -1,7 +1,8 @@
 #!/usr/bin/env bash
-# Times the listing of joins from outside, beside a plain baseline in the same run: as many joins of two
-# of the generators as the listing makes, generators times values, and nothing else. Each time is the
-# least of three runs, with the making of the generators in both.
+# Times the listing of joins from outside, beside a plain baseline in the same run: joins of two of the
+# generators and nothing else, as many as the listing makes where it is whole, the generators that differ
+# times the values, and one for each value where it stops at the limit. Each time is the least of three
+# runs without that of a run that joins nothing: the start, and the making of the generators.
 set -eu
 . "$(dirname "$0")/timing.sh"
 cd "$(dirname "$0")/../crates/bench_hs_lattice"
@@ -13,22 +14,35 @@ least() {
     least_of 3 "$program" "$@"
 }
 
-printf '%-8s %-12s %6s  %-12s %10s %10s %7s\n' kept generators limit answer 'list (ms)' 'join (ms)' ratio
-while read -r kept kind size limit; do
-    counts=$("$program" "$kept" "$kind" "$size" "$limit" list)
-    made=$(echo "$counts" | awk '/generators/ { print $2 }')
-    answer=$(echo "$counts" | tail -n 1)
-    values=${answer#* }
-    list=$(least "$kept" "$kind" "$size" "$limit" list)
-    join=$(least "$kept" "$kind" "$size" $((made * values)) join)
-    awk -v kept="$kept" -v gens="$kind $size" -v limit="$limit" -v answer="$answer" -v list="$list" -v join="$join" \
-        'BEGIN { printf "%-8s %-12s %6d  %-12s %10.1f %10.1f %7.2f\n", kept, gens, limit, answer, list / 1000, join / 1000, list / join }'
+printf '%-8s %-12s %10s  %-12s %10s %10s %7s\n' kept generators different answer 'list (ms)' 'join (ms)' ratio
+while read -r kind size different; do
+    for kept in labels bits; do
+        answer=$("$program" "$kept" "$kind" "$size" 10000 list | tail -n 1)
+        values=${answer#* }
+        case $answer in
+            whole*) joins=$((different * values)) ;;
+            *) joins=$values ;;
+        esac
+        none=$(least "$kept" "$kind" "$size" 0 join)
+        list=$(least "$kept" "$kind" "$size" 10000 list)
+        join=$(least "$kept" "$kind" "$size" "$joins" join)
+        awk -v kept="$kept" -v gens="$kind $size" -v different="$different" -v answer="$answer" \
+            -v list="$((list - none))" -v join="$((join - none))" \
+            'BEGIN { printf "%-8s %-12s %10d  %-12s %10.1f %10.1f %7.2f\n", kept, gens, different, answer, list / 1000, join / 1000, list / join }'
+    done
 done <<'CASES'
-labels pairs 10 10000
-bits pairs 10 10000
-labels chain 200 10000
-bits chain 200 10000
-labels product 10 10000
-labels product 13 10000
-bits product 13 10000
+pairs 6 15
+pairs 7 21
+pairs 8 28
+pairs 10 45
+pairs 50 1225
+chain 50 49
+chain 100 99
+chain 200 199
+product 8 8
+product 10 10
+product 13 13
+equal 64 8
+equal 128 8
+equal 256 8
 CASES

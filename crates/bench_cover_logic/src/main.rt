@@ -1,7 +1,9 @@
-//! Covers large gates of one kind, so that a script can time `cover` from outside, and prints counts
-//! alone. The words are the kind of gate, its size, and the work: `check` makes the lists and tests that
-//! they may be covered, which looks at each pair of a term of on and a term of off; `cover` then covers
-//! them. Nothing is promised but that the lists may be covered: each gate is tested before.
+//! Works on large gates of one kind, so that a script can time `cover` from outside, and prints counts
+//! alone. The words are the kind of gate, its size, the work, and how many times it is done: `check` tests
+//! that the lists may be covered, which looks at each pair of a term of on and a term of off; `plain` makes
+//! the cover that has each term of on once, as it stands; `cover` makes the cover that the product writes.
+//! With no times the lists are made and nothing is done. Nothing is promised but that the lists that are
+//! covered may be: each gate is tested once.
 #![tactic(auto)]
 
 mod gates;
@@ -9,13 +11,14 @@ mod gates;
 use anyhow::{Context, bail};
 use cover_logic::{Term, can_cover, cover};
 use gates::Gate;
-use std::alloc::Global;
+use std::alloc::{AllocError, Global};
 use std::env;
 
 /// What is done with each gate.
 #[derive(Clone, Copy, PartialEq, Eq)]
 enum Work {
     Check,
+    Plain,
     Cover,
 }
 
@@ -57,26 +60,50 @@ fn gates_of(alloc: Global, kind: &str, size: usize) -> anyhow::Result<Vec<Gate>>
 fn work_of(word: &str) -> anyhow::Result<Work> {
     match word {
         "check" => Ok(Work::Check),
+        "plain" => Ok(Work::Plain),
         "cover" => Ok(Work::Cover),
-        _ => bail!("the work is check or cover"),
+        _ => bail!("the work is check, plain or cover"),
     }
 }
 
-fn run(alloc: Global, gates: &[Gate], work: Work) -> anyhow::Result<Counts> {
+/// Each of the terms once, in order.
+fn plain_cover(alloc: Global, on: &[Term]) -> Result<Vec<Term>, AllocError> {
+    let mut rows: Vec<Term> = Vec::new(alloc);
+    for term in on {
+        if !rows.iter().any(|row| row == term) {
+            rows.push(*term)?;
+        }
+    }
+    Ok(rows)
+}
+
+/// What a gate comes to by that work, done at least once.
+fn worked(alloc: Global, gate: &Gate, work: Work, times: u32) -> anyhow::Result<Counts> {
     let mut counts = Counts::default();
-    for gate in gates {
+    for _ in 0..times {
+        counts = Counts::default();
+        if work == Work::Plain {
+            counts.add(&plain_cover(alloc, &gate.on)?);
+            continue;
+        }
         if !can_cover(&gate.on, &gate.off, gate.width) {
             bail!("the lists meet");
         }
-        match work {
-            Work::Check => counts.add(&gate.on),
-            Work::Cover => {
-                let rows = cover(alloc, &gate.on, &gate.off, gate.width)?;
-                counts.add(&rows);
-            }
+        if work == Work::Cover {
+            counts.add(&cover(alloc, &gate.on, &gate.off, gate.width)?);
         }
     }
     Ok(counts)
+}
+
+fn run(alloc: Global, gates: &[Gate], work: Work, times: u32) -> anyhow::Result<Counts> {
+    let mut total = Counts::default();
+    for gate in gates {
+        let counts = worked(alloc, gate, work, times)?;
+        total.rows = total.rows.saturating_add(counts.rows);
+        total.literals = total.literals.saturating_add(counts.literals);
+    }
+    Ok(total)
 }
 
 fn main(rt: HostRuntime) -> anyhow::Result<()> {
@@ -85,8 +112,12 @@ fn main(rt: HostRuntime) -> anyhow::Result<()> {
     let kind = words.next().context("a kind of gate is missing")?;
     let size: usize = words.next().context("a size is missing")?.parse()?;
     let work = work_of(words.next().context("the work is missing")?.as_str())?;
+    let times: u32 = words
+        .next()
+        .context("a number of times is missing")?
+        .parse()?;
     let gates = gates_of(alloc, kind.as_str(), size)?;
-    let counts = run(alloc, &gates, work)?;
+    let counts = run(alloc, &gates, work, times)?;
     println!(rt;
         "gates {} rows {} literals {}",
         gates.len(),

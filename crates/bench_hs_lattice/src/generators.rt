@@ -18,6 +18,7 @@ pub fn generators_of(
     match kind {
         "pairs" if 1 <= size && size <= 256 => Ok(Some((pairs(alloc, size)?, size))),
         "chain" if 1 <= size && size <= 256 => Ok(Some((chain(alloc, size)?, size))),
+        "equal" if 16 <= size && size <= 256 => Ok(Some((equal(alloc, size)?, size))),
         "product" if size <= 25 => Ok(Some((product(alloc, size)?, 50))),
         _ => Ok(None),
     }
@@ -75,6 +76,21 @@ fn product(alloc: Global, pairs: usize) -> Result<Vec<Partition>, AllocError>
     let mut list = Vec::new(alloc);
     for i in 0..pairs {
         list.push(Partition::hold(alloc, 50, 2 * i, 2 * i + 1)?)?;
+    }
+    Ok(list)
+}
+
+/// As many partitions of n states as there are pairs, eight of which differ: each holds two of the first
+/// sixteen states together.
+fn equal(alloc: Global, n: usize) -> Result<Vec<Partition>, AllocError>
+    requires few { 16 ≤ n }
+    requires many { n ≤ 256 }
+    ensures { IfOk result (λ list. All (λ p. IsPartition n p) list.items) }
+{
+    let mut list = Vec::new(alloc);
+    for i in 0..n * (n - 1) / 2 {
+        let pair = i % 8;
+        list.push(Partition::hold(alloc, n, 2 * pair, 2 * pair + 1)?)?;
     }
     Ok(list)
 }

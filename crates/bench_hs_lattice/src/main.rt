@@ -3,8 +3,8 @@
 //!
 //! - `labels` keeps partitions as labels, `bits` as rows of bits.
 //! - `pairs` are the partitions that hold two of so many states together, `chain` those that hold the
-//!   first states together, two or more of so many, and `product` so many that each hold two of 50
-//!   states together, no state twice.
+//!   first states together, two or more of so many, `product` so many that each hold two of 50 states
+//!   together, no state twice, and `equal` as many as so many states have pairs, eight of which differ.
 //! - `list` lists their joins up to the limit, and `join` joins the first generator and the last one as
 //!   many times as the limit says.
 //!

@@ -7,9 +7,9 @@ use Rattle.std.proofs.lemmas.List.{flat_map_more, take_more, take_all}
 use Rattle.std.proofs.lemmas.List.FromFn.{map-range_with_len_more, length-enumerate_from, get_or-enumerate_from}
 use Rattle.std.proofs.lemmas.Slice.Zip.{length-zip, get_or-zip}
 use Rattle.hs_io.specs.Spelling.{spaced, line_text}
-use Rattle.partition.specs.Text.{text_of}
+use Rattle.partition.specs.Text.{labels_text}
 use Rattle.blif_out.specs.Head.{bits_of}
-use Rattle.blif_out.specs.Pieces.{comma_number}
+use Rattle.blif_out.specs.Inner.Pieces.{comma_number}
 
 -- one text and then another
 pub text_more : (start text new first second : List ℕ) → text ≡ start ++ first → new ≡ text ++ second → new ≡ start ++ (first ++ second)
@@ -53,7 +53,7 @@ zipped_more f start text new names words i name word named worded is_name is_wor
     item_more f start text new (zip names words) i (name, word) (omega (arith, named, worded, length-zip names words)) there before pushed
 
 -- numbers joined by commas, as they are appended
-pub joined-is : (first : ℕ) (others : List ℕ) → decimal first ++ flat_map comma_number others ≡ text_of (first ∷ others)
+pub joined-is : (first : ℕ) (others : List ℕ) → decimal first ++ flat_map comma_number others ≡ labels_text (first ∷ others)
 joined-is first [] = append-nil (decimal first)
 joined-is first (next ∷ others) = ap (λ (t : List ℕ). decimal first ++ 44 ∷ t) (joined-is next others)
 

@@ -1,24 +1,21 @@
 -- The text of a network denotes it.
-use Rattle.std.proofs.Common.{◌≡◌, ◌≢◌, ℕ, ◌+◌, Bool, false, not, cond, List, [], ◌∷◌, ◌++◌, length-append, map, count_by, append_assoc, append-nil, sym, ◌∙◌, refl, ap, subst, arith, codes}
+use Rattle.std.proofs.Common.{◌≡◌, ◌≢◌, ℕ, not, List, [], ◌∷◌, ◌++◌, map, append_assoc, append-nil, sym, ◌∙◌, refl, ap, arith}
 use Rattle.std.specs.List.{flat_map, AllByRecursion, take_while, filter}
 use Rattle.std.proofs.lemmas.Grind.{flat_map-append}
-use Rattle.std.proofs.lemmas.List.Elements.{All-from_recursion}
 use Rattle.std.proofs.lemmas.List.Folds.{flat_map-map}
-use Rattle.std.proofs.lemmas.List.Sums.{sum_by-append}
 use Rattle.hs_io.specs.Lines.{lines_of, lines_from}
 use Rattle.hs_io.specs.Spelling.{ended, line_text, ArePlainFields, IsPlainField, IsComment}
 use Rattle.hs_io.proofs.Spelled.{IsLineByte, line_bytes, all_weaker, physical_lines-all}
 use Rattle.net_core.specs.declared.Network.{Network}
-use Rattle.net_core.specs.Joined.{joined, read_lines, ends_text, has_fields}
-use Rattle.net_core.specs.Statements.{form_of, operands_of, inputs_in, outputs_in}
-use Rattle.net_core.specs.Denotes.{statements_of, is_model, is_model_form, is_clock, is_clock_form, clocks_in, HasForm, FitsForm, HasOneClock}
-use Rattle.net_core.specs.Words.{model_word, inputs_word, outputs_word, end_word}
-use Rattle.blif_out.specs.NetText.{net_fields, net_text, latch_fields, gate_fields, row_fields}
-use Rattle.blif_out.specs.Writable.{IsSignalName, IsWritable, IsPlane}
+use Rattle.net_core.specs.Joined.{joined, read_lines, ends_text}
+use Rattle.net_core.specs.Statements.{numbered_of, is_skipped, statements_of, said_in, inputs_in, outputs_in, clocks_in}
+use Rattle.net_core.specs.Words.{end_word}
+use Rattle.blif_out.specs.NetText.{net_fields, net_text}
+use Rattle.blif_out.specs.Writable.{IsSignalName, IsWritable}
 use Rattle.blif_out.specs.Law.{NetTextDenotes}
-use Rattle.blif_out.proofs.Grammar.{IsTail, OfLatch, OfNames, OfRow, form_of-row, start_of-digit, flat_map-tail, no_inputs, no_outputs, no_clocks, filter_map-gates, filter_map-latches, gates_of-gates, gates_of-latches, places-gates, places-latches, covers-gates, covers-latches}
-use Rattle.blif_out.proofs.Reading.{numbered, HasNoBackslash, GoesOn, lines_from-comments, joined-numbered, take_while-numbered, clean-numbered, statements-comments}
-use Rattle.blif_out.proofs.Words.{AreNames, each_behind, all_names, all_go_on, all_have_words, name_word}
+use Rattle.blif_out.proofs.Grammar.{on_lines, said-on_lines, net_statements, net_said, net_faultless, flat_map-tail, latches_read, gates_read}
+use Rattle.blif_out.proofs.Reading.{numbered, HasNoBackslash, GoesOn, lines_from-comments, joined-numbered, take_while-numbered, statements-comments}
+use Rattle.blif_out.proofs.Words.{AreNames, all_names, all_go_on, all_have_words, name_word}
 
 -- the fields of each line, the ending one too
 abbrev pub all_fields : Network → List (List (List ℕ))
@@ -90,81 +87,28 @@ read_are comments N w cs =
     ∙ take_while-numbered 1 goes_on (blanks_go_on comments (net_fields N) (all_go_on N w))))
 
 -- the statements that are read
-statements_are : (comments : List (List ℕ)) (N : Network) → IsWritable N → AllByRecursion IsComment comments → statements_of (flat_map ended comments ++ net_text N) ≡ net_fields N
+statements_are : (comments : List (List ℕ)) (N : Network) → IsWritable N → AllByRecursion IsComment comments → (first : ℕ) × (statements_of (flat_map ended comments ++ net_text N) ≡ on_lines first (net_statements N))
 statements_are comments N w cs =
-    ap (λ ls. map (λ l. l.fields) (filter has_fields ls)) (read_are comments N w cs) ∙ statements-comments 1 comments (net_fields N) (all_have_words N w)
+    let read = statements-comments 1 comments (net_fields N) (all_have_words N w) in (
+      read.0,
+      ap (λ ls. map numbered_of (filter (λ l. not (is_skipped l)) ls)) (read_are comments N w cs) ∙ (read.1 ∙ ap (on_lines read.0) (net_said N w)),
+    )
 
--- what lies behind the first three statements
-abbrev pub tail_of : Network → List (List (List ℕ))
-tail_of N = map latch_fields N.latches ++ flat_map gate_fields N.gates
-
-tail_is : (N : Network) → IsWritable N → AllByRecursion IsTail (tail_of N)
-tail_is N w = each_behind IsTail (record { row = λ r k p. OfRow (form_of-row r k p); gate = λ g p. OfNames refl; latch = λ l p. OfLatch refl refl }) N w
-
--- what passes nowhere is not counted
-count-none : {X : Type 0} (p : X → Bool) (xs : List X) → AllByRecursion (λ x. p x ≡ false) xs → count_by p xs ≡ 0
-count-none p [] h = refl
-count-none p (x ∷ xs) (h, hs) =
-    let split = sum_by-append (λ y. cond (p y) 1 0) (x ∷ []) xs in
-    let first : ◌≡◌ {A = ℕ} (cond (p x) 1 0) 0 = ap (λ b. cond b 1 0) h in
-    omega (arith, split, first, count-none p xs hs)
-
-no_model : (s : List (List ℕ)) → IsTail s → is_model s ≡ false
-no_model s (OfLatch e k) = ap is_model_form e
-no_model s (OfNames e) = ap is_model_form e
-no_model s (OfRow e) = ap is_model_form e
-
-no_clock : (s : List (List ℕ)) → IsTail s → is_clock s ≡ false
-no_clock s (OfLatch e k) = ap is_clock_form e
-no_clock s (OfNames e) = ap is_clock_form e
-no_clock s (OfRow e) = ap is_clock_form e
-
-one_model : (N : Network) → IsWritable N → count_by is_model (net_fields N) ≡ 1
-one_model N w =
-    let split = sum_by-append (λ s. cond (is_model s) 1 0) ((model_word ∷ codes "hsdec" ∷ []) ∷ (inputs_word ∷ N.inputs) ∷ (outputs_word ∷ N.outputs) ∷ []) (tail_of N) in
-    split ∙ ap (λ n. 1 + n) (count-none is_model (tail_of N) (each_map IsTail (λ s. is_model s ≡ false) no_model (tail_of N) (tail_is N w)))
-
-no_clock_said : (N : Network) → IsWritable N → count_by is_clock (net_fields N) ≡ 0
-no_clock_said N w =
-    count-none is_clock (net_fields N) (refl, (refl, (refl, each_map IsTail (λ s. is_clock s ≡ false) no_clock (tail_of N) (tail_is N w))))
-
-no_clock_named : (N : Network) → IsWritable N → flat_map clocks_in (net_fields N) ≡ []
-no_clock_named N w = flat_map-tail clocks_in (tail_of N) no_clocks (tail_is N w)
-
-row_form : (row : List ℕ) (inputs : ℕ) → IsPlane inputs row → HasForm (row_fields row)
-row_form row inputs p = subst (λ form. FitsForm form (operands_of (row_fields row))) (sym (form_of-row row inputs p)) tt
-
-forms_are : (N : Network) → IsWritable N → AllByRecursion HasForm (net_fields N)
-forms_are N w =
-    (omega arith, (tt, (tt, each_behind HasForm (record { row = row_form; gate = λ g p. omega (arith, length-append g.inputs (g.output ∷ [])); latch = λ l p. rw (start_of-digit l.start) refl }) N w)))
-
-one_clock : (N : Network) → IsWritable N → HasOneClock (net_fields N) N
-one_clock N w =
-    let none = no_clock_named N w in
-    record {
-      one = rw none (λ i j d lt inside. absurd (omega arith));
-      said_once = omega (arith, no_clock_said N w);
-      no_gate = rw none (λ clock h k. absurd (omega (arith, h.1)));
-      no_latch = rw none (λ clock h k. absurd (omega (arith, h.1)));
-    }
+no_clock : (N : Network) → flat_map clocks_in (net_statements N) ≡ []
+no_clock N = flat_map-tail clocks_in N.latches N.gates (λ _. refl) (λ _. refl) (λ _. refl)
 
 pub net_denotes : NetTextDenotes
 net_denotes N comments w cs =
     let bytes : List ℕ = flat_map ended comments ++ net_text N in
-    let are : statements_of bytes ≡ net_fields N = statements_are comments N w cs in
-    let tail = tail_of N in
-    let inputs : List (List ℕ) → List (List ℕ) = λ s. inputs_in (form_of s) (operands_of s) in
-    let outputs : List (List ℕ) → List (List ℕ) = λ s. outputs_in (form_of s) (operands_of s) in
+    let read = statements_are comments N w cs in
+    let said : said_in bytes ≡ net_statements N = ap (λ ss. map (λ s. s.says) ss) read.1 ∙ said-on_lines read.0 (net_statements N) in
     record {
-      clean = rw (read_are comments N w cs) (All-from_recursion (λ l. l.bad ≡ false) (numbered 1 (blanks comments ++ net_fields N)) (clean-numbered 1 (blanks comments ++ net_fields N)));
-      begun = rw are refl;
-      begun_once = rw are (one_model N w);
-      forms = rw are (forms_are N w);
-      rows = rw are (tt, (tt, (tt, places-latches N.latches (flat_map gate_fields N.gates) (places-gates false N.gates w.gates))));
-      covers = rw are (tt, (tt, (tt, covers-latches N.latches (flat_map gate_fields N.gates) (covers-gates N.gates w.gates))));
-      clock = rw are (one_clock N w);
-      inputs = rw are (rw (flat_map-tail inputs tail no_inputs (tail_is N w)) (sym (append-nil N.inputs)));
-      outputs = rw are (rw (flat_map-tail outputs tail no_outputs (tail_is N w)) (sym (append-nil N.outputs)));
-      latches = rw are (sym (filter_map-latches N.latches (flat_map gate_fields N.gates) (filter_map-gates N.gates w.gates)));
-      gates = rw are (sym (gates_of-latches N.latches (flat_map gate_fields N.gates) ∙ gates_of-gates N.gates w.gates));
+      begun = rw read.1 (omega arith);
+      faultless = rw read.1 (net_faultless read.0 N w);
+      clock_no_gate = rw (said, no_clock N) (λ clock h k. absurd (omega (arith, h.1)));
+      clock_no_latch = rw (said, no_clock N) (λ clock h k. absurd (omega (arith, h.1)));
+      inputs = rw (said, flat_map-tail inputs_in N.latches N.gates (λ _. refl) (λ _. refl) (λ _. refl)) (sym (append-nil N.inputs));
+      outputs = rw (said, flat_map-tail outputs_in N.latches N.gates (λ _. refl) (λ _. refl) (λ _. refl)) (sym (append-nil N.outputs));
+      latches = rw said (sym (latches_read N.latches N.gates));
+      gates = rw said (sym (gates_read N.latches N.gates w.gates));
     }

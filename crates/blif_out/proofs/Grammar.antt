@@ -1,179 +1,247 @@
--- The statements of a network denote it.
-use Rattle.std.proofs.Common.{◌≡◌, ℕ, ◌-◌, Bool, true, false, eqb, List, [], ◌∷◌, ◌++◌, length, length-append, map, sym, ◌∙◌, refl, ap, subst, arith, IsTrue, Option, Some, None, ◌⊎◌, inl, inr}
-use Rattle.std.specs.List.{flat_map, filter_map, AllByRecursion}
+-- The statements of a network: none has a fault, and they are the record of the network.
+use Rattle.std.proofs.Common.{◌≡◌, ℕ, ◌+◌, ◌-◌, ◌&&◌, Bool, true, false, not, eqb, leb, List, [], ◌∷◌, ◌++◌, length, length-append, map, sym, ◌∙◌, refl, ap, arith, IsTrue, Option, Some, None, codes}
+use Rattle.std.specs.List.{flat_map, filter_map, list_all, AllByRecursion}
 use Rattle.std.proofs.Math.Seq.{take-append_seam, get_or-append_seam}
 use Rattle.std.proofs.lemmas.Bool.Decides.{nat_tests}
-use Rattle.std.proofs.lemmas.List.Elements.{All-from_recursion}
 use Rattle.net_core.specs.declared.Gate.{Gate}
 use Rattle.net_core.specs.declared.Latch.{Latch}
+use Rattle.net_core.specs.declared.Network.{Network}
 use Rattle.net_core.specs.declared.Start.{Start}
 use Rattle.net_core.specs.declared.Start.TheVariants.{Zero, One, Free, Unknown}
 use Rattle.net_core.specs.Start.{start_digit}
-use Rattle.net_core.specs.Statements.{Row, Names, LatchLine, form_of, operands_of, inputs_in, outputs_in, latch_in, start_of}
-use Rattle.net_core.specs.Denotes.{is_row, is_row_form, is_plane_character, gates_from, MayStand, takes_rows, HasCover, clocks_at, rows_of, gates_of, gate_from, plane_of, bit_of, lists_on, IsRow, HasRowsInPlace, HasCovers, clocks_in}
-use Rattle.net_core.specs.Words.{names_word}
-use Rattle.blif_out.specs.NetText.{row_fields, gate_fields, latch_fields}
-use Rattle.blif_out.specs.Writable.{IsPlane, IsWritableGate}
-use Rattle.blif_out.proofs.Reading.{take_while-cons, take_while-stop}
+use Rattle.net_core.specs.Statements.{Statement, Model, Inputs, Outputs, LatchLine, Names, Row, NumberedStatement, statement_of, latch_in, start_of, is_plane_character, rows_of, gates_of, gate_from, plane_of, bit_of, lists_on, open_gate}
+use Rattle.net_core.specs.Faults.{BadByte, BadFields, BadRow, MixedCover, IsFaultless, AreFaultless, is_row_for, differs_from, is_bad_row_of, mixes_cover_of}
+use Rattle.blif_out.specs.NetText.{row_fields, gate_fields, latch_fields, net_fields}
+use Rattle.blif_out.specs.Writable.{IsPlane, IsWritable, IsWritableGate}
+
+abbrev pub latch_statement : Latch → Statement
+latch_statement latch = LatchLine (latch.input ∷ latch.output ∷ (start_digit latch.start ∷ []) ∷ [])
+
+abbrev pub row_statement : List ℕ → Statement
+row_statement row = Row (row_fields row)
+
+abbrev pub gate_statements : Gate → List Statement
+gate_statements gate = Names (gate.inputs ++ gate.output ∷ []) ∷ map row_statement gate.rows
+
+-- what stands behind the first three statements
+abbrev pub tail_statements : List Latch → List Gate → List Statement
+tail_statements latches gates = map latch_statement latches ++ flat_map gate_statements gates
+
+abbrev pub net_statements : Network → List Statement
+net_statements N = Model (codes "hsdec" ∷ []) ∷ Inputs N.inputs ∷ Outputs N.outputs ∷ tail_statements N.latches N.gates
+
+-- a row's first field is no word, so it is read as a row
+row_said : (plane : List ℕ) (inputs : ℕ) → IsPlane inputs plane → statement_of (row_fields plane) ≡ row_statement plane
+row_said [] inputs p = refl
+row_said (c ∷ cs) inputs p =
+    let character = p.characters.0 in
+    let no_word : eqb c 46 ≡ false = grind (arith, nat_tests) in
+    rw no_word refl
+
+rows_said : (rows : List (List ℕ)) (inputs : ℕ) (rest : List (List (List ℕ))) → AllByRecursion (IsPlane inputs) rows → map statement_of (map row_fields rows ++ rest) ≡ map row_statement rows ++ map statement_of rest
+rows_said [] inputs rest p = refl
+rows_said (row ∷ rows) inputs rest (p, ps) = rw (row_said row inputs p) (ap (λ ss. row_statement row ∷ ss) (rows_said rows inputs rest ps))
+
+gates_said : (gates : List Gate) → AllByRecursion IsWritableGate gates → map statement_of (flat_map gate_fields gates) ≡ flat_map gate_statements gates
+gates_said [] p = refl
+gates_said (gate ∷ gates) (p, ps) =
+    let first : Statement = Names (gate.inputs ++ gate.output ∷ []) in
+    ap (λ ss. first ∷ ss) (rows_said gate.rows (length gate.inputs) (flat_map gate_fields gates) p.rows)
+    ∙ ap (λ ss. first ∷ (map row_statement gate.rows ++ ss)) (gates_said gates ps)
+
+latches_said : (latches : List Latch) (rest : List (List (List ℕ))) (said : List Statement) → map statement_of rest ≡ said → map statement_of (map latch_fields latches ++ rest) ≡ map latch_statement latches ++ said
+latches_said [] rest said e = e
+latches_said (latch ∷ latches) rest said e = ap (λ ss. latch_statement latch ∷ ss) (latches_said latches rest said e)
+
+-- the fields of a network are read as its statements
+pub net_said : (N : Network) → IsWritable N → map statement_of (net_fields N) ≡ net_statements N
+net_said N w =
+    ap (λ ss. Model (codes "hsdec" ∷ []) ∷ Inputs N.inputs ∷ Outputs N.outputs ∷ ss)
+    (latches_said N.latches (flat_map gate_fields N.gates) (flat_map gate_statements N.gates) (gates_said N.gates w.gates))
+
+-- statements on clean lines, numbered from one on
+abbrev pub on_lines : ℕ → List Statement → List NumberedStatement
+on_lines n [] = []
+on_lines n (statement ∷ more) = record { number = n; bad = false; says = statement } ∷ on_lines (n + 1) more
+
+pub said-on_lines : (n : ℕ) (statements : List Statement) → map (λ s. s.says) (on_lines n statements) ≡ statements
+said-on_lines n [] = refl
+said-on_lines n (s ∷ ss) = ap (λ xs. s ∷ xs) (said-on_lines (n + 1) ss)
+
+-- a statement behind others, on a clean line
+abbrev IsFaultlessBehind : Statement → List Statement → Statement → Type 0
+IsFaultlessBehind last earlier statement = (n : ℕ) → IsFaultless (last ∷ earlier) (record { number = n; bad = false; says = statement })
+
+-- these statements have no fault, whatever stands before them
+abbrev AreFaultlessAnywhere : List Statement → Type 0
+AreFaultlessAnywhere statements = (n : ℕ) (last : Statement) (earlier : List Statement) → AreFaultless (last ∷ earlier) (on_lines n statements)
 
 -- a start is read as it is written
-pub start_of-digit : (start : Start) → start_of (start_digit start ∷ []) ≡ Some start
+start_of-digit : (start : Start) → start_of (start_digit start ∷ []) ≡ Some start
 start_of-digit Zero = refl
 start_of-digit One = refl
 start_of-digit Free = refl
 start_of-digit Unknown = refl
 
--- a latch is read as it is written
-pub latch_in-fields : (latch : Latch) → latch_in (form_of (latch_fields latch)) (operands_of (latch_fields latch)) ≡ Some latch
-latch_in-fields latch = rw (start_of-digit latch.start) refl
+-- and so is a latch
+latch_in-statement : (latch : Latch) → latch_in (latch_statement latch) ≡ Some latch
+latch_in-statement latch = rw (start_of-digit latch.start) refl
 
--- a row's first field is no word, so it is a row
-pub form_of-row : (plane : List ℕ) (inputs : ℕ) → IsPlane inputs plane → form_of (row_fields plane) ≡ Row
-form_of-row [] inputs p = refl
-form_of-row (c ∷ cs) inputs p =
-    let character = p.characters.0 in
-    let no_word : eqb c 46 ≡ false = grind (arith, nat_tests) in
-    rw no_word refl
+latch_faultless : (latch : Latch) (last : Statement) (earlier : List Statement) → IsFaultlessBehind last earlier (latch_statement latch)
+latch_faultless latch last earlier n BadFields = rw (latch_in-statement latch) refl
+latch_faultless latch last earlier n _ = refl
 
-pub is_row-row : (plane : List ℕ) (inputs : ℕ) → IsPlane inputs plane → is_row (row_fields plane) ≡ true
-is_row-row plane inputs p = ap is_row_form (form_of-row plane inputs p)
+names_faultless : (gate : Gate) (last : Statement) (earlier : List Statement) → IsFaultlessBehind last earlier (Names (gate.inputs ++ gate.output ∷ []))
+names_faultless gate last earlier n BadFields = let some = length-append gate.inputs (gate.output ∷ []) in grind (arith, nat_tests)
+names_faultless gate last earlier n _ = refl
 
--- the rows of a gate are those before the next statement that is none
-pub rows_of-rows : (rows : List (List ℕ)) (inputs : ℕ) (rest : List (List (List ℕ))) → AllByRecursion (IsPlane inputs) rows → rows_of rest ≡ [] → rows_of (map row_fields rows ++ rest) ≡ map row_fields rows
-rows_of-rows [] inputs rest p stop = stop
-rows_of-rows (row ∷ rows) inputs rest (p, ps) stop =
-    take_while-cons is_row (row_fields row) (map row_fields rows ++ rest) (is_row-row row inputs p) ∙ ap (λ rs. row_fields row ∷ rs) (rows_of-rows rows inputs rest ps stop)
+-- behind these statements a row of a gate with so many inputs may stand, if it lists the on-set
+abbrev TakesRow : ℕ → List Statement → Type 0
+TakesRow inputs statements = (bit : Option Bool) × (open_gate statements ≡ Some (record { inputs = inputs; bit = bit })) × (differs_from bit true ≡ false)
 
--- the gates behind the rows
-pub gates_of-rows : (rows : List (List ℕ)) (inputs : ℕ) (rest : List (List (List ℕ))) → AllByRecursion (IsPlane inputs) rows → gates_of (map row_fields rows ++ rest) ≡ gates_of rest
-gates_of-rows [] inputs rest p = refl
-gates_of-rows (row ∷ rows) inputs rest (p, ps) =
-    let behind : List (List (List ℕ)) = map row_fields rows ++ rest in
-    ap (λ form. gates_from form (operands_of (row_fields row)) (rows_of behind) (gates_of behind)) (form_of-row row inputs p) ∙ gates_of-rows rows inputs rest ps
+plane_all : (row : List ℕ) → AllByRecursion (λ c. IsTrue (is_plane_character c)) row → list_all is_plane_character row ≡ true
+plane_all [] p = refl
+plane_all (c ∷ cs) (p, ps) = ap (λ b. b && list_all is_plane_character cs) p ∙ plane_all cs ps
+
+row_fits : (row : List ℕ) (inputs : ℕ) → IsPlane inputs row → is_row_for inputs (row_fields row) ≡ true
+row_fits [] inputs p = let width = p.width in let none : eqb inputs 0 ≡ true = grind (arith, nat_tests) in ap (λ b. b && true) none
+row_fits (c ∷ cs) inputs p =
+    let width = p.width in
+    let some : leb 1 inputs ≡ true = grind (arith, nat_tests) in
+    let same : eqb (length (c ∷ cs)) inputs ≡ true = grind (arith, nat_tests) in
+    rw (some, same, plane_all (c ∷ cs) p.characters) refl
+
+bit_of-row : (row : List ℕ) → bit_of (row_fields row) ≡ true
+bit_of-row [] = refl
+bit_of-row (c ∷ cs) = refl
+
+row_faultless : (row : List ℕ) (inputs : ℕ) (last : Statement) (earlier : List Statement) → IsPlane inputs row → TakesRow inputs (last ∷ earlier) → IsFaultlessBehind last earlier (row_statement row)
+row_faultless row inputs last earlier p (bit, gate, same) n BadFields = rw gate refl
+row_faultless row inputs last earlier p (bit, gate, same) n BadRow =
+    ap (λ g. is_bad_row_of g (row_fields row)) gate ∙ ap not (row_fits row inputs p)
+row_faultless row inputs last earlier p (bit, gate, same) n MixedCover =
+    ap (λ g. mixes_cover_of g (bit_of (row_fields row))) gate ∙ (ap (differs_from bit) (bit_of-row row) ∙ same)
+row_faultless row inputs last earlier p takes n _ = refl
+
+-- behind a row that lists the on-set another may stand
+takes_more : (row : List ℕ) (inputs : ℕ) (statements : List Statement) → TakesRow inputs statements → TakesRow inputs (row_statement row ∷ statements)
+takes_more row inputs statements (None, gate, same) = (Some true, rw (gate, bit_of-row row) refl, refl)
+takes_more row inputs statements (Some first, gate, same) = (Some first, rw gate refl, same)
+
+rows_faultless : (n : ℕ) (last : Statement) (earlier : List Statement) (rows : List (List ℕ)) (inputs : ℕ) (rest : List Statement) → AllByRecursion (IsPlane inputs) rows → TakesRow inputs (last ∷ earlier) → AreFaultlessAnywhere rest → AreFaultless (last ∷ earlier) (on_lines n (map row_statement rows ++ rest))
+rows_faultless n last earlier [] inputs rest p takes more = more n last earlier
+rows_faultless n last earlier (row ∷ rows) inputs rest (p, ps) takes more = (
+  row_faultless row inputs last earlier p takes n,
+  rows_faultless (n + 1) (row_statement row) (last ∷ earlier) rows inputs rest ps (takes_more row inputs (last ∷ earlier) takes) more,
+)
+
+gates_faultless : (gates : List Gate) → AllByRecursion IsWritableGate gates → AreFaultlessAnywhere (flat_map gate_statements gates)
+gates_faultless [] p n last earlier = tt
+gates_faultless (gate ∷ gates) (p, ps) n last earlier =
+    let names : List (List ℕ) = gate.inputs ++ gate.output ∷ [] in
+    let width : length names - 1 ≡ length gate.inputs = omega (arith, length-append gate.inputs (gate.output ∷ [])) in
+    let takes : TakesRow (length gate.inputs) (Names names ∷ last ∷ earlier) = (None, rw width refl, refl) in (
+      names_faultless gate last earlier n,
+      rows_faultless (n + 1) (Names names) (last ∷ earlier) gate.rows (length gate.inputs) (flat_map gate_statements gates) p.rows takes (gates_faultless gates ps),
+    )
+
+latches_faultless : (latches : List Latch) (rest : List Statement) → AreFaultlessAnywhere rest → AreFaultlessAnywhere (map latch_statement latches ++ rest)
+latches_faultless [] rest more n last earlier = more n last earlier
+latches_faultless (latch ∷ latches) rest more n last earlier =
+    (latch_faultless latch last earlier n, latches_faultless latches rest more (n + 1) (latch_statement latch) (last ∷ earlier))
+
+model_faultless : (n : ℕ) → IsFaultless [] (record { number = n; bad = false; says = Model (codes "hsdec" ∷ []) })
+model_faultless n BadByte = refl
+model_faultless n _ = refl
+
+inputs_faultless : (names : List (List ℕ)) (last : Statement) (earlier : List Statement) → IsFaultlessBehind last earlier (Inputs names)
+inputs_faultless names last earlier n BadByte = refl
+inputs_faultless names last earlier n _ = refl
+
+outputs_faultless : (names : List (List ℕ)) (last : Statement) (earlier : List Statement) → IsFaultlessBehind last earlier (Outputs names)
+outputs_faultless names last earlier n BadByte = refl
+outputs_faultless names last earlier n _ = refl
+
+-- no statement of a network has a fault
+pub net_faultless : (n : ℕ) (N : Network) → IsWritable N → AreFaultless [] (on_lines n (net_statements N))
+net_faultless n N w =
+    let model : Statement = Model (codes "hsdec" ∷ []) in (
+      model_faultless n,
+      (
+        inputs_faultless N.inputs model [] (n + 1),
+        (
+          outputs_faultless N.outputs (Inputs N.inputs) (model ∷ []) (n + 1 + 1),
+          latches_faultless N.latches (flat_map gate_statements N.gates) (gates_faultless N.gates w.gates) (n + 1 + 1 + 1) (Outputs N.outputs) (Inputs N.inputs ∷ model ∷ []),
+        ),
+      ),
+    )
+
+-- what no row gives, no rows give
+flat_map-rows : {X : Type 0} (f : Statement → List X) (rows : List (List ℕ)) (rest : List Statement) → ((fields : List (List ℕ)) → f (Row fields) ≡ []) → flat_map f (map row_statement rows ++ rest) ≡ flat_map f rest
+flat_map-rows f [] rest none = refl
+flat_map-rows f (row ∷ rows) rest none = rw (none (row_fields row)) (flat_map-rows f rows rest none)
+
+flat_map-gates : {X : Type 0} (f : Statement → List X) (gates : List Gate) → ((names : List (List ℕ)) → f (Names names) ≡ []) → ((fields : List (List ℕ)) → f (Row fields) ≡ []) → flat_map f (flat_map gate_statements gates) ≡ []
+flat_map-gates f [] no_names no_rows = refl
+flat_map-gates f (gate ∷ gates) no_names no_rows =
+    rw (no_names (gate.inputs ++ gate.output ∷ [])) (flat_map-rows f gate.rows (flat_map gate_statements gates) no_rows ∙ flat_map-gates f gates no_names no_rows)
+
+-- what no latch, no names and no row give, the tail does not
+pub flat_map-tail : {X : Type 0} (f : Statement → List X) (latches : List Latch) (gates : List Gate) → ((latch : Latch) → f (latch_statement latch) ≡ []) → ((names : List (List ℕ)) → f (Names names) ≡ []) → ((fields : List (List ℕ)) → f (Row fields) ≡ []) → flat_map f (tail_statements latches gates) ≡ []
+flat_map-tail f [] gates no_latch no_names no_rows = flat_map-gates f gates no_names no_rows
+flat_map-tail f (latch ∷ latches) gates no_latch no_names no_rows = rw (no_latch latch) (flat_map-tail f latches gates no_latch no_names no_rows)
+
+filter_map-rows : (rows : List (List ℕ)) (rest : List Statement) → filter_map latch_in (map row_statement rows ++ rest) ≡ filter_map latch_in rest
+filter_map-rows [] rest = refl
+filter_map-rows (row ∷ rows) rest = filter_map-rows rows rest
+
+filter_map-gates : (gates : List Gate) → filter_map latch_in (flat_map gate_statements gates) ≡ []
+filter_map-gates [] = refl
+filter_map-gates (gate ∷ gates) = filter_map-rows gate.rows (flat_map gate_statements gates) ∙ filter_map-gates gates
+
+-- the latches are read as they are written
+pub latches_read : (latches : List Latch) (gates : List Gate) → filter_map latch_in (tail_statements latches gates) ≡ latches
+latches_read [] gates = filter_map-gates gates
+latches_read (latch ∷ latches) gates = rw (latch_in-statement latch) (ap (λ ls. latch ∷ ls) (latches_read latches gates))
 
 -- the planes of the rows
-pub map-plane_of : (rows : List (List ℕ)) → map plane_of (map row_fields rows) ≡ rows
+map-plane_of : (rows : List (List ℕ)) → map plane_of (map row_fields rows) ≡ rows
 map-plane_of [] = refl
 map-plane_of ([] ∷ rows) = ap (λ rs. [] ∷ rs) (map-plane_of rows)
 map-plane_of ((c ∷ cs) ∷ rows) = ap (λ rs. (c ∷ cs) ∷ rs) (map-plane_of rows)
 
-pub bit_of-row : (row : List ℕ) → bit_of (row_fields row) ≡ true
-bit_of-row [] = refl
-bit_of-row (c ∷ cs) = refl
-
--- they list an on-set
-pub lists_on-rows : (rows : List (List ℕ)) → lists_on (map row_fields rows) ≡ true
+lists_on-rows : (rows : List (List ℕ)) → lists_on (map row_fields rows) ≡ true
 lists_on-rows [] = refl
 lists_on-rows (row ∷ rows) = bit_of-row row
 
 -- a gate is read as it is written
-pub gate_from-fields : (gate : Gate) → gate.on ≡ true → gate_from (gate.inputs ++ gate.output ∷ []) (map row_fields gate.rows) ≡ gate
+gate_from-fields : (gate : Gate) → gate.on ≡ true → gate_from (gate.inputs ++ gate.output ∷ []) (map row_fields gate.rows) ≡ gate
 gate_from-fields gate on =
     let n : length (gate.inputs ++ gate.output ∷ []) - 1 ≡ length gate.inputs = omega (arith, length-append gate.inputs (gate.output ∷ [])) in
     rw (n, take-append_seam gate.inputs (gate.output ∷ []), get_or-append_seam gate.inputs gate.output [] [], map-plane_of gate.rows, lists_on-rows gate.rows)
     (ap (λ on. record { inputs = gate.inputs; output = gate.output; rows = gate.rows; on = on }) (sym on))
 
--- the rows of no gate stand in front of a gate, or at the end
-pub rows_of-gates : (gates : List Gate) → rows_of (flat_map gate_fields gates) ≡ []
-rows_of-gates [] = refl
-rows_of-gates (gate ∷ gates) = take_while-stop is_row (names_word ∷ (gate.inputs ++ gate.output ∷ [])) (map row_fields gate.rows ++ flat_map gate_fields gates) refl
+-- the rows of a gate are those before the next statement that is none
+rows_of-rows : (rows : List (List ℕ)) (rest : List Statement) → rows_of rest ≡ [] → rows_of (map row_statement rows ++ rest) ≡ map row_fields rows
+rows_of-rows [] rest stop = stop
+rows_of-rows (row ∷ rows) rest stop = ap (λ rs. row_fields row ∷ rs) (rows_of-rows rows rest stop)
 
--- the gates are read as they are written
-pub gates_of-gates : (gates : List Gate) → AllByRecursion IsWritableGate gates → gates_of (flat_map gate_fields gates) ≡ gates
+rows_of-gates : (gates : List Gate) → rows_of (flat_map gate_statements gates) ≡ []
+rows_of-gates [] = refl
+rows_of-gates (gate ∷ gates) = refl
+
+gates_of-rows : (rows : List (List ℕ)) (rest : List Statement) → gates_of (map row_statement rows ++ rest) ≡ gates_of rest
+gates_of-rows [] rest = refl
+gates_of-rows (row ∷ rows) rest = gates_of-rows rows rest
+
+gates_of-gates : (gates : List Gate) → AllByRecursion IsWritableGate gates → gates_of (flat_map gate_statements gates) ≡ gates
 gates_of-gates [] p = refl
 gates_of-gates (gate ∷ gates) (p, ps) =
-    let rest : List (List (List ℕ)) = flat_map gate_fields gates in
-    rw (rows_of-rows gate.rows (length gate.inputs) rest p.rows (rows_of-gates gates), gates_of-rows gate.rows (length gate.inputs) rest p.rows)
+    let rest : List Statement = flat_map gate_statements gates in
+    rw (rows_of-rows gate.rows rest (rows_of-gates gates), gates_of-rows gate.rows rest)
     (ap (λ g. g ∷ gates_of rest) (gate_from-fields gate p.on) ∙ ap (λ gs. gate ∷ gs) (gates_of-gates gates ps))
 
-pub gates_of-latches : (latches : List Latch) (rest : List (List (List ℕ))) → gates_of (map latch_fields latches ++ rest) ≡ gates_of rest
-gates_of-latches [] rest = refl
-gates_of-latches (latch ∷ latches) rest = gates_of-latches latches rest
-
--- behind the first three statements there are latches, names and rows alone
-pub data IsTail (statement : List (List ℕ)) : Type 0 where
-  OfLatch : form_of statement ≡ LatchLine → clocks_in statement ≡ [] → IsTail statement
-  OfNames : form_of statement ≡ Names → IsTail statement
-  OfRow : form_of statement ≡ Row → IsTail statement
-
--- what no statement of the tail gives
-pub flat_map-tail : (f : List (List ℕ) → List (List ℕ)) (tail : List (List (List ℕ))) → ((s : List (List ℕ)) → IsTail s → f s ≡ []) → AllByRecursion IsTail tail → flat_map f tail ≡ []
-flat_map-tail f [] none p = refl
-flat_map-tail f (s ∷ tail) none (p, ps) = rw (none s p) (flat_map-tail f tail none ps)
-
-pub no_inputs : (s : List (List ℕ)) → IsTail s → inputs_in (form_of s) (operands_of s) ≡ []
-no_inputs s (OfLatch e k) = ap (λ form. inputs_in form (operands_of s)) e
-no_inputs s (OfNames e) = ap (λ form. inputs_in form (operands_of s)) e
-no_inputs s (OfRow e) = ap (λ form. inputs_in form (operands_of s)) e
-
-pub no_outputs : (s : List (List ℕ)) → IsTail s → outputs_in (form_of s) (operands_of s) ≡ []
-no_outputs s (OfLatch e k) = ap (λ form. outputs_in form (operands_of s)) e
-no_outputs s (OfNames e) = ap (λ form. outputs_in form (operands_of s)) e
-no_outputs s (OfRow e) = ap (λ form. outputs_in form (operands_of s)) e
-
-pub no_clocks : (s : List (List ℕ)) → IsTail s → clocks_in s ≡ []
-no_clocks s (OfLatch e k) = k
-no_clocks s (OfNames e) = ap (λ form. clocks_at form (operands_of s)) e
-no_clocks s (OfRow e) = ap (λ form. clocks_at form (operands_of s)) e
-
--- no statement of the gates is a latch
-pub no_latch : (s : List (List ℕ)) → (form_of s ≡ Names) ⊎ (form_of s ≡ Row) → latch_in (form_of s) (operands_of s) ≡ None
-no_latch s (inl e) = ap (λ form. latch_in form (operands_of s)) e
-no_latch s (inr e) = ap (λ form. latch_in form (operands_of s)) e
-
-abbrev pub the_latch : List (List ℕ) → Option Latch
-the_latch s = latch_in (form_of s) (operands_of s)
-
-pub filter_map-rows : (rows : List (List ℕ)) (inputs : ℕ) (rest : List (List (List ℕ))) → AllByRecursion (IsPlane inputs) rows → filter_map the_latch (map row_fields rows ++ rest) ≡ filter_map the_latch rest
-filter_map-rows [] inputs rest p = refl
-filter_map-rows (row ∷ rows) inputs rest (p, ps) = rw (no_latch (row_fields row) (inr (form_of-row row inputs p))) (filter_map-rows rows inputs rest ps)
-
-pub filter_map-gates : (gates : List Gate) → AllByRecursion IsWritableGate gates → filter_map the_latch (flat_map gate_fields gates) ≡ []
-filter_map-gates [] p = refl
-filter_map-gates (gate ∷ gates) (p, ps) = filter_map-rows gate.rows (length gate.inputs) (flat_map gate_fields gates) p.rows ∙ filter_map-gates gates ps
-
--- the latches are read as they are written
-pub filter_map-latches : (latches : List Latch) (rest : List (List (List ℕ))) → filter_map the_latch rest ≡ [] → filter_map the_latch (map latch_fields latches ++ rest) ≡ latches
-filter_map-latches [] rest none = none
-filter_map-latches (latch ∷ latches) rest none = rw (latch_in-fields latch) (ap (λ ls. latch ∷ ls) (filter_map-latches latches rest none))
-
--- the places of the rows and the covers are those of the grammar
-pub places-rows : (rows : List (List ℕ)) (inputs : ℕ) (rest : List (List (List ℕ))) → AllByRecursion (IsPlane inputs) rows → HasRowsInPlace true rest → HasRowsInPlace true (map row_fields rows ++ rest)
-places-rows [] inputs rest p t = t
-places-rows (row ∷ rows) inputs rest (p, ps) t =
-    let behind : List (List (List ℕ)) = map row_fields rows ++ rest in
-    subst (λ form. MayStand form true × HasRowsInPlace (takes_rows form true) behind) (sym (form_of-row row inputs p)) (refl, places-rows rows inputs rest ps t)
-
-pub places-gates : (allowed : Bool) (gates : List Gate) → AllByRecursion IsWritableGate gates → HasRowsInPlace allowed (flat_map gate_fields gates)
-places-gates allowed [] p = tt
-places-gates allowed (gate ∷ gates) (p, ps) = (tt, places-rows gate.rows (length gate.inputs) (flat_map gate_fields gates) p.rows (places-gates true gates ps))
-
-pub places-latches : (latches : List Latch) (rest : List (List (List ℕ))) → HasRowsInPlace false rest → HasRowsInPlace false (map latch_fields latches ++ rest)
-places-latches [] rest t = t
-places-latches (latch ∷ latches) rest t = (tt, places-latches latches rest t)
-
-pub is_row-fields : (row : List ℕ) (inputs : ℕ) → IsPlane inputs row → IsRow inputs (row_fields row)
-is_row-fields [] inputs p = (sym p.width, refl)
-is_row-fields (c ∷ cs) inputs p = (p.width, omega (arith, p.width), All-from_recursion (λ x. IsTrue (is_plane_character x)) (c ∷ cs) p.characters, refl)
-
-pub cover-rows : (first : Bool) (rows : List (List ℕ)) (inputs : ℕ) → first ≡ true → AllByRecursion (IsPlane inputs) rows → AllByRecursion (λ r. IsRow inputs r × (bit_of r ≡ first)) (map row_fields rows)
-cover-rows first [] inputs on p = tt
-cover-rows first (row ∷ rows) inputs on (p, ps) = ((is_row-fields row inputs p, bit_of-row row ∙ sym on), cover-rows first rows inputs on ps)
-
-pub covers-rows : (rows : List (List ℕ)) (inputs : ℕ) (rest : List (List (List ℕ))) → AllByRecursion (IsPlane inputs) rows → HasCovers rest → HasCovers (map row_fields rows ++ rest)
-covers-rows [] inputs rest p t = t
-covers-rows (row ∷ rows) inputs rest (p, ps) t =
-    let behind : List (List (List ℕ)) = map row_fields rows ++ rest in
-    (subst (λ form. HasCover form (operands_of (row_fields row)) (rows_of behind)) (sym (form_of-row row inputs p)) tt, covers-rows rows inputs rest ps t)
-
-pub covers-gates : (gates : List Gate) → AllByRecursion IsWritableGate gates → HasCovers (flat_map gate_fields gates)
-covers-gates [] p = tt
-covers-gates (gate ∷ gates) (p, ps) =
-    let rest : List (List (List ℕ)) = flat_map gate_fields gates in
-    let n : length (gate.inputs ++ gate.output ∷ []) - 1 ≡ length gate.inputs = omega (arith, length-append gate.inputs (gate.output ∷ [])) in
-    let rows = rows_of-rows gate.rows (length gate.inputs) rest p.rows (rows_of-gates gates) in
-    (rw (rows, n) (cover-rows (lists_on (map row_fields gate.rows)) gate.rows (length gate.inputs) (lists_on-rows gate.rows) p.rows), covers-rows gate.rows (length gate.inputs) rest p.rows (covers-gates gates ps))
-
-pub covers-latches : (latches : List Latch) (rest : List (List (List ℕ))) → HasCovers rest → HasCovers (map latch_fields latches ++ rest)
-covers-latches [] rest t = t
-covers-latches (latch ∷ latches) rest t = (tt, covers-latches latches rest t)
+-- the gates are read as they are written
+pub gates_read : (latches : List Latch) (gates : List Gate) → AllByRecursion IsWritableGate gates → gates_of (tail_statements latches gates) ≡ gates
+gates_read [] gates p = gates_of-gates gates p
+gates_read (latch ∷ latches) gates p = gates_read latches gates p

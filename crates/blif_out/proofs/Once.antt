@@ -12,16 +12,16 @@ use Rattle.std.proofs.lemmas.Nat.Bits.{same_from_bits_below}
 use Rattle.std.proofs.lemmas.Str.Parse.{digit_at}
 use Rattle.hs_io.specs.Spelling.{IsComment}
 use Rattle.net_core.specs.Words.{model_word}
-use Rattle.partition.specs.Text.{text_of, pieces_of}
+use Rattle.partition.specs.Text.{labels_text, pieces_of}
 use Rattle.partition.specs.Laws.Labels.{label-le}
 use Rattle.partition.proofs.Numerals.{own}
-use Rattle.partition.proofs.Pieces.{pieces_of-text_of}
+use Rattle.partition.proofs.Pieces.{pieces_of-labels_text}
 use Rattle.state_codes.specs.declared.split.Kind.{Kind}
 use Rattle.state_codes.specs.declared.split.Kind.TheVariants.{Code, Assign, Parallel, Serial, Cascade, Feedback, Least}
 use Rattle.state_codes.specs.declared.split.Part.{Part}
 use Rattle.blif_out.specs.declared.header.Header.{Header}
 use Rattle.blif_out.specs.declared.header.LatchNote.{LatchNote}
-use Rattle.blif_out.specs.Head.{kind_word, classes_fields, numbers_text, part_fields, bits_of, bit_text, state_fields, latch_fields, head_fields, head_lines, comment_text}
+use Rattle.blif_out.specs.Head.{kind_word, classes_fields, numbers_text, part_fields, bits_of, bit_text, state_fields, note_fields, head_fields, head_lines, comment_text}
 use Rattle.blif_out.specs.HeadLaw.{IsLawfulPartition, IsLawfulPart, IsLawfulNote, IsLawfulHeader, HeadOnce}
 use Rattle.blif_out.proofs.Cutting.{rest_of, pieces_once, fields_once, images_once}
 use Rattle.blif_out.proofs.Denoting.{comment_inside}
@@ -41,9 +41,9 @@ numerals_once xs ys p q e = sym (same xs) ∙ images_once decimal (λ (n : ℕ).
     same [] = refl
     same (n ∷ ns) = ap (λ (t : List ℕ). n ∷ t) (same ns)
 
-joined_once : (xs ys : List ℕ) → 0 < length xs → 0 < length ys → AreSmall xs → AreSmall ys → text_of xs ≡ text_of ys → xs ≡ ys
+joined_once : (xs ys : List ℕ) → 0 < length xs → 0 < length ys → AreSmall xs → AreSmall ys → labels_text xs ≡ labels_text ys → xs ≡ ys
 joined_once xs ys some some' p q e =
-    numerals_once xs ys p q (sym (pieces_of-text_of xs some (at_places xs p)) ∙ ap pieces_of e ∙ pieces_of-text_of ys some' (at_places ys q))
+    numerals_once xs ys p q (sym (pieces_of-labels_text xs some (at_places xs p)) ∙ ap pieces_of e ∙ pieces_of-labels_text ys some' (at_places ys q))
 
 small_from : (xs : List ℕ) → ((place : ℕ) → place < length xs → get_or xs place 0 < 2 ^ 64) → AreSmall xs
 small_from [] h = tt
@@ -53,7 +53,7 @@ labels_small : (labels : List ℕ) → IsLawfulPartition labels → AreSmall lab
 labels_small labels p =
     small_from labels (λ place within. let le = label-le labels p.numbered place within in let count = p.count in omega (arith, within, le, count.1))
 
-partition_once : (p q : List ℕ) → IsLawfulPartition p → IsLawfulPartition q → text_of p ≡ text_of q → p ≡ q
+partition_once : (p q : List ℕ) → IsLawfulPartition p → IsLawfulPartition q → labels_text p ≡ labels_text q → p ≡ q
 partition_once p q a b e =
     let some = a.count in
     let some' = b.count in
@@ -66,9 +66,9 @@ no_dash n small e =
     let is : get_or (decimal n) 0 0 ≡ 45 = ap (λ (t : List ℕ). get_or t 0 0) e in
     absurd (omega (arith, low, is))
 
-no_numbers : (y : ℕ) (ys : List ℕ) → AreSmall (y ∷ ys) → codes "-" ≢ text_of (y ∷ ys)
+no_numbers : (y : ℕ) (ys : List ℕ) → AreSmall (y ∷ ys) → codes "-" ≢ labels_text (y ∷ ys)
 no_numbers y ys q e =
-    let pieces : (45 ∷ []) ∷ [] ≡ map decimal (y ∷ ys) = ap pieces_of e ∙ pieces_of-text_of (y ∷ ys) (omega arith) (at_places (y ∷ ys) q) in
+    let pieces : (45 ∷ []) ∷ [] ≡ map decimal (y ∷ ys) = ap pieces_of e ∙ pieces_of-labels_text (y ∷ ys) (omega arith) (at_places (y ∷ ys) q) in
     no_dash y q.0 (sym (ap (λ (t : List (List ℕ)). get_or t 0 []) pieces))
 
 numbers_once : (xs ys : List ℕ) → AreSmall xs → AreSmall ys → numbers_text xs ≡ numbers_text ys → xs ≡ ys
@@ -109,7 +109,7 @@ kind_of-word Cascade = refl
 kind_of-word Feedback = refl
 kind_of-word Least = refl
 
-part_once : (x y : Part) → IsLawfulPart x → IsLawfulPart y → text_of x.partition ≡ text_of y.partition → text_of x.carrier ≡ text_of y.carrier → numbers_text x.reads ≡ numbers_text y.reads → x ≡ y
+part_once : (x y : Part) → IsLawfulPart x → IsLawfulPart y → labels_text x.partition ≡ labels_text y.partition → labels_text x.carrier ≡ labels_text y.carrier → numbers_text x.reads ≡ numbers_text y.reads → x ≡ y
 part_once x y p q own_text carrier_text reads_text =
     let make : List ℕ → List ℕ → List ℕ → Part = λ own carrier reads. record { partition = own; carrier = carrier; reads = reads } in
     let a : x.partition ≡ y.partition = partition_once x.partition y.partition p.partition q.partition own_text in
@@ -121,7 +121,7 @@ part_once x y p q own_text carrier_text reads_text =
     reads_small [] h = tt
     reads_small (n ∷ ns) (h, hs) = (omega (arith, h), reads_small ns hs)
 
-note_once : (x y : LatchNote) → IsLawfulNote x → IsLawfulNote y → decimal x.part ≡ decimal y.part → text_of x.from ≡ text_of y.from → text_of x.to ≡ text_of y.to → x ≡ y
+note_once : (x y : LatchNote) → IsLawfulNote x → IsLawfulNote y → decimal x.part ≡ decimal y.part → labels_text x.from ≡ labels_text y.from → labels_text x.to ≡ labels_text y.to → x ≡ y
 note_once x y p q part_text from_text to_text =
     let make : ℕ → List ℕ → List ℕ → LatchNote = λ part from to. record { part = part; from = from; to = to } in
     let small = p.part in
@@ -148,10 +148,10 @@ parts_once xs ys p q e =
     (enumerate_from 0 xs) (enumerate_from 0 ys) (each_numbered IsLawfulPart 0 xs p) (each_numbered IsLawfulPart 0 ys q) e
     ∙ items_of 0 ys
 
-notes_once : (xs ys : List LatchNote) → AllByRecursion IsLawfulNote xs → AllByRecursion IsLawfulNote ys → map latch_fields (enumerate_from 0 xs) ≡ map latch_fields (enumerate_from 0 ys) → xs ≡ ys
+notes_once : (xs ys : List LatchNote) → AllByRecursion IsLawfulNote xs → AllByRecursion IsLawfulNote ys → map note_fields (enumerate_from 0 xs) ≡ map note_fields (enumerate_from 0 ys) → xs ≡ ys
 notes_once xs ys p q e =
     sym (items_of 0 xs)
-    ∙ images_once latch_fields (λ (x : ℕ × LatchNote). x.1) (λ x. IsLawfulNote x.1)
+    ∙ images_once note_fields (λ (x : ℕ × LatchNote). x.1) (λ x. IsLawfulNote x.1)
     (λ x y a b f. note_once x.1 y.1 a b (ap (λ (t : List (List ℕ)). get_or t 3 []) f) (ap (λ (t : List (List ℕ)). get_or t 5 []) f) (ap (λ (t : List (List ℕ)). get_or t 7 []) f))
     (enumerate_from 0 xs) (enumerate_from 0 ys) (each_numbered IsLawfulNote 0 xs p) (each_numbered IsLawfulNote 0 ys q) e
     ∙ items_of 0 ys
@@ -211,10 +211,10 @@ classes_kept : (c : Option (List ℕ)) → filter (begins (codes "classes")) (cl
 classes_kept None = refl
 classes_kept (Some labels) = refl
 
-no_classes_kept : (test : List (List ℕ) → Bool) → ((labels : List ℕ) → test (codes "classes" ∷ text_of labels ∷ []) ≡ false) → (c : Option (List ℕ)) → filter test (classes_fields c) ≡ []
+no_classes_kept : (test : List (List ℕ) → Bool) → ((labels : List ℕ) → test (codes "classes" ∷ labels_text labels ∷ []) ≡ false) → (c : Option (List ℕ)) → filter test (classes_fields c) ≡ []
 no_classes_kept test h None = refl
 no_classes_kept test h (Some labels) =
-    ap (λ (b : Bool). cond b ((codes "classes" ∷ text_of labels ∷ []) ∷ []) []) (h labels)
+    ap (λ (b : Bool). cond b ((codes "classes" ∷ labels_text labels ∷ []) ∷ []) []) (h labels)
 
 -- the lines behind that of the kind
 abbrev body_of : Header → List (List (List ℕ))
@@ -222,7 +222,7 @@ body_of H =
     classes_fields H.classes
     ++ map part_fields (enumerate_from 0 H.parts)
     ++ map (state_fields (length H.latches)) (zip H.states H.words)
-    ++ map latch_fields (enumerate_from 0 H.latches)
+    ++ map note_fields (enumerate_from 0 H.latches)
 
 four_kept : (test : List (List ℕ) → Bool) (c p s l c' p' s' l' : List (List (List ℕ))) → filter test c ≡ c' → filter test p ≡ p' → filter test s ≡ s' → filter test l ≡ l' → filter test (c ++ p ++ s ++ l) ≡ c' ++ p' ++ s' ++ l'
 four_kept test c p s l c' p' s' l' hc hp hs hl =
@@ -234,32 +234,32 @@ classes_lines : (H : Header) → filter (begins (codes "classes")) (body_of H) �
 classes_lines H =
     let test : List (List ℕ) → Bool = begins (codes "classes") in
     let c : List (List (List ℕ)) = classes_fields H.classes in
-    four_kept test c (map part_fields (enumerate_from 0 H.parts)) (map (state_fields (length H.latches)) (zip H.states H.words)) (map latch_fields (enumerate_from 0 H.latches)) c [] [] []
-    (classes_kept H.classes) (none_kept part_fields test (λ x. refl) (enumerate_from 0 H.parts)) (none_kept (state_fields (length H.latches)) test (λ x. refl) (zip H.states H.words)) (none_kept latch_fields test (λ x. refl) (enumerate_from 0 H.latches))
+    four_kept test c (map part_fields (enumerate_from 0 H.parts)) (map (state_fields (length H.latches)) (zip H.states H.words)) (map note_fields (enumerate_from 0 H.latches)) c [] [] []
+    (classes_kept H.classes) (none_kept part_fields test (λ x. refl) (enumerate_from 0 H.parts)) (none_kept (state_fields (length H.latches)) test (λ x. refl) (zip H.states H.words)) (none_kept note_fields test (λ x. refl) (enumerate_from 0 H.latches))
     ∙ append-nil (c ++ [] ++ []) ∙ append-nil (c ++ []) ∙ append-nil c
 
 part_lines : (H : Header) → filter (begins (codes "part")) (body_of H) ≡ map part_fields (enumerate_from 0 H.parts)
 part_lines H =
     let test : List (List ℕ) → Bool = begins (codes "part") in
     let p : List (List (List ℕ)) = map part_fields (enumerate_from 0 H.parts) in
-    four_kept test (classes_fields H.classes) p (map (state_fields (length H.latches)) (zip H.states H.words)) (map latch_fields (enumerate_from 0 H.latches)) [] p [] []
-    (no_classes_kept test (λ labels. refl) H.classes) (all_kept part_fields test (λ x. refl) (enumerate_from 0 H.parts)) (none_kept (state_fields (length H.latches)) test (λ x. refl) (zip H.states H.words)) (none_kept latch_fields test (λ x. refl) (enumerate_from 0 H.latches))
+    four_kept test (classes_fields H.classes) p (map (state_fields (length H.latches)) (zip H.states H.words)) (map note_fields (enumerate_from 0 H.latches)) [] p [] []
+    (no_classes_kept test (λ labels. refl) H.classes) (all_kept part_fields test (λ x. refl) (enumerate_from 0 H.parts)) (none_kept (state_fields (length H.latches)) test (λ x. refl) (zip H.states H.words)) (none_kept note_fields test (λ x. refl) (enumerate_from 0 H.latches))
     ∙ append-nil (p ++ []) ∙ append-nil p
 
 state_lines : (H : Header) → filter (begins (codes "code")) (body_of H) ≡ map (state_fields (length H.latches)) (zip H.states H.words)
 state_lines H =
     let test : List (List ℕ) → Bool = begins (codes "code") in
     let s : List (List (List ℕ)) = map (state_fields (length H.latches)) (zip H.states H.words) in
-    four_kept test (classes_fields H.classes) (map part_fields (enumerate_from 0 H.parts)) s (map latch_fields (enumerate_from 0 H.latches)) [] [] s []
-    (no_classes_kept test (λ labels. refl) H.classes) (none_kept part_fields test (λ x. refl) (enumerate_from 0 H.parts)) (all_kept (state_fields (length H.latches)) test (λ x. refl) (zip H.states H.words)) (none_kept latch_fields test (λ x. refl) (enumerate_from 0 H.latches))
+    four_kept test (classes_fields H.classes) (map part_fields (enumerate_from 0 H.parts)) s (map note_fields (enumerate_from 0 H.latches)) [] [] s []
+    (no_classes_kept test (λ labels. refl) H.classes) (none_kept part_fields test (λ x. refl) (enumerate_from 0 H.parts)) (all_kept (state_fields (length H.latches)) test (λ x. refl) (zip H.states H.words)) (none_kept note_fields test (λ x. refl) (enumerate_from 0 H.latches))
     ∙ append-nil s
 
-note_lines : (H : Header) → filter (begins (codes "latch")) (body_of H) ≡ map latch_fields (enumerate_from 0 H.latches)
+note_lines : (H : Header) → filter (begins (codes "latch")) (body_of H) ≡ map note_fields (enumerate_from 0 H.latches)
 note_lines H =
     let test : List (List ℕ) → Bool = begins (codes "latch") in
-    let l : List (List (List ℕ)) = map latch_fields (enumerate_from 0 H.latches) in
+    let l : List (List (List ℕ)) = map note_fields (enumerate_from 0 H.latches) in
     four_kept test (classes_fields H.classes) (map part_fields (enumerate_from 0 H.parts)) (map (state_fields (length H.latches)) (zip H.states H.words)) l [] [] [] l
-    (no_classes_kept test (λ labels. refl) H.classes) (none_kept part_fields test (λ x. refl) (enumerate_from 0 H.parts)) (none_kept (state_fields (length H.latches)) test (λ x. refl) (zip H.states H.words)) (all_kept latch_fields test (λ x. refl) (enumerate_from 0 H.latches))
+    (no_classes_kept test (λ labels. refl) H.classes) (none_kept part_fields test (λ x. refl) (enumerate_from 0 H.parts)) (none_kept (state_fields (length H.latches)) test (λ x. refl) (zip H.states H.words)) (all_kept note_fields test (λ x. refl) (enumerate_from 0 H.latches))
 
 -- the fields of the lines tell the header
 header_once : (H H' : Header) → IsLawfulHeader H → IsLawfulHeader H' → head_fields H ≡ head_fields H' → H ≡ H'

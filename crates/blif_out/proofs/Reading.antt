@@ -8,8 +8,10 @@ use Rattle.hs_io.specs.declared.lines.Line.{Line}
 use Rattle.hs_io.specs.Lines.{lines_from}
 use Rattle.hs_io.specs.Spelling.{line_text, ArePlainFields, IsComment}
 use Rattle.hs_io.proofs.Spelled.{line_of-fields, line_of-comment}
-use Rattle.net_core.specs.Joined.{is_backslash, ends_in_backslash, is_continued, part_of, in_front, joined, ends_text, has_fields, word_of}
+use Rattle.net_core.specs.Joined.{is_backslash, ends_in_backslash, is_continued, part_of, in_front, joined, ends_text, word_of}
+use Rattle.net_core.specs.Statements.{numbered_of, is_skipped, statement_of}
 use Rattle.net_core.specs.Words.{end_word}
+use Rattle.blif_out.proofs.Grammar.{on_lines}
 
 -- clean lines with these fields, numbered
 abbrev pub numbered : ℕ → List (List (List ℕ)) → List Line
@@ -87,22 +89,18 @@ take_while-numbered n (fields ∷ lines) (p, ps) =
     take_while-cons (λ l. not (ends_text l)) line (numbered (n + 1) (lines ++ (end_word ∷ []) ∷ [])) (ap not p)
     ∙ ap (λ ls. line ∷ ls) (take_while-numbered (n + 1) lines ps)
 
--- they are clean
-pub clean-numbered : (n : ℕ) (lines : List (List (List ℕ))) → AllByRecursion (λ line. line.bad ≡ false) (numbered n lines)
-clean-numbered n [] = tt
-clean-numbered n (fields ∷ lines) = (refl, clean-numbered (n + 1) lines)
-
 -- lines that have a first field
 abbrev pub HasWord : List (List ℕ) → Type 0
 HasWord fields = 0 < length fields
 
 -- the statements among them: those with fields
-pub statements-body : (n : ℕ) (body : List (List (List ℕ))) → AllByRecursion HasWord body → map (λ line. line.fields) (filter has_fields (numbered n body)) ≡ body
+statements-body : (n : ℕ) (body : List (List (List ℕ))) → AllByRecursion HasWord body → map numbered_of (filter (λ line. not (is_skipped line)) (numbered n body)) ≡ on_lines n (map statement_of body)
 statements-body n [] p = refl
 statements-body n (fields ∷ body) (p, ps) =
     let some : eqb (length fields) 0 ≡ false = grind (arith, nat_tests) in
-    rw some (ap (λ fs. fields ∷ fs) (statements-body (n + 1) body ps))
+    rw some (ap (λ ss. record { number = n; bad = false; says = statement_of fields } ∷ ss) (statements-body (n + 1) body ps))
 
-pub statements-comments : (n : ℕ) (comments : List (List ℕ)) (body : List (List (List ℕ))) → AllByRecursion HasWord body → map (λ line. line.fields) (filter has_fields (numbered n (map (λ _. []) comments ++ body))) ≡ body
-statements-comments n [] body p = statements-body n body p
+-- behind comments they have the numbers of their lines
+pub statements-comments : (n : ℕ) (comments : List (List ℕ)) (body : List (List (List ℕ))) → AllByRecursion HasWord body → (first : ℕ) × (map numbered_of (filter (λ line. not (is_skipped line)) (numbered n (map (λ _. []) comments ++ body))) ≡ on_lines first (map statement_of body))
+statements-comments n [] body p = (n, statements-body n body p)
 statements-comments n (text ∷ comments) body p = statements-comments (n + 1) comments body p

@@ -7,13 +7,13 @@ use Rattle.std.proofs.lemmas.Bool.Decides.{nat_tests}
 use Rattle.std.proofs.lemmas.Nat.Bits.{bit_at-lt}
 use Rattle.hs_io.specs.Spelling.{spaced, ArePlainFields, IsFieldByte, IsComment}
 use Rattle.hs_io.proofs.Spelled.{all_append, all_weaker}
-use Rattle.partition.specs.Text.{text_of}
+use Rattle.partition.specs.Text.{labels_text}
 use Rattle.state_codes.specs.declared.split.Kind.{Kind}
 use Rattle.state_codes.specs.declared.split.Kind.TheVariants.{Code, Assign, Parallel, Serial, Cascade, Feedback, Least}
 use Rattle.state_codes.specs.declared.split.Part.{Part}
 use Rattle.blif_out.specs.declared.header.Header.{Header}
 use Rattle.blif_out.specs.declared.header.LatchNote.{LatchNote}
-use Rattle.blif_out.specs.Head.{kind_word, kind_fields, classes_fields, numbers_text, part_fields, bits_of, bit_text, state_fields, latch_fields, head_fields, head_lines, comment_text}
+use Rattle.blif_out.specs.Head.{kind_word, kind_fields, classes_fields, numbers_text, part_fields, bits_of, bit_text, state_fields, note_fields, head_fields, head_lines, comment_text}
 use Rattle.blif_out.proofs.Words.{name_word}
 
 abbrev pub IsVisible : List ℕ → Type 0
@@ -45,11 +45,11 @@ pub decimal_visible : (n : ℕ) → IsVisible (decimal n)
 unfolding digits
 decimal_visible n = digits_visible 64 n [] tt
 
-pub text_visible : (labels : List ℕ) → IsVisible (text_of labels)
+pub text_visible : (labels : List ℕ) → IsVisible (labels_text labels)
 text_visible [] = tt
 text_visible (label ∷ []) = decimal_visible label
 text_visible (label ∷ next ∷ labels) =
-    all_append IsFieldByte (decimal label) (44 ∷ text_of (next ∷ labels)) (decimal_visible label) (record { low = omega arith; high = omega arith; no_comment = λ e. absurd (omega arith) }, text_visible (next ∷ labels))
+    all_append IsFieldByte (decimal label) (44 ∷ labels_text (next ∷ labels)) (decimal_visible label) (record { low = omega arith; high = omega arith; no_comment = λ e. absurd (omega arith) }, text_visible (next ∷ labels))
 
 numbers_visible : (numbers : List ℕ) → IsVisible (numbers_text numbers)
 numbers_visible [] = (name_word (codes "-") (omega arith) refl).field.visible
@@ -83,7 +83,7 @@ part_visible : (part : ℕ × Part) → AreVisible (part_fields part)
 part_visible (number, part) =
     ((name_word (codes "part") (omega arith) refl).field.visible, (decimal_visible number, (text_visible part.partition, ((name_word (codes "carrier") (omega arith) refl).field.visible, (text_visible part.carrier, ((name_word (codes "reads") (omega arith) refl).field.visible, (numbers_visible part.reads, tt)))))))
 
-note_visible : (latch : ℕ × LatchNote) → AreVisible (latch_fields latch)
+note_visible : (latch : ℕ × LatchNote) → AreVisible (note_fields latch)
 note_visible (number, latch) =
     ((name_word (codes "latch") (omega arith) refl).field.visible, (decimal_visible number, ((name_word (codes "part") (omega arith) refl).field.visible, (decimal_visible latch.part, ((name_word (codes "from") (omega arith) refl).field.visible, (text_visible latch.from, ((name_word (codes "to") (omega arith) refl).field.visible, (text_visible latch.to, tt))))))))
 
@@ -106,14 +106,14 @@ pub head_visible : (H : Header) → ArePlainFields H.states → AllByRecursion A
 head_visible H plain =
     let parts : List (List (List ℕ)) = map part_fields (enumerate_from 0 H.parts) in
     let states : List (List (List ℕ)) = map (state_fields (length H.latches)) (zip H.states H.words) in
-    let notes : List (List (List ℕ)) = map latch_fields (enumerate_from 0 H.latches) in
+    let notes : List (List (List ℕ)) = map note_fields (enumerate_from 0 H.latches) in
     let classes : List (List (List ℕ)) = classes_fields H.classes in (
       kind_visible H.kind,
       lines_append (classes ++ parts ++ states) notes
           (lines_append (classes ++ parts) states
           (lines_append classes parts (classes_visible H.classes) (each_visible part_fields part_visible (enumerate_from 0 H.parts)))
           (states_visible (length H.latches) H.states H.words plain))
-          (each_visible latch_fields note_visible (enumerate_from 0 H.latches)),
+          (each_visible note_fields note_visible (enumerate_from 0 H.latches)),
     )
 
 -- visible fields stand in one line

@@ -8,10 +8,9 @@ use Rattle.net_core.specs.declared.Gate.{Gate}
 use Rattle.net_core.specs.declared.Network.{Network}
 use Rattle.net_core.specs.Words.{inputs_word, outputs_word, names_word, end_word}
 use Rattle.blif_out.specs.declared.header.Header.{Header}
-use Rattle.blif_out.specs.Head.{Head, net_text_of, head_lines, head_fields, comment_text, kind_fields, classes_fields, part_fields, state_fields, latch_fields}
-use Rattle.blif_out.specs.NetText.{net_text, gate_fields, row_fields}
-use Rattle.blif_out.specs.NetText as statements
-use Rattle.blif_out.specs.Pieces.{row_line, latch_line, gate_lines, part_line, state_line, note_line}
+use Rattle.blif_out.specs.Head.{Head, net_text_of, head_lines, head_fields, comment_text, kind_fields, classes_fields, part_fields, state_fields, note_fields}
+use Rattle.blif_out.specs.NetText.{net_text, gate_fields, latch_fields, row_fields}
+use Rattle.blif_out.specs.Inner.Pieces.{row_line, latch_line, gate_lines, part_line, state_line, note_line}
 
 -- a statement as a line
 abbrev line : List (List ℕ) → List ℕ
@@ -37,14 +36,14 @@ in_a_row m i o l g e = simp append_assoc
 -- the parts of the text of a network
 pub net_text-is : (N : Network) → (((codes ".model hsdec\n" ++ (line (inputs_word ∷ N.inputs) ++ line (outputs_word ∷ N.outputs))) ++ flat_map latch_line N.latches) ++ flat_map gate_lines N.gates) ++ codes ".end\n" ≡ net_text N
 net_text-is N =
-    let latches : List (List (List ℕ)) = map statements.latch_fields N.latches in
+    let latches : List (List (List ℕ)) = map latch_fields N.latches in
     let gates : List (List (List ℕ)) = flat_map gate_fields N.gates in
     let last : List (List (List ℕ)) = (end_word ∷ []) ∷ [] in
     let parts : flat_map line ((latches ++ gates) ++ last) ≡ flat_map latch_line N.latches ++ (flat_map gate_lines N.gates ++ codes ".end\n") =
     flat_map-append line (latches ++ gates) last
     ∙ ap (λ (t : List ℕ). t ++ codes ".end\n") (flat_map-append line latches gates)
     ∙ append_assoc (flat_map line latches) (flat_map line gates) (codes ".end\n")
-    ∙ ap (λ (t : List ℕ). t ++ (flat_map line gates ++ codes ".end\n")) (flat_map-map line statements.latch_fields N.latches)
+    ∙ ap (λ (t : List ℕ). t ++ (flat_map line gates ++ codes ".end\n")) (flat_map-map line latch_fields N.latches)
     ∙ ap (λ (t : List ℕ). flat_map latch_line N.latches ++ (t ++ codes ".end\n")) (gates-are N.gates) in
     in_a_row (codes ".model hsdec\n") (line (inputs_word ∷ N.inputs)) (line (outputs_word ∷ N.outputs)) (flat_map latch_line N.latches) (flat_map gate_lines N.gates) (codes ".end\n")
     ∙ ap (λ (t : List ℕ). codes ".model hsdec\n" ++ (line (inputs_word ∷ N.inputs) ++ (line (outputs_word ∷ N.outputs) ++ t))) (sym parts)
@@ -60,10 +59,10 @@ head_text-is H =
     let c : List (List (List ℕ)) = classes_fields H.classes in
     let p : List (List (List ℕ)) = map part_fields (enumerate_from 0 H.parts) in
     let s : List (List (List ℕ)) = map (state_fields bits) (zip H.states H.words) in
-    let l : List (List (List ℕ)) = map latch_fields (enumerate_from 0 H.latches) in
+    let l : List (List (List ℕ)) = map note_fields (enumerate_from 0 H.latches) in
     let parts : flat_map comment p ≡ flat_map part_line (enumerate_from 0 H.parts) = flat_map-map comment part_fields (enumerate_from 0 H.parts) in
     let states : flat_map comment s ≡ flat_map (state_line bits) (zip H.states H.words) = flat_map-map comment (state_fields bits) (zip H.states H.words) in
-    let notes : flat_map comment l ≡ flat_map note_line (enumerate_from 0 H.latches) = flat_map-map comment latch_fields (enumerate_from 0 H.latches) in
+    let notes : flat_map comment l ≡ flat_map note_line (enumerate_from 0 H.latches) = flat_map-map comment note_fields (enumerate_from 0 H.latches) in
     let split : flat_map comment (c ++ p ++ s ++ l) ≡ ((flat_map comment c ++ flat_map comment p) ++ flat_map comment s) ++ flat_map comment l =
     flat_map-append comment (c ++ p ++ s) l
     ∙ ap (λ (t : List ℕ). t ++ flat_map comment l) (flat_map-append comment (c ++ p) s ∙ ap (λ (t : List ℕ). t ++ flat_map comment s) (flat_map-append comment c p)) in
@@ -77,5 +76,5 @@ head_text-is H =
 -- the text begins with its header
 pub head_begins : (H : Header) (N : Network) → Head (net_text_of H N) H
 head_begins H N =
-    let statements : List (List (List ℕ)) = (inputs_word ∷ N.inputs) ∷ (outputs_word ∷ N.outputs) ∷ (map statements.latch_fields N.latches ++ flat_map gate_fields N.gates) in
+    let statements : List (List (List ℕ)) = (inputs_word ∷ N.inputs) ∷ (outputs_word ∷ N.outputs) ∷ (map latch_fields N.latches ++ flat_map gate_fields N.gates) in
     (codes " hsdec\n" ++ flat_map line (statements ++ (end_word ∷ []) ∷ []), refl)

@@ -9,7 +9,7 @@ use Rattle.net_core.specs.declared.Latch.{Latch}
 use Rattle.net_core.specs.declared.Network.{Network}
 use Rattle.net_core.specs.declared.Start.{Start}
 use Rattle.net_core.specs.declared.Start.TheVariants.{Zero, One, Free, Unknown}
-use Rattle.net_core.specs.Denotes.{is_plane_character}
+use Rattle.net_core.specs.Statements.{is_plane_character}
 use Rattle.net_core.specs.Start.{start_digit}
 use Rattle.net_core.specs.Words.{model_word, inputs_word, outputs_word, latch_word, names_word}
 use Rattle.blif_out.specs.NetText.{row_fields, gate_fields, latch_fields, net_fields, one_digit}

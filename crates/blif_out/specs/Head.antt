@@ -6,7 +6,7 @@ use Rattle.std.specs.Int.{bit_at}
 use Rattle.hs_io.specs.Spelling.{ended, line_text}
 use Rattle.net_core.specs.declared.Network.{Network}
 use Rattle.net_core.specs.Words.{model_word}
-use Rattle.partition.specs.Text.{text_of}
+use Rattle.partition.specs.Text.{labels_text}
 use Rattle.state_codes.specs.declared.split.Kind.{Kind}
 use Rattle.state_codes.specs.declared.split.Kind.TheVariants.{Code, Assign, Parallel, Serial, Cascade, Feedback, Least}
 use Rattle.state_codes.specs.declared.split.Part.{Part}
@@ -30,17 +30,17 @@ kind_fields kind = codes "hsdec" ∷ kind_word kind ∷ []
 -- the partition into alike states, where there is one
 abbrev pub classes_fields : Option (List ℕ) → List (List (List ℕ))
 classes_fields None = []
-classes_fields (Some classes) = (codes "classes" ∷ text_of classes ∷ []) ∷ []
+classes_fields (Some classes) = (codes "classes" ∷ labels_text classes ∷ []) ∷ []
 
 -- numbers joined by commas, and a dash for none
 abbrev pub numbers_text : List ℕ → List ℕ
 numbers_text [] = codes "-"
-numbers_text (number ∷ numbers) = text_of (number ∷ numbers)
+numbers_text (number ∷ numbers) = labels_text (number ∷ numbers)
 
 -- a part with its number
 abbrev pub part_fields : ℕ × Part → List (List ℕ)
 part_fields (number, part) =
-    codes "part" ∷ decimal number ∷ text_of part.partition ∷ codes "carrier" ∷ text_of part.carrier ∷ codes "reads" ∷ numbers_text part.reads ∷ []
+    codes "part" ∷ decimal number ∷ labels_text part.partition ∷ codes "carrier" ∷ labels_text part.carrier ∷ codes "reads" ∷ numbers_text part.reads ∷ []
 
 -- so many bits of a word, bit 0 first, as digits
 abbrev pub bits_of : ℕ → ℕ → List ℕ
@@ -56,9 +56,9 @@ abbrev pub state_fields : ℕ → List ℕ × ℕ → List (List ℕ)
 state_fields bits (name, word) = codes "code" ∷ name ∷ bit_text (bits_of bits word) ∷ []
 
 -- a latch with its number
-abbrev pub latch_fields : ℕ × LatchNote → List (List ℕ)
-latch_fields (number, latch) =
-    codes "latch" ∷ decimal number ∷ codes "part" ∷ decimal latch.part ∷ codes "from" ∷ text_of latch.from ∷ codes "to" ∷ text_of latch.to ∷ []
+abbrev pub note_fields : ℕ × LatchNote → List (List ℕ)
+note_fields (number, latch) =
+    codes "latch" ∷ decimal number ∷ codes "part" ∷ decimal latch.part ∷ codes "from" ∷ labels_text latch.from ∷ codes "to" ∷ labels_text latch.to ∷ []
 
 -- the fields of each line, behind the mark; a code has a bit for each latch
 abbrev pub head_fields : Header → List (List (List ℕ))
@@ -67,7 +67,7 @@ head_fields H =
     ∷ (classes_fields H.classes
     ++ map part_fields (enumerate_from 0 H.parts)
     ++ map (state_fields (length H.latches)) (zip H.states H.words)
-    ++ map latch_fields (enumerate_from 0 H.latches))
+    ++ map note_fields (enumerate_from 0 H.latches))
 
 -- a comment of these fields
 abbrev pub comment_text : List (List ℕ) → List ℕ

@@ -3,5 +3,5 @@ pub mod Writable
 pub mod Law
 pub mod Head
 pub mod Order
-pub mod Pieces
 pub mod HeadLaw
+pub mod Inner

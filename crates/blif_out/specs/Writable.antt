@@ -5,7 +5,7 @@ use Rattle.hs_io.specs.Spelling.{IsPlainField}
 use Rattle.net_core.specs.declared.Gate.{Gate}
 use Rattle.net_core.specs.declared.Latch.{Latch}
 use Rattle.net_core.specs.declared.Network.{Network}
-use Rattle.net_core.specs.Denotes.{is_plane_character}
+use Rattle.net_core.specs.Statements.{is_plane_character}
 
 -- a name that stands as a field and joins no line
 pub record IsSignalName (name : List ℕ) : Type 0 where

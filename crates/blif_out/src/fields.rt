@@ -5,9 +5,9 @@ ghost use Rattle.std.specs.Fmt.{decimal};
 ghost use Rattle.std.specs.Int.{bit_at};
 ghost use Rattle.std.specs.List.{flat_map};
 ghost use Rattle.hs_io.specs.Spelling.{spaced};
-ghost use Rattle.partition.specs.Text.{text_of};
+ghost use Rattle.partition.specs.Text.{labels_text};
 ghost use Rattle.blif_out.specs.Head.{numbers_text, bits_of, bit_text};
-ghost use Rattle.blif_out.specs.Pieces.{comma_number};
+ghost use Rattle.blif_out.specs.Inner.Pieces.{comma_number};
 
 use hs_io::Name;
 use itoa::Buffer;
@@ -53,7 +53,7 @@ pub fn append_partition_field(
     text: &mut Vec<u8>,
     partition: &Partition,
 ) -> Result<(), AllocError>
-    ensures { OnOk result (text.new.items ≡ text.old.items ++ spaced (text_of partition.now)) }
+    ensures { OnOk result (text.new.items ≡ text.old.items ++ spaced (labels_text partition.now)) }
 {
     text.push(b' ')?;
     partition.show(alloc, text)
@@ -79,7 +79,7 @@ fn append_numbers(text: &mut Vec<u8>, numbers: &[u16]) -> Result<(), AllocError>
 
 /// Appends numbers joined by commas.
 fn append_joined(text: &mut Vec<u8>, first: u16, others: &[u16]) -> Result<(), AllocError>
-    ensures { OnOk result (text.new.items ≡ text.old.items ++ text_of (first ∷ others.now)) }
+    ensures { OnOk result (text.new.items ≡ text.old.items ++ labels_text (first ∷ others.now)) }
 {
     append_number(text, usize::from(first))?;
     append_others(text, others)?;

@@ -4,7 +4,7 @@ ghost use Rattle.std.specs.Prelude.{◌≡◌, ◌<◌, ◌≤◌, ◌++◌, OnO
 ghost use Rattle.std.specs.List.{enumerate_from, flat_map, zip};
 ghost use Rattle.hs_io.specs.Spelling.{ended};
 ghost use Rattle.blif_out.specs.Head.{comment_text, classes_fields, head_lines, kind_fields, kind_word};
-ghost use Rattle.blif_out.specs.Pieces.{part_line, state_line, note_line};
+ghost use Rattle.blif_out.specs.Inner.Pieces.{part_line, state_line, note_line};
 
 use crate::fields::{
     append_code_field, append_field, append_number_field, append_numbers_field,

@@ -5,7 +5,7 @@ ghost use Rattle.std.specs.List.{flat_map};
 ghost use Rattle.hs_io.specs.Spelling.{ended, line_text};
 ghost use Rattle.net_core.specs.Words.{inputs_word, names_word, outputs_word};
 ghost use Rattle.blif_out.specs.NetText.{net_text};
-ghost use Rattle.blif_out.specs.Pieces.{row_line, latch_line, gate_lines};
+ghost use Rattle.blif_out.specs.Inner.Pieces.{row_line, latch_line, gate_lines};
 
 use crate::fields::{append_field, append_names};
 use hs_io::Name;

@@ -3,9 +3,9 @@ use Rattle.std.specs.Int.{bit_at, bit_not, w128, trailing_zeros}
 use Rattle.std.specs.List.{Contains, filter}
 use Rattle.std.proofs.lemmas.Nat.Bits.{bit_at-lt, bit_at_and, bit_at_not, bit_at-trailing_zeros}
 use Rattle.cover_logic.specs.declared.term.Term.{Term}
-use Rattle.cover_logic.specs.Term.{Holds, IsHeld}
-use Rattle.cover_logic.specs.Pair.{Includes, IsHalf, agree}
-use Rattle.cover_logic.specs.Rows.{IsGap}
+use Rattle.cover_logic.specs.Term.{Holds, IsCovered}
+use Rattle.cover_logic.specs.Inner.Pair.{Includes, IsColumnHalf, agree}
+use Rattle.cover_logic.specs.Inner.Rows.{IsUncovered}
 use Rattle.cover_logic.proofs.Bits.{below_width, bits_of_zero, zero_or_one}
 use Rattle.cover_logic.proofs.Terms.{agree_at, agree_from_shared, holds_own}
 use Rattle.cover_logic.proofs.Lists.{Contains-nil, Contains-filter, Contains-from_filter}
@@ -15,16 +15,16 @@ abbrev pub IsNear : Term → List Term → List Term → Type 0
 IsNear part terms near = near ≡ filter (agree part) terms
 
 -- they hold what the terms hold within the part
-pub held_near : (part : Term) (terms near : List Term) → IsNear part terms near → (x : ℕ) → Holds part x → IsHeld terms x → IsHeld near x
+pub held_near : (part : Term) (terms near : List Term) → IsNear part terms near → (x : ℕ) → Holds part x → IsCovered terms x → IsCovered near x
 held_near part terms near e x p h =
     (h.0, subst (λ (ts : List Term). Contains ts h.0) (sym e) (Contains-filter (agree part) terms h.0 h.1 (agree_from_shared part h.0 x p h.2)), h.2)
 
-pub held_from_near : (part : Term) (terms near : List Term) → IsNear part terms near → (x : ℕ) → IsHeld near x → IsHeld terms x
+pub held_from_near : (part : Term) (terms near : List Term) → IsNear part terms near → (x : ℕ) → IsCovered near x → IsCovered terms x
 held_from_near part terms near e x h =
     (h.0, (Contains-from_filter (agree part) terms h.0 (subst (λ (ts : List Term). Contains ts h.0) e h.1)).0, h.2)
 
 -- where no term is near, the part's own value is a gap
-pub gap_where_none : (part : Term) (terms near : List Term) → IsNear part terms near → near ≡ [] → Holds part part.value × (IsHeld terms part.value → ⊥)
+pub gap_where_none : (part : Term) (terms near : List Term) → IsNear part terms near → near ≡ [] → Holds part part.value × (IsCovered terms part.value → ⊥)
 gap_where_none part terms near e none = (
   holds_own part,
   λ h.
@@ -44,7 +44,7 @@ includes_part part t a p q outside x holds i l =
     closed : (a b : ℕ) → b < 2 → a ≡ 1 → min a (1 - b) ≡ 0 → b ≡ 1
     closed a b p q r = omega arith
 
-pub held_by_one : (part : Term) (terms near : List Term) (t : Term) → IsNear part terms near → Contains near t → part.care < 2 ^ 128 → t.care < 2 ^ 128 → bit_and t.care (bit_not w128 part.care) ≡ 0 → (x : ℕ) → Holds part x → IsHeld terms x
+pub held_by_one : (part : Term) (terms near : List Term) (t : Term) → IsNear part terms near → Contains near t → part.care < 2 ^ 128 → t.care < 2 ^ 128 → bit_and t.care (bit_not w128 part.care) ≡ 0 → (x : ℕ) → Holds part x → IsCovered terms x
 held_by_one part terms near t e in' p q outside x holds =
     let kept = Contains-from_filter (agree part) terms t (subst (λ (ts : List Term). Contains ts t) e in') in
     (t, kept.0, includes_part part t kept.1 p q outside x holds)
@@ -61,13 +61,13 @@ dash_at_lowest care other p outside e q some =
     dash a b p q h = omega arith
 
 -- a gap of a half is a gap of the part
-pub gap_from_half : (part half : Term) (terms near : List Term) (column bit x : ℕ) → IsNear part terms near → IsHalf part column bit half → Holds half x × (IsHeld near x → ⊥) → Holds part x × (IsHeld terms x → ⊥)
+pub gap_from_half : (part half : Term) (terms near : List Term) (column bit x : ℕ) → IsNear part terms near → IsColumnHalf part column bit half → Holds half x × (IsCovered near x → ⊥) → Holds part x × (IsCovered terms x → ⊥)
 gap_from_half part half terms near column bit x e h gap =
     let in' = ((h x).0 gap.0).0 in
     (in', λ held. gap.1 (held_near part terms near e x in' held))
 
 -- with no gap in the half without the bit, what is a gap of the other half, or none, is one of the part
-pub gap_from_halves : (part zero one : Term) (terms near : List Term) (column : ℕ) → IsNear part terms near → IsHalf part column 0 zero → IsHalf part column 1 one → IsGap zero near None → (gap : Option ℕ) → IsGap one near gap → IsGap part terms gap
+pub gap_from_halves : (part zero one : Term) (terms near : List Term) (column : ℕ) → IsNear part terms near → IsColumnHalf part column 0 zero → IsColumnHalf part column 1 one → IsUncovered zero near None → (gap : Option ℕ) → IsUncovered one near gap → IsUncovered part terms gap
 gap_from_halves part zero one terms near column e low high none None h = λ x p.
     held_from_near part terms near e x
     (⊎_elim (λ b. none x ((low x).1 (p, b))) (λ b. h x ((high x).1 (p, b))) (zero_or_one (bit_at x column) (bit_at-lt x column)))

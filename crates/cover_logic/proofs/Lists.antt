@@ -4,7 +4,7 @@ use Rattle.std.specs.List.Retain.{IsFiltered, ReturnsInTurn}
 use Rattle.std.proofs.lemmas.Bool.{false≢true, or_cases, or_parts, cases_Bool, cond-true, cond-false}
 use Rattle.std.proofs.lemmas.List.Elements.{Contains-append_cases, Contains-append_left, Contains-append_right, Contains-push, Contains-push_cases, Contains-get_or}
 use Rattle.cover_logic.specs.declared.term.Term.{Term}
-use Rattle.cover_logic.specs.Term.{Holds, IsHeld}
+use Rattle.cover_logic.specs.Term.{Holds, IsCovered}
 
 pub Contains-head : {X : Type 0} (x : X) (xs : List X) → Contains (x ∷ xs) x
 Contains-head x xs = Contains-append_left (x ∷ []) xs x (Contains-push [] x)
@@ -62,30 +62,30 @@ Contains-filter {X} p (x ∷ xs) y h e =
     (cases_Bool (p x))
 
 -- the values that lists hold
-pub held_at : (terms : List Term) (i : ℕ) (d : Term) (x : ℕ) → i < length terms → Holds (get_or terms i d) x → IsHeld terms x
+pub held_at : (terms : List Term) (i : ℕ) (d : Term) (x : ℕ) → i < length terms → Holds (get_or terms i d) x → IsCovered terms x
 held_at terms i d x h p = (get_or terms i d, Contains-get_or terms i d h, p)
 
-pub held_left : (xs ys : List Term) (x : ℕ) → IsHeld xs x → IsHeld (xs ++ ys) x
+pub held_left : (xs ys : List Term) (x : ℕ) → IsCovered xs x → IsCovered (xs ++ ys) x
 held_left xs ys x h = (h.0, Contains-append_left xs ys h.0 h.1, h.2)
 
-pub held_right : (xs ys : List Term) (x : ℕ) → IsHeld ys x → IsHeld (xs ++ ys) x
+pub held_right : (xs ys : List Term) (x : ℕ) → IsCovered ys x → IsCovered (xs ++ ys) x
 held_right xs ys x h = (h.0, Contains-append_right xs ys h.0 h.1, h.2)
 
-pub held_cases : (xs ys : List Term) (x : ℕ) → IsHeld (xs ++ ys) x → IsHeld xs x ⊎ IsHeld ys x
+pub held_cases : (xs ys : List Term) (x : ℕ) → IsCovered (xs ++ ys) x → IsCovered xs x ⊎ IsCovered ys x
 held_cases xs ys x h = ⊎_elim (λ k. inl (h.0, k, h.2)) (λ k. inr (h.0, k, h.2)) (Contains-append_cases xs ys h.0 h.1)
 
-pub held_push : (xs : List Term) (t : Term) (x : ℕ) → Holds t x → IsHeld (xs ++ t ∷ []) x
+pub held_push : (xs : List Term) (t : Term) (x : ℕ) → Holds t x → IsCovered (xs ++ t ∷ []) x
 held_push xs t x p = (t, Contains-push xs t, p)
 
-pub held_push_cases : (xs : List Term) (t : Term) (x : ℕ) → IsHeld (xs ++ t ∷ []) x → IsHeld xs x ⊎ Holds t x
+pub held_push_cases : (xs : List Term) (t : Term) (x : ℕ) → IsCovered (xs ++ t ∷ []) x → IsCovered xs x ⊎ Holds t x
 held_push_cases xs t x h =
     ⊎_elim (λ k. inl (h.0, k, h.2)) (λ e. inr (subst (λ (u : Term). Holds u x) (sym e) h.2)) (Contains-push_cases xs t h.0 h.1)
 
-pub held_cons_cases : (t : Term) (xs : List Term) (x : ℕ) → IsHeld (t ∷ xs) x → Holds t x ⊎ IsHeld xs x
+pub held_cons_cases : (t : Term) (xs : List Term) (x : ℕ) → IsCovered (t ∷ xs) x → Holds t x ⊎ IsCovered xs x
 held_cons_cases t xs x h =
     ⊎_elim (λ e. inl (subst (λ (u : Term). Holds u x) (sym e) h.2)) (λ k. inr (h.0, k, h.2)) (Contains-cons_cases t xs h.0 h.1)
 
-pub held_none : (x : ℕ) → IsHeld [] x → ⊥
+pub held_none : (x : ℕ) → IsCovered [] x → ⊥
 held_none x h = Contains-nil h.0 h.1
 
 -- what `retain` keeps, where the closure stays as it is and computes a test

@@ -3,15 +3,15 @@ use Rattle.std.specs.List.{All, filter}
 use Rattle.std.proofs.lemmas.Bool.{cases_Bool}
 use Rattle.std.proofs.lemmas.List.Elements.{All-push, All-nil, All-filter, All-contains, Contains-append_left, Contains-get_or}
 use Rattle.cover_logic.specs.declared.term.Term.{Term}
-use Rattle.cover_logic.specs.Term.{FitsWidth, IsHeld}
-use Rattle.cover_logic.specs.Pair.{Includes, refines}
-use Rattle.cover_logic.specs.Rows.{IsClear, IsPrime}
+use Rattle.cover_logic.specs.Term.{FitsWidth, IsCovered}
+use Rattle.cover_logic.specs.Inner.Pair.{Includes, refines}
+use Rattle.cover_logic.specs.Inner.Rows.{IsClear, IsPrime}
 use Rattle.cover_logic.proofs.Terms.{refines_includes}
 use Rattle.cover_logic.proofs.Lists.{held_push, held_push_cases, held_left, Contains-filter}
 
 -- the rows and the terms that are left hold what on holds; the rows are prime and clear of off, and so are the terms left
 pub record ArePrimes (on off : List Term) (width : ℕ) (left rows : List Term) : Type 0 where
-  pub held : (x : ℕ) → IsHeld on x → IsHeld rows x ⊎ IsHeld left x
+  pub held : (x : ℕ) → IsCovered on x → IsCovered rows x ⊎ IsCovered left x
   pub clear : All (IsClear off) rows
   pub prime : All (IsPrime off) rows
   pub fits : All (FitsWidth width) rows
@@ -42,7 +42,7 @@ primes_more on off width left rows seed row p includes clear prime fits = record
     front : (P : Term → Type 0) → All P (left ++ seed ∷ []) → All P left
     front P h = λ k d below. All-contains P (left ++ seed ∷ []) (get_or left k d) h (Contains-append_left left (seed ∷ []) (get_or left k d) (Contains-get_or left k d below))
 
-    still : (x : ℕ) → IsHeld (left ++ seed ∷ []) x → IsHeld (rows ++ row ∷ []) x ⊎ IsHeld (filter (λ t. not (refines row t)) left) x
+    still : (x : ℕ) → IsCovered (left ++ seed ∷ []) x → IsCovered (rows ++ row ∷ []) x ⊎ IsCovered (filter (λ t. not (refines row t)) left) x
     still x k =
         ⊎_elim (λ h. ⊎_elim (λ e. inl (held_push rows row x (refines_includes row h.0 e x h.2)))
         (λ e. inr (h.0, Contains-filter (λ t. not (refines row t)) left h.0 h.1 (ap not e), h.2)) (cases_Bool (refines row h.0)))

@@ -3,9 +3,9 @@ use Rattle.std.specs.List.{list_any}
 use Rattle.std.specs.Bool.{OnFalse}
 use Rattle.std.proofs.lemmas.Bool.{false≢true, cases_Bool, cases_eq, not_from_false}
 use Rattle.cover_logic.specs.declared.term.Term.{Term}
-use Rattle.cover_logic.specs.Term.{FitsWidth, Holds, HoldsWithDash, IsHeld, LooksAt}
-use Rattle.cover_logic.specs.Pair.{Includes, IsLooser, agree}
-use Rattle.cover_logic.specs.Rows.{IsClear, IsPrime, Meets}
+use Rattle.cover_logic.specs.Term.{FitsWidth, Holds, HoldsWithDash, IsCovered, LooksAt}
+use Rattle.cover_logic.specs.Inner.Pair.{Includes, IsLooser, agree}
+use Rattle.cover_logic.specs.Inner.Rows.{IsClear, IsPrime, Overlaps}
 use Rattle.cover_logic.proofs.Bits.{below_width}
 use Rattle.cover_logic.proofs.Terms.{agree_from_shared, shared_from_agree, looser_holds, looser_with_dash}
 use Rattle.cover_logic.proofs.Lists.{passes_from_any, fails_from_none}
@@ -16,7 +16,7 @@ clear_from_none t terms h x p held =
     false≢true (sym (fails_from_none (agree t) terms h held.0 held.1) ∙ agree_from_shared t held.0 x p held.2)
 
 -- and one that touches some shares a value with it
-meets_from_some : (t : Term) (terms : List Term) → list_any (agree t) terms ≡ true → Meets terms t
+meets_from_some : (t : Term) (terms : List Term) → list_any (agree t) terms ≡ true → Overlaps terms t
 meets_from_some t terms h =
     let other = passes_from_any (agree t) terms h in
     let value = shared_from_agree t other.0 other.2 in
@@ -34,23 +34,23 @@ clear_says t terms = (
     not_true true h = absurd (false≢true h)
     not_true false h = refl
 
-pub met_says : (t : Term) (terms : List Term) → OnFalse (not (list_any (agree t) terms)) (Meets terms t)
+pub met_says : (t : Term) (terms : List Term) → OnFalse (not (list_any (agree t) terms)) (Overlaps terms t)
 met_says t terms = by_answer (list_any (agree t) terms) (meets_from_some t terms)
   where
-    by_answer : (b : Bool) → (b ≡ true → Meets terms t) → OnFalse (not b) (Meets terms t)
+    by_answer : (b : Bool) → (b ≡ true → Overlaps terms t) → OnFalse (not b) (Overlaps terms t)
     by_answer true h = h refl
     by_answer false h = tt
 
 -- the literals below a column are needed
 abbrev pub IsPrimeBelow : List Term → ℕ → Term → Type 0
-IsPrimeBelow off n t = (column : ℕ) → column < n → LooksAt t column → (x : ℕ) × IsHeld off x × HoldsWithDash t column x
+IsPrimeBelow off n t = (column : ℕ) → column < n → LooksAt t column → (x : ℕ) × IsCovered off x × HoldsWithDash t column x
 
 -- a literal that stays is needed
-pub prime_keeps : (off : List Term) (n : ℕ) (t : Term) → IsPrimeBelow off n t → ((x : ℕ) × IsHeld off x × HoldsWithDash t n x) → IsPrimeBelow off (n + 1) t
+pub prime_keeps : (off : List Term) (n : ℕ) (t : Term) → IsPrimeBelow off n t → ((x : ℕ) × IsCovered off x × HoldsWithDash t n x) → IsPrimeBelow off (n + 1) t
 prime_keeps off n t h here column below l =
     ⊎_elim (λ e. subst_column e) (λ ne. h column (omega arith) l) (cases_eq n column)
   where
-    subst_column : n ≡ column → (x : ℕ) × IsHeld off x × HoldsWithDash t column x
+    subst_column : n ≡ column → (x : ℕ) × IsCovered off x × HoldsWithDash t column x
     subst_column e = (here.0, here.1, subst (λ (k : ℕ). HoldsWithDash t k here.0) e here.2)
 
 -- a dash is no literal, and those before it stay needed
@@ -100,7 +100,7 @@ raised_dashed row off width n t wide r looser dash care clear = record {
 }
 
 -- one column further, with the literal there, since the dash would hold a value of off
-pub raised_kept : (row : Term) (off : List Term) (width n : ℕ) (t wide : Term) → IsRaised row off width n t → ((x : ℕ) → Holds wide x ↔ HoldsWithDash t n x) → Meets off wide → IsRaised row off width (n + 1) t
+pub raised_kept : (row : Term) (off : List Term) (width n : ℕ) (t wide : Term) → IsRaised row off width n t → ((x : ℕ) → Holds wide x ↔ HoldsWithDash t n x) → Overlaps off wide → IsRaised row off width (n + 1) t
 raised_kept row off width n t wide r dash met =
     record {
       includes = r.includes;

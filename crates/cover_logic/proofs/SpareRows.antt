@@ -5,16 +5,16 @@ use Rattle.std.proofs.lemmas.Bool.{cases_lt, false≢true}
 use Rattle.std.proofs.lemmas.List.{take-append-le, drop-append-le, append-nil, take_all}
 use Rattle.std.proofs.lemmas.List.Elements.{All-nil, All-push}
 use Rattle.cover_logic.specs.declared.term.Term.{Term}
-use Rattle.cover_logic.specs.Term.{Holds, IsHeld}
-use Rattle.cover_logic.specs.Rows.{Covers, EachNeeded, IsSole}
+use Rattle.cover_logic.specs.Term.{Holds, IsCovered}
+use Rattle.cover_logic.specs.Inner.Rows.{Covers, EachNeeded, IsSole}
 use Rattle.cover_logic.proofs.Gaps.{IsNear, held_near, held_from_near}
 use Rattle.cover_logic.proofs.Lists.{held_push, held_push_cases, held_left, held_right, held_cases, held_cons_cases, Contains-head}
 
 -- the others hold each value that the row has in common with the terms
 abbrev pub IsShared : Term → List Term → List Term → Type 0
-IsShared row terms others = (x : ℕ) → Holds row x → IsHeld terms x → IsHeld others x
+IsShared row terms others = (x : ℕ) → Holds row x → IsCovered terms x → IsCovered others x
 
-pub shared_more : (row : Term) (terms others : List Term) (t : Term) → IsShared row terms others → ((x : ℕ) → Holds row x → Holds t x → IsHeld others x) → IsShared row (terms ++ t ∷ []) others
+pub shared_more : (row : Term) (terms others : List Term) (t : Term) → IsShared row terms others → ((x : ℕ) → Holds row x → Holds t x → IsCovered others x) → IsShared row (terms ++ t ∷ []) others
 shared_more row terms others t h one x p held = ⊎_elim (λ k. h x p k) (λ q. one x p q) (held_push_cases terms t x held)
 
 -- the rows that are kept and the rest hold what on holds, and each kept row is needed beside the rest
@@ -38,16 +38,16 @@ remove_last [] t = refl
 remove_last (x ∷ xs) t = ap (λ ys. x ∷ ys) (remove_last xs t)
 
 -- what the rest holds, it holds with one row more
-later : (row : Term) (rest : List Term) (x : ℕ) → IsHeld rest x → IsHeld (row ∷ rest) x
+later : (row : Term) (rest : List Term) (x : ℕ) → IsCovered rest x → IsCovered (row ∷ rest) x
 later row rest x h = held_right (row ∷ []) rest x h
 
-moved : (kept rest : List Term) (row : Term) (x : ℕ) → IsHeld (kept ++ row ∷ rest) x → IsHeld ((kept ++ row ∷ []) ++ rest) x
+moved : (kept rest : List Term) (row : Term) (x : ℕ) → IsCovered (kept ++ row ∷ rest) x → IsCovered ((kept ++ row ∷ []) ++ rest) x
 moved kept rest row x h =
     ⊎_elim (λ k. held_left (kept ++ row ∷ []) rest x (held_left kept (row ∷ []) x k))
     (λ k. ⊎_elim (λ p. held_left (kept ++ row ∷ []) rest x (held_push kept row x p)) (λ q. held_right (kept ++ row ∷ []) rest x q) (held_cons_cases row rest x k))
     (held_cases kept (row ∷ rest) x h)
 
-moved_back : (kept rest : List Term) (row : Term) (x : ℕ) → IsHeld ((kept ++ row ∷ []) ++ rest) x → IsHeld (kept ++ row ∷ rest) x
+moved_back : (kept rest : List Term) (row : Term) (x : ℕ) → IsCovered ((kept ++ row ∷ []) ++ rest) x → IsCovered (kept ++ row ∷ rest) x
 moved_back kept rest row x h =
     ⊎_elim (λ k. ⊎_elim (λ q. held_left kept (row ∷ rest) x q) (λ p. held_right kept (row ∷ rest) x (row, Contains-head row rest, p)) (held_push_cases kept row x k))
     (λ k. held_right kept (row ∷ rest) x (later row rest x k))
@@ -63,19 +63,19 @@ row_kept on rows kept rest others row (Some x) a among near sole some = record {
 }
   where
     Needed : ℕ → Type 0
-    Needed i = (y : ℕ) × IsHeld on y × (IsHeld (remove (kept ++ row ∷ []) i ++ rest) y → ⊥)
+    Needed i = (y : ℕ) × IsCovered on y × (IsCovered (remove (kept ++ row ∷ []) i ++ rest) y → ⊥)
 
     earlier : (i : ℕ) → i < length kept → Needed i
     earlier i h =
         let w = a.needed i h in
-        (w.0, w.1, λ held. w.2 (moved_back (remove kept i) rest row w.0 (subst (λ (ts : List Term). IsHeld (ts ++ rest) w.0) (remove_push kept row i h) held)))
+        (w.0, w.1, λ held. w.2 (moved_back (remove kept i) rest row w.0 (subst (λ (ts : List Term). IsCovered (ts ++ rest) w.0) (remove_push kept row i h) held)))
 
     itself : (i : ℕ) → i ≡ length kept → Needed i
     itself i e = (
       x,
       sole.1,
       λ held. sole.2 (held_near row (kept ++ rest) others near x sole.0
-          (subst (λ (ts : List Term). IsHeld (ts ++ rest) x) (ap (λ j. remove (kept ++ row ∷ []) j) e ∙ remove_last kept row) held)),
+          (subst (λ (ts : List Term). IsCovered (ts ++ rest) x) (ap (λ j. remove (kept ++ row ∷ []) j) e ∙ remove_last kept row) held)),
     )
 
 -- a row whose values of on the others hold is left out
@@ -102,4 +102,4 @@ rest_slice rows n = take_all (length rows - n) (drop n rows) (omega (arith, leng
 
 -- with nothing left, the rows that are kept hold all
 pub covers_alone : (on kept rest : List Term) → rest ≡ [] → Covers (kept ++ rest) on → Covers kept on
-covers_alone on kept rest e h x p = subst (λ (ts : List Term). IsHeld ts x) (ap (λ ys. kept ++ ys) e ∙ append-nil kept) (h x p)
+covers_alone on kept rest e h x p = subst (λ (ts : List Term). IsCovered ts x) (ap (λ ys. kept ++ ys) e ∙ append-nil kept) (h x p)

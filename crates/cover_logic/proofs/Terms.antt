@@ -5,7 +5,7 @@ use Rattle.std.proofs.lemmas.Nat.{one_shl, or_disjoint, pow_pos}
 use Rattle.std.proofs.lemmas.Bool.{cases_eq, and_parts}
 use Rattle.cover_logic.specs.declared.term.Term.{Term}
 use Rattle.cover_logic.specs.Term.{Holds, HoldsWithDash, LooksAt}
-use Rattle.cover_logic.specs.Pair.{Includes, IsHalf, IsLooser, IsMeet, ShareValue, agree, refines}
+use Rattle.cover_logic.specs.Inner.Pair.{Includes, IsColumnHalf, IsLooser, IsIntersection, ShareValue, agree, refines}
 use Rattle.cover_logic.proofs.Bits.{zero_from_test, test_from_zero, bits_of_zero, zero_from_bits, bit_at_differ, same_where_both, none_differ, common_is, equal_from_test, zero_or_one, zero_is_not_one, both_one, min_with_one, below_width}
 
 -- the value is inside care
@@ -140,7 +140,7 @@ overlaid_looks : (a b both : Term) → IsOverlaid a b both → (i : ℕ) → bit
 overlaid_looks a b both o i = ap (λ n. bit_at n i) o.care ∙ bit_at_or a.care b.care i
 
 -- it holds what both hold
-pub overlaid_holds : (a b both : Term) → IsOverlaid a b both → IsMeet a b both
+pub overlaid_holds : (a b both : Term) → IsOverlaid a b both → IsIntersection a b both
 unfolding Holds
 overlaid_holds a b both o x = (
   λ p. (
@@ -183,7 +183,7 @@ pub record IsSplit (t : Term) (k one : ℕ) (half : Term) : Type 0 where
   pub at_column : bit_at half.value k ≡ one
   pub elsewhere : (i : ℕ) → i ≢ k → bit_at half.value i ≡ bit_at t.value i
 
-pub split_holds : (t : Term) (k one : ℕ) (half : Term) → IsSplit t k one half → IsHalf t k one half
+pub split_holds : (t : Term) (k one : ℕ) (half : Term) → IsSplit t k one half → IsColumnHalf t k one half
 unfolding Holds
 split_holds t k one half s x = (
   λ p. (
@@ -199,7 +199,7 @@ split_holds t k one half s x = (
 )
 
 -- the half whose value has the bit, or has it not
-pub split_by : (t : Term) (k : ℕ) (one : Bool) (half : Term) → k < 128 → bit_at t.care k ≡ 0 → half.care ≡ bit_or t.care (1 * 2 ^ k % 2 ^ 128) → (one ≡ true → half.value ≡ bit_or t.value (1 * 2 ^ k % 2 ^ 128)) → (one ≡ false → half.value ≡ t.value) → IsHalf t k (if one then 1 else 0) half
+pub split_by : (t : Term) (k : ℕ) (one : Bool) (half : Term) → k < 128 → bit_at t.care k ≡ 0 → half.care ≡ bit_or t.care (1 * 2 ^ k % 2 ^ 128) → (one ≡ true → half.value ≡ bit_or t.value (1 * 2 ^ k % 2 ^ 128)) → (one ≡ false → half.value ≡ t.value) → IsColumnHalf t k (if one then 1 else 0) half
 split_by t k true half h d care set stay =
     let value = set refl in
     split_holds t k 1 half (record {

@@ -8,9 +8,9 @@ use Rattle.std.proofs.lemmas.List.{append-nil}
 use Rattle.std.proofs.lemmas.List.Elements.{All-append, All-contains, All-drop, All-take, Contains-get_or}
 use Rattle.cover_logic.proofs.Bits.{below_width}
 use Rattle.cover_logic.specs.declared.term.Term.{Term}
-use Rattle.cover_logic.specs.Term.{FitsWidth, Holds, HoldsWithDash, IsHeld}
+use Rattle.cover_logic.specs.Term.{FitsWidth, Holds, HoldsWithDash, IsCovered}
 use Rattle.cover_logic.specs.Cover.{AreApart, GoodCover}
-use Rattle.cover_logic.specs.Rows.{Covers, EachNeeded, IsClear, IsPrime}
+use Rattle.cover_logic.specs.Inner.Rows.{Covers, EachNeeded, IsClear, IsPrime}
 
 -- where a value and its lowest `width` bits are the same
 same_below : (width x column : ℕ) → column < width → bit_at (x % 2 ^ width) column ≡ bit_at x column
@@ -33,10 +33,10 @@ dash_low : (width : ℕ) (t : Term) → FitsWidth width t → (dash x : ℕ) →
 unfolding HoldsWithDash
 dash_low width t fits dash x p column ne l = same_below width x column (below_width width t.care column fits l) ∙ p column ne l
 
-held_low : (width : ℕ) (terms : List Term) → All (FitsWidth width) terms → (x : ℕ) → IsHeld terms x → IsHeld terms (x % 2 ^ width)
+held_low : (width : ℕ) (terms : List Term) → All (FitsWidth width) terms → (x : ℕ) → IsCovered terms x → IsCovered terms (x % 2 ^ width)
 held_low width terms fits x h = (h.0, h.1, holds_low width h.0 (All-contains (FitsWidth width) terms h.0 fits h.1) x h.2)
 
-held_from_low : (width : ℕ) (terms : List Term) → All (FitsWidth width) terms → (x : ℕ) → IsHeld terms (x % 2 ^ width) → IsHeld terms x
+held_from_low : (width : ℕ) (terms : List Term) → All (FitsWidth width) terms → (x : ℕ) → IsCovered terms (x % 2 ^ width) → IsCovered terms x
 held_from_low width terms fits x h = (h.0, h.1, holds_from_low width h.0 (All-contains (FitsWidth width) terms h.0 fits h.1) x h.2)
 
 -- each term of on is clear of off
@@ -60,7 +60,7 @@ good_cover width rows on off fits on_fits off_fits covers clear prime needed = r
       (w.0 % 2 ^ width, low_is_value width w.0, held_low width off off_fits w.0 w.1, dash_low width (get_or rows k d) (fits k d h) column w.0 w.2);
   rows_needed = λ i h.
       let w = needed i h in
-      let P : List Term → Type 0 = λ ts. IsHeld ts w.0 in (
+      let P : List Term → Type 0 = λ ts. IsCovered ts w.0 in (
         w.0 % 2 ^ width,
         low_is_value width w.0,
         held_low width on on_fits w.0 w.1,

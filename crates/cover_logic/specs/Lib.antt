@@ -1,4 +1,3 @@
 pub mod Term
 pub mod Cover
-pub mod Pair
-pub mod Rows
+pub mod Inner

@@ -1,3 +1,4 @@
+-- Terms and the values that they hold (source: a cube over the columns of a gate).
 use Rattle.std.specs.Prelude.{◌≡◌, ◌≢◌, ℕ, ◌<◌, ◌^◌, List, Contains}
 use Rattle.std.specs.Int.{bit_at}
 use Rattle.cover_logic.specs.declared.term.Term.{Term}
@@ -16,8 +17,8 @@ HoldsWithDash t dash x =
     (column : ℕ) → column ≢ dash → LooksAt t column → bit_at x column ≡ bit_at t.value column
 
 -- some term of the list holds the value
-abbrev pub IsHeld : List Term → ℕ → Type 0
-IsHeld terms x = (t : Term) × Contains terms t × Holds t x
+abbrev pub IsCovered : List Term → ℕ → Type 0
+IsCovered terms x = (t : Term) × Contains terms t × Holds t x
 
 -- the term has no literal at or above the width; its value is inside care, so it has no bit there at all
 abbrev pub FitsWidth : ℕ → Term → Type 0

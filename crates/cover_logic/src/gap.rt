@@ -1,12 +1,12 @@
 ghost use Rattle.std.specs.Prelude.{◌≡◌, ◌↔◌, [], Contains, IfOk, IfSome, IsNone, filter};
-ghost use Rattle.cover_logic.specs.Pair.{agree};
-ghost use Rattle.cover_logic.specs.Rows.{IsGap};
+ghost use Rattle.cover_logic.specs.Inner.Pair.{agree};
+ghost use Rattle.cover_logic.specs.Inner.Rows.{IsUncovered};
 
 use crate::term::Term;
 use std::alloc::{AllocError, Global};
 
 /// The terms that share a value with the part.
-pub fn touching(alloc: Global, part: Term, terms: &[Term]) -> Result<Vec<Term>, AllocError>
+pub fn overlapping(alloc: Global, part: Term, terms: &[Term]) -> Result<Vec<Term>, AllocError>
     ensures { IfOk result (λ near. near.items ≡ filter (agree part) terms.now) }
 {
     terms
@@ -28,9 +28,9 @@ fn nearest(part: Term, near: &[Term]) -> Option<Term>
 
 /// A value of the part that no term holds.
 pub fn find_gap(alloc: Global, part: Term, terms: &[Term]) -> Result<Option<u128>, AllocError>
-    ensures { IfOk result (IsGap part terms.now) }
+    ensures { IfOk result (IsUncovered part terms.now) }
 {
-    let near = touching(alloc, part, terms)?;
+    let near = overlapping(alloc, part, terms)?;
     let Some(term) = nearest(part, &near) else {
         return Ok(Some(part.value));
     };

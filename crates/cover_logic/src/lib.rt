@@ -22,7 +22,7 @@
 ghost use Rattle.std.specs.Prelude.{◌≤◌, ◌↔◌, All, IfOk, IsTrue};
 ghost use Rattle.cover_logic.specs.Term.{FitsWidth};
 ghost use Rattle.cover_logic.specs.Cover.{CanCover, GoodCover};
-ghost use Rattle.cover_logic.specs.Rows.{IsClear};
+ghost use Rattle.cover_logic.specs.Inner.Rows.{IsClear};
 
 mod gap;
 mod primes;

@@ -1,7 +1,7 @@
 ghost use Rattle.std.specs.Prelude.{◌≡◌, ◌≤◌, All, IfOk, filter, not, vec_len};
 ghost use Rattle.cover_logic.specs.Term.{FitsWidth};
-ghost use Rattle.cover_logic.specs.Pair.{refines};
-ghost use Rattle.cover_logic.specs.Rows.{Covers, IsClear, IsPrime};
+ghost use Rattle.cover_logic.specs.Inner.Pair.{refines};
+ghost use Rattle.cover_logic.specs.Inner.Rows.{Covers, IsClear, IsPrime};
 
 use crate::raise::{grow, raise};
 use crate::term::Term;

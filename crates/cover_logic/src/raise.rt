@@ -1,15 +1,15 @@
 ghost use Rattle.std.specs.Prelude.{◌≤◌, ◌↔◌, IsTrue};
 ghost use Rattle.std.specs.Bool.{OnFalse};
 ghost use Rattle.cover_logic.specs.Term.{FitsWidth};
-ghost use Rattle.cover_logic.specs.Pair.{Includes};
-ghost use Rattle.cover_logic.specs.Rows.{IsClear, IsPrime, Meets};
+ghost use Rattle.cover_logic.specs.Inner.Pair.{Includes};
+ghost use Rattle.cover_logic.specs.Inner.Rows.{IsClear, IsPrime, Overlaps};
 
 use crate::term::Term;
 
 /// Whether no value of the row is held by a term.
 pub fn is_clear(row: Term, terms: &[Term]) -> bool
     ensures clear { IsTrue result ↔ IsClear terms.now row }
-    ensures met { OnFalse result (Meets terms.now row) }
+    ensures met { OnFalse result (Overlaps terms.now row) }
 {
     !terms.iter().any(|term| row.touches(*term))
 }

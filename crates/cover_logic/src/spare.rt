@@ -1,8 +1,8 @@
 ghost use Rattle.std.specs.Prelude.{◌≡◌, ◌++◌, [], All, Contains, IfOk, filter};
-ghost use Rattle.cover_logic.specs.Pair.{agree};
-ghost use Rattle.cover_logic.specs.Rows.{Covers, EachNeeded, IsSole};
+ghost use Rattle.cover_logic.specs.Inner.Pair.{agree};
+ghost use Rattle.cover_logic.specs.Inner.Rows.{Covers, EachNeeded, IsSole};
 
-use crate::gap::{find_gap, touching};
+use crate::gap::{find_gap, overlapping};
 use crate::term::Term;
 use std::alloc::{AllocError, Global};
 
@@ -10,8 +10,8 @@ use std::alloc::{AllocError, Global};
 fn rivals(alloc: Global, row: Term, kept: &[Term], rest: &[Term]) -> Result<Vec<Term>, AllocError>
     ensures { IfOk result (λ others. others.items ≡ filter (agree row) (kept.now ++ rest.now)) }
 {
-    let mut others = touching(alloc, row, kept)?;
-    let later = touching(alloc, row, rest)?;
+    let mut others = overlapping(alloc, row, kept)?;
+    let later = overlapping(alloc, row, rest)?;
     others.extend_from_slice(&later)?;
     Ok(others)
 }

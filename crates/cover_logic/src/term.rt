@@ -13,7 +13,7 @@ impl Term {
     ghost use Rattle.std.specs.Prelude.{◌≡◌, ℕ, ◌<◌, ◌≤◌, ◌↔◌, IsTrue, MatchOption, bit_and, if◌then◌else◌};
     ghost use Rattle.std.specs.Int.{bit_at};
     ghost use Rattle.cover_logic.specs.Term.{FitsWidth, Holds, HoldsWithDash, LooksAt};
-    ghost use Rattle.cover_logic.specs.Pair.{Includes, IsHalf, IsLooser, IsMeet, ShareValue, agree, refines};
+    ghost use Rattle.cover_logic.specs.Inner.Pair.{Includes, IsColumnHalf, IsLooser, IsIntersection, ShareValue, agree, refines};
 
     /// The term with literals at the columns of `care`, by the bits of `value` there.
     pub(crate) fn masked(care: u128, value: u128) -> Term
@@ -69,7 +69,7 @@ impl Term {
     pub(crate) fn with_literal(self, column: u32, one: bool) -> Term
         requires column { column < 128 }
         requires dash { bit_at self.care column ≡ 0 }
-        ensures half { IsHalf self column (if one then 1 else 0) result }
+        ensures half { IsColumnHalf self column (if one then 1 else 0) result }
         ensures care { self.care < result.care }
     {
         let bit = 1u128 << column;
@@ -92,7 +92,7 @@ impl Term {
 
     /// The term of the values that both hold, or none where there is no such value.
     pub(crate) fn meet(self, other: Term) -> Option<Term>
-        ensures { MatchOption result (ShareValue self other → ⊥) (IsMeet self other) }
+        ensures { MatchOption result (ShareValue self other → ⊥) (IsIntersection self other) }
     {
         if self.touches(other) {
             Some(Term {

@@ -8,7 +8,7 @@ use Rattle.cubes.specs.declared.cube.Cube.{Cube}
 use Rattle.cubes.specs.Symbol.{bit}
 use Rattle.cubes.specs.Cube.{Holds, HoldsNumber}
 use Rattle.cubes.specs.Gap.{HoldsEach, HoldsOfEach, IsFirstGap, IsHeld, IsLeastWithout}
-use Rattle.cubes.specs.Tail.{HoldsTail, HasDashes, IsHeldTail, allows_at}
+use Rattle.cubes.specs.Inner.Tail.{HoldsTail, HasDashes, IsHeldTail, allows_at}
 use Rattle.cubes.proofs.Lists.{Any-with_all, Any-weaker, Any-from_filter, Any-to_filter}
 use Rattle.cubes.proofs.Numbers.{bit-top, bit-above}
 use Rattle.cubes.proofs.Tails.{agrees_from_tail, tail_from_agrees, dashes_from_mod, mod_from_dashes, agrees_above, agrees_below, agrees_from_mod, agrees_mod, agrees_more, allows_from_agrees}

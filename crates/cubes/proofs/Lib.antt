@@ -11,3 +11,4 @@ pub mod Halves
 pub mod Cares
 pub mod Ends
 pub mod Parts
+pub mod Deciding

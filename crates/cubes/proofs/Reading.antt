@@ -6,7 +6,7 @@ use Rattle.std.specs.Int.{bit_at}
 use Rattle.cubes.specs.declared.cube.Character.{Character}
 use Rattle.cubes.specs.declared.cube.Character.TheVariants.{Zero, One, Dash}
 use Rattle.cubes.specs.Symbol.{bit}
-use Rattle.cubes.specs.Character.{bit_of, care_of, value_of}
+use Rattle.cubes.specs.Inner.Character.{bit_of, care_of, value_of}
 use Rattle.cubes.specs.Field.{IsCharacter, byte_of, character, characters}
 
 -- a number with one more bit at its end

@@ -7,7 +7,7 @@ use Rattle.std.specs.Bool.{beq}
 use Rattle.std.specs.Int.{bit_at}
 use Rattle.cubes.specs.declared.cube.Cube.{Cube}
 use Rattle.cubes.specs.Symbol.{bit}
-use Rattle.cubes.specs.Tail.{HoldsTail, HasDashes, allows_at}
+use Rattle.cubes.specs.Inner.Tail.{HoldsTail, HasDashes, allows_at}
 use Rattle.cubes.proofs.Bits.{zero_from_bit, bit_from_zero, same_bits}
 use Rattle.cubes.proofs.Places.{AgreesAt, agrees_from_field, field_from_agrees}
 

@@ -3,7 +3,7 @@ use Rattle.std.specs.Prelude.{ℕ, ◌≡◌, ◌≢◌, ◌+◌, ◌-◌, ◌^�
 use Rattle.std.specs.List.{AllZip}
 use Rattle.cubes.specs.declared.cube.Cube.{Cube}
 use Rattle.cubes.specs.Symbol.{bit, symbol_of}
-use Rattle.cubes.specs.Field.{Allows, IsCharacter, byte_of, characters}
+use Rattle.cubes.specs.Field.{Allows, IsCharacter, byte_of, characters, characters_hold}
 
 -- the characters of a cube, one for each bit of a symbol
 abbrev pub field_of : Cube → List (Option Bool)
@@ -16,6 +16,10 @@ text_of c = map byte_of (field_of c)
 -- the cube has a character for each bit of the symbol, and each that is no dash is that bit
 unfoldable pub Holds : Cube → List Bool → Type 0
 Holds c symbol = AllZip Allows (field_of c) symbol
+
+-- the same as a yes or no
+abbrev pub holds : Cube → List Bool → Bool
+holds c symbol = characters_hold (field_of c) symbol
 
 -- the cube holds the symbol of that number
 abbrev pub HoldsNumber : Cube → ℕ → Type 0

@@ -1,5 +1,5 @@
 -- The input field of a row: characters, of which each is a bit or a dash. A dash is no bit.
-use Rattle.std.specs.Prelude.{ℕ, ◌≡◌, ◌⊎◌, zero, suc, Bool, true, false, if◌then◌else◌, List, [], ◌∷◌, Option, Some, None}
+use Rattle.std.specs.Prelude.{ℕ, ◌≡◌, ◌⊎◌, zero, suc, Bool, true, false, not, ◌&&◌, if◌then◌else◌, List, [], ◌∷◌, Option, Some, None}
 use Rattle.cubes.specs.Symbol.{bit}
 
 -- the byte that writes a character
@@ -16,6 +16,17 @@ IsCharacter byte = (byte ≡ 48) ⊎ (byte ≡ 49) ⊎ (byte ≡ 45)
 abbrev pub Allows : Option Bool → Bool → Type 0
 Allows (Some wanted) b = b ≡ wanted
 Allows None b = Unit {0}
+
+-- the same as a yes or no
+abbrev pub allows : Option Bool → Bool → Bool
+allows (Some wanted) b = if wanted then b else not b
+allows None b = true
+
+-- whether characters hold a symbol: each allows the bit at its place
+abbrev pub characters_hold : List (Option Bool) → List Bool → Bool
+characters_hold [] [] = true
+characters_hold (c ∷ cs) (b ∷ bits) = allows c b && characters_hold cs bits
+characters_hold _ _ = false
 
 -- the character at the place that counts 2 ^ place: a dash where there is no care
 abbrev pub character : ℕ → ℕ → ℕ → Option Bool

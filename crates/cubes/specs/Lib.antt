@@ -1,6 +1,5 @@
 pub mod Symbol
 pub mod Field
-pub mod Character
 pub mod Cube
-pub mod Tail
 pub mod Gap
+pub mod Inner

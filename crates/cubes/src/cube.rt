@@ -11,7 +11,7 @@ enum Character {
 
 impl Character {
     ghost use Rattle.std.specs.Prelude.{IfSome, IfNone};
-    ghost use Rattle.cubes.specs.Character.{bit_of, care_of, value_of};
+    ghost use Rattle.cubes.specs.Inner.Character.{bit_of, care_of, value_of};
     ghost use Rattle.cubes.specs.Field.{IsCharacter, byte_of};
 
     fn from_byte(byte: u8) -> Option<Character>

@@ -6,7 +6,7 @@
 //! in hand looks is not split by, since the first gap has 0 there.
 ghost use Rattle.std.specs.Prelude.{ℕ, ◌≡◌, ◌+◌, ◌%◌, ◌^◌, ◌<◌, ◌≤◌, ◌↔◌, All, Any, Bool, IfNone, IfOk, IfSome, IsTrue, filter};
 ghost use Rattle.cubes.specs.Gap.{HoldsEach, HoldsOfEach, IsFirstGap, IsLeastWithout};
-ghost use Rattle.cubes.specs.Tail.{HasDashes, IsHeldTail, allows_at};
+ghost use Rattle.cubes.specs.Inner.Tail.{HasDashes, IsHeldTail, allows_at};
 
 use crate::cube::Cube;
 use std::alloc::{AllocError, Global};

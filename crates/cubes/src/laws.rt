@@ -1,7 +1,7 @@
 //! Laws of symbols and cubes, for the crates above. Each is the contract of a function that does nothing.
-ghost use Rattle.std.specs.Prelude.{ℕ, ◌≡◌, ◌+◌, ◌<◌, ◌≤◌, ◌^◌, ◌↔◌, Bool, List, bit_and, length};
+ghost use Rattle.std.specs.Prelude.{ℕ, ◌≡◌, ◌+◌, ◌<◌, ◌≤◌, ◌^◌, ◌↔◌, Bool, true, List, bit_and, length};
 ghost use Rattle.cubes.specs.declared.cube.Cube.{Cube};
-ghost use Rattle.cubes.specs.Cube.{DiffersAtPlace, HasBitsOf, HoldsNumber, IsBoth, IsHalf, Meets, greatest_of};
+ghost use Rattle.cubes.specs.Cube.{DiffersAtPlace, HasBitsOf, Holds, HoldsNumber, IsBoth, IsHalf, Meets, greatest_of, holds};
 ghost use Rattle.cubes.specs.Symbol.{bit, number_of, symbol_of};
 
 /// Symbols of a width and the numbers below its power of two stand for one another.
@@ -16,6 +16,11 @@ pub fn symbols_are_numbers()
 pub fn places_of_a_cube()
     ensures places { (c : Cube) (x : ℕ) → HoldsNumber c x ↔ HasBitsOf c x }
     ensures mask { (c : Cube) (x : ℕ) → HoldsNumber c x ↔ (bit_and x c.care ≡ c.value) }
+{}
+
+/// Whether a cube holds a symbol is decided by its characters one by one.
+pub fn holding_is_decided()
+    ensures { (c : Cube) (symbol : List Bool) → (holds c symbol ≡ true) ↔ Holds c symbol }
 {}
 
 /// Cubes of one width that share no symbol differ at a place where neither has a dash.

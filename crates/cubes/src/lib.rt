@@ -19,5 +19,6 @@ mod tests;
 pub use cube::{Cube, CubeFail};
 pub use gap::first_gap;
 pub use laws::{
-    apart_cubes_differ, ends_of_a_cube, parts_of_cubes, places_of_a_cube, symbols_are_numbers,
+    apart_cubes_differ, ends_of_a_cube, holding_is_decided, parts_of_cubes, places_of_a_cube,
+    symbols_are_numbers,
 };

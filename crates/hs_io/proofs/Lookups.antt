@@ -4,7 +4,7 @@ use Rattle.std.proofs.lemmas.Bool.{false≢true}
 use Rattle.std.proofs.lemmas.Slice.Eq.{bytes_eq-Decides}
 use Rattle.std.specs.Map.{lookup}
 use Rattle.std.specs.Str.{bytes_eq}
-use Rattle.hs_io.specs.ShelfState.{HoldsAlso, IsPlaceOf}
+use Rattle.hs_io.specs.Inner.Places.{HoldsAlso, IsPlaceOf}
 
 -- a name that no text has holds nothing
 pub lookup-none : (texts : List (List ℕ × List ℕ)) (name : List ℕ) → IsPlaceOf texts name None → lookup (bytes_eq name) texts ≡ None

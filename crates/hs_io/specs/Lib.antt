@@ -3,5 +3,5 @@ pub mod Pieces
 pub mod ShelfState
 pub mod SinkState
 pub mod Lines
-pub mod Cut
 pub mod Spelling
+pub mod Inner

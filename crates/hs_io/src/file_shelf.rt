@@ -1,4 +1,5 @@
-ghost use Rattle.std.specs.Prelude.{◌≡◌, ◌≢◌, ℕ, ◌+◌, ◌^◌, ◌<◌, ◌≤◌, List, [], None, Err, IfOk, IsErrOf, OnOk, vec_len, ⊤};
+ghost use Rattle.std.specs.Prelude.{◌≡◌, ◌≢◌, ℕ, ◌+◌, ◌-◌, ◌^◌, ◌<◌, ◌≤◌, List, [], None, Err, IfOk, IsErrOf, OnOk, vec_len, ⊤};
+ghost use Rattle.hs_io.specs.Counts.{next_count};
 
 use crate::{LoadFail, Shelf};
 use std::io::Read;
@@ -39,7 +40,17 @@ impl<R: Files> Shelf for FileShelf<R> {
 
     ghost faults = { λ count. count };
 
-    fn load(&mut self, name: &[u8], limit: usize, into: &mut Vec<u8>) -> Result<(), LoadFail> {
+    fn load(&mut self, name: &[u8], limit: usize, into: &mut Vec<u8>) -> Result<(), LoadFail>
+        requires empty { into.old.items ≡ [] }
+        requires limited { limit < 2 ^ 32 }
+        ensures within { OnOk result (vec_len into.new ≤ limit) }
+        ensures one_more { IsErrOf result LoadFail.TooLong → vec_len into.new ≡ limit + 1 }
+        ensures never_falls { self.old ≤ self.new }
+
+        // It counts each failure and nothing else.
+        ensures counted { IsErrOf result LoadFail.Failed → self.new ≡ next_count self.old }
+        ensures not_counted { ¬ IsErrOf result LoadFail.Failed → self.new ≡ self.old }
+    {
         let loaded = load_file(&self.files, name, limit, into);
         if loaded == Err(LoadFail::Failed) {
             self.faults = self.faults.saturating_add(1);

@@ -20,7 +20,7 @@ mod putting;
 mod std_sink;
 
 pub use file_shelf::FileShelf;
-pub use lines::{Line, cut_lines};
+pub use lines::{Fields, Line, cut_lines};
 pub use loading::{LoadFail, Shelf};
 pub use memory_shelf::MemShelf;
 pub use memory_sink::MemSink;

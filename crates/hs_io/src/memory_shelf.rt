@@ -3,7 +3,8 @@ ghost use Rattle.std.specs.Option.{option_copied};
 ghost use Rattle.std.specs.Map.{lookup};
 ghost use Rattle.std.specs.Str.{bytes_eq};
 ghost use Rattle.hs_io.specs.Counts.{next_count, Rose};
-ghost use Rattle.hs_io.specs.ShelfState.{ShelfState, held, FailsNext, Replaces, HoldsAlso, IsPlaceOf};
+ghost use Rattle.hs_io.specs.ShelfState.{ShelfState, held, FailsNext, Replaces};
+ghost use Rattle.hs_io.specs.Inner.Places.{HoldsAlso, IsPlaceOf};
 
 use crate::{LoadFail, Name, Shelf};
 use hs_list::Items;
@@ -93,7 +94,7 @@ impl Shelf for MemShelf {
     {
         self.loads = self.loads.saturating_add(1);
         let listed = self.failing.contains(&self.loads);
-        match text_of(&self.texts, name) {
+        match held_bytes(&self.texts, name) {
             Some(text) if !listed => copy(text, limit, into),
             _ => {
                 self.faults = self.faults.saturating_add(1);
@@ -137,7 +138,7 @@ fn place_of(texts: &[Text], name: &[u8]) -> Option<usize>
 }
 
 /// The bytes under a name.
-fn text_of<'a>(texts: &'a [Text], name: &[u8]) -> Option<&'a [u8]>
+fn held_bytes<'a>(texts: &'a [Text], name: &[u8]) -> Option<&'a [u8]>
     ensures { option_copied result ≡ lookup (bytes_eq name.now) texts.now }
 {
     match place_of(texts, name) {

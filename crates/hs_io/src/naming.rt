@@ -1,7 +1,8 @@
-ghost use Rattle.std.specs.Prelude.{◌≡◌, ℕ, List, IfOk};
+ghost use Rattle.std.specs.Prelude.{◌≡◌, ℕ, List, [], IfOk};
 
 use hs_list::Items;
 use std::alloc::{AllocError, Global};
+use std::default::MadeWith;
 use std::marker::Model;
 
 /// A name of a state, a signal or a file: a list of bytes of its own.
@@ -30,6 +31,17 @@ impl Name {
         ensures { result.now ≡ self.now }
     {
         self.text.as_slice()
+    }
+}
+
+// An unused place of a short list holds the empty name.
+impl MadeWith<Global> for Name {
+    ghost is_made_with = { λ name. name ≡ [] };
+
+    fn made_with(alloc: Global) -> Name {
+        Name {
+            text: Vec::new(alloc),
+        }
     }
 }
 

@@ -1,4 +1,5 @@
-ghost use Rattle.std.specs.Prelude.{◌≡◌, ℕ, None};
+ghost use Rattle.std.specs.Prelude.{◌≡◌, ℕ, ◌≤◌, None, OnErr, OnOk};
+ghost use Rattle.hs_io.specs.Counts.{next_count};
 
 use crate::{Sink, SinkFail};
 use std::marker::Model;
@@ -32,7 +33,13 @@ impl<P: Print> Sink for StdSink<P> {
 
     ghost faults = { λ count. count };
 
-    fn put(&mut self, piece: &[u8]) -> Result<(), SinkFail> {
+    fn put(&mut self, piece: &[u8]) -> Result<(), SinkFail>
+        ensures never_falls { self.old ≤ self.new }
+
+        // It counts each failure and nothing else.
+        ensures counted { OnErr result (self.new ≡ next_count self.old) }
+        ensures not_counted { OnOk result (self.new ≡ self.old) }
+    {
         match self.stream.write_all(piece) {
             Ok(()) => Ok(()),
             Err(_) => {

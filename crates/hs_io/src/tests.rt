@@ -128,7 +128,7 @@ fn loads_files(rt: HostRuntime) -> Result<(), Fail> {
 
 #[test]
 fn cuts_lines(rt: HostRuntime) -> Result<(), Fail> {
-    let text = b".i 1 # one\r\n\n \t \r\na\tb\r#c\x01\n\x01 d # \x02\n#\nlast\r";
+    let text = b".i 1 # one\r\n\n \t \r\na\tb\r#c\x01\n\x01 d # \x02\n#\na b c d last\r";
     let expected: [(u32, &[u8], bool); 7] = [
         (1, b".i;1;", false),
         (2, b"", false),
@@ -136,7 +136,7 @@ fn cuts_lines(rt: HostRuntime) -> Result<(), Fail> {
         (4, b"a;b\r;", true),
         (5, b"\x01;d;", true),
         (6, b"", false),
-        (7, b"last;", false),
+        (7, b"a;b;c;d;last;", false),
     ];
     let lines = cut_lines(rt.alloc(), text)?;
     assert_eq!(rt; lines.len(), expected.len());

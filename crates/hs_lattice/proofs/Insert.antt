@@ -3,7 +3,7 @@ use Rattle.std.proofs.Common.{◌≡◌, ℕ, ◌+◌, ◌-◌, ◌<◌, ◌≤�
 use Rattle.std.specs.List.{insert}
 use Rattle.std.proofs.lemmas.Bool.{cases_lt}
 use Rattle.std.proofs.lemmas.List.Edits.{length-insert, get_or-insert_below, get_or-insert_at, get_or-insert_above}
-use Rattle.hs_lattice.specs.Places.{IsGap}
+use Rattle.hs_lattice.specs.Inner.Places.{IsInsertionPlace}
 
 -- where an element of the longer list comes from
 pub data Source {X : Type 0} (xs : List X) (i : ℕ) (y : X) (k : ℕ) : Type 0 where
@@ -28,7 +28,7 @@ source_of {X} xs i y k within =
     ]
 
 -- an insertion at the item's place keeps a list ascending
-pub AllPairs-insert : {X : Type 0} (R : X → X → Type 0) (xs : List X) (i : ℕ) (y : X) → AllPairs R xs → IsGap R xs y i → AllPairs R (insert xs i y)
+pub AllPairs-insert : {X : Type 0} (R : X → X → Type 0) (xs : List X) (i : ℕ) (y : X) → AllPairs R xs → IsInsertionPlace R xs y i → AllPairs R (insert xs i y)
 AllPairs-insert {X} R xs i y pairs gap a b d lt within =
     let n : length (insert xs i y) ≡ length xs + 1 = length-insert xs i y gap.within in
     let inside : b < length xs + 1 = omega (arith, n) in

@@ -1,3 +1,6 @@
 pub mod Places
 pub mod Insert
 pub mod Searches
+pub mod Distinct
+pub mod Exclusion
+pub mod Outcomes

@@ -2,7 +2,7 @@
 use Rattle.std.proofs.Common.{◌≡◌, ℕ, ◌+◌, ◌<◌, ◌≤◌, ◌⊎◌, inl, inr, List, length, get_or, All, AllPairs, subst, arith}
 use Rattle.std.proofs.lemmas.Bool.{cases_lt}
 use Rattle.std.proofs.Math.Nat.{eq-or-lt_of_le}
-use Rattle.hs_lattice.specs.Places.{IsGap}
+use Rattle.hs_lattice.specs.Inner.Places.{IsInsertionPlace}
 
 -- an order of the elements with Q, where S says that two are one value
 pub record Order {X : Type 0} (Q : X → Type 0) (S R : X → X → Type 0) : Type 0 where
@@ -63,11 +63,11 @@ narrowed_below {X} Q S R xs item low high middle order fit fits ascending n from
     record { ordered = from; within = omega (arith, n.within); below = n.below; above = steps }
 
 -- where the two ends meet and the element there is no other item of the value, the item belongs there
-pub gap_at :
+pub place_at :
     {X : Type 0} (Q : X → Type 0) (S R : X → X → Type 0) (xs : List X) (item : X) (low high : ℕ) →
     Order Q S R → All Q xs → Q item → AllPairs R xs → IsNarrowed R xs item low high → high ≤ low →
-    ((d : X) → low < length xs → S (get_or xs low d) item → ⊥) → IsGap R xs item low
-gap_at {X} Q S R xs item low high order fit fits ascending n met other =
+    ((d : X) → low < length xs → S (get_or xs low d) item → ⊥) → IsInsertionPlace R xs item low
+place_at {X} Q S R xs item low high order fit fits ascending n met other =
     let here : (d : X) → low < length xs → R item (get_or xs low d) =
     λ d lt.
     elim (order.total (get_or xs low d) item (fit low d lt) fits) [

@@ -1,4 +1,4 @@
 pub mod JoinWorld
+pub mod Laws
 pub mod Listing
-pub mod Places
-pub mod Search
+pub mod Inner

@@ -15,6 +15,11 @@ pub record Evidence {M : Type 0} (precedes : M → M → Type 0) (P : M → Type
   pub members : All P xs
   pub more : length xs ≡ limit + 1
 
+-- the items of a listing
+abbrev pub items_of : {T : Type 0} → Listing T → List T
+items_of (Whole xs) = xs
+items_of (More xs) = xs
+
 -- what holds of the items where the listing is whole
 abbrev pub IfWhole : {T : Type 0} → Listing T → (List T → Type 0) → Type 0
 IfWhole (Whole xs) P = P xs

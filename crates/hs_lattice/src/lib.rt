@@ -5,15 +5,19 @@
 //! values of this product are such worlds, so what is proved of any world is proved once.
 //! `specs/JoinWorld.antt` says when a value is a join of some list of generators, and
 //! `specs/Listing.antt` what a whole listing is and what is evidence of more than a limit.
+//! `specs/Laws.antt` says that what the least value and the generators have and joins keep, every
+//! generated value has. What stands in `specs/Inner` serves private functions alone.
 //!
-//! [`join_closure`] lists the joins of all lists of generators, proved once for every world. It keeps
-//! the known values in ascending order, and beside them those whose joins with the generators were not
-//! tried yet. One of these is taken, joined with each generator, and each join that is new becomes
-//! known and untried; a value is looked for by halving the list. In the end the least value is known,
-//! and with each known value its join with each generator. So the join of any list of generators is
-//! known, by induction on the list: that of the empty list is the least value, and that of a longer
-//! one is the join of its first generator and of a value that is known already. Each known value is
-//! taken once, so there are as many joins as generators times values.
+//! [`join_closure`] lists the joins of all lists of generators, proved once for every world. It puts the
+//! generators into ascending order first, equal ones once. Then it keeps the known values in ascending
+//! order, and beside them those whose joins with the generators were not tried yet. One of these is
+//! taken, joined with each generator, and each join that is new becomes known and untried; a value is
+//! looked for by halving the list. In the end the least value is known, and with each known value its
+//! join with each generator. So each list of generators has a join, and it is known, by induction on the
+//! list: that of the empty list is the least value, and that of a longer one is the join of its first
+//! generator and of a value that is known already. Each known value is taken once, so there are as many
+//! joins as generators that differ times values. Where a listing is whole there is no evidence of more
+//! than the limit, and the other way round.
 #![tactic(auto)]
 
 mod closure;

@@ -24,7 +24,7 @@ impl JoinWorld for Below {
 
     ghost fits = { λ w x. x < w.n };
 
-    ghost least = { λ _. 0 };
+    ghost least = { λ _ x. x ≡ 0 };
 
     ghost joins = { λ _ x y z. z ≡ max x y };
 
@@ -51,7 +51,9 @@ impl JoinWorld for Below {
         *a == *b
     }
 
-    ghost least_fits = { λ w lawful. lawful };
+    ghost least_fits = { λ w x lawful is. Prim.omega arith };
+
+    ghost least_once = { λ w x other lawful is same. Prim.omega arith };
 
     ghost joins_fit = { λ w x y z lawful left right joined. Prim.omega arith };
 
@@ -63,7 +65,7 @@ impl JoinWorld for Below {
 
     ghost joins_repeat = { λ w x lawful fit. Prim.omega arith };
 
-    ghost joins_least = { λ w x lawful fit. Prim.omega arith };
+    ghost joins_least = { λ w x y lawful is fit. Prim.omega arith };
 
     ghost precedes_irreflexive = { λ w x lawful fit below. Prim.omega arith };
 

@@ -8,8 +8,8 @@ use std::alloc::{AllocError, Global};
 ///
 /// An item stands for a value, its meaning; two items may stand for one value. A world may be
 /// unlawful, and then nothing is said of it; an item fits a lawful world where its meaning is one of
-/// the world's values. A join is given by a relation, since in some worlds it is the greatest or the
-/// least value with some property.
+/// the world's values. The least value and joins are given by relations, since in some worlds they are
+/// the greatest or the least with some property.
 pub trait JoinWorld {
     /// What keeps a value.
     type Item: Drop;
@@ -26,8 +26,8 @@ pub trait JoinWorld {
     /// The value is one of the world's.
     ghost fits: { Self → Meaning → Type 0 };
 
-    /// The least value.
-    ghost least: { Self → Meaning };
+    /// `least w x`: x is the least value.
+    ghost least: { Self → Meaning → Type 0 };
 
     /// `joins w x y z`: the join of x and y is z.
     ghost joins: { Self → Meaning → Meaning → Meaning → Type 0 };
@@ -38,7 +38,7 @@ pub trait JoinWorld {
     /// The least value.
     fn bottom(&self, alloc: Global) -> Result<Self::Item, AllocError>
         requires { lawful self.now }
-        ensures { IfOk result (λ item. meaning item ≡ least self.now) };
+        ensures { IfOk result (λ item. least self.now (meaning item)) };
 
     /// The join of two values.
     fn join(&self, alloc: Global, a: &Self::Item, b: &Self::Item) -> Result<Self::Item, AllocError>
@@ -68,7 +68,11 @@ pub trait JoinWorld {
         ensures { IsTrue result ↔ (meaning a.now ≡ meaning b.now) };
 
     /// The least value is one of the world's.
-    ghost least_fits: { (w : Self) → lawful w → fits w (least w) };
+    ghost least_fits: { (w : Self) (x : Meaning) → lawful w → least w x → fits w x };
+
+    /// There is one least value.
+    ghost least_once: { (w : Self) (x other : Meaning) → lawful w → least w x → least w other
+        → x ≡ other };
 
     /// A join of the world's values is one of them.
     ghost joins_fit: { (w : Self) (x y z : Meaning) → lawful w → fits w x → fits w y
@@ -91,7 +95,7 @@ pub trait JoinWorld {
     ghost joins_repeat: { (w : Self) (x : Meaning) → lawful w → fits w x → joins w x x x };
 
     /// The least value is the unit of the join.
-    ghost joins_least: { (w : Self) (x : Meaning) → lawful w → fits w x → joins w (least w) x x };
+    ghost joins_least: { (w : Self) (x y : Meaning) → lawful w → least w x → fits w y → joins w x y y };
 
     /// No value stands before itself.
     ghost precedes_irreflexive: { (w : Self) (x : Meaning) → lawful w → fits w x

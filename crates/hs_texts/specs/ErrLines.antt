@@ -18,6 +18,19 @@ cannot_read_line name = as_line (codes "hsdec: cannot read " ++ name)
 abbrev pub too_long_line : List ℕ → List ℕ
 too_long_line name = as_line (codes "hsdec: too long " ++ name)
 
+-- the line of a text of a machine that is refused: the number of its line, and what is wrong there
+abbrev pub kiss_line : ℕ → List ℕ → List ℕ
+kiss_line number fault = as_line (codes "hsdec: kiss line " ++ decimal number ++ codes ": " ++ fault)
+
+-- the line of two rows that conflict
+abbrev pub conflict_line : ℕ → ℕ → List ℕ
+conflict_line row other = as_line (codes "hsdec: conflict rows " ++ decimal row ++ codes " and " ++ decimal other)
+
+-- the line of what a machine leaves open at a state and a symbol
+abbrev pub unspecified_line : List ℕ → List ℕ → List ℕ → List ℕ
+unspecified_line state symbol part =
+    as_line (codes "hsdec: unspecified state " ++ state ++ codes " symbol " ++ symbol ++ codes " " ++ part)
+
 -- the line of a text that could not be put whole
 abbrev pub cannot_write_line : List ℕ
 cannot_write_line = as_line (codes "hsdec: cannot write")
@@ -26,6 +39,6 @@ cannot_write_line = as_line (codes "hsdec: cannot write")
 abbrev pub no_memory_line : List ℕ
 no_memory_line = as_line (codes "hsdec: no memory")
 
--- the line of a text in a form that is not read so far
+-- the line of a machine that the command does not take so far
 abbrev pub not_yet_line : List ℕ
 not_yet_line = as_line (codes "hsdec: not yet")

@@ -1,1 +1,2 @@
 pub mod ErrLines
+pub mod Reports

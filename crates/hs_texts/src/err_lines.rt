@@ -1,7 +1,7 @@
 //! The lines that go to err.
 
 ghost use Rattle.std.specs.Prelude.{◌≡◌, ◌++◌, IfOk, codes};
-ghost use Rattle.hs_texts.specs.ErrLines.{as_line, usage_line, cannot_read_line, too_long_line, cannot_write_line, no_memory_line, not_yet_line};
+ghost use Rattle.hs_texts.specs.ErrLines.{as_line, usage_line, cannot_read_line, too_long_line, kiss_line, conflict_line, unspecified_line, not_yet_line};
 
 use std::alloc::{AllocError, Global};
 
@@ -11,7 +11,7 @@ pub const NO_MEMORY: &[u8] = b"hsdec: no memory\n";
 /// The line of a failed put.
 pub const CANNOT_WRITE: &[u8] = b"hsdec: cannot write\n";
 
-/// The line of a text that is in no form that is read so far.
+/// The line of a machine that the command does not take so far.
 pub fn not_yet(alloc: Global) -> Result<Vec<u8>, AllocError>
     ensures { IfOk result (λ line. line.items ≡ not_yet_line) }
 {
@@ -38,6 +38,52 @@ pub fn too_long(alloc: Global, name: &[u8]) -> Result<Vec<u8>, AllocError>
     ensures { IfOk result (λ line. line.items ≡ too_long_line name.now) }
 {
     line_of(alloc, b"hsdec: too long ", name)
+}
+
+/// The line of a refused text of a machine: the number of its line, and what is wrong there.
+pub fn kiss(alloc: Global, line: u32, fault: &[u8]) -> Result<Vec<u8>, AllocError>
+    ensures { IfOk result (λ text. text.items ≡ kiss_line line fault.now) }
+{
+    let number = line.to_string(alloc)?;
+    let mut text = Vec::from_slice(alloc, b"hsdec: kiss line ")?;
+    text.extend_from_slice(number.as_bytes())?;
+    text.extend_from_slice(b": ")?;
+    text.extend_from_slice(fault)?;
+    text.push(b'\n')?;
+    Ok(text)
+}
+
+/// The line of two rows that conflict, counted from 1.
+pub fn conflict(alloc: Global, row: u32, other: u32) -> Result<Vec<u8>, AllocError>
+    ensures { IfOk result (λ line. line.items ≡ conflict_line row other) }
+{
+    let first = row.to_string(alloc)?;
+    let second = other.to_string(alloc)?;
+    let mut line = Vec::from_slice(alloc, b"hsdec: conflict rows ")?;
+    line.extend_from_slice(first.as_bytes())?;
+    line.extend_from_slice(b" and ")?;
+    line.extend_from_slice(second.as_bytes())?;
+    line.push(b'\n')?;
+    Ok(line)
+}
+
+/// The line of what a machine leaves open: a part at a symbol of a state.
+pub fn unspecified(
+    alloc: Global,
+    state: &[u8],
+    symbol: &[u8],
+    part: &[u8],
+) -> Result<Vec<u8>, AllocError>
+    ensures { IfOk result (λ line. line.items ≡ unspecified_line state.now symbol.now part.now) }
+{
+    let mut line = Vec::from_slice(alloc, b"hsdec: unspecified state ")?;
+    line.extend_from_slice(state)?;
+    line.extend_from_slice(b" symbol ")?;
+    line.extend_from_slice(symbol)?;
+    line.push(b' ')?;
+    line.extend_from_slice(part)?;
+    line.push(b'\n')?;
+    Ok(line)
 }
 
 /// A line of words and a name or a number.

@@ -11,11 +11,14 @@ const ANSWERS: &[u8] = b"
 Exit status:
   0   the text was written whole
   2   the words are refused
+  3   the text of the machine is refused
+  4   two rows of the machine conflict
+  5   the machine leaves something open
   12  a file cannot be read
   13  a file is longer than 4,194,304 bytes
   14  the text could not be written whole
   15  memory was wanting
-  16  the machine is in no form that is read so far
+  16  the machine is one that the command does not take so far
 ";
 
 /// The page that the words ask for, where they are `--help` or `--version` alone.

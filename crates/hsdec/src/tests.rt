@@ -62,16 +62,20 @@ const NETWORK: &[u8] = b"# hsdec code
 ";
 
 const HELP: &[u8] = b"Commands:
-  hsdec code FILE
+  hsdec check FILE [--fill hold]
+  hsdec code FILE [--fill hold]
 
 Exit status:
   0   the text was written whole
   2   the words are refused
+  3   the text of the machine is refused
+  4   two rows of the machine conflict
+  5   the machine leaves something open
   12  a file cannot be read
   13  a file is longer than 4,194,304 bytes
   14  the text could not be written whole
   15  memory was wanting
-  16  the machine is in no form that is read so far
+  16  the machine is one that the command does not take so far
 ";
 
 /// A name of 300 bytes, and the line that names it.
@@ -94,7 +98,7 @@ fn answers_arguments(rt: HostRuntime) -> Result<(), Fail> {
         (&[b"code", b"\xff", b"T"], 2, b"", b"hsdec: usage word 2\n"),
         (&[b"code", b"U"], 12, b"", b"hsdec: cannot read U\n"),
         (&[b"code", LONG], 12, b"", LONG_LINE),
-        (&[b"code", b"E"], 16, b"", b"hsdec: not yet\n"),
+        (&[b"code", b"E"], 3, b"", b"hsdec: kiss line 0: no rows\n"),
     ];
     for (words, expected, text, line) in cases {
         let mut shelf = MemShelf::new(rt.alloc());

@@ -5,7 +5,7 @@ use Rattle.std.proofs.lemmas.List.{map-append}
 use Rattle.std.proofs.lemmas.List.FromFn.{map-range_with_len_more}
 use Rattle.cubes.specs.Symbol.{bit, symbol_of}
 use Rattle.hsdec_core.specs.Carries.{code_bits}
-use Rattle.hsdec_core.specs.Inner.CodeNetwork.{digit}
+use Rattle.hsdec_core.specs.Digits.{digit}
 
 -- the bits from a place on are the one there and those after it
 symbol_from : (width place number : ℕ) → place < width → symbol_of (width - place) number ≡ bit number (width - 1 - place) ∷ symbol_of (width - (place + 1)) number

@@ -8,15 +8,15 @@ use Rattle.kiss2.specs.Machine.{answers, next, out}
 use Rattle.kiss2.proofs.Machine.{next_is_a_state}
 use Rattle.net_core.specs.declared.Network.{Network}
 use Rattle.net_core.specs.Step.{NetAnswers}
-use Rattle.hsdec_core.specs.Carries.{CarriedAnswers, Carries, code_of}
+use Rattle.hsdec_core.specs.Carries.{CarriedAnswers, Carries, printed_code}
 
 -- so it is from each state on, word by word
 answers_from_state : (F : KissFile) (N : Network) (H : Header) → IsLawful F → Carries F N H → (word : List (List Bool)) → All (λ x. length x ≡ F.inputs) word
-    → (s : ℕ) → s < length F.states → NetAnswers N (code_of H s) word (answers F s word)
+    → (s : ℕ) → s < length F.states → NetAnswers N (printed_code H s) word (answers F s word)
 answers_from_state F N H lawful carries [] long s within = refl
 answers_from_state F N H lawful carries (x ∷ word) long s within = (
   out F s x,
-  code_of H (next F s x),
+  printed_code H (next F s x),
   answers F (next F s x) word,
   refl,
   carries.steps s x within (All-head (λ symbol. length symbol ≡ F.inputs) x word long),
@@ -27,7 +27,7 @@ answers_from_state F N H lawful carries (x ∷ word) long s within = (
 -- and so it is from the reset state
 pub carried_answers : CarriedAnswers
 carried_answers F N H lawful carries = (
-  code_of H F.reset,
+  printed_code H F.reset,
   carries.starts,
   λ word long. answers_from_state F N H lawful carries word long F.reset lawful.reset,
 )

@@ -14,12 +14,12 @@ use Rattle.blif_out.specs.declared.header.LatchNote.{LatchNote}
 use Rattle.blif_out.specs.HeadLaw.{IsLawfulHeader, IsLawfulNote, IsLawfulPart, IsLawfulPartition}
 use Rattle.hs_io.specs.Spelling.{ArePlainFields}
 use Rattle.kiss2.specs.declared.kiss_file.KissFile.{KissFile}
-use Rattle.kiss2.specs.First.{IsPlain}
+use Rattle.hsdec_core.specs.Inner.Source.{IsSource}
 use Rattle.partition.specs.Partition.{IsPartition, IsStateCount, zero_of}
 use Rattle.partition.specs.Laws.Extremes.{zero_of_is_partition}
 use Rattle.state_codes.specs.declared.Codes.{Codes}
 use Rattle.state_codes.specs.declared.split.Part.{Part}
-use Rattle.state_codes.specs.Code.{IsCode, Place, bit_of, code_of, places_of}
+use Rattle.state_codes.specs.Code.{IsCode, Place, bit_of, state_code, places_of}
 use Rattle.hsdec_core.specs.Inner.CodeHeader.{IsCodeHeader, code_parts}
 use Rattle.hsdec_core.proofs.Naming.{notes_counted}
 use Rattle.hsdec_core.proofs.Pairs.{note_at, note_part}
@@ -57,7 +57,7 @@ word_below n codes code s in_s =
     let places : List Place = places_of 0 (code_parts n) code.inners in
     below_from_bits codes.bits (get_or codes.words s 0) (λ i past.
     code.written.spelled s in_s i
-    ∙ get_or_past (code_of places s) i 0 (omega (arith, past, code.written.size, length-map places (bit_of s))))
+    ∙ get_or_past (state_code places s) i 0 (omega (arith, past, code.written.size, length-map places (bit_of s))))
 
 -- so is each word
 words_below : (n : ℕ) (codes : Codes) → IsCode n (code_parts n) codes → All (λ word. word < 2 ^ codes.bits) codes.words
@@ -78,16 +78,16 @@ notes_lawful names codes H count code header i d within =
       to = own_count (length names) note.to is.to.lawful;
     }
 
--- the header of the codes of a file of the plain form is lawful
-pub code_header_lawful : (F : KissFile) (codes : Codes) (H : Header) → IsPlain F → IsCode (length F.states) (code_parts (length F.states)) codes
+-- the header of the codes of such a file is lawful
+pub code_header_lawful : (F : KissFile) (codes : Codes) (H : Header) → IsSource F → IsCode (length F.states) (code_parts (length F.states)) codes
     → IsCodeHeader F.states codes H → IsLawfulHeader H
-code_header_lawful F codes H plain code header =
-    let count : IsStateCount (length F.states) = (omega (arith, plain.some_state), plain.states) in
+code_header_lawful F codes H source code header =
+    let count : IsStateCount (length F.states) = (omega (arith, source.lawful.reset), source.lawful.state_count) in
     let Below : ℕ → ℕ → Type 0 = λ bits word. word < 2 ^ bits in
     record {
       classes = none_lawful H.classes header.no_classes;
       parts = subst (λ (parts : List Part). AllByRecursion IsLawfulPart parts) (sym header.parts) (parts_lawful (length F.states) count);
-      states = subst ArePlainFields (sym header.states) (plain_fields F plain);
+      states = subst ArePlainFields (sym header.states) (plain_fields F source);
       counted = ap (λ (words : List ℕ). length words) header.words ∙ code.written.states ∙ ap (λ (names : List (List ℕ)). length names) (sym header.states);
       words =
           subst (λ (bits : ℕ). AllByRecursion (Below bits) H.words) (sym (notes_counted F.states codes H header))

@@ -1,4 +1,4 @@
--- Own names stand once each, so the network of codes is flat, and it has the names that a file of the plain form asks for.
+-- Own names stand once each, so the network of codes is flat, and it has the names that such a file asks for.
 use Rattle.std.proofs.Common.{◌≡◌, ℕ, zero, suc, ◌+◌, ◌^◌, ◌<◌, ◌≤◌, inl, inr, Bool, true, false, Option, Some, None, List, [], ◌∷◌, ◌++◌, length, map, drop, get_or, All, Contains, ap, sym, ◌∙◌, refl, subst, arith}
 use Rattle.std.specs.List.{AllByRecursion, AllZip, range_with_len}
 use Rattle.std.specs.Option.{IsNone, unwrap_or}
@@ -12,7 +12,7 @@ use Rattle.std.proofs.lemmas.Simd.{map-map}
 use Rattle.blif_out.specs.declared.header.Header.{Header}
 use Rattle.blif_out.specs.declared.header.LatchNote.{LatchNote}
 use Rattle.kiss2.specs.declared.kiss_file.KissFile.{KissFile}
-use Rattle.kiss2.specs.First.{IsPlain}
+use Rattle.hsdec_core.specs.Inner.Source.{IsSource}
 use Rattle.kiss2.specs.Lawful.{given_names}
 use Rattle.net_core.specs.declared.Gate.{Gate}
 use Rattle.net_core.specs.declared.Latch.{Latch}
@@ -219,14 +219,14 @@ code_flat F codes N small net =
           (All-same (Contains gates) (map (λ latch. latch.input) N.latches) (own_names 0 next_letter codes.bits) (latch_inputs_of F codes N net) (next_driven F codes N net));
     }
 
--- the counts of a file of the plain form are small enough
-pub plain_numerals : (F : KissFile) (codes : Codes) → IsPlain F → codes.bits ≤ 64 → HasNumerals F codes
-plain_numerals F codes plain short =
-    let few : F.inputs ≤ 16 = plain.inputs in
-    let some : F.outputs ≤ 64 = plain.outputs in
+-- the counts of such a file are small enough
+pub source_numerals : (F : KissFile) (codes : Codes) → IsSource F → codes.bits ≤ 64 → HasNumerals F codes
+source_numerals F codes source short =
+    let few : F.inputs ≤ 16 = source.walkable.inputs in
+    let some : F.outputs ≤ 64 = source.lawful.outputs in
     record { inputs = omega arith; outputs = omega arith; bits = omega arith }
 
--- ---- the names of a file of the plain form
+-- ---- the names of such a file
 -- there is a note for each number
 notes_zip : (states : ℕ) (codes : Codes) (numbers : List ℕ) (notes : List LatchNote) → AllZip (IsCodeNote states codes) numbers notes → length notes ≡ length numbers
 notes_zip states codes [] [] h = refl
@@ -244,32 +244,32 @@ unwrap_none : {X : Type 0} (o : Option X) (d : X) → IsNone o → unwrap_or o d
 unwrap_none None d h = refl
 unwrap_none (Some x) d h = absurd (false≢true (sym h))
 
--- a file of the plain form gives no names
-none_given : (F : KissFile) → IsPlain F → given_names F ≡ []
-none_given F plain =
-    ap (λ (names : List (List ℕ)). names ++ unwrap_or F.output_names []) (unwrap_none F.input_names [] plain.no_input_names)
-    ∙ unwrap_none F.output_names [] plain.no_output_names
+-- such a file gives no names
+none_given : (F : KissFile) → IsSource F → given_names F ≡ []
+none_given F source =
+    ap (λ (names : List (List ℕ)). names ++ unwrap_or F.output_names []) (unwrap_none F.input_names [] source.walkable.no_input_names)
+    ∙ unwrap_none F.output_names [] source.walkable.no_output_names
 
 -- so no prefix is wanted
-plain_count : (F : KissFile) (latches : ℕ) → IsPlain F → IsPrefixCount F latches 0
-plain_count F latches plain = record {
-  free = λ name used given. Contains-none name (subst (λ (names : List (List ℕ)). Contains names name) (none_given F plain) given);
+source_count : (F : KissFile) (latches : ℕ) → IsSource F → IsPrefixCount F latches 0
+source_count F latches source = record {
+  free = λ name used given. Contains-none name (subst (λ (names : List (List ℕ)). Contains names name) (none_given F source) given);
   least = λ fewer free. omega arith;
 }
 
--- the network and the header have the names that a file of the plain form asks for
-pub code_named : (F : KissFile) (codes : Codes) (N : Network) (H : Header) → IsPlain F → IsCodeNetwork F codes N → IsCodeHeader F.states codes H → Named F N H
-code_named F codes N H plain net header =
+-- the network and the header have the names that such a file asks for
+pub code_named : (F : KissFile) (codes : Codes) (N : Network) (H : Header) → IsSource F → IsCodeNetwork F codes N → IsCodeHeader F.states codes H → Named F N H
+code_named F codes N H source net header =
     let counted : codes.bits ≡ length H.latches = sym (notes_counted F.states codes H header) in
     let own_inputs : List (List ℕ) = own_names 0 input_letter F.inputs in
     let own_outputs : List (List ℕ) = own_names 0 output_letter F.outputs in
     record {
       count = 0;
-      apart = plain_count F (length H.latches) plain;
+      apart = source_count F (length H.latches) source;
       states = header.states;
       no_classes = header.no_classes;
-      inputs = net.inputs ∙ sym (unwrap_none F.input_names own_inputs plain.no_input_names);
-      outputs = net.outputs ∙ sym (unwrap_none F.output_names own_outputs plain.no_output_names);
+      inputs = net.inputs ∙ sym (unwrap_none F.input_names own_inputs source.walkable.no_input_names);
+      outputs = net.outputs ∙ sym (unwrap_none F.output_names own_outputs source.walkable.no_output_names);
       latch_inputs = latch_inputs_of F codes N net ∙ ap (own_names 0 next_letter) counted;
       latch_outputs = latch_outputs_of F codes N net ∙ ap (own_names 0 state_letter) counted;
     }

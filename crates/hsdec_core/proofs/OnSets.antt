@@ -14,7 +14,7 @@ use Rattle.cubes.proofs.Numbers.{length-symbol_of, number_below, symbol_of-numbe
 use Rattle.kiss2.specs.declared.kiss_file.KissFile.{KissFile}
 use Rattle.net_core.proofs.Members.{Contains-cons, Contains-here, Contains-none}
 use Rattle.state_codes.specs.declared.Codes.{Codes}
-use Rattle.hsdec_core.specs.Inner.CodeNetwork.{IsOnSet, all_rows, minterm, row_at, rows_at, signal_bit}
+use Rattle.hsdec_core.specs.Inner.CodeNetwork.{IsOnSet, all_rows, minterm, row_at, minterms_at, signal_bit}
 use Rattle.hsdec_core.specs.declared.signals.Signal.{Signal}
 
 -- ---- what lists have
@@ -78,14 +78,14 @@ module _ (F : KissFile) (codes : Codes) (signal : Signal) where
       let listed : Contains (row_at F codes signal number s) (minterm codes s x) =
       subst (λ (y : List Bool). Contains (row_at F codes signal number s) (minterm codes s y)) spelled
       (in_row_at number s (ap (signal_bit F codes.words signal s) spelled ∙ one)) in
-      in_flat_map (rows_at F codes signal) (range_with_len 0 (2 ^ F.inputs)) number (minterm codes s x) (in_range (2 ^ F.inputs) number small)
+      in_flat_map (minterms_at F codes signal) (range_with_len 0 (2 ^ F.inputs)) number (minterm codes s x) (in_range (2 ^ F.inputs) number small)
       (in_flat_map (row_at F codes signal number) (range_with_len 0 (length F.states)) s (minterm codes s x) (in_range (length F.states) s within) listed)
 
   -- and no other row is
   none_else_listed : (row : List ℕ) → Contains (all_rows F codes signal) row
       → (s : ℕ) × (x : List Bool) × (s < length F.states) × (length x ≡ F.inputs) × (signal_bit F codes.words signal s x ≡ true) × (row ≡ minterm codes s x)
   none_else_listed row among =
-      let symbol = from_flat_map (rows_at F codes signal) (range_with_len 0 (2 ^ F.inputs)) row among in
+      let symbol = from_flat_map (minterms_at F codes signal) (range_with_len 0 (2 ^ F.inputs)) row among in
       let state = from_flat_map (row_at F codes signal symbol.0) (range_with_len 0 (length F.states)) row symbol.2 in
       let here = from_row_at symbol.0 state.0 row state.2 in
       (state.0, symbol_of F.inputs symbol.0, below_end (length F.states) state.0 state.1, length-symbol_of F.inputs symbol.0, here.0, here.1)

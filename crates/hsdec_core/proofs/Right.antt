@@ -1,32 +1,180 @@
--- What a command makes of the text of its operand is right.
-use Rattle.std.proofs.Common.{◌≡◌, ◌≢◌, ℕ, List, refl, sym, subst}
+-- What is made of a machine, of the bytes of a file and for a job is right.
+use Rattle.std.proofs.Common.{◌≡◌, ◌≢◌, ℕ, List, Option, Some, None, Result, Ok, Err, IfOk, IfSome, ◌⊎◌, inl, inr, refl, sym, subst}
+use Rattle.std.specs.declared.alloc.AllocError.{AllocError}
+use Rattle.hs_texts.specs.ErrLines.{kiss_line, usage_line}
 use Rattle.job_words.specs.declared.jobs.Job.{Job}
+use Rattle.kiss2.specs.declared.fault.KissKind.{KissKind}
+use Rattle.kiss2.specs.declared.kiss_file.KissFile.{KissFile}
+use Rattle.kiss2.specs.Kiss.{IsKissFault, Kiss}
+use Rattle.kiss2.specs.Lawful.{IsLawful}
+use Rattle.kiss2.specs.Machine.{Accepted}
 use Rattle.hsdec_core.specs.declared.answers.Answer.{Answer}
-use Rattle.hsdec_core.specs.declared.answers.Answer.TheVariants.{Done}
+use Rattle.hsdec_core.specs.declared.answers.Answer.TheVariants.{Done, Usage, KissRefused, ReadFault, TooLong, WriteFault, NoMemory}
+use Rattle.hsdec_core.specs.declared.loading.Loaded.{Loaded}
+use Rattle.hsdec_core.specs.declared.loading.Loaded.TheVariants.{Text}
 use Rattle.hsdec_core.specs.declared.outcomes.Outcome.{Outcome}
-use Rattle.hsdec_core.specs.Cause.{CallsFor}
-use Rattle.hsdec_core.specs.Inner.Made.{finished, refusal}
-use Rattle.hsdec_core.specs.Inner.RightFor.{IsRightOn}
-use Rattle.hsdec_core.specs.Line.{IsLineOf}
+use Rattle.hsdec_core.specs.Cause.{CallsFor, CanServe, FileCallsFor}
+use Rattle.hsdec_core.specs.Fill.{fill_of}
+use Rattle.hsdec_core.specs.Inner.Load.{IsLoadRefusal, IsLoaded}
+use Rattle.hsdec_core.specs.Inner.Made.{IsRefusal, finished, refusal}
+use Rattle.hsdec_core.specs.Inner.RightFor.{IsRightFor, IsRightOf, IsRightOn}
+use Rattle.hsdec_core.specs.KissTexts.{kind_text}
+use Rattle.hsdec_core.specs.Line.{IsFileLine, IsLineOf, IsTextLine}
+use Rattle.hsdec_core.specs.Loading.{IsText, IsWithin}
 use Rattle.hsdec_core.specs.Promise.{IsPromised}
+use Rattle.hsdec_core.proofs.KissLaws.{machine_or_fault}
 
--- a command that is done, and one that refuses
-pub right_done : (job : Job) (bytes text : List ℕ) (made : Outcome) → CallsFor job bytes Done → IsPromised job.command job bytes text → made ≡ finished text → IsRightOn job bytes made
-right_done job bytes text made calls promised is =
-    subst (IsRightOn job bytes) (sym is)
+-- ---- of a machine
+-- a command that is done, and a refusal
+pub right_done : (job : Job) (F : KissFile) (text : List ℕ) (made : Outcome) → Accepted F (fill_of job) → CanServe job.command F → IsPromised job.command job F text → made ≡ finished text → IsRightOf job F made
+right_done job F text made accepted calls promised is =
+    subst (IsRightOf job F) (sym is)
     (record {
-      cause = calls;
-      text = λ _. promised;
+      cause = (accepted, calls);
+      text = λ _. (accepted, promised);
       no_text = λ undone. absurd (undone refl);
       line = λ undone. absurd (undone refl);
     })
 
-pub right_refused : (job : Job) (bytes line : List ℕ) (answer : Answer) (made : Outcome) → answer ≢ Done → CallsFor job bytes answer → IsLineOf job answer line → made ≡ refusal answer line → IsRightOn job bytes made
-right_refused job bytes line answer made undone calls is_line is =
-    subst (IsRightOn job bytes) (sym is)
+pub right_refused : (job : Job) (F : KissFile) (line : List ℕ) (answer : Answer) (made : Outcome) → answer ≢ Done → FileCallsFor job F answer → IsFileLine F answer line → made ≡ refusal answer line → IsRightOf job F made
+right_refused job F line answer made undone calls is_line is =
+    subst (IsRightOf job F) (sym is)
     (record {
       cause = calls;
       text = λ e. absurd (undone e);
       no_text = λ _. refl;
       line = λ _. is_line;
     })
+
+-- ---- of bytes
+-- what a machine calls for, its bytes call for
+calls_on : (job : Job) (bytes : List ℕ) (F : KissFile) (answer : Answer) → IsWithin bytes → Kiss bytes F → FileCallsFor job F answer → CallsFor job bytes answer
+calls_on job bytes F TooLong within kiss calls = absurd calls.1
+calls_on job bytes F KissRefused within kiss calls = absurd calls.1
+calls_on job bytes F _ within kiss calls = (within, (F, kiss, calls))
+
+line_on : (bytes : List ℕ) (F : KissFile) (answer : Answer) (line : List ℕ) → Kiss bytes F → IsFileLine F answer line → IsTextLine bytes answer line
+line_on bytes F KissRefused line kiss is = absurd is
+line_on bytes F _ line kiss is = (F, kiss, is)
+
+pub right_machine : (job : Job) (bytes : List ℕ) (F : KissFile) (made : Outcome) → IsWithin bytes → Kiss bytes F → IsLawful F → IsRightOf job F made → IsRightOn job bytes made
+right_machine job bytes F made within kiss lawful right = record {
+  cause = calls_on job bytes F made.answer within kiss right.cause;
+  text = λ e. (F, kiss, lawful, (right.text e).0, (right.text e).1);
+  no_text = right.no_text;
+  line = λ undone. line_on bytes F made.answer made.line kiss (right.line undone);
+  own = (λ e. (subst (FileCallsFor job F) e right.cause).1, λ e. (subst (FileCallsFor job F) e right.cause).1, λ e. (subst (FileCallsFor job F) e right.cause).1);
+}
+
+-- bytes with a fault say no machine
+pub right_fault : (job : Job) (bytes : List ℕ) (number : ℕ) (kind : KissKind) (made : Outcome) → IsWithin bytes → IsKissFault bytes number kind → IsRefusal KissRefused (λ line. line ≡ kiss_line number (kind_text kind)) made → IsRightOn job bytes made
+right_fault job bytes number kind made within fault (line, is_line, is) =
+    subst (IsRightOn job bytes) (sym is)
+    (record {
+      cause = (within, λ F kiss. machine_or_fault bytes F number kind kiss fault);
+      text = λ e. absurd cc;
+      no_text = λ _. refl;
+      line = λ _. (number, kind, fault, is_line);
+      own = (λ e. cc, λ e. cc, λ e. cc);
+    })
+
+-- ---- for a job
+-- refused words
+pub right_usage : (word : ℕ) (holds : List ℕ → Option (List ℕ)) (Faulted : Type 0) (made : Outcome) → made ≡ refusal Usage (usage_line word) → IsRightFor (Err word) holds Faulted made
+right_usage word holds Faulted made is =
+    subst (IsRightFor (Err word) holds Faulted) (sym is)
+    (record {
+      usage = λ _. refl;
+      no_usage = λ _. refl;
+      read_fault = λ e. absurd cc;
+      cause = tt;
+      text = λ e. tt;
+      no_text = λ _. refl;
+      line = λ _. refl;
+      in_memory = λ e. cc;
+    })
+
+-- what holds of told bytes
+each : (held : Option (List ℕ)) (P Q : List ℕ → Type 0) → ((bytes : List ℕ) → P bytes → Q bytes) → IfSome held P → IfSome held Q
+each None P Q f h = tt
+each (Some bytes) P Q f h = f bytes h
+
+told : (held : Option (List ℕ)) (P : List ℕ → Type 0) (bytes : List ℕ) → IfSome held (λ other. bytes ≡ other) → P bytes → IfSome held P
+told None P bytes same h = tt
+told (Some other) P bytes same h = subst P same h
+
+any : (held : Option (List ℕ)) (P : List ℕ → Type 0) → ((bytes : List ℕ) → P bytes) → IfSome held P
+any None P all = tt
+any (Some bytes) P all = all bytes
+
+-- an operand that gave no text
+pub right_load : (job : Job) (holds : List ℕ → Option (List ℕ)) (Faulted : Type 0) (made : Outcome) → IsLoadRefusal (holds job.file) Faulted job.file made → IsRightFor (Ok job) holds Faulted made
+right_load job holds Faulted made (inl (faulted, is)) =
+    subst (IsRightFor (Ok job) holds Faulted) (sym is)
+    (record {
+      usage = λ h. absurd cc;
+      no_usage = λ e. absurd cc;
+      read_fault = λ _. faulted;
+      cause = any (holds job.file) (λ bytes. (ReadFault ≡ ReadFault) ⊎ CallsFor job bytes ReadFault) (λ bytes. inl refl);
+      text = λ e. absurd cc;
+      no_text = λ _. refl;
+      line = λ _. refl;
+      in_memory = λ e. cc;
+    })
+right_load job holds Faulted made (inr (long, is)) =
+    subst (IsRightFor (Ok job) holds Faulted) (sym is)
+    (record {
+      usage = λ h. absurd cc;
+      no_usage = λ e. absurd cc;
+      read_fault = λ e. absurd cc;
+      cause = each (holds job.file) (λ bytes. CallsFor job bytes TooLong) (λ bytes. (TooLong ≡ ReadFault) ⊎ CallsFor job bytes TooLong) (λ bytes h. inr h) long;
+      text = λ e. absurd cc;
+      no_text = λ _. refl;
+      line = λ _. refl;
+      in_memory = λ e. cc;
+    })
+
+-- what a command makes of the text of the operand
+line_for : (job : Job) (held : Option (List ℕ)) (bytes : List ℕ) (answer : Answer) (line : List ℕ) → IsText held bytes → (answer ≢ ReadFault) × (answer ≢ WriteFault) → IsTextLine bytes answer line → IsLineOf job held answer line
+line_for job held bytes ReadFault line is_text own is = absurd (own.0 refl)
+line_for job held bytes WriteFault line is_text own is = absurd (own.1 refl)
+line_for job held bytes TooLong line is_text own (F, kiss, is) = absurd is
+line_for job held bytes NoMemory line is_text own (F, kiss, is) = absurd is
+line_for job held bytes _ line is_text own is = (bytes, is_text, is)
+
+pub right_text : (job : Job) (holds : List ℕ → Option (List ℕ)) (Faulted : Type 0) (bytes : List ℕ) (made : Outcome) → IsText (holds job.file) bytes → IsRightOn job bytes made → IsRightFor (Ok job) holds Faulted made
+right_text job holds Faulted bytes made is_text right = record {
+  usage = λ h. absurd cc;
+  no_usage = λ e. absurd (right.own.0 e);
+  read_fault = λ e. absurd (right.own.1 e);
+  cause = told (holds job.file) (λ other. (made.answer ≡ ReadFault) ⊎ CallsFor job other made.answer) bytes is_text.1 (inr right.cause);
+  text = λ e. let t = right.text e in (bytes, t.0, record { text = is_text; kiss = t.1; lawful = t.2; accepted = t.3 }, t.4);
+  no_text = right.no_text;
+  line = λ undone. line_for job (holds job.file) bytes made.answer made.line is_text (right.own.1, right.own.2) (right.line undone);
+  in_memory = right.own.2;
+}
+
+-- the same of what may want memory
+pub right_result : (job : Job) (holds : List ℕ → Option (List ℕ)) (Faulted : Type 0) (bytes : List ℕ) (result : Result Outcome AllocError) → IsText (holds job.file) bytes → IfOk result (IsRightOn job bytes) → IfOk result (IsRightFor (Ok job) holds Faulted)
+right_result job holds Faulted bytes (Ok made) is_text right = right_text job holds Faulted bytes made is_text right
+right_result job holds Faulted bytes (Err wanting) is_text right = tt
+
+-- the text of a load
+pub text_of_load : (holds : List ℕ → Option (List ℕ)) (Faulted : Type 0) (name file : List ℕ) (loaded : Loaded) (text bytes : List ℕ) → IsLoaded (holds name) Faulted name loaded → loaded ≡ Text text → name ≡ file → bytes ≡ text → IsText (holds file) bytes
+text_of_load holds Faulted name file loaded text bytes is is_text same read =
+    let here : IsText (holds name) text = subst (IsLoaded (holds name) Faulted name) is_text is in
+    subst (λ (n : List ℕ). IsText (holds n) bytes) same (subst (IsText (holds name)) (sym read) here)
+
+-- the same of the job of words
+pub right_results : (words : Result Job ℕ) (job : Job) (holds : List ℕ → Option (List ℕ)) (Faulted : Type 0) (bytes : List ℕ) (result : Result Outcome AllocError) → words ≡ Ok job → IsText (holds job.file) bytes → IfOk result (IsRightOn job bytes)
+    → IfOk result (IsRightFor words holds Faulted)
+right_results words job holds Faulted bytes result is is_text right =
+    subst (λ (w : Result Job ℕ). IfOk result (IsRightFor w holds Faulted)) (sym is) (right_result job holds Faulted bytes result is_text right)
+
+pub right_machines : (job : Job) (bytes : List ℕ) (F : KissFile) (result : Result Outcome AllocError) → IsWithin bytes → Kiss bytes F → IsLawful F → IfOk result (IsRightOf job F) → IfOk result (IsRightOn job bytes)
+right_machines job bytes F (Ok made) within kiss lawful right = right_machine job bytes F made within kiss lawful right
+right_machines job bytes F (Err wanting) within kiss lawful right = tt
+
+pub right_faults : (job : Job) (bytes : List ℕ) (number : ℕ) (kind : KissKind) (result : Result Outcome AllocError) → IsWithin bytes → IsKissFault bytes number kind → IfOk result (IsRefusal KissRefused (λ line. line ≡ kiss_line number (kind_text kind))) → IfOk result (IsRightOn job bytes)
+right_faults job bytes number kind (Ok made) within fault right = right_fault job bytes number kind made within fault right
+right_faults job bytes number kind (Err wanting) within fault right = tt

@@ -21,8 +21,9 @@ use Rattle.net_core.specs.Step.{AreStarts, Gives, IsValuation, Step, bit_of_star
 use Rattle.net_core.proofs.Flat.{given_step}
 use Rattle.net_core.proofs.Valuations.{FitsGate, parts_of_append}
 use Rattle.state_codes.specs.declared.Codes.{Codes}
-use Rattle.hsdec_core.specs.Carries.{Carries, code_bits, code_of}
-use Rattle.hsdec_core.specs.Inner.CodeNetwork.{IsCodeGate, IsCodeNetwork, code_latch, digit, minterm, next_signals, output_signals, signal_bit, signal_name}
+use Rattle.hsdec_core.specs.Carries.{Carries, code_bits, printed_code}
+use Rattle.hsdec_core.specs.Digits.{digit}
+use Rattle.hsdec_core.specs.Inner.CodeNetwork.{IsCodeGate, IsCodeNetwork, code_latch, minterm, next_signals, output_signals, signal_bit, signal_name}
 use Rattle.hsdec_core.specs.Named.{input_letter, next_letter, output_letter, own_name, own_names, state_letter}
 use Rattle.hsdec_core.specs.declared.signals.Signal.{Signal}
 use Rattle.hsdec_core.specs.declared.signals.Signal.TheVariants.{Next, Output}
@@ -170,7 +171,7 @@ start_bit false = refl
 
 module _ (F : KissFile) (codes : Codes) (N : Network) (H : Header) (latches : length H.latches ≡ codes.bits) (words : H.words ≡ codes.words) (net : IsCodeNetwork F codes N) where
   -- the code of a state is that of the header
-  same_code : (s : ℕ) → code_of H s ≡ state_bits codes s
+  same_code : (s : ℕ) → printed_code H s ≡ state_bits codes s
   same_code s = ap (λ n. code_bits n (slice_index H.words s)) latches ∙ ap (λ all. code_bits codes.bits (slice_index all s)) words
 
   -- what is read off each latch of the network
@@ -189,7 +190,7 @@ module _ (F : KissFile) (codes : Codes) (N : Network) (H : Header) (latches : le
   output_count = ap length net.outputs ∙ length-map-range_with_len (own_name 0 output_letter) 0 F.outputs
 
   -- the starts are the code of the reset state
-  starts_at_reset : AreStarts N.latches (code_of H F.reset)
+  starts_at_reset : AreStarts N.latches (printed_code H F.reset)
   starts_at_reset =
       let start : ℕ → Bool = bit (slice_index codes.words F.reset) in
       latch_map (λ latch. bit_of_start latch.start)
@@ -198,7 +199,7 @@ module _ (F : KissFile) (codes : Codes) (N : Network) (H : Header) (latches : le
       ∙ ap (map Some) (sym (same_code F.reset))))
 
   -- what a valuation has for the inputs and the latch outputs
-  has_bits : (s : ℕ) (x : List Bool) (value : List ℕ → Bool) → IsValuation N (code_of H s) x value
+  has_bits : (s : ℕ) (x : List Bool) (value : List ℕ → Bool) → IsValuation N (printed_code H s) x value
       → map value (own_names 0 input_letter F.inputs ++ own_names 0 state_letter codes.bits) ≡ x ++ state_bits codes s
   has_bits s x value is =
       let ins : List (List ℕ) = own_names 0 input_letter F.inputs in
@@ -211,7 +212,7 @@ module _ (F : KissFile) (codes : Codes) (N : Network) (H : Header) (latches : le
 
   -- each valuation gives the outputs and the code of the next state
   gives_next : CodesTell F codes → (s : ℕ) (x : List Bool) → s < length F.states → length x ≡ F.inputs
-      → (value : List ℕ → Bool) → IsValuation N (code_of H s) x value → Gives N value (out F s x) (code_of H (next F s x))
+      → (value : List ℕ → Bool) → IsValuation N (printed_code H s) x value → Gives N value (out F s x) (printed_code H (next F s x))
   gives_next apart s x within long value is =
       let has = has_next F codes apart s within x long value N.gates (has_bits s x value is) net.gates (recursion_from_All (FitsGate value) N.gates is.gates) in
       record {
@@ -223,11 +224,11 @@ module _ (F : KissFile) (codes : Codes) (N : Network) (H : Header) (latches : le
 
   -- so the network steps from code to code
   steps_to_next : Sound N → CodesTell F codes → (s : ℕ) (x : List Bool) → s < length F.states → length x ≡ F.inputs
-      → Step N (code_of H s) x (out F s x) (code_of H (next F s x))
+      → Step N (printed_code H s) x (out F s x) (printed_code H (next F s x))
   steps_to_next sound apart s x within long =
-      let state_count : length (code_of H s) ≡ length N.latches =
+      let state_count : length (printed_code H s) ≡ length N.latches =
       length-map-range_with_len (bit (slice_index H.words s)) 0 (length H.latches) ∙ (latches ∙ sym latch_count) in
-      given_step N (code_of H s) x (out F s x) (code_of H (next F s x)) sound (long ∙ sym input_count) state_count
+      given_step N (printed_code H s) x (out F s x) (printed_code H (next F s x)) sound (long ∙ sym input_count) state_count
       (gives_next apart s x within long)
 
 -- the network carries the machine

@@ -16,18 +16,19 @@ use Rattle.blif_out.proofs.Words.{is_name_byte, name_from_bytes}
 use Rattle.cubes.specs.Symbol.{bit}
 use Rattle.hs_io.specs.Spelling.{ArePlainFields, IsFieldByte, IsPlainField}
 use Rattle.kiss2.specs.declared.kiss_file.KissFile.{KissFile}
-use Rattle.kiss2.specs.First.{IsPlain}
+use Rattle.hsdec_core.specs.Inner.Source.{IsSource}
 use Rattle.kiss2.specs.Names.{IsNameByte, IsPlainName}
 use Rattle.net_core.specs.declared.Gate.{Gate}
 use Rattle.net_core.specs.declared.Latch.{Latch}
 use Rattle.net_core.specs.declared.Network.{Network}
 use Rattle.net_core.specs.declared.Start.TheVariants.{Zero, One}
-use Rattle.net_core.specs.Denotes.{is_plane_character}
+use Rattle.net_core.specs.Statements.{is_plane_character}
 use Rattle.state_codes.specs.declared.Codes.{Codes}
 use Rattle.hsdec_core.specs.declared.signals.Signal.{Signal}
 use Rattle.hsdec_core.specs.declared.signals.Signal.TheVariants.{Next, Output}
 use Rattle.hsdec_core.specs.Carries.{code_bits}
-use Rattle.hsdec_core.specs.Inner.CodeNetwork.{IsCodeGate, IsCodeNetwork, code_latch, digit, minterm, signal_name}
+use Rattle.hsdec_core.specs.Digits.{digit}
+use Rattle.hsdec_core.specs.Inner.CodeNetwork.{IsCodeGate, IsCodeNetwork, code_latch, minterm, signal_name}
 use Rattle.hsdec_core.specs.Named.{input_letter, next_letter, output_letter, own_name, own_names, state_letter}
 use Rattle.hsdec_core.proofs.Naming.{IsSignalGate, each_gate}
 
@@ -192,5 +193,5 @@ plain_field name is = record {
 }
 
 -- the names of the states stand as fields
-pub plain_fields : (F : KissFile) → IsPlain F → ArePlainFields F.states
-plain_fields F plain = recursion_from_All IsPlainField F.states (All-weaker IsPlainName IsPlainField plain_field F.states plain.names)
+pub plain_fields : (F : KissFile) → IsSource F → ArePlainFields F.states
+plain_fields F source = recursion_from_All IsPlainField F.states (All-weaker IsPlainName IsPlainField plain_field F.states source.lawful.state_names)

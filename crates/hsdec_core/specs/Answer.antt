@@ -1,5 +1,5 @@
 -- The answers of the program, their numbers, and what it is to come exactly where a condition holds.
-use Rattle.std.specs.Prelude.{◌≡◌, ℕ, ◌⊎◌, Bool, true, false}
+use Rattle.std.specs.Prelude.{◌≡◌, ℕ, ◌⊎◌}
 use Rattle.hsdec_core.specs.declared.answers.Answer.{Answer}
 use Rattle.hsdec_core.specs.declared.answers.Answer.TheVariants.{Done, NoSplit, Usage, KissRefused, Conflict, Unspecified, More, PartRefused, CodeTooLong, NetRefused, SymbolRefused, ReadFault, TooLong, WriteFault, NoMemory, NotYet, StateCount, CoverRefused, NotDefinite, NotReached, TooManyInputs, TooManyOutputs}
 
@@ -27,12 +27,6 @@ answer_code NotDefinite = 19
 answer_code NotReached = 20
 answer_code TooManyInputs = 21
 answer_code TooManyOutputs = 22
-
--- an answer with which a text was put
-abbrev pub puts_text : Answer → Bool
-puts_text Done = true
-puts_text More = true
-puts_text _ = false
 
 -- an answer comes exactly where a condition holds, but for want of memory
 abbrev pub ExactlyWhere : Answer → Answer → Type 0 → Type 0

@@ -14,16 +14,16 @@ abbrev pub code_bits : ℕ → ℕ → List Bool
 code_bits count word = map (bit word) (range_with_len 0 count)
 
 -- the code of a state, with a bit for each latch
-abbrev pub code_of : Header → ℕ → List Bool
-code_of H s = code_bits (length H.latches) (slice_index H.words s)
+abbrev pub printed_code : Header → ℕ → List Bool
+printed_code H s = code_bits (length H.latches) (slice_index H.words s)
 
 -- the starts are the code of the reset state, and each step of the machine is one of the network between the codes
 pub record Carries (F : KissFile) (N : Network) (H : Header) : Type 0 where
   pub latches : length N.latches ≡ length H.latches
   pub inputs : length N.inputs ≡ F.inputs
   pub outputs : length N.outputs ≡ F.outputs
-  pub starts : AreStarts N.latches (code_of H F.reset)
-  pub steps : (s : ℕ) (x : List Bool) → s < length F.states → length x ≡ F.inputs → Step N (code_of H s) x (out F s x) (code_of H (next F s x))
+  pub starts : AreStarts N.latches (printed_code H F.reset)
+  pub steps : (s : ℕ) (x : List Bool) → s < length F.states → length x ≡ F.inputs → Step N (printed_code H s) x (out F s x) (printed_code H (next F s x))
 
 -- from its starts, the network answers every word of symbols as the machine does from its reset state
 abbrev pub AnswersAs : KissFile → Network → Type 0

@@ -4,11 +4,7 @@ use Rattle.blif_out.specs.declared.header.Header.{Header}
 use Rattle.blif_out.specs.Head.{Head, net_text_of}
 use Rattle.blif_out.specs.HeadLaw.{IsLawfulHeader}
 use Rattle.blif_out.specs.Order.{HasKnownStarts}
-use Rattle.kiss2.specs.declared.fill.Fill.TheVariants.{Refuse}
 use Rattle.kiss2.specs.declared.kiss_file.KissFile.{KissFile}
-use Rattle.kiss2.specs.First.{First}
-use Rattle.kiss2.specs.Lawful.{IsLawful}
-use Rattle.kiss2.specs.Machine.{Accepted}
 use Rattle.net_core.specs.declared.Network.{Network}
 use Rattle.net_core.specs.Denotes.{Denotes}
 use Rattle.net_core.specs.Sound.{Sound}
@@ -45,9 +41,5 @@ pub record IsDecomposition (F : KissFile) (kind : Kind) (text : List ℕ) (N : N
   pub within : IsWithinKind F N H
 
 -- the text is a decomposition of the machine of a file
-abbrev pub IsWritten : KissFile → Kind → List ℕ → Type 0
+unfoldable pub IsWritten : KissFile → Kind → List ℕ → Type 0
 IsWritten F kind text = (N : Network) × (H : Header) × IsDecomposition F kind text N H
-
--- the bytes spell a machine, which has next states and outputs with nothing filled in, and the text is a decomposition of it
-unfoldable pub IsDecomposed : List ℕ → Kind → List ℕ → Type 0
-IsDecomposed bytes kind text = (F : KissFile) × First bytes F × IsLawful F × Accepted F Refuse × IsWritten F kind text

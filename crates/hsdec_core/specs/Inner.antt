@@ -4,3 +4,4 @@ pub mod CodeNetwork
 pub mod Load
 pub mod Made
 pub mod RightFor
+pub mod Source

@@ -1,9 +1,13 @@
 pub mod Answer
 pub mod Carries
 pub mod Cause
+pub mod CheckReport
 pub mod Decomposition
+pub mod Digits
+pub mod Fill
 pub mod Inner
 pub mod Kind
+pub mod KissTexts
 pub mod Line
 pub mod Loading
 pub mod Named
@@ -12,3 +16,4 @@ pub mod Pair
 pub mod Permits
 pub mod Promise
 pub mod Put
+pub mod Walkable

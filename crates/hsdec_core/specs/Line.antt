@@ -1,18 +1,51 @@
 -- Which line goes to err with an answer.
-use Rattle.std.specs.Prelude.{◌≡◌, ℕ, List, Result, Ok, Err}
-use Rattle.hs_texts.specs.ErrLines.{cannot_read_line, cannot_write_line, no_memory_line, not_yet_line, too_long_line, usage_line}
+use Rattle.std.specs.Prelude.{◌≡◌, ℕ, ◌++◌, List, Option, Some, Result, Ok, Err, codes, map, slice_get}
+use Rattle.std.specs.Fmt.{decimal}
+use Rattle.cubes.specs.Symbol.{symbol_of}
+use Rattle.hs_texts.specs.ErrLines.{cannot_read_line, cannot_write_line, conflict_line, kiss_line, no_memory_line, not_yet_line, too_long_line, unspecified_line, usage_line}
 use Rattle.job_words.specs.declared.jobs.Job.{Job}
+use Rattle.kiss2.specs.declared.fault.KissKind.{KissKind}
+use Rattle.kiss2.specs.declared.kiss_file.KissFile.{KissFile}
+use Rattle.kiss2.specs.Kiss.{IsKissFault, Kiss}
+use Rattle.machine_table.specs.declared.missing.Missing.{Missing}
+use Rattle.machine_table.specs.declared.missing.Missing.TheVariants.{Next, Output}
+use Rattle.machine_table.specs.Conflict.{IsFirstConflict}
+use Rattle.machine_table.specs.Said.{IsFirstOpen}
 use Rattle.hsdec_core.specs.declared.answers.Answer.{Answer}
-use Rattle.hsdec_core.specs.declared.answers.Answer.TheVariants.{Usage, ReadFault, TooLong, WriteFault, NoMemory, NotYet}
+use Rattle.hsdec_core.specs.declared.answers.Answer.TheVariants.{Usage, KissRefused, Conflict, Unspecified, ReadFault, TooLong, WriteFault, NoMemory, NotYet}
+use Rattle.hsdec_core.specs.Digits.{digit}
+use Rattle.hsdec_core.specs.KissTexts.{kind_text}
+use Rattle.hsdec_core.specs.Loading.{IsText}
 
--- the line of an answer to a job; an answer that no command gives so far has none
-abbrev pub IsLineOf : Job → Answer → List ℕ → Type 0
-IsLineOf job ReadFault line = line ≡ cannot_read_line job.file
-IsLineOf job TooLong line = line ≡ too_long_line job.file
-IsLineOf job WriteFault line = line ≡ cannot_write_line
-IsLineOf job NoMemory line = line ≡ no_memory_line
-IsLineOf job NotYet line = line ≡ not_yet_line
-IsLineOf job _ line = ⊥
+-- the text of what is missing
+abbrev pub missing_text : Missing → List ℕ
+missing_text Next = codes "next"
+missing_text (Output b) = codes "output " ++ decimal b
+
+-- the line of an entry that is open: the name of the state, the digits of the symbol, and what is missing
+abbrev pub IsOpenLine : KissFile → ℕ → ℕ → Missing → List ℕ → Type 0
+IsOpenLine F s x part line =
+    (name : List ℕ) × (slice_get F.states s ≡ Some name) × (line ≡ unspecified_line name (map digit (symbol_of F.inputs x)) (missing_text part))
+
+-- the line of an answer to a machine: it names the first two rows that conflict, or the first entry that is open
+abbrev pub IsFileLine : KissFile → Answer → List ℕ → Type 0
+IsFileLine F Conflict line = (row other : ℕ) × IsFirstConflict F row other × (line ≡ conflict_line row other)
+IsFileLine F Unspecified line = (s x : ℕ) × (part : Missing) × IsFirstOpen F s x part × IsOpenLine F s x part line
+IsFileLine F NotYet line = line ≡ not_yet_line
+IsFileLine F _ line = ⊥
+
+-- the line of an answer to the bytes of a file: it names the first fault of bytes that say no machine
+abbrev pub IsTextLine : List ℕ → Answer → List ℕ → Type 0
+IsTextLine bytes KissRefused line = (number : ℕ) × (kind : KissKind) × IsKissFault bytes number kind × (line ≡ kiss_line number (kind_text kind))
+IsTextLine bytes answer line = (F : KissFile) × Kiss bytes F × IsFileLine F answer line
+
+-- the line of an answer to a job whose file is held so
+abbrev pub IsLineOf : Job → Option (List ℕ) → Answer → List ℕ → Type 0
+IsLineOf job held ReadFault line = line ≡ cannot_read_line job.file
+IsLineOf job held TooLong line = line ≡ too_long_line job.file
+IsLineOf job held WriteFault line = line ≡ cannot_write_line
+IsLineOf job held NoMemory line = line ≡ no_memory_line
+IsLineOf job held answer line = (bytes : List ℕ) × IsText held bytes × IsTextLine bytes answer line
 
 -- the line of an answer to refused words, the first of which has this number
 abbrev pub IsRefusalLine : ℕ → Answer → List ℕ → Type 0
@@ -21,6 +54,6 @@ IsRefusalLine word NoMemory line = line ≡ no_memory_line
 IsRefusalLine word _ line = ⊥
 
 -- the line of an answer to a job, or to refused words
-abbrev pub IsLineFor : Result Job ℕ → Answer → List ℕ → Type 0
-IsLineFor (Ok job) answer line = IsLineOf job answer line
-IsLineFor (Err word) answer line = IsRefusalLine word answer line
+abbrev pub IsLineFor : Result Job ℕ → (List ℕ → Option (List ℕ)) → Answer → List ℕ → Type 0
+IsLineFor (Ok job) holds answer line = IsLineOf job (holds job.file) answer line
+IsLineFor (Err word) holds answer line = IsRefusalLine word answer line

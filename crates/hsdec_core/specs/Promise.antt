@@ -1,11 +1,18 @@
--- What each command promises of the text that it puts: one relation for each command or family.
+-- What each command promises of the text that it puts: one relation for each command or family, over the machine of its file.
 use Rattle.std.specs.Prelude.{ℕ, List, Option, Some, None}
 use Rattle.job_words.specs.declared.command.Command.{Command}
 use Rattle.job_words.specs.declared.command.Command.TheVariants as commands
 use Rattle.job_words.specs.declared.jobs.Job.{Job}
+use Rattle.kiss2.specs.declared.fill.Fill.{Fill}
+use Rattle.kiss2.specs.declared.kiss_file.KissFile.{KissFile}
+use Rattle.kiss2.specs.Kiss.{Kiss}
+use Rattle.kiss2.specs.Lawful.{IsLawful}
+use Rattle.kiss2.specs.Machine.{Accepted}
 use Rattle.state_codes.specs.declared.split.Kind.{Kind}
 use Rattle.state_codes.specs.declared.split.Kind.TheVariants.{Code}
-use Rattle.hsdec_core.specs.Decomposition.{IsDecomposed}
+use Rattle.hsdec_core.specs.CheckReport.{IsChecked}
+use Rattle.hsdec_core.specs.Decomposition.{IsWritten}
+use Rattle.hsdec_core.specs.Fill.{fill_of}
 use Rattle.hsdec_core.specs.Loading.{IsText}
 
 -- the kind of decomposition that a command writes, if it writes one
@@ -13,15 +20,25 @@ abbrev pub kind_of : Command → Option Kind
 kind_of commands.Code = Some Code
 kind_of _ = None
 
--- the text is what a command promises for the bytes of its file; a command that is not built has none
-abbrev pub IsPromised : Command → Job → List ℕ → List ℕ → Type 0
-IsPromised commands.Code job bytes text = IsDecomposed bytes Code text
-IsPromised _ job bytes text = ⊥
+-- the text is what a command promises for the machine of its file; a command that is not built promises none
+abbrev pub IsPromised : Command → Job → KissFile → List ℕ → Type 0
+IsPromised commands.Check job F text = IsChecked F text
+IsPromised commands.Code job F text = IsWritten F Code text
+IsPromised _ job F text = ⊥
+
+-- the bytes that a shelf holds say a lawful machine, which is accepted with a fill
+pub record HoldsMachine (held : Option (List ℕ)) (fill : Fill) (bytes : List ℕ) (F : KissFile) : Type 0 where
+  pub text : IsText held bytes
+  pub kiss : Kiss bytes F
+  pub lawful : IsLawful F
+  pub accepted : Accepted F fill
 
 -- the text that a job asks for, of what the shelf holds under its file
 abbrev pub IsAsked : Job → (List ℕ → Option (List ℕ)) → List ℕ → Type 0
-IsAsked job holds text = (bytes : List ℕ) × IsText (holds job.file) bytes × IsPromised job.command job bytes text
+IsAsked job holds text =
+    (bytes : List ℕ) × (F : KissFile) × HoldsMachine (holds job.file) (fill_of job) bytes F × IsPromised job.command job F text
 
--- a decomposition of that kind, of a machine that the shelf holds
-abbrev pub IsDecompositionOf : Kind → Option (List ℕ) → List ℕ → Type 0
-IsDecompositionOf kind held text = (bytes : List ℕ) × IsText held bytes × IsDecomposed bytes kind text
+-- a decomposition of that kind, of the machine that a job's file says
+abbrev pub IsDecompositionOf : Kind → Job → (List ℕ → Option (List ℕ)) → List ℕ → Type 0
+IsDecompositionOf kind job holds text =
+    (bytes : List ℕ) × (F : KissFile) × HoldsMachine (holds job.file) (fill_of job) bytes F × IsWritten F kind text

@@ -36,7 +36,7 @@ pub enum Answer {
     WriteFault,
     /// Memory was wanting.
     NoMemory,
-    /// The text is in no form that is read so far.
+    /// The machine is one that the command does not take so far.
     NotYet,
     /// The machine has too few or too many states.
     StateCount,

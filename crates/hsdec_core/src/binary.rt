@@ -4,13 +4,13 @@ ghost use Rattle.std.specs.Prelude.{◌≡◌, ◌<◌, ◌≤◌, ◌++◌, OnO
 ghost use Rattle.cubes.specs.Symbol.{symbol_of};
 ghost use Rattle.cubes.specs.Symbol as symbols;
 ghost use Rattle.hsdec_core.specs.Carries.{code_bits};
-ghost use Rattle.hsdec_core.specs.Inner.CodeNetwork.{digit};
+ghost use Rattle.hsdec_core.specs.Digits.{digit};
 
 use std::alloc::AllocError;
 
 /// Appends the symbol of a number, the most significant bit first.
 pub fn append_symbol(text: &mut Vec<u8>, inputs: u8, symbol: usize) -> Result<(), AllocError>
-    requires { inputs ≤ 16 }
+    requires { inputs ≤ 32 }
     ensures { OnOk result (text.new.items ≡ text.old.items ++ map digit (symbol_of inputs symbol)) }
 {
     for place in 0..inputs {

@@ -1,14 +1,17 @@
 //! The command `code`.
 
-ghost use Rattle.std.specs.Prelude.{◌≡◌, ◌≤◌, IfOk, length};
-ghost use Rattle.kiss2.specs.First.{IsPlain};
+ghost use Rattle.std.specs.Prelude.{◌≡◌, ◌≤◌, ◌↔◌, IsTrue, IfOk, length};
+ghost use Rattle.kiss2.specs.Lawful.{IsLawful};
+ghost use Rattle.kiss2.specs.Machine.{Accepted};
 ghost use Rattle.partition.specs.Partition.{IsStateCount};
 ghost use Rattle.state_codes.specs.Agreement.{AreDistinct};
 ghost use Rattle.state_codes.specs.Code.{IsCode};
 ghost use Rattle.state_codes.specs.declared.split.Kind.TheVariants.{Code};
 ghost use Rattle.job_words.specs.declared.command.Command.TheVariants as commands;
-ghost use Rattle.hsdec_core.specs.Inner.RightFor.{IsRightOn};
-ghost use Rattle.hsdec_core.specs.Loading.{IsWithin};
+ghost use Rattle.hsdec_core.specs.Fill.{fill_of};
+ghost use Rattle.hsdec_core.specs.Inner.RightFor.{IsRightOf};
+ghost use Rattle.hsdec_core.specs.Inner.Source.{IsSource};
+ghost use Rattle.hsdec_core.specs.Walkable.{IsWalkable};
 ghost use Rattle.hsdec_core.specs.Inner.CodeHeader.{code_parts, IsCodeHeader};
 ghost use Rattle.hsdec_core.specs.Decomposition.{IsWritten};
 
@@ -18,39 +21,50 @@ use crate::{Answer, Outcome};
 use blif_out::Header;
 use hs_texts::err_lines;
 use job_words::Job;
-use kiss2::{FirstFail, KissFile, StateNames, read_first};
+use kiss2::{KissFile, StateNames};
+use machine_table::Machine;
 use state_codes::{CodeFail, Codes, Split, encode, one_part};
 use std::alloc::{AllocError, Global};
 
-/// The command `code`, on the text of its file.
-pub fn code(alloc: Global, job: &Job, text: &[u8]) -> Result<Outcome, AllocError>
+/// The command `code`, on the machine of its file.
+pub fn code(
+    alloc: Global,
+    job: &Job,
+    file: KissFile,
+    machine: &Machine,
+) -> Result<Outcome, AllocError>
     requires command { job.now.command ≡ commands.Code }
-    requires within { IsWithin text.now }
-    ensures { IfOk result (IsRightOn job.now text.now) }
+    requires machine { machine.now ≡ file }
+    requires lawful { IsLawful file }
+    requires accepted { Accepted file (fill_of job.now) }
+    ensures { IfOk result (IsRightOf job.now file) }
 {
-    match read_first(alloc, text) {
-        Ok(file) => {
-            let text = write_code(alloc, file)?;
-            Ok(Outcome::done(alloc, text))
-        }
-        Err(FirstFail::NotYet) => {
-            let line = err_lines::not_yet(alloc)?;
-            Ok(Outcome::refused(alloc, Answer::NotYet, line))
-        }
-        Err(FirstFail::NoMemory) => Err(AllocError),
+    if !is_walkable(&file) {
+        let line = err_lines::not_yet(alloc)?;
+        return Ok(Outcome::refused(alloc, Answer::NotYet, line));
     }
+    let text = write_code(alloc, file.states, machine)?;
+    Ok(Outcome::done(alloc, text))
 }
 
-/// The text of the natural code for the record of a file.
-fn write_code(alloc: Global, file: KissFile) -> Result<Vec<u8>, AllocError>
-    requires { IsPlain file }
-    ensures { IfOk result (λ text. IsWritten file Code text.items) }
+/// Whether the symbols can be gone through one by one, and no names are given.
+fn is_walkable(file: &KissFile) -> bool
+    ensures { IsTrue result ↔ IsWalkable file.now }
 {
-    let states = file.states.count();
-    let split = one_part(alloc, states)?;
-    let codes = natural_codes(alloc, &split, states)?;
-    let net = build_network(alloc, &file, &codes)?;
-    let header = build_header(alloc, file.states, split, codes)?;
+    file.inputs <= 16 && file.input_names.is_none() && file.output_names.is_none()
+}
+
+/// The text of the natural code for a machine and the names of its states.
+fn write_code(alloc: Global, states: StateNames, machine: &Machine) -> Result<Vec<u8>, AllocError>
+    requires source { IsSource machine.now }
+    requires states { states ≡ machine.now.states }
+    ensures { IfOk result (λ text. IsWritten machine.now Code text.items) }
+{
+    let count = machine.states();
+    let split = one_part(alloc, count)?;
+    let codes = natural_codes(alloc, &split, count)?;
+    let net = build_network(alloc, machine, &codes)?;
+    let header = build_header(alloc, states, split, codes)?;
     blif_out::text(alloc, &net, &header)
 }
 

@@ -3,7 +3,7 @@
 ghost use Rattle.std.specs.Prelude.{◌≡◌, ◌≢◌, ◌≤◌, [], OnOk, OnErr};
 ghost use Rattle.hs_io.specs.Counts.{Rose};
 ghost use Rattle.hs_io.specs.Pieces.{Appends, AppendsFront};
-ghost use Rattle.hsdec_core.specs.Inner.Made.{answer_of, text_of, line_at, TextPut};
+ghost use Rattle.hsdec_core.specs.Inner.Made.{answer_of, made_text, line_at, TextPut};
 ghost use Rattle.hsdec_core.specs.Put.{LinePut};
 
 use crate::{Answer, Outcome};
@@ -21,8 +21,8 @@ pub fn deliver<O: Sink, E: Sink>(
     requires { answer_of made ≢ Answer.WriteFault }
     ensures text { TextPut made result
         (O.given out.old) (O.given out.new) (O.faults out.old) (O.faults out.new) }
-    ensures no_text { text_of made ≡ [] → result ≡ answer_of made }
-    ensures untouched { text_of made ≡ [] → out.new ≡ out.old }
+    ensures no_text { made_text made ≡ [] → result ≡ answer_of made }
+    ensures untouched { made_text made ≡ [] → out.new ≡ out.old }
     ensures silent { result ≡ Answer.Done → err.new ≡ err.old }
     ensures line { result ≢ Answer.Done → LinePut (line_at made result)
         (E.given err.old) (E.given err.new) (E.faults err.old) (E.faults err.new) }

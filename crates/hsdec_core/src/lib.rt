@@ -26,15 +26,18 @@
 
 mod answers;
 mod binary;
+mod check_command;
 mod code_command;
 mod delivery;
 mod header_of_code;
+mod kiss_texts;
 mod laws;
 mod loading;
 mod network_of_code;
 mod outcomes;
 mod own_names;
 mod performing;
+mod refusals;
 mod running;
 mod signals;
 

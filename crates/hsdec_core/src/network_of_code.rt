@@ -7,54 +7,59 @@ ghost use Rattle.std.specs.List.{AllZip, range_with_len};
 ghost use Rattle.std.specs.List.Sorted.{IsSorted};
 ghost use Rattle.std.specs.Ordering.{nat_cmp};
 ghost use Rattle.cubes.specs.Symbol.{symbol_of};
-ghost use Rattle.kiss2.specs.First.{IsPlain};
-ghost use Rattle.hsdec_core.specs.Inner.CodeNetwork.{IsWithin, minterm, row_at, rows_at, signal_name, code_latch, next_signals, output_signals, IsOnSet, IsCodeGate, IsCodeNetwork};
+ghost use Rattle.hsdec_core.specs.Inner.Source.{IsSource};
+ghost use Rattle.hsdec_core.specs.Inner.CodeNetwork.{IsWithin, minterm, row_at, minterms_at, signal_name, code_latch, next_signals, output_signals, IsOnSet, IsCodeGate, IsCodeNetwork};
 
 use crate::binary::{append_code, append_symbol, bit};
 use crate::own_names::{name_of, names_of, push_names};
 use crate::signals::{Signal, gives_one};
 use hs_io::{Name, Names};
-use kiss2::KissFile;
+use machine_table::Machine;
 use net_core::{Gate, Gates, Latch, Latches, Network, Start};
 use state_codes::Codes;
 use std::alloc::{AllocError, Global};
 
 /// The network of these codes for the machine of a file.
-pub fn build_network(alloc: Global, file: &KissFile, codes: &Codes) -> Result<Network, AllocError>
-    requires plain { IsPlain file.now }
-    requires words { length codes.now.words ≡ length file.now.states }
+pub fn build_network(alloc: Global, machine: &Machine, codes: &Codes) -> Result<Network, AllocError>
+    requires source { IsSource machine.now }
+    requires words { length codes.now.words ≡ length machine.now.states }
     requires short { codes.now.bits ≤ 64 }
-    ensures { IfOk result (IsCodeNetwork file.now codes.now) }
+    ensures { IfOk result (IsCodeNetwork machine.now codes.now) }
 {
     Ok(Network {
-        inputs: names_of(alloc, b'x', usize::from(file.inputs))?,
-        outputs: names_of(alloc, b'z', usize::from(file.outputs))?,
-        latches: build_latches(alloc, file, codes)?,
-        gates: build_gates(alloc, file, codes)?,
+        inputs: names_of(alloc, b'x', usize::from(machine.inputs()))?,
+        outputs: names_of(alloc, b'z', usize::from(machine.outputs()))?,
+        latches: build_latches(alloc, machine, codes)?,
+        gates: build_gates(alloc, machine, codes)?,
     })
 }
 
 /// The latches, one for each state bit.
-fn build_latches(alloc: Global, file: &KissFile, codes: &Codes) -> Result<Latches, AllocError>
-    requires reset { file.now.reset < length codes.now.words }
+fn build_latches(alloc: Global, machine: &Machine, codes: &Codes) -> Result<Latches, AllocError>
+    requires reset { machine.now.reset < length codes.now.words }
     requires short { codes.now.bits ≤ 64 }
     ensures { IfOk result (λ latches.
-        latches ≡ map (code_latch file.now codes.now) (range_with_len 0 codes.now.bits)) }
+        latches ≡ map (code_latch machine.now codes.now) (range_with_len 0 codes.now.bits)) }
 {
     let mut latches = Latches::new(alloc);
     for i in 0..codes.bits {
-        latches.push(build_latch(alloc, file, codes, i)?)?;
+        latches.push(build_latch(alloc, machine, codes, i)?)?;
     }
     Ok(latches)
 }
 
 /// The latch of a state bit.
-fn build_latch(alloc: Global, file: &KissFile, codes: &Codes, i: usize) -> Result<Latch, AllocError>
-    requires reset { file.now.reset < length codes.now.words }
+fn build_latch(
+    alloc: Global,
+    machine: &Machine,
+    codes: &Codes,
+    i: usize,
+) -> Result<Latch, AllocError>
+    requires reset { machine.now.reset < length codes.now.words }
     requires bit { i < 64 }
-    ensures { IfOk result (λ latch. latch ≡ code_latch file.now codes.now i) }
+    ensures { IfOk result (λ latch. latch ≡ code_latch machine.now codes.now i) }
 {
-    let reset = codes.words.as_slice()[usize::from(file.reset)];
+    let reset = codes.words.as_slice()[machine.reset()];
     Ok(Latch {
         input: name_of(alloc, b'd', i)?,
         output: name_of(alloc, b'q', i)?,
@@ -70,37 +75,37 @@ fn start_of(bit: bool) -> Start
 }
 
 /// The gates: one for each latch input, and then one for each output.
-fn build_gates(alloc: Global, file: &KissFile, codes: &Codes) -> Result<Gates, AllocError>
-    requires plain { IsPlain file.now }
-    requires words { length codes.now.words ≡ length file.now.states }
+fn build_gates(alloc: Global, machine: &Machine, codes: &Codes) -> Result<Gates, AllocError>
+    requires source { IsSource machine.now }
+    requires words { length codes.now.words ≡ length machine.now.states }
     requires short { codes.now.bits ≤ 64 }
-    ensures { IfOk result (AllZip (IsCodeGate file.now codes.now)
-        (next_signals codes.now.bits ++ output_signals file.now.outputs)) }
+    ensures { IfOk result (AllZip (IsCodeGate machine.now codes.now)
+        (next_signals codes.now.bits ++ output_signals machine.now.outputs)) }
 {
     let mut gates = Gates::new(alloc);
     for i in 0..codes.bits {
-        gates.push(build_gate(alloc, file, codes, Signal::Next(i))?)?;
+        gates.push(build_gate(alloc, machine, codes, Signal::Next(i))?)?;
     }
-    push_output_gates(alloc, file, codes, &mut gates)?;
+    push_output_gates(alloc, machine, codes, &mut gates)?;
     Ok(gates)
 }
 
 /// Adds the gates of the outputs.
 fn push_output_gates(
     alloc: Global,
-    file: &KissFile,
+    machine: &Machine,
     codes: &Codes,
     gates: &mut Gates,
 ) -> Result<(), AllocError>
-    requires plain { IsPlain file.now }
-    requires words { length codes.now.words ≡ length file.now.states }
+    requires source { IsSource machine.now }
+    requires words { length codes.now.words ≡ length machine.now.states }
     requires short { codes.now.bits ≤ 64 }
-    requires before { AllZip (IsCodeGate file.now codes.now) (next_signals codes.now.bits) gates.old }
-    ensures { IfOk result (λ _. AllZip (IsCodeGate file.now codes.now)
-        (next_signals codes.now.bits ++ output_signals file.now.outputs) gates.new) }
+    requires before { AllZip (IsCodeGate machine.now codes.now) (next_signals codes.now.bits) gates.old }
+    ensures { IfOk result (λ _. AllZip (IsCodeGate machine.now codes.now)
+        (next_signals codes.now.bits ++ output_signals machine.now.outputs) gates.new) }
 {
-    for b in 0..usize::from(file.outputs) {
-        gates.push(build_gate(alloc, file, codes, Signal::Output(b))?)?;
+    for b in 0..usize::from(machine.outputs()) {
+        gates.push(build_gate(alloc, machine, codes, Signal::Output(b))?)?;
     }
     Ok(())
 }
@@ -108,22 +113,22 @@ fn push_output_gates(
 /// The gate of a signal.
 fn build_gate(
     alloc: Global,
-    file: &KissFile,
+    machine: &Machine,
     codes: &Codes,
     signal: Signal,
 ) -> Result<Gate, AllocError>
-    requires plain { IsPlain file.now }
-    requires words { length codes.now.words ≡ length file.now.states }
+    requires source { IsSource machine.now }
+    requires words { length codes.now.words ≡ length machine.now.states }
     requires short { codes.now.bits ≤ 64 }
-    requires within { IsWithin codes.now.bits file.now.outputs signal }
-    ensures { IfOk result (IsCodeGate file.now codes.now signal) }
+    requires within { IsWithin codes.now.bits machine.now.outputs signal }
+    ensures { IfOk result (IsCodeGate machine.now codes.now signal) }
 {
-    let mut inputs = names_of(alloc, b'x', usize::from(file.inputs))?;
+    let mut inputs = names_of(alloc, b'x', usize::from(machine.inputs()))?;
     push_names(alloc, &mut inputs, b'q', codes.bits)?;
     Ok(Gate {
         inputs,
         output: output_name(alloc, signal)?,
-        rows: build_rows(alloc, file, codes, signal)?,
+        rows: build_rows(alloc, machine, codes, signal)?,
         on: true,
     })
 }
@@ -141,20 +146,20 @@ fn output_name(alloc: Global, signal: Signal) -> Result<Name, AllocError>
 /// The rows of a gate, in ascending order of their bytes: the states and symbols at which it gives 1.
 fn build_rows(
     alloc: Global,
-    file: &KissFile,
+    machine: &Machine,
     codes: &Codes,
     signal: Signal,
 ) -> Result<Names, AllocError>
-    requires plain { IsPlain file.now }
-    requires words { length codes.now.words ≡ length file.now.states }
+    requires source { IsSource machine.now }
+    requires words { length codes.now.words ≡ length machine.now.states }
     requires short { codes.now.bits ≤ 64 }
-    requires within { IsWithin codes.now.bits file.now.outputs signal }
-    ensures on_set { IfOk result (IsOnSet file.now codes.now signal) }
+    requires within { IsWithin codes.now.bits machine.now.outputs signal }
+    ensures on_set { IfOk result (IsOnSet machine.now codes.now signal) }
     ensures in_order { IfOk result (IsSorted (slice_cmp nat_cmp)) }
 {
     let mut rows = Vec::new(alloc);
-    for symbol in 0..1 << file.inputs {
-        push_rows(alloc, file, codes, signal, symbol, &mut rows)?;
+    for symbol in 0..1 << machine.inputs() {
+        push_rows(alloc, machine, codes, signal, symbol, &mut rows)?;
     }
     rows.sort()?;
     names_from(alloc, rows.as_slice())
@@ -163,22 +168,22 @@ fn build_rows(
 /// Adds the rows of a symbol.
 fn push_rows(
     alloc: Global,
-    file: &KissFile,
+    machine: &Machine,
     codes: &Codes,
     signal: Signal,
     symbol: usize,
     rows: &mut Vec<Vec<u8>>,
 ) -> Result<(), AllocError>
-    requires plain { IsPlain file.now }
-    requires words { length codes.now.words ≡ length file.now.states }
+    requires source { IsSource machine.now }
+    requires words { length codes.now.words ≡ length machine.now.states }
     requires short { codes.now.bits ≤ 64 }
-    requires within { IsWithin codes.now.bits file.now.outputs signal }
-    requires symbol { symbol < 2 ^ file.now.inputs }
+    requires within { IsWithin codes.now.bits machine.now.outputs signal }
+    requires symbol { symbol < 2 ^ machine.now.inputs }
     ensures { OnOk result (map (λ text. text.items) rows.new.items
-        ≡ map (λ text. text.items) rows.old.items ++ rows_at file.now codes.now signal symbol) }
+        ≡ map (λ text. text.items) rows.old.items ++ minterms_at machine.now codes.now signal symbol) }
 {
-    for state in 0..file.states.count() {
-        push_row(alloc, file, codes, signal, symbol, state, rows)?;
+    for state in 0..machine.states() {
+        push_row(alloc, machine, codes, signal, symbol, state, rows)?;
     }
     Ok(())
 }
@@ -186,24 +191,24 @@ fn push_rows(
 /// Adds the row of a state and a symbol, where a gate gives 1 there.
 fn push_row(
     alloc: Global,
-    file: &KissFile,
+    machine: &Machine,
     codes: &Codes,
     signal: Signal,
     symbol: usize,
     state: usize,
     rows: &mut Vec<Vec<u8>>,
 ) -> Result<(), AllocError>
-    requires plain { IsPlain file.now }
-    requires words { length codes.now.words ≡ length file.now.states }
+    requires source { IsSource machine.now }
+    requires words { length codes.now.words ≡ length machine.now.states }
     requires short { codes.now.bits ≤ 64 }
-    requires within { IsWithin codes.now.bits file.now.outputs signal }
-    requires symbol { symbol < 2 ^ file.now.inputs }
-    requires state { state < length file.now.states }
+    requires within { IsWithin codes.now.bits machine.now.outputs signal }
+    requires symbol { symbol < 2 ^ machine.now.inputs }
+    requires state { state < length machine.now.states }
     ensures { OnOk result (map (λ text. text.items) rows.new.items
-        ≡ map (λ text. text.items) rows.old.items ++ row_at file.now codes.now signal symbol state) }
+        ≡ map (λ text. text.items) rows.old.items ++ row_at machine.now codes.now signal symbol state) }
 {
-    if gives_one(file, codes, signal, state, symbol) {
-        rows.push(build_row(alloc, file, codes, state, symbol)?)?;
+    if gives_one(machine, codes, signal, state, symbol) {
+        rows.push(build_row(alloc, machine, codes, state, symbol)?)?;
     }
     Ok(())
 }
@@ -211,19 +216,19 @@ fn push_row(
 /// The row of a state and a symbol.
 fn build_row(
     alloc: Global,
-    file: &KissFile,
+    machine: &Machine,
     codes: &Codes,
     state: usize,
     symbol: usize,
 ) -> Result<Vec<u8>, AllocError>
-    requires inputs { file.now.inputs ≤ 16 }
+    requires inputs { machine.now.inputs ≤ 16 }
     requires short { codes.now.bits ≤ 64 }
     requires state { state < length codes.now.words }
     ensures { IfOk result (λ row.
-        row.items ≡ minterm codes.now state (symbol_of file.now.inputs symbol)) }
+        row.items ≡ minterm codes.now state (symbol_of machine.now.inputs symbol)) }
 {
     let mut row = Vec::new(alloc);
-    append_symbol(&mut row, file.inputs, symbol)?;
+    append_symbol(&mut row, machine.inputs(), symbol)?;
     append_code(&mut row, codes.bits, codes.words.as_slice()[state])?;
     Ok(row)
 }

@@ -4,15 +4,22 @@ ghost use Rattle.std.specs.Prelude.{◌≡◌, ◌-◌, ◌^◌, ◌<◌, ◌≤
 ghost use Rattle.hs_io.specs.Counts.{Rose};
 ghost use Rattle.job_words.specs.Job.{JobOf};
 ghost use Rattle.job_words.specs.Table.{IsBuilt};
-ghost use Rattle.hsdec_core.specs.Inner.RightFor.{IsRightFor, IsRightOn};
+ghost use Rattle.kiss2.specs.Lawful.{IsLawful};
+ghost use Rattle.kiss2.specs.Machine.{Accepted};
+ghost use Rattle.hsdec_core.specs.Fill.{fill_of};
+ghost use Rattle.hsdec_core.specs.Inner.RightFor.{IsRightFor, IsRightOf, IsRightOn};
 ghost use Rattle.hsdec_core.specs.Loading.{IsWithin};
 
+use crate::check_command::check;
 use crate::code_command::code;
 use crate::loading::{Loaded, load_operand};
+use crate::refusals::{conflict, kiss_refused, unspecified};
 use crate::{Answer, Outcome};
 use hs_io::Shelf;
 use hs_texts::err_lines;
 use job_words::{Command, Job, JobFail, Words, job};
+use kiss2::{Fill, KissFail, KissFile, read};
+use machine_table::{BuildFail, Machine};
 use std::alloc::{AllocError, Global};
 
 /// Makes what the words ask for, in memory: judges the words, loads the operand, and hands its text to the
@@ -46,8 +53,56 @@ fn perform_on(alloc: Global, job: &Job, text: &[u8]) -> Result<Outcome, AllocErr
     requires within { IsWithin text.now }
     ensures { IfOk result (IsRightOn job.now text.now) }
 {
+    match read(alloc, text) {
+        Ok(file) => perform_of(alloc, job, file),
+        Err(KissFail::Refused(fault)) => kiss_refused(alloc, fault),
+        Err(KissFail::NoMemory) => Err(AllocError),
+    }
+}
+
+/// Makes what a job asks for of the record of its file.
+fn perform_of(alloc: Global, job: &Job, file: KissFile) -> Result<Outcome, AllocError>
+    requires built { IsBuilt job.now.command }
+    requires lawful { IsLawful file }
+    ensures { IfOk result (IsRightOf job.now file) }
+{
+    match Machine::build(alloc, &file, fill(job)) {
+        Ok(machine) => command(alloc, job, file, &machine),
+        Err(BuildFail::Conflict { row_a, row_b }) => conflict(alloc, row_a, row_b),
+        Err(
+            BuildFail::Unspecified {
+                state,
+                symbol,
+                part,
+            },
+        ) => unspecified(alloc, &file, usize::from(state), symbol, part),
+        Err(BuildFail::NoMemory) => Err(AllocError),
+    }
+}
+
+/// The command of a job, on the machine of its file.
+fn command(
+    alloc: Global,
+    job: &Job,
+    file: KissFile,
+    machine: &Machine,
+) -> Result<Outcome, AllocError>
+    requires built { IsBuilt job.now.command }
+    requires machine { machine.now ≡ file }
+    requires lawful { IsLawful file }
+    requires accepted { Accepted file (fill_of job.now) }
+    ensures { IfOk result (IsRightOf job.now file) }
+{
     match job.command {
-        Command::Code => code(alloc, job, text),
+        Command::Check => check(alloc, job, &file),
+        Command::Code => code(alloc, job, file, machine),
         _ => unreachable!(),
     }
+}
+
+/// The fill of a job.
+fn fill(job: &Job) -> Fill
+    ensures { result ≡ fill_of job.now }
+{
+    if job.hold { Fill::Hold } else { Fill::Refuse }
 }

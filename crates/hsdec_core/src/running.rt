@@ -4,8 +4,9 @@ ghost use Rattle.std.specs.Prelude.{◌≡◌, ◌≢◌, ◌-◌, ◌^◌, ◌<
 ghost use Rattle.hs_io.specs.Counts.{Rose};
 ghost use Rattle.hs_io.specs.Pieces.{Appends, AppendsFront};
 ghost use Rattle.job_words.specs.Job.{JobOf};
+ghost use Rattle.kiss2.specs.Machine.{Conflicting};
 ghost use Rattle.hsdec_core.specs.Answer.{ExactlyWhere, ExactlyWhereRead};
-ghost use Rattle.hsdec_core.specs.Cause.{IfTold, IsUnread, IsUnrefused};
+ghost use Rattle.hsdec_core.specs.Cause.{CallsFor, IfTold, IsNoMachine, IsOpen, IsUnrefused, SaysMachine};
 ghost use Rattle.hsdec_core.specs.Line.{IsLineFor};
 ghost use Rattle.hsdec_core.specs.Loading.{IsTooLong};
 ghost use Rattle.hsdec_core.specs.Promise.{IsAsked, IsDecompositionOf, kind_of};
@@ -35,8 +36,14 @@ pub fn run<F: Shelf, O: Sink, E: Sink>(
     ensures read_fault { result ≡ Answer.ReadFault → Rose (F.faults shelf.old) (F.faults shelf.new) }
     ensures too_long { IfTold words.now (F.holds shelf.old) (λ job bytes.
         ExactlyWhereRead result Answer.TooLong (IsTooLong bytes)) }
+    ensures kiss_refused { IfTold words.now (F.holds shelf.old) (λ job bytes.
+        ExactlyWhereRead result Answer.KissRefused (IsNoMachine bytes)) }
+    ensures conflict { IfTold words.now (F.holds shelf.old) (λ job bytes.
+        ExactlyWhereRead result Answer.Conflict (SaysMachine bytes Conflicting)) }
+    ensures unspecified { IfTold words.now (F.holds shelf.old) (λ job bytes.
+        ExactlyWhereRead result Answer.Unspecified (SaysMachine bytes (IsOpen job))) }
     ensures not_yet { IfTold words.now (F.holds shelf.old) (λ job bytes.
-        ExactlyWhereRead result Answer.NotYet (IsUnread bytes)) }
+        ExactlyWhereRead result Answer.NotYet (CallsFor job bytes Answer.NotYet)) }
     ensures write_fault { result ≡ Answer.WriteFault → Rose (O.faults out.old) (O.faults out.new) }
 
     // Where nothing calls for a refusal and no count rises, the job is done or memory is wanting.
@@ -47,7 +54,7 @@ pub fn run<F: Shelf, O: Sink, E: Sink>(
     // A command that decomposes gives out a whole decomposition of the machine of its file. Every command
     // gives the whole text that the job asks for, a front of it at `WriteFault`, and nothing at a refusal.
     ensures headline { result ≡ Answer.Done → IfOk (JobOf words.now) (λ job. IfSome (kind_of job.command) (λ kind.
-        (text : List ℕ) × IsDecompositionOf kind (F.holds shelf.old job.file) text
+        (text : List ℕ) × IsDecompositionOf kind job (F.holds shelf.old) text
         × Appends (O.given out.old) text (O.given out.new))) }
     ensures text { result ≡ Answer.Done → IfOk (JobOf words.now) (λ job. (text : List ℕ)
         × IsAsked job (F.holds shelf.old) text × Appends (O.given out.old) text (O.given out.new)) }
@@ -58,7 +65,7 @@ pub fn run<F: Shelf, O: Sink, E: Sink>(
 
     // Every answer but `Done` hands its line to err.
     ensures silent { result ≡ Answer.Done → err.new ≡ err.old }
-    ensures line { result ≢ Answer.Done → (line : List ℕ) × IsLineFor (JobOf words.now) result line
+    ensures line { result ≢ Answer.Done → (line : List ℕ) × IsLineFor (JobOf words.now) (F.holds shelf.old) result line
         × LinePut line (E.given err.old) (E.given err.new) (E.faults err.old) (E.faults err.new) }
 
     // The shelf holds and grants what it did, and no count falls.

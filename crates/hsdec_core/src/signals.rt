@@ -1,13 +1,12 @@
 //! What each gate gives at a state and a symbol.
 
-ghost use Rattle.std.specs.Prelude.{◌≡◌, ◌<◌, ◌≤◌, ◌+◌, ◌*◌, ◌^◌, Some, length, slice_get};
+ghost use Rattle.std.specs.Prelude.{◌≡◌, ◌<◌, ◌≤◌, ◌^◌, length};
 ghost use Rattle.cubes.specs.Symbol.{symbol_of};
-ghost use Rattle.kiss2.specs.First.{IsPlain};
-ghost use Rattle.kiss2.specs.Machine.{next};
+ghost use Rattle.kiss2.specs.Machine.{output_bit};
 ghost use Rattle.hsdec_core.specs.Inner.CodeNetwork.{IsWithin, signal_bit};
 
 use crate::binary::bit;
-use kiss2::{KissFile, KissRow};
+use machine_table::Machine;
 use state_codes::Codes;
 
 /// What a gate gives.
@@ -21,46 +20,35 @@ pub enum Signal {
 
 /// Whether a gate gives 1 at a state and a symbol.
 pub fn gives_one(
-    file: &KissFile,
+    machine: &Machine,
     codes: &Codes,
     signal: Signal,
     state: usize,
     symbol: usize,
 ) -> bool
-    requires plain { IsPlain file.now }
-    requires words { length codes.now.words ≡ length file.now.states }
+    requires inputs { machine.now.inputs ≤ 16 }
+    requires words { length codes.now.words ≡ length machine.now.states }
     requires short { codes.now.bits ≤ 64 }
-    requires within { IsWithin codes.now.bits file.now.outputs signal }
-    requires state { state < length file.now.states }
-    requires symbol { symbol < 2 ^ file.now.inputs }
-    ensures { result ≡ signal_bit file.now codes.now.words signal state (symbol_of file.now.inputs symbol) }
+    requires within { IsWithin codes.now.bits machine.now.outputs signal }
+    requires state { state < length machine.now.states }
+    requires symbol { symbol < 2 ^ machine.now.inputs }
+    ensures { result ≡ signal_bit machine.now codes.now.words signal state (symbol_of machine.now.inputs symbol) }
 {
+    let x = symbol as u32;
     match signal {
-        Signal::Next(i) => bit(codes.words.as_slice()[next_of(file, state, symbol)], i),
-        Signal::Output(b) => bit(row_of(file, state, symbol).value, b),
+        Signal::Next(i) => bit(codes.words.as_slice()[machine.next(state, x)], i),
+        Signal::Output(b) => output_at(machine, state, x, b),
     }
 }
 
-/// The next state.
-fn next_of(file: &KissFile, state: usize, symbol: usize) -> usize
-    requires plain { IsPlain file.now }
-    requires state { state < length file.now.states }
-    requires symbol { symbol < 2 ^ file.now.inputs }
-    ensures next { result ≡ next file.now state (symbol_of file.now.inputs symbol) }
-    ensures within { result < length file.now.states }
+/// An output at a state and a symbol.
+fn output_at(machine: &Machine, state: usize, x: u32, b: usize) -> bool
+    requires state { state < length machine.now.states }
+    requires symbol { x < 2 ^ machine.now.inputs }
+    requires output { b < machine.now.outputs }
+    ensures { result ≡ output_bit machine.now state (symbol_of machine.now.inputs x) b }
 {
-    match row_of(file, state, symbol).to {
-        Some(next) => usize::from(next),
-        None => state,
-    }
-}
-
-/// The row of a state and a symbol.
-fn row_of(file: &KissFile, state: usize, symbol: usize) -> KissRow
-    requires plain { IsPlain file.now }
-    requires state { state < length file.now.states }
-    requires symbol { symbol < 2 ^ file.now.inputs }
-    ensures { slice_get file.now.rows (state * 2 ^ file.now.inputs + symbol) ≡ Some result }
-{
-    file.rows.as_slice()[state * (1 << file.inputs) + symbol]
+    let outputs = machine.outputs();
+    prove!(b < usize::from(outputs));
+    machine.output_bit(state, x, b as u8)
 }

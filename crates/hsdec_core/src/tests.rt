@@ -1,3 +1,4 @@
+mod machines;
 mod stepping;
 mod whole_texts;
 
@@ -10,11 +11,6 @@ use std::test::Fail;
 /// The toggle: two states that change at 1.
 fn toggle() -> &'static [u8] {
     b".i 1\n.o 1\n0 a a 0\n1 a b 1\n0 b b 1\n1 b a 0\n.e\n"
-}
-
-/// That file without its last line.
-fn cut_toggle() -> &'static [u8] {
-    b".i 1\n.o 1\n0 a a 0\n1 a b 1\n0 b b 1\n1 b a 0\n"
 }
 
 /// What `code` writes for the toggle.
@@ -159,14 +155,17 @@ fn puts_its_line_once(rt: HostRuntime) -> Result<(), Fail> {
     let puts: [(u64, usize, &[u8]); 3] = [
         (1, 0, b""),
         (1, 7, b"hsdec: "),
-        (2, 0, b"hsdec: not yet\n"),
+        (2, 0, b"hsdec: kiss line 0: no rows\n"),
     ];
     for (call, take, given) in puts {
         let mut out = MemSink::new(rt.alloc(), 4096)?;
         let mut err = MemSink::new(rt.alloc(), 4096)?;
         out.fail_at(1, 0);
         err.fail_at(call, take);
-        assert_eq!(rt; code(rt.alloc(), b"", &mut out, &mut err)?, Answer::NotYet);
+        assert_eq!(rt;
+            code(rt.alloc(), b"", &mut out, &mut err)?,
+            Answer::KissRefused
+        );
         assert_eq!(rt; err.bytes(), given);
         assert_eq!(rt; out.bytes().len(), 0);
     }
@@ -210,16 +209,27 @@ fn refuses_what_it_cannot_read(rt: HostRuntime) -> Result<(), Fail> {
 }
 
 #[test]
-fn refuses_texts(rt: HostRuntime) -> Result<(), Fail> {
-    let texts: [(&[u8], usize, Answer, &[u8]); 4] = [
-        (cut_toggle(), 0, Answer::NotYet, b"hsdec: not yet\n"),
-        (b"", 0, Answer::NotYet, b"hsdec: not yet\n"),
-        (toggle(), 4_194_304, Answer::NotYet, b"hsdec: not yet\n"),
-        (toggle(), 4_194_305, Answer::TooLong, b"hsdec: too long T\n"),
+fn bounds_texts(rt: HostRuntime) -> Result<(), Fail> {
+    let texts: [(&[u8], u8, usize, Answer, &[u8]); 3] = [
+        (toggle(), b' ', 4_194_304, Answer::Done, b""),
+        (
+            toggle(),
+            b' ',
+            4_194_305,
+            Answer::TooLong,
+            b"hsdec: too long T\n",
+        ),
+        (
+            b"",
+            b'#',
+            4_194_304,
+            Answer::KissRefused,
+            b"hsdec: kiss line 0: no rows\n",
+        ),
     ];
-    for (text, length, answer, line) in texts {
+    for (text, filling, length, answer, line) in texts {
         let mut text = text.to_vec(rt.alloc())?;
-        text.resize(length.max(text.len()), b' ')?;
+        text.resize(length, filling)?;
         let mut out = MemSink::new(rt.alloc(), 4096)?;
         let mut err = MemSink::new(rt.alloc(), 4096)?;
         assert_eq!(rt;
@@ -227,7 +237,6 @@ fn refuses_texts(rt: HostRuntime) -> Result<(), Fail> {
             answer
         );
         assert_eq!(rt; err.bytes(), line);
-        assert_eq!(rt; out.bytes().len(), 0);
     }
     Ok(())
 }

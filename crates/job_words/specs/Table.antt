@@ -6,6 +6,7 @@ use Rattle.job_words.specs.declared.table.CommandOption.{CommandOption}
 use Rattle.job_words.specs.declared.table.Form.{Form}
 use Rattle.job_words.specs.declared.table.OperandKind.{OperandKind}
 use Rattle.job_words.specs.declared.table.OperandKind.TheVariants.{File}
+use Rattle.job_words.specs.declared.table.CommandOption.TheVariants.{Fill}
 
 pub record Row : Type 0 where
   pub command : Command
@@ -21,7 +22,10 @@ row command operands options = record { command = command; operands = operands; 
 
 -- the commands that are built
 abbrev pub built : List Row
-built = row commands.Code (File ∷ []) [] ∷ []
+built =
+    row commands.Check (File ∷ []) (Fill ∷ [])
+    ∷ row commands.Code (File ∷ []) (Fill ∷ [])
+    ∷ []
 
 -- the commands of rows
 abbrev pub commands_of : List Row → List Command

@@ -52,11 +52,18 @@ pub struct Form {
 }
 
 /// The commands that are built.
-pub const BUILT: [Form; 1] = [Form {
-    command: Command::Code,
-    operands: &[OperandKind::File],
-    options: &[],
-}];
+const BUILT: [Form; 2] = [
+    Form {
+        command: Command::Check,
+        operands: &[OperandKind::File],
+        options: &[CommandOption::Fill],
+    },
+    Form {
+        command: Command::Code,
+        operands: &[OperandKind::File],
+        options: &[CommandOption::Fill],
+    },
+];
 
 /// The commands that are built.
 pub fn built_forms() -> &'static [Form]

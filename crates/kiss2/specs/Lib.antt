@@ -3,3 +3,8 @@ pub mod Spelling
 pub mod First
 pub mod Lawful
 pub mod Machine
+pub mod Words
+pub mod Standing
+pub mod Faults
+pub mod Kiss
+pub mod Inner

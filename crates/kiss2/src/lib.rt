@@ -12,17 +12,26 @@
 #![tactic(auto)]
 
 mod cutting;
+mod fault;
 mod fields;
 mod fill;
+mod judging;
 mod kiss_file;
 mod laws;
+mod line_kind;
+mod reader;
 mod reading;
+mod record;
+mod said;
 mod state_names;
 #[cfg(test)]
 mod tests;
+mod words;
 
+pub use fault::{KissFail, KissFault, KissKind, KissLimit};
 pub use fill::Fill;
 pub use kiss_file::{KissFile, KissRow, Rows};
-pub use laws::{next_is_a_state, plain_is_accepted, rows_decide};
+pub use laws::{next_is_a_state, plain_is_accepted, read_is_lawful, read_once, rows_decide};
+pub use reader::read;
 pub use reading::{FirstFail, read_first};
 pub use state_names::StateNames;

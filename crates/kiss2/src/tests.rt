@@ -1,4 +1,4 @@
-use crate::{FirstFail, StateNames, read_first};
+use crate::{FirstFail, KissFail, KissKind, KissLimit, StateNames, read, read_first};
 use std::alloc::Global;
 use std::process::Abort;
 use std::test::Fail;
@@ -95,4 +95,69 @@ fn expect_refused(rt: &impl Abort, alloc: Global, text: &[u8]) {
         Ok(_) => panic!(rt; "{text:?} was read"),
         Err(fail) => assert_eq!(rt; fail, FirstFail::NotYet, "at {text:?}"),
     }
+}
+
+/// Sees that the text is refused for that fault, a length of 0 asking for a text that is read.
+fn expect_fault(rt: &impl Abort, alloc: Global, text: &[u8], line: u32, kind: KissKind) {
+    assert!(rt; text.len() < 4096);
+    match read(alloc, text) {
+        Ok(_) => panic!(rt; "{text:?} was read"),
+        Err(KissFail::Refused(fault)) => {
+            assert_eq!(rt; fault.line, line, "at {text:?}");
+            assert_eq!(rt; fault.kind, kind, "at {text:?}");
+        }
+        Err(KissFail::NoMemory) => panic!(rt; "no memory at {text:?}"),
+    }
+}
+
+fn over(what: KissLimit, found: u32) -> KissKind {
+    KissKind::OverLimit { what, found }
+}
+
+#[test]
+fn texts_are_refused(rt: HostRuntime) -> Result<(), Fail> {
+    let texts: [(&[u8], u32, KissKind); 34] = [
+        (b"", 0, KissKind::NoRows),
+        (
+            b".i 1\n.o 1\n.r b\n0 a a 0\n1 a a 0",
+            3,
+            KissKind::ResetUnknown,
+        ),
+        (b".i 0", 1, KissKind::BadNumber),
+        (b".i 33", 1, over(KissLimit::Inputs, 33)),
+        (b".i 1\n.i 1", 2, KissKind::Repeated),
+        (b".i 1\n0 a a 0", 2, KissKind::MissingCounts),
+        (b".i 1\n.o 1\n- * a 0", 3, KissKind::AnyState),
+        (b".i 1\n.o 1\n2 a a 0", 3, KissKind::BadCube),
+        (b".i 1\n.o 1\n0 a a 00", 3, KissKind::BadOutput),
+        (b".i 1\n.o 1\n.type fr", 3, KissKind::UnknownWord),
+        (b".i 1\n.o 1\n0 a a 0\n1 a", 4, KissKind::BadFields),
+        (b"\0", 1, KissKind::BadByte),
+        (b"\n.i 1 \x80 # ", 2, KissKind::BadByte),
+        (b".e \x7f", 1, KissKind::BadByte),
+        (b".", 1, KissKind::UnknownWord),
+        (b".i", 1, KissKind::BadFields),
+        (b".i 1 1", 1, KissKind::BadFields),
+        (b".i x", 1, KissKind::BadNumber),
+        (b".i 0000000001", 1, KissKind::BadNumber),
+        (b".o 65", 1, over(KissLimit::Outputs, 65)),
+        (b".o 999999999", 1, over(KissLimit::Outputs, 999_999_999)),
+        (b".p x", 1, KissKind::BadNumber),
+        (b".p 0\n.s 7\n.p 1", 3, KissKind::Repeated),
+        (b".s", 1, KissKind::BadFields),
+        (b".ilb a", 1, KissKind::MissingCounts),
+        (b".i 1\n.ilb a b", 2, KissKind::BadFields),
+        (b".i 1\n.ilb a\\b", 2, KissKind::BadFields),
+        (b".i 2\n.ilb a a", 2, KissKind::Repeated),
+        (b".i 1\n.o 2\n.ob b a\n\n.ilb a", 5, KissKind::Repeated),
+        (b".r a b", 1, KissKind::BadFields),
+        (b".i 1\n.o 1\n0 - a 0", 3, KissKind::AnyState),
+        (b".i 1\n.o 1\n#\n", 0, KissKind::NoRows),
+        (b".i 1\n.o 1\n.e\n0 a a 0", 0, KissKind::NoRows),
+        (b".i 2\n.o 1\n0 * a 00", 3, KissKind::BadCube),
+    ];
+    for (text, line, kind) in texts {
+        expect_fault(&rt, rt.alloc(), text, line, kind);
+    }
+    Ok(())
 }

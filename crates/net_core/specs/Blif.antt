@@ -1,33 +1,29 @@
 -- The BLIF texts that this product takes: they denote a sound network, within limits.
-use Rattle.std.specs.Prelude.{◌≡◌, ℕ, ◌≤◌, List, [], ◌∷◌, All, length}
+use Rattle.std.specs.Prelude.{◌≡◌, ℕ, ◌≤◌, Option, Some, None, List, [], ◌∷◌, All, length}
+use Rattle.std.specs.Option.{option_to_list}
 use Rattle.std.specs.List.{flat_map}
 use Rattle.net_core.specs.declared.Network.{Network}
-use Rattle.net_core.specs.Statements.{Form, Inputs, Outputs, Clock, LatchLine, Names, form_of, operands_of}
-use Rattle.net_core.specs.Denotes.{Denotes, statements_of}
+use Rattle.net_core.specs.Statements.{Statement, Inputs, Outputs, Clock, LatchLine, Names, LatchParts, latch_parts, said_in}
+use Rattle.net_core.specs.Denotes.{Denotes}
 use Rattle.net_core.specs.Sound.{Sound}
 
 -- the names on a latch's line: its input and its output, and its control behind a type
-abbrev pub latch_names : List (List ℕ) → List (List ℕ)
-latch_names (input ∷ output ∷ kind ∷ control ∷ more) = input ∷ output ∷ control ∷ []
-latch_names (input ∷ output ∷ more) = input ∷ output ∷ []
-latch_names _ = []
+abbrev pub latch_names : Option LatchParts → List (List ℕ)
+latch_names None = []
+latch_names (Some parts) = parts.input ∷ parts.output ∷ option_to_list parts.control
 
--- the names of signals and clocks that operands have; the name of the model has no limit
-abbrev pub names_at : Form → List (List ℕ) → List (List ℕ)
-names_at Inputs operands = operands
-names_at Outputs operands = operands
-names_at Clock operands = operands
-names_at LatchLine operands = latch_names operands
-names_at Names operands = operands
-names_at _ operands = []
-
--- the names of signals and clocks in a text
-abbrev pub names_of : List ℕ → List (List ℕ)
-names_of bytes = flat_map (λ statement. names_at (form_of statement) (operands_of statement)) (statements_of bytes)
+-- the names of signals and clocks in a statement; the name of the model has no limit
+abbrev pub names_in : Statement → List (List ℕ)
+names_in (Inputs names) = names
+names_in (Outputs names) = names
+names_in (Clock names) = names
+names_in (LatchLine operands) = latch_names (latch_parts operands)
+names_in (Names names) = names
+names_in _ = []
 
 -- the text and its network are no larger than what is taken
 pub record IsWithinLimits (bytes : List ℕ) (N : Network) : Type 0 where
-  pub names : All (λ name. length name ≤ 64) (names_of bytes)
+  pub names : All (λ name. length name ≤ 64) (flat_map names_in (said_in bytes))
   pub inputs : length N.inputs ≤ 256
   pub outputs : length N.outputs ≤ 256
   pub latches : length N.latches ≤ 256

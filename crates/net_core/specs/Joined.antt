@@ -54,6 +54,3 @@ ends_text line = not line.bad && bytes_eq (word_of line.fields) end_word
 -- the lines that are read: those before the one that ends the text
 abbrev pub read_lines : List ℕ → List Line
 read_lines bytes = take_while (λ line. not (ends_text line)) (joined (lines_of bytes))
-
-abbrev pub has_fields : Line → Bool
-has_fields line = not (length line.fields == 0)

@@ -2,8 +2,11 @@ pub mod Start
 pub mod Words
 pub mod Joined
 pub mod Statements
+pub mod Faults
 pub mod Denotes
 pub mod Step
 pub mod Sound
 pub mod Blif
+pub mod Limits
 pub mod Flat
+pub mod Worked

@@ -2,6 +2,7 @@
 
 ghost use Rattle.net_core.specs.Blif.{BlifOnce};
 ghost use Rattle.net_core.specs.Denotes.{DenotesOnce};
+ghost use Rattle.net_core.specs.Limits.{LimitsByStatement};
 ghost use Rattle.net_core.specs.Flat.{FlatIsSound, GivenIsAStep};
 ghost use Rattle.net_core.specs.Step.{AnswersAreDetermined};
 ghost use Rattle.net_core.specs.Sound.{SoundIsDetermined};
@@ -14,6 +15,11 @@ pub fn denotes_once()
 /// A text is a BLIF text of at most one network.
 pub fn blif_once()
     ensures { BlifOnce }
+{}
+
+/// A text that denotes a network is within the limits exactly where none of its statements goes over one.
+pub fn limits_by_statement()
+    ensures { LimitsByStatement }
 {}
 
 /// A network has at most one list of answers to a word.

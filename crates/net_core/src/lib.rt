@@ -1,8 +1,19 @@
-//! Networks of gates and latches, by the names of their signals.
+//! Networks of gates and latches, by the names of their signals, and what a BLIF text says of them.
 //!
 //! A [`Network`] is plain data: inputs and outputs, latches that keep a bit from one symbol to the next,
-//! and gates, each with the rows that its value is read from. What BLIF writes for the start of a latch
-//! stands in `specs/Start.antt`.
+//! and gates, each with the rows that its value is read from. The crates that write, read and run networks
+//! promise by the definitions that stand here:
+//!
+//! - What a text denotes: its joined lines (`specs/Joined.antt`), the statements on them
+//!   (`specs/Statements.antt`, `Start.antt`), the faults of a statement behind those before it
+//!   (`specs/Faults.antt`), and the network of a text without faults (`specs/Denotes.antt`).
+//! - What a reader takes: the limits (`specs/Limits.antt`), and texts within them that denote a sound network
+//!   (`specs/Blif.antt`).
+//! - Which networks are sound, so that their signals are determined (`specs/Sound.antt`, `Flat.antt`), and
+//!   what a network does at a symbol and over words (`specs/Step.antt`).
+//!
+//! The laws of these definitions, and small worked texts and networks, are contracts of functions that do
+//! nothing.
 #![tactic(auto)]
 
 ghost use Rattle.std.specs.Prelude.{◌≡◌};
@@ -11,12 +22,16 @@ ghost use Rattle.net_core.specs.Start.{start_digit};
 mod laws;
 #[cfg(test)]
 mod tests;
+mod worked;
 
 use hs_io::{Name, Names};
 use hs_list::Items;
 pub use laws::{
     answers_are_determined, blif_once, denotes_once, flat_is_sound, given_is_a_step,
-    sound_is_determined,
+    limits_by_statement, sound_is_determined,
+};
+pub use worked::{
+    worked_gates, worked_latches, worked_lines, worked_models, worked_steps, worked_values,
 };
 
 /// The value of a latch before the first symbol.

@@ -1,7 +1,3 @@
-//! Starts, and what networks do at a symbol.
-
-mod stepping;
-
 use super::*;
 
 #[test]

@@ -9,9 +9,9 @@ use Rattle.std.specs.Fmt.{decimal}
 use Rattle.partition.specs.declared.PartFail.{PartFail}
 use Rattle.partition.specs.declared.PartFail.TheVariants.{Empty, NotCanonical, BadText, WrongLength, NoMemory}
 use Rattle.partition.specs.Partition.{blocks_of, IsNumbered, IsPartition}
-use Rattle.partition.specs.Text.{text_of, pieces_of, BeginsWith, FirstBadPiece, OtherLength, TextFault}
+use Rattle.partition.specs.Text.{labels_text, pieces_of, BeginsWith, FirstBadPiece, OtherLength, TextFault}
 use Rattle.partition.specs.Laws.Labels.{label-le}
-use Rattle.partition.proofs.Pieces.{length-pieces_of-le, pieces_of-text_of}
+use Rattle.partition.proofs.Pieces.{length-pieces_of-le, pieces_of-labels_text}
 
 -- a text that a slice can have
 abbrev pub IsShort : List ℕ → Type 0
@@ -33,20 +33,20 @@ bad_stops text place ys short fault begins within =
     let front : fault.labels ≡ take place ys = subst (λ (k : ℕ). fault.labels ≡ take k ys) fault.size (begins_front text fault.labels ys short fault.begins begins (omega (arith, fault.size))) in
     fault.bad (get_or ys place 0) (omega (arith, begins.numbered place within, ap blocks_of front)) (begins.spelled place within)
 
-length-text_of-ge : (labels : List ℕ) → length labels ≤ length (text_of labels) + 1
-length-text_of-ge [] = omega arith
-length-text_of-ge (label ∷ []) = omega arith
-length-text_of-ge (label ∷ next ∷ labels) =
-    omega (arith, length-append (decimal label) (44 ∷ text_of (next ∷ labels)), length-text_of-ge (next ∷ labels))
+length-labels_text-ge : (labels : List ℕ) → length labels ≤ length (labels_text labels) + 1
+length-labels_text-ge [] = omega arith
+length-labels_text-ge (label ∷ []) = omega arith
+length-labels_text-ge (label ∷ next ∷ labels) =
+    omega (arith, length-append (decimal label) (44 ∷ labels_text (next ∷ labels)), length-labels_text-ge (next ∷ labels))
 
 -- how a text of labels is read
 record IsSpelled (text labels : List ℕ) : Type 0 where
   begins : BeginsWith text labels
   size : length (pieces_of text) ≡ length labels
 
-is_spelled : (text labels : List ℕ) → IsShort text → IsNumbered labels → 0 < length labels → text ≡ text_of labels → IsSpelled text labels
+is_spelled : (text labels : List ℕ) → IsShort text → IsNumbered labels → 0 < length labels → text ≡ labels_text labels → IsSpelled text labels
 is_spelled text labels short numbered some is =
-    let pieces : pieces_of text ≡ map decimal labels = ap pieces_of is ∙ pieces_of-text_of labels some (λ place within. omega (arith, label-le labels numbered place within, length-text_of-ge labels, ap length is)) in
+    let pieces : pieces_of text ≡ map decimal labels = ap pieces_of is ∙ pieces_of-labels_text labels some (λ place within. omega (arith, label-le labels numbered place within, length-labels_text-ge labels, ap length is)) in
     let size : length (pieces_of text) ≡ length labels = ap length pieces ∙ length-map labels decimal in
     record {
       begins = record {
@@ -56,14 +56,14 @@ is_spelled text labels short numbered some is =
       size = size;
     }
 
-partition_spelled : (n : ℕ) (text p : List ℕ) → IsShort text → IsPartition n p → text ≡ text_of p → IsSpelled text p
+partition_spelled : (n : ℕ) (text p : List ℕ) → IsShort text → IsPartition n p → text ≡ labels_text p → IsSpelled text p
 partition_spelled n text p short lawful is = is_spelled text p short lawful.numbered (omega (arith, lawful.length, lawful.count.0)) is
 
 other_spelled : (n : ℕ) (text : List ℕ) (found : ℕ) → IsShort text → (other : OtherLength n text found) → IsSpelled text other.labels
 other_spelled n text found short other = is_spelled text other.labels short other.numbered (omega (arith, other.size, other.some)) other.spelled
 
 -- the text of a partition has no fault
-pub no_fault : (n : ℕ) (text p : List ℕ) (fail : PartFail) → IsShort text → IsPartition n p → text ≡ text_of p → TextFault n text fail → ⊥
+pub no_fault : (n : ℕ) (text p : List ℕ) (fail : PartFail) → IsShort text → IsPartition n p → text ≡ labels_text p → TextFault n text fail → ⊥
 no_fault n text p Empty short lawful is fault = fault
 no_fault n text p (NotCanonical place) short lawful is fault = fault
 no_fault n text p (BadText place) short lawful is fault =
@@ -113,17 +113,17 @@ fault_once n text (WrongLength one) (NotCanonical place) short here there = absu
 fault_once n text (WrongLength one) NoMemory short here there = absurd there
 
 -- two partitions of one number of states with one text are one
-pub text_once : (n : ℕ) (text p q : List ℕ) → IsShort text → IsPartition n p → IsPartition n q → text ≡ text_of p → text ≡ text_of q → p ≡ q
+pub text_once : (n : ℕ) (text p q : List ℕ) → IsShort text → IsPartition n p → IsPartition n q → text ≡ labels_text p → text ≡ labels_text q → p ≡ q
 text_once n text p q short left right p_is q_is =
     begins_front text p q short (partition_spelled n text p short left p_is).begins (partition_spelled n text q short right q_is).begins (omega (arith, left.length, right.length)) ∙ take_all (length p) q (omega (arith, left.length, right.length))
 
 -- what reading answers, and what follows of it
-pub accepts : (n : ℕ) (text p : List ℕ) (r : Result (List ℕ) PartFail) → IsShort text → MatchResult r (λ q. IsPartition n q × (text ≡ text_of q)) (λ fail. (fail ≡ NoMemory) ⊎ TextFault n text fail) → IsPartition n p → text ≡ text_of p → MatchResult r (λ q. q ≡ p) (λ fail. fail ≡ NoMemory)
+pub accepts : (n : ℕ) (text p : List ℕ) (r : Result (List ℕ) PartFail) → IsShort text → MatchResult r (λ q. IsPartition n q × (text ≡ labels_text q)) (λ fail. (fail ≡ NoMemory) ⊎ TextFault n text fail) → IsPartition n p → text ≡ labels_text p → MatchResult r (λ q. q ≡ p) (λ fail. fail ≡ NoMemory)
 accepts n text p (Ok q) short read lawful is = text_once n text q p short read.0 lawful read.1 is
 accepts n text p (Err fail) short (inl memory) lawful is = memory
 accepts n text p (Err fail) short (inr fault) lawful is = absurd (no_fault n text p fail short lawful is fault)
 
-pub causes : (n : ℕ) (text : List ℕ) (fail : PartFail) (r : Result (List ℕ) PartFail) → IsShort text → MatchResult r (λ q. IsPartition n q × (text ≡ text_of q)) (λ other. (other ≡ NoMemory) ⊎ TextFault n text other) → TextFault n text fail → (r ≡ Err fail) ⊎ (r ≡ Err NoMemory)
+pub causes : (n : ℕ) (text : List ℕ) (fail : PartFail) (r : Result (List ℕ) PartFail) → IsShort text → MatchResult r (λ q. IsPartition n q × (text ≡ labels_text q)) (λ other. (other ≡ NoMemory) ⊎ TextFault n text other) → TextFault n text fail → (r ≡ Err fail) ⊎ (r ≡ Err NoMemory)
 causes n text fail (Ok q) short read fault = absurd (no_fault n text q fail short read.0 read.1 fault)
 causes n text fail (Err other) short (inl memory) fault = inr (ap Err memory)
 causes n text fail (Err other) short (inr is) fault = inl (ap Err (fault_once n text other fail short is fault))

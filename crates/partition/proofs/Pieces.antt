@@ -7,7 +7,7 @@ use Rattle.std.proofs.lemmas.List.Elements.{All-from_get_or}
 use Rattle.std.proofs.lemmas.List.Splits.{slice_split_none, slice_split_at, length-slice_split, join_with_byte-slice_split}
 use Rattle.std.specs.List.{join_with_byte, All}
 use Rattle.std.specs.Fmt.{decimal}
-use Rattle.partition.specs.Text.{text_of, pieces_of}
+use Rattle.partition.specs.Text.{labels_text, pieces_of}
 use Rattle.partition.proofs.Numerals.{no_comma}
 
 abbrev comma : ℕ → Bool
@@ -41,25 +41,25 @@ pub some_piece : (text : List ℕ) → 0 < length (pieces_of text)
 some_piece text = omega (arith, length-slice_split comma text)
 
 -- a text is that of the labels that its pieces spell
-pub text_of-pieces : (text labels : List ℕ) → pieces_of text ≡ map decimal labels → text ≡ text_of labels
-text_of-pieces text labels spelled = sym (join_with_byte-slice_split 44 text) ∙ ap (join_with_byte 44) spelled
+pub labels_text-pieces : (text labels : List ℕ) → pieces_of text ≡ map decimal labels → text ≡ labels_text labels
+labels_text-pieces text labels spelled = sym (join_with_byte-slice_split 44 text) ∙ ap (join_with_byte 44) spelled
 
 -- the pieces of a partition's text are its labels
-pub pieces_of-text_of : (labels : List ℕ) → 0 < length labels → ((place : ℕ) → place < length labels → get_or labels place 0 < 2 ^ 64) → pieces_of (text_of labels) ≡ map decimal labels
-pieces_of-text_of [] some small = absurd (omega arith)
-pieces_of-text_of (label ∷ []) some small = pieces_none (decimal label) (no_comma label (small 0 (omega arith)))
-pieces_of-text_of (label ∷ next ∷ labels) some small =
-    pieces_at (decimal label) (text_of (next ∷ labels)) (no_comma label (small 0 (omega arith))) ∙ ap (λ (pieces : List (List ℕ)). decimal label ∷ pieces) (pieces_of-text_of (next ∷ labels) (omega arith) (λ place within. small (suc place) (omega arith)))
+pub pieces_of-labels_text : (labels : List ℕ) → 0 < length labels → ((place : ℕ) → place < length labels → get_or labels place 0 < 2 ^ 64) → pieces_of (labels_text labels) ≡ map decimal labels
+pieces_of-labels_text [] some small = absurd (omega arith)
+pieces_of-labels_text (label ∷ []) some small = pieces_none (decimal label) (no_comma label (small 0 (omega arith)))
+pieces_of-labels_text (label ∷ next ∷ labels) some small =
+    pieces_at (decimal label) (labels_text (next ∷ labels)) (no_comma label (small 0 (omega arith))) ∙ ap (λ (pieces : List (List ℕ)). decimal label ∷ pieces) (pieces_of-labels_text (next ∷ labels) (omega arith) (λ place within. small (suc place) (omega arith)))
 
 -- the text of one label more
-pub text_of-push : (labels : List ℕ) (label : ℕ) → 0 < length labels → text_of (labels ++ label ∷ []) ≡ text_of labels ++ 44 ∷ decimal label
-text_of-push [] label some = absurd (omega arith)
-text_of-push (first ∷ []) label some = refl
-text_of-push (first ∷ next ∷ labels) label some =
-    ap (λ (end : List ℕ). decimal first ++ 44 ∷ end) (text_of-push (next ∷ labels) label (omega arith)) ∙ sym (append_assoc (decimal first) (44 ∷ text_of (next ∷ labels)) (44 ∷ decimal label))
+pub labels_text-push : (labels : List ℕ) (label : ℕ) → 0 < length labels → labels_text (labels ++ label ∷ []) ≡ labels_text labels ++ 44 ∷ decimal label
+labels_text-push [] label some = absurd (omega arith)
+labels_text-push (first ∷ []) label some = refl
+labels_text-push (first ∷ next ∷ labels) label some =
+    ap (λ (end : List ℕ). decimal first ++ 44 ∷ end) (labels_text-push (next ∷ labels) label (omega arith)) ∙ sym (append_assoc (decimal first) (44 ∷ labels_text (next ∷ labels)) (44 ∷ decimal label))
 
-pub text_of-take-none : (labels : List ℕ) (s : ℕ) → s < length labels → s ≡ 0 → text_of (take (s + 1) labels) ≡ decimal (get_or labels s 0)
-text_of-take-none labels s within none = ap text_of (take_more labels s 0 within ∙ ap (λ (k : ℕ). take k labels ++ get_or labels s 0 ∷ []) none)
+pub labels_text-take-none : (labels : List ℕ) (s : ℕ) → s < length labels → s ≡ 0 → labels_text (take (s + 1) labels) ≡ decimal (get_or labels s 0)
+labels_text-take-none labels s within none = ap labels_text (take_more labels s 0 within ∙ ap (λ (k : ℕ). take k labels ++ get_or labels s 0 ∷ []) none)
 
-pub text_of-take-more : (labels : List ℕ) (s : ℕ) → s < length labels → 0 < s → text_of (take (s + 1) labels) ≡ text_of (take s labels) ++ 44 ∷ decimal (get_or labels s 0)
-text_of-take-more labels s within some = ap text_of (take_more labels s 0 within) ∙ text_of-push (take s labels) (get_or labels s 0) (omega (arith, length-take-le s labels (omega arith)))
+pub labels_text-take-more : (labels : List ℕ) (s : ℕ) → s < length labels → 0 < s → labels_text (take (s + 1) labels) ≡ labels_text (take s labels) ++ 44 ∷ decimal (get_or labels s 0)
+labels_text-take-more labels s within some = ap labels_text (take_more labels s 0 within) ∙ labels_text-push (take s labels) (get_or labels s 0) (omega (arith, length-take-le s labels (omega arith)))

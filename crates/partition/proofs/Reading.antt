@@ -6,9 +6,9 @@ use Rattle.std.specs.List.{slice_get}
 use Rattle.std.specs.Option.{option_copied}
 use Rattle.std.specs.Fmt.{decimal}
 use Rattle.partition.specs.Partition.{blocks_of, IsNumbered, IsPartition, IsStateCount}
-use Rattle.partition.specs.Text.{text_of, pieces_of, pieces_after, FirstBadPiece, OtherLength}
+use Rattle.partition.specs.Text.{labels_text, pieces_of, pieces_after, FirstBadPiece, OtherLength}
 use Rattle.partition.specs.Laws.Labels.{blocks_of-push, IsNumbered-none, IsNumbered-push, blocks_of-le}
-use Rattle.partition.proofs.Pieces.{length-pieces_of-le, some_piece, text_of-pieces}
+use Rattle.partition.proofs.Pieces.{length-pieces_of-le, some_piece, labels_text-pieces}
 
 -- After so many pieces: the labels that they spell, of which the first n are kept, and what is left.
 pub record IsReading (text : List ℕ) (n : ℕ) (labels : List ℕ) (found blocks : ℕ) (left : Option (List ℕ)) : Type 0 where
@@ -70,8 +70,8 @@ reading_bad text n labels found blocks rest piece left so_far cut bad =
     }
 
 -- all pieces are read
-whole_text : (text : List ℕ) (n : ℕ) (labels : List ℕ) (found blocks : ℕ) → (so_far : IsReading text n labels found blocks None) → text ≡ text_of so_far.all
-whole_text text n labels found blocks so_far = text_of-pieces text so_far.all (so_far.pieces ∙ append-nil (map decimal so_far.all))
+whole_text : (text : List ℕ) (n : ℕ) (labels : List ℕ) (found blocks : ℕ) → (so_far : IsReading text n labels found blocks None) → text ≡ labels_text so_far.all
+whole_text text n labels found blocks so_far = labels_text-pieces text so_far.all (so_far.pieces ∙ append-nil (map decimal so_far.all))
 
 reading_some : (text : List ℕ) (n : ℕ) (labels : List ℕ) (found blocks : ℕ) → IsReading text n labels found blocks None → 0 < found
 reading_some text n labels found blocks so_far =
@@ -90,7 +90,7 @@ reading_other text n labels found blocks so_far other = record {
 pub record IsRead (n : ℕ) (text labels : List ℕ) (blocks : ℕ) : Type 0 where
   pub lawful : IsPartition n labels
   pub count : blocks ≡ blocks_of labels
-  pub spelled : text ≡ text_of labels
+  pub spelled : text ≡ labels_text labels
 
 pub reading_all : (text : List ℕ) (n : ℕ) (labels : List ℕ) (found blocks : ℕ) → IsStateCount n → IsReading text n labels found blocks None → found ≡ n → IsRead n text labels blocks
 reading_all text n labels found blocks states so_far same =

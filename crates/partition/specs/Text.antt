@@ -7,8 +7,8 @@ use Rattle.partition.specs.declared.PartFail.TheVariants.{Empty, NotCanonical, B
 use Rattle.partition.specs.Partition.{blocks_of, IsNumbered}
 
 -- the text of a partition: its labels in decimal digits, joined by commas
-abbrev pub text_of : List ℕ → List ℕ
-text_of labels = join_with_byte 44 (map decimal labels)
+abbrev pub labels_text : List ℕ → List ℕ
+labels_text labels = join_with_byte 44 (map decimal labels)
 
 -- what stands between the commas of a text
 abbrev pub pieces_of : List ℕ → List (List ℕ)
@@ -34,7 +34,7 @@ pub record OtherLength (n : ℕ) (text : List ℕ) (found : ℕ) : Type 0 where
   pub some : 0 < found
   pub other : found ≢ n
   pub numbered : IsNumbered labels
-  pub spelled : text ≡ text_of labels
+  pub spelled : text ≡ labels_text labels
 
 -- why a text is no partition of n states
 abbrev pub TextFault : ℕ → List ℕ → PartFail → Type 0

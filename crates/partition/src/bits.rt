@@ -7,12 +7,11 @@ ghost use Rattle.partition.specs.Before.{Before};
 ghost use Rattle.partition.specs.Bits.{bit_of};
 
 mod comparing;
+mod conversion;
 mod lattice;
 
-use crate::Partition;
 use crate::states::StateSet;
 use comparing::{begun_blocks, is_smaller, same_rows};
-use lattice::numbered_rows;
 use std::alloc::{AllocError, Global};
 use std::marker::Model;
 
@@ -40,12 +39,12 @@ impl Model for BitPart {
 }
 
 impl BitPart {
-    /// The labels of the states.
-    pub fn labels(&self, alloc: Global) -> Result<Partition, AllocError>
-        ensures labels { IfOk result (λ p. p ≡ self.now) }
-        ensures lawful { IfOk result (λ p. IsPartition (length self.now) p) }
+    /// The number of states.
+    pub fn len(&self) -> usize
+        ensures len { result ≡ length self.now }
+        ensures lawful { IsPartition result self.now }
     {
-        numbered_rows(alloc, self.rows.as_slice())
+        self.rows.len()
     }
 
     /// Row s: bit t stands at 2^(t modulo 64) of word t / 64, and is 1 exactly where s and t are

@@ -4,8 +4,8 @@ ghost use Rattle.std.specs.Prelude.{◌≡◌, ℕ, ◌+◌, ◌*◌, ◌<◌, �
 ghost use Rattle.partition.specs.Partition.{IsPartition, blocks_of};
 ghost use Rattle.partition.specs.MeetAndJoin.{IsMeet, IsJoin, IsGreatestBelow, IsLeastAbove, TiesBlocks};
 
-use crate::Partition;
 use crate::numbering::numbered;
+use crate::{MOST_STATES, Partition};
 use std::alloc::{AllocError, Global};
 
 impl Partition {
@@ -99,7 +99,7 @@ fn tie_blocks(numbers: &mut [u16], p: &[u16], q: &[u16])
     requires own { (block : ℕ) → block < length numbers.old → slice_index numbers.old block ≡ block }
     ensures { TiesBlocks p.now q.now numbers.new }
 {
-    let mut first = [0; 256];
+    let mut first = [0; MOST_STATES];
     let mut found = 0;
     for (s, label) in q.iter().enumerate() {
         let block = *label as usize;

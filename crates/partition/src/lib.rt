@@ -13,9 +13,9 @@ ghost use Rattle.partition.specs.Partition.{IsPartition, IsStateCount, IsZero, I
 
 mod bits;
 mod bounds;
+mod inside;
 mod numbering;
 mod order;
-mod relative;
 mod states;
 #[cfg(test)]
 mod tests;
@@ -26,7 +26,14 @@ pub use bits::BitPart;
 use numbering::numbered;
 use std::alloc::{AllocError, AllocFailed, Global};
 use std::marker::Model;
+pub use text::parse_of_show;
 pub use worlds::{BitWorld, PartWorld};
+
+/// The greatest number of states.
+const MOST_STATES: usize = 256;
+
+/// The greatest label of a state.
+const MOST_LABEL: usize = 255;
 
 /// A partition of the states 0 to n - 1, n from 1 to 256, seen by contracts as its list of labels.
 ///

@@ -4,7 +4,7 @@ ghost use Rattle.std.specs.Prelude.{◌≡◌, ◌<◌, ◌↔◌, length, slice
 ghost use Rattle.partition.specs.Partition.{IsPartition, Le};
 ghost use Rattle.partition.specs.Before.{Before, IsSmaller};
 
-use crate::Partition;
+use crate::{MOST_STATES, Partition};
 
 impl Partition {
     /// Whether states that are together here are together in q.
@@ -56,7 +56,7 @@ fn is_below(p: &[u16], q: &[u16]) -> bool
     requires length { length q.now ≡ length p.now }
     ensures { IsTrue result ↔ Le p.now q.now }
 {
-    let mut above = [0; 256];
+    let mut above = [0; MOST_STATES];
     let mut blocks = 0;
     for (s, label) in p.iter().enumerate() {
         let block = *label as usize;

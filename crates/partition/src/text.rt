@@ -5,11 +5,11 @@ ghost use Rattle.partition.specs.Partition.{IsPartition, IsStateCount, blocks_of
 ghost use Rattle.std.specs.Prelude.{◌∷◌, ◌⊎◌, List, IfSome, IfNone, IsTrue};
 ghost use Rattle.std.specs.Option.{option_copied};
 ghost use Rattle.std.specs.Fmt.{decimal};
-ghost use Rattle.partition.specs.Text.{text_of, pieces_of, pieces_after, IsPlain, TextFault};
+ghost use Rattle.partition.specs.Text.{labels_text, pieces_of, pieces_after, IsPlain, TextFault};
 ghost use Rattle.partition.specs.Refusal.{LabelFault, FirstUnlawful, AllLawful, IsLawfulLabel};
 ghost use Rattle.partition.specs.declared.PartFail.{PartFail};
 
-use crate::{PartFail, Partition};
+use crate::{MOST_LABEL, MOST_STATES, PartFail, Partition};
 use itoa::Buffer;
 use std::alloc::{AllocError, Global};
 
@@ -27,7 +27,7 @@ impl Partition {
         }
         match blocks_named(labels) {
             Err(place) => Err(PartFail::NotCanonical { place }),
-            Ok(_) if labels.len() > 256 => Err(PartFail::WrongLength {
+            Ok(_) if labels.len() > MOST_STATES => Err(PartFail::WrongLength {
                 found: labels.len(),
             }),
             Ok(blocks) => Ok(Partition {
@@ -40,9 +40,9 @@ impl Partition {
     /// The partition of n states with this text: labels in decimal digits, joined by commas.
     pub fn parse(alloc: Global, text: &[u8], n: usize) -> Result<Partition, PartFail>
         requires { IsStateCount n }
-        ensures ok { IfOk result (λ p. text.now ≡ text_of p) }
+        ensures ok { IfOk result (λ p. text.now ≡ labels_text p) }
         ensures lawful { IfOk result (λ p. IsPartition n p) }
-        ensures accepted { (p : List ℕ) → IsPartition n p → text.now ≡ text_of p
+        ensures accepted { (p : List ℕ) → IsPartition n p → text.now ≡ labels_text p
             → MatchResult result (λ q. q ≡ p) (λ fail. fail ≡ PartFail.NoMemory) }
         ensures refused { (fail : PartFail) → result ≡ Err fail
             → (fail ≡ PartFail.NoMemory) ⊎ TextFault n text.now fail }
@@ -54,7 +54,7 @@ impl Partition {
 
     /// Appends the text: the labels in decimal digits, joined by commas.
     pub fn show(&self, alloc: Global, into: &mut Vec<u8>) -> Result<(), AllocError>
-        ensures ok { OnOk result (into.new.items ≡ into.old.items ++ text_of self.now) }
+        ensures ok { OnOk result (into.new.items ≡ into.old.items ++ labels_text self.now) }
         ensures err { OnErr result (into.new.items ≡ into.old.items) }
     {
         let text = written(alloc, self.labels())?;
@@ -62,9 +62,19 @@ impl Partition {
     }
 }
 
+/// What `parse` reads of the text that `show` writes: the same partition, unless memory is wanting. A law,
+/// told of the two calls themselves.
+pub fn parse_of_show(alloc: Global, p: &Partition) -> Result<Partition, PartFail>
+    ensures { MatchResult result (λ q. q ≡ p.now) (λ fail. fail ≡ PartFail.NoMemory) }
+{
+    let mut text = Vec::new(alloc);
+    p.show(alloc, &mut text)?;
+    Partition::parse(alloc, text.as_slice(), p.len())
+}
+
 /// The text of labels.
 fn written(alloc: Global, labels: &[u16]) -> Result<Vec<u8>, AllocError>
-    ensures { IfOk result (λ text. text.items ≡ text_of labels.now) }
+    ensures { IfOk result (λ text. text.items ≡ labels_text labels.now) }
 {
     let mut text = Vec::new(alloc);
     let mut digits = Buffer::new();
@@ -81,7 +91,7 @@ fn written(alloc: Global, labels: &[u16]) -> Result<Vec<u8>, AllocError>
 fn read_labels(alloc: Global, text: &[u8], n: usize) -> Result<Partition, PartFail>
     requires { IsStateCount n }
     ensures { MatchResult result
-        (λ p. IsPartition n p × (text.now ≡ text_of p))
+        (λ p. IsPartition n p × (text.now ≡ labels_text p))
         (λ fail. (fail ≡ PartFail.NoMemory) ⊎ TextFault n text.now fail) }
 {
     let mut labels = Vec::with_capacity(alloc, n)?;
@@ -155,7 +165,7 @@ fn blocks_named(labels: &[u16]) -> Result<usize, usize>
     let mut blocks = 0;
     for (place, label) in labels.iter().enumerate() {
         let block = *label as usize;
-        if block > blocks || block > 255 {
+        if block > blocks || block > MOST_LABEL {
             return Err(place);
         }
         if block == blocks {

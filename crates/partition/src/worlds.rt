@@ -1,10 +1,10 @@
 //! The partitions of n states as a world of values that can be joined.
 
-ghost use Rattle.std.specs.Prelude.{List, ℕ};
+ghost use Rattle.std.specs.Prelude.{◌≡◌, List, ℕ};
 ghost use Rattle.partition.specs.Partition.{IsPartition, IsStateCount, zero_of};
 ghost use Rattle.partition.specs.MeetAndJoin.{IsJoin};
 ghost use Rattle.partition.specs.Before.{Before};
-ghost use Rattle.partition.specs.Laws.World.{zero_fits, join_fits, join_once, join_commutes, join_associates, join_repeats, join_zero, before_never, before_chains, before_decides};
+ghost use Rattle.partition.specs.Laws.World.{zero_fits, zero_once, join_fits, join_once, join_commutes, join_associates, join_repeats, join_zero, before_never, before_chains, before_decides};
 
 use crate::{BitPart, Partition};
 use hs_lattice::JoinWorld;
@@ -27,7 +27,7 @@ impl JoinWorld for PartWorld {
 
     ghost fits = { λ w p. IsPartition w.n p };
 
-    ghost least = { λ w. zero_of w.n };
+    ghost least = { λ w p. p ≡ zero_of w.n };
 
     ghost joins = { λ _ p q r. IsJoin p q r };
 
@@ -53,7 +53,9 @@ impl JoinWorld for PartWorld {
         a.equal(b)
     }
 
-    ghost least_fits = { λ w lawful. zero_fits w.n lawful };
+    ghost least_fits = { λ w p lawful is. zero_fits w.n p lawful is };
+
+    ghost least_once = { λ w p other lawful is same. zero_once w.n p other is same };
 
     ghost joins_fit = { λ w p q r lawful left right joined. join_fits w.n p q r left joined };
 
@@ -65,7 +67,7 @@ impl JoinWorld for PartWorld {
 
     ghost joins_repeat = { λ w p lawful fit. join_repeats w.n p fit };
 
-    ghost joins_least = { λ w p lawful fit. join_zero w.n p fit };
+    ghost joins_least = { λ w p q lawful is fit. join_zero w.n p q is fit };
 
     ghost precedes_irreflexive = { λ w p lawful fit before. before_never p before };
 
@@ -91,7 +93,7 @@ impl JoinWorld for BitWorld {
 
     ghost fits = { λ w p. IsPartition w.n p };
 
-    ghost least = { λ w. zero_of w.n };
+    ghost least = { λ w p. p ≡ zero_of w.n };
 
     ghost joins = { λ _ p q r. IsJoin p q r };
 
@@ -118,7 +120,9 @@ impl JoinWorld for BitWorld {
         a.equal(b)
     }
 
-    ghost least_fits = { λ w lawful. zero_fits w.n lawful };
+    ghost least_fits = { λ w p lawful is. zero_fits w.n p lawful is };
+
+    ghost least_once = { λ w p other lawful is same. zero_once w.n p other is same };
 
     ghost joins_fit = { λ w p q r lawful left right joined. join_fits w.n p q r left joined };
 
@@ -130,7 +134,7 @@ impl JoinWorld for BitWorld {
 
     ghost joins_repeat = { λ w p lawful fit. join_repeats w.n p fit };
 
-    ghost joins_least = { λ w p lawful fit. join_zero w.n p fit };
+    ghost joins_least = { λ w p q lawful is fit. join_zero w.n p q is fit };
 
     ghost precedes_irreflexive = { λ w p lawful fit before. before_never p before };
 

@@ -52,18 +52,18 @@ abbrev pub bit_of : ℕ → Place → ℕ
 bit_of s place = bit_at (slice_index place.labels s) place.weight
 
 -- the code of a state, bit 0 first
-abbrev pub code_of : List Place → ℕ → List ℕ
-code_of places s = map (bit_of s) places
+abbrev pub state_code : List Place → ℕ → List ℕ
+state_code places s = map (bit_of s) places
 
 -- bit i stands at 2 ^ i of the word, and the word has no others
 abbrev pub Spells : ℕ → List ℕ → Type 0
 Spells word bits = (i : ℕ) → bit_at word i ≡ slice_index bits i
 
 -- words, owners and marks are those of codes of n states with these places
-pub record IsWritten (n : ℕ) (places : List Place) (bits : ℕ) (words owner : List ℕ) (carried : List Bool) : Type 0 where
+pub record IsLaidOut (n : ℕ) (places : List Place) (bits : ℕ) (words owner : List ℕ) (carried : List Bool) : Type 0 where
   pub size : bits ≡ length places
   pub states : length words ≡ n
-  pub spelled : (s : ℕ) → s < n → Spells (slice_index words s) (code_of places s)
+  pub spelled : (s : ℕ) → s < n → Spells (slice_index words s) (state_code places s)
   pub owners : owner ≡ map (λ place. place.part) places
   pub marks : carried ≡ map (λ place. place.carried) places
 
@@ -71,7 +71,7 @@ pub record IsWritten (n : ℕ) (places : List Place) (bits : ℕ) (words owner :
 pub record IsCode (n : ℕ) (parts : List Part) (codes : Codes) : Type 0 where
   pub inners : List (List ℕ)
   pub inside : AreInside parts inners
-  pub written : IsWritten n (places_of 0 parts inners) codes.bits codes.words codes.owner codes.carried
+  pub written : IsLaidOut n (places_of 0 parts inners) codes.bits codes.words codes.owner codes.carried
 
 -- so many bits has a code that the parts give
 pub record IsLength (parts : List Part) (bits : ℕ) : Type 0 where

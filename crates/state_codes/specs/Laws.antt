@@ -1,6 +1,6 @@
 -- What follows of the definitions alone.
 pub mod Need
-pub mod Inner
+pub mod InnerLabels
 pub mod Places
 pub mod Codes
 pub mod Splits

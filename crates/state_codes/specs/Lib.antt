@@ -1,6 +1,6 @@
 pub mod Split
 pub mod Code
-pub mod Draft
+pub mod Inner
 pub mod Agreement
 pub mod Fault
 pub mod Laws

@@ -4,8 +4,8 @@ ghost use Rattle.std.specs.Prelude.{◌≡◌, ℕ, ◌+◌, ◌<◌, ◌≤◌,
 ghost use Rattle.std.specs.Int.{bit_at};
 ghost use Rattle.partition.specs.Partition.{blocks_of};
 ghost use Rattle.state_codes.specs.Split.{IsPart};
-ghost use Rattle.state_codes.specs.Code.{need, AreInside, label_places, places_of, IsWritten};
-ghost use Rattle.state_codes.specs.Draft.{Adds};
+ghost use Rattle.state_codes.specs.Code.{need, AreInside, label_places, places_of, IsLaidOut};
+ghost use Rattle.state_codes.specs.Inner.Draft.{Adds};
 
 use crate::coding::needed_bits;
 use crate::{BitOwners, CarrierMarks, CodeWords, Codes, Part};
@@ -32,7 +32,7 @@ pub fn written(
     requires parts { All (IsPart n) parts.now }
     requires inside { AreInside parts.now inners.now }
     requires short { length (places_of 0 parts.now inners.now) ≤ 64 }
-    ensures { IfOk result (λ codes. IsWritten n (places_of 0 parts.now inners.now)
+    ensures { IfOk result (λ codes. IsLaidOut n (places_of 0 parts.now inners.now)
         codes.bits codes.words codes.owner codes.carried) }
 {
     let mut draft = Draft {

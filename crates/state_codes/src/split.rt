@@ -1,6 +1,6 @@
 //! Splits: the kind, and the parts with what each may read.
 
-ghost use Rattle.std.specs.Prelude.{◌≡◌, ℕ, ◌<◌, ◌≤◌, All, [], ◌∷◌, vec_len, IfOk};
+ghost use Rattle.std.specs.Prelude.{◌≡◌, ℕ, ◌<◌, ◌≤◌, All, [], ◌∷◌, length, vec_len, IfOk};
 ghost use Rattle.partition.specs.Partition.{IsPartition, IsStateCount, zero_of};
 ghost use Rattle.state_codes.specs.Split.{IsPart, others, given_parts, lone_part};
 
@@ -54,6 +54,7 @@ pub fn one_part(alloc: Global, n: usize) -> Result<Split, AllocError>
     requires { IsStateCount n }
     ensures kind { IfOk result (λ split. split.kind ≡ Kind.Code) }
     ensures parts { IfOk result (λ split. split.parts ≡ lone_part (zero_of n) ∷ []) }
+    ensures few { IfOk result (λ split. length split.parts ≤ 256) }
     ensures lawful { IfOk result (λ split. All (IsPart n) split.parts) }
 {
     let partition = Partition::zero(alloc, n)?;
@@ -76,6 +77,7 @@ pub fn given(alloc: Global, parts: Vec<Partition>) -> Result<Split, AllocError>
     requires count { vec_len parts ≤ 256 }
     ensures kind { IfOk result (λ split. split.kind ≡ Kind.Assign) }
     ensures parts { IfOk result (λ split. split.parts ≡ given_parts (vec_len parts) 0 parts.items) }
+    ensures few { IfOk result (λ split. length split.parts ≤ 256) }
     ensures lawful { (n : ℕ) → All (IsPartition n) parts.items
         → IfOk result (λ split. All (IsPart n) split.parts) }
 {

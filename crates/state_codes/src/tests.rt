@@ -1,6 +1,6 @@
 //! Codes of worked machines.
 
-ghost use Rattle.std.specs.Prelude.{◌<◌, ◌≤◌, All, IfOk};
+ghost use Rattle.std.specs.Prelude.{◌<◌, ◌≤◌, All, IfOk, length};
 ghost use Rattle.partition.specs.Partition.{IsStateCount};
 ghost use Rattle.state_codes.specs.Split.{IsPart};
 
@@ -49,7 +49,8 @@ fn split_of(alloc: Global, n: usize, partitions: &[u8], carriers: &[u8]) -> Resu
 fn repeated(alloc: Global, text: &[u8], count: usize) -> Result<Split, Fail>
     requires some { 0 < count }
     requires few { count ≤ 256 }
-    ensures { IfOk result (λ split. All (IsPart 4) split.parts) }
+    ensures few { IfOk result (λ split. length split.parts ≤ 256) }
+    ensures lawful { IfOk result (λ split. All (IsPart 4) split.parts) }
 {
     let mut partitions = Vec::new(alloc);
     'copies: while partitions.len() < count {
@@ -127,19 +128,18 @@ fn marks_each_bit(rt: HostRuntime) -> Result<(), Fail> {
 #[test]
 fn codes_two_states(rt: HostRuntime) -> Result<(), Fail> {
     let alloc = rt.alloc();
-    let codes = coded(&rt, alloc, &one_part(alloc, 2)?, 2)?;
+    let codes = encode(alloc, &one_part(alloc, 2)?, 2)?;
     let text = text_of(alloc, &codes)?;
     assert_eq!(rt; text.as_slice(), b"0,1,".as_slice());
     Ok(())
 }
 
 /// What refuses the split of so many parts.
-fn refusal<R: Abort>(rt: &R, alloc: Global, text: &[u8], count: usize) -> Result<CodeFail, Fail>
+fn refusal(alloc: Global, text: &[u8], count: usize) -> Result<CodeFail, Fail>
     requires some { 0 < count }
     requires few { count ≤ 256 }
 {
     let split = repeated(alloc, text, count)?;
-    assert!(rt; split.parts.as_slice().len() <= 256);
     match encode(alloc, &split, 4) {
         Ok(_) => Ok(Err::<CodeFail, &str>("it has codes")?),
         Err(fail) => Ok(fail),
@@ -149,11 +149,11 @@ fn refusal<R: Abort>(rt: &R, alloc: Global, text: &[u8], count: usize) -> Result
 #[test]
 fn refuses_what_has_no_codes(rt: HostRuntime) -> Result<(), Fail> {
     let alloc = rt.alloc();
-    let full = coded(&rt, alloc, &repeated(alloc, b"0,1,2,3", 32)?, 4)?;
+    let full = encode(alloc, &repeated(alloc, b"0,1,2,3", 32)?, 4)?;
     assert_eq!(rt; full.bits, 64);
-    let long = refusal(&rt, alloc, b"0,1,2,3", 33)?;
+    let long = refusal(alloc, b"0,1,2,3", 33)?;
     assert_eq!(rt; long, CodeFail::CodeTooLong { bits: 66 });
-    let together = refusal(&rt, alloc, b"0,0,1,1", 1)?;
+    let together = refusal(alloc, b"0,0,1,1", 1)?;
     assert_eq!(rt; together, CodeFail::NotApart { s: 0, t: 1 });
     Ok(())
 }

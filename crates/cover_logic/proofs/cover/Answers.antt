@@ -3,7 +3,7 @@ use Rattle.std.specs.List.{All, Contains}
 use Rattle.std.proofs.lemmas.Result.{IfOk-weaker}
 use Rattle.cover_logic.specs.declared.term.Term.{Term}
 use Rattle.cover_logic.specs.Term.{FitsWidth}
-use Rattle.cover_logic.specs.Rows.{Covers, IsClear, IsPrime}
+use Rattle.cover_logic.specs.Inner.Rows.{Covers, IsClear, IsPrime}
 use Rattle.cover_logic.proofs.Width.{clear_from_apart, good_cover, kept_all, from_three}
 use Rattle.cover_logic.proofs.cover.Goals as goal
 

@@ -4,10 +4,10 @@ ghost use Rattle.std.specs.Prelude.{◌≡◌, ◌+◌, ◌<◌, ◌≤◌, ◌^
 ghost use Rattle.std.specs.List.{list_all, position_or_len};
 ghost use Rattle.std.specs.Str.Lines.{strip_carriage_return};
 ghost use Rattle.hs_io.specs.Lines.{content, fields_in, fields_of, is_allowed, line_of, lines_of};
-ghost use Rattle.hs_io.specs.Cut.{cuts};
+ghost use Rattle.hs_io.specs.Inner.Cut.{cuts};
 
-use super::Line;
-use crate::{Name, Names};
+use super::{Fields, Line};
+use crate::Name;
 use std::alloc::{AllocError, Global};
 
 /// The lines of a text, cut at each line feed. What stands after the last one is a line where it is not
@@ -120,10 +120,10 @@ fn without_return(line: &[u8]) -> &[u8]
 }
 
 /// The runs of bytes other than blanks.
-fn cut_fields(alloc: Global, text: &[u8]) -> Result<Names, AllocError>
+fn cut_fields(alloc: Global, text: &[u8]) -> Result<Fields, AllocError>
     ensures { IfOk result (λ fields. fields ≡ fields_of text.now) }
 {
-    let mut fields = Names::new(alloc);
+    let mut fields = Fields::new(alloc);
     let mut rest = text;
     while !rest.is_empty() {
         let end = first_cut(Cut::Field, rest);
@@ -134,7 +134,7 @@ fn cut_fields(alloc: Global, text: &[u8]) -> Result<Names, AllocError>
 }
 
 /// Adds a run to the fields where it is not empty.
-fn push_field(alloc: Global, fields: &mut Names, run: &[u8]) -> Result<(), AllocError>
+fn push_field(alloc: Global, fields: &mut Fields, run: &[u8]) -> Result<(), AllocError>
     ensures { OnOk result (fields.new ≡ fields.old ++ fields_in (run.now ∷ [])) }
 {
     if !run.is_empty() {

@@ -13,6 +13,7 @@ use Rattle.net_core.specs.declared.Network.{Network}
 use Rattle.net_core.specs.declared.Start.TheVariants.{Zero, One}
 use Rattle.state_codes.specs.declared.Codes.{Codes}
 use Rattle.hsdec_core.specs.Carries.{code_bits}
+use Rattle.hsdec_core.specs.Digits.{digit}
 use Rattle.hsdec_core.specs.Named.{input_letter, output_letter, next_letter, state_letter, own_name, own_names}
 use Rattle.hsdec_core.specs.declared.signals.Signal.{Signal}
 use Rattle.hsdec_core.specs.declared.signals.Signal.TheVariants.{Next, Output}
@@ -27,10 +28,6 @@ abbrev pub signal_bit : KissFile → List ℕ → Signal → ℕ → List Bool �
 signal_bit F words (Next i) s x = bit (slice_index words (next F s x)) i
 signal_bit F words (Output b) s x = output_bit F s x b
 
--- bits as digits
-abbrev pub digit : Bool → ℕ
-digit b = if b then 49 else 48
-
 -- the row that holds one symbol and one code
 abbrev pub minterm : Codes → ℕ → List Bool → List ℕ
 minterm codes s x = map digit (x ++ code_bits codes.bits (slice_index codes.words s))
@@ -42,12 +39,12 @@ row_at F codes signal symbol s =
     if signal_bit F codes.words signal s x then minterm codes s x ∷ [] else []
 
 -- the rows of a symbol, state by state
-abbrev pub rows_at : KissFile → Codes → Signal → ℕ → List (List ℕ)
-rows_at F codes signal symbol = flat_map (row_at F codes signal symbol) (range_with_len 0 (length F.states))
+abbrev pub minterms_at : KissFile → Codes → Signal → ℕ → List (List ℕ)
+minterms_at F codes signal symbol = flat_map (row_at F codes signal symbol) (range_with_len 0 (length F.states))
 
 -- all rows, symbol by symbol
 abbrev pub all_rows : KissFile → Codes → Signal → List (List ℕ)
-all_rows F codes signal = flat_map (rows_at F codes signal) (range_with_len 0 (2 ^ F.inputs))
+all_rows F codes signal = flat_map (minterms_at F codes signal) (range_with_len 0 (2 ^ F.inputs))
 
 -- the rows are those of the states and symbols at which the gate gives 1
 pub record IsOnSet (F : KissFile) (codes : Codes) (signal : Signal) (rows : List (List ℕ)) : Type 0 where

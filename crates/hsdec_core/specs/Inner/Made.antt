@@ -12,6 +12,10 @@ use Rattle.hs_texts.specs.ErrLines.{cannot_write_line, no_memory_line}
 abbrev pub refusal : Answer → List ℕ → Outcome
 refusal answer line = record { answer = answer; text = []; line = line }
 
+-- the outcome is an answer whose line is so, and no text
+abbrev pub IsRefusal : Answer → (List ℕ → Type 0) → Outcome → Type 0
+IsRefusal answer IsLine made = (line : List ℕ) × IsLine line × (made ≡ refusal answer line)
+
 -- a whole text
 abbrev pub finished : List ℕ → Outcome
 finished text = record { answer = Done; text = text; line = [] }
@@ -22,9 +26,9 @@ answer_of (Ok made) = made.answer
 answer_of (Err wanting) = NoMemory
 
 -- the text for out
-abbrev pub text_of : Result Outcome AllocError → List ℕ
-text_of (Ok made) = made.text
-text_of (Err wanting) = []
+abbrev pub made_text : Result Outcome AllocError → List ℕ
+made_text (Ok made) = made.text
+made_text (Err wanting) = []
 
 -- the line for err
 abbrev pub line_of : Result Outcome AllocError → List ℕ
@@ -39,5 +43,5 @@ line_at made answer = line_of made
 -- the text was put whole, with the answer that was made, or there was a fault and a front of it was put
 abbrev pub TextPut : Result Outcome AllocError → Answer → Option (List ℕ) → Option (List ℕ) → ℕ → ℕ → Type 0
 TextPut made answer given given' faults faults' =
-    ((answer ≡ answer_of made) × Appends given (text_of made) given')
-    ⊎ ((answer ≡ WriteFault) × AppendsFront given (text_of made) given' × Rose faults faults')
+    ((answer ≡ answer_of made) × Appends given (made_text made) given')
+    ⊎ ((answer ≡ WriteFault) × AppendsFront given (made_text made) given' × Rose faults faults')

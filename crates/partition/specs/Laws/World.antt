@@ -1,6 +1,6 @@
 -- The laws of the partitions of n states as a world of values that can be joined.
 use Rattle.std.specs.Prelude.{◌≡◌, ℕ, ◌⊎◌, List}
-use Rattle.std.proofs.Common.{sym, ◌∙◌}
+use Rattle.std.proofs.Common.{sym, ◌∙◌, subst}
 use Rattle.partition.specs.Partition.{IsPartition, IsStateCount, zero_of}
 use Rattle.partition.specs.MeetAndJoin.{IsJoin}
 use Rattle.partition.specs.Before.{Before}
@@ -9,8 +9,11 @@ use Rattle.partition.specs.Laws.Precedence.{before_irreflexive, before_transitiv
 use Rattle.partition.specs.Laws.Extremes.{zero_of_is_zero, zero_of_is_partition}
 use Rattle.partition.specs.Laws.Joins.{joins_are_one, join_turned, join_of_join, join_of_itself, join_with_zero}
 
-pub zero_fits : (n : ℕ) → IsStateCount n → IsPartition n (zero_of n)
-zero_fits n lawful = zero_of_is_partition n lawful
+pub zero_fits : (n : ℕ) (p : List ℕ) → IsStateCount n → p ≡ zero_of n → IsPartition n p
+zero_fits n p lawful is = subst (IsPartition n) (sym is) (zero_of_is_partition n lawful)
+
+pub zero_once : (n : ℕ) (p other : List ℕ) → p ≡ zero_of n → other ≡ zero_of n → p ≡ other
+zero_once n p other is same = is ∙ sym same
 
 pub join_fits : (n : ℕ) (p q r : List ℕ) → IsPartition n p → IsJoin p q r → IsPartition n r
 join_fits n p q r left joined = IsPartition-of left.length joined.lawful
@@ -27,8 +30,8 @@ join_associates n p q r front back all a b c d e f = join_of_join p q r front ba
 pub join_repeats : (n : ℕ) (p : List ℕ) → IsPartition n p → IsJoin p p p
 join_repeats n p fit = join_of_itself p (IsPartition-of (sym fit.length) fit)
 
-pub join_zero : (n : ℕ) (p : List ℕ) → IsPartition n p → IsJoin (zero_of n) p p
-join_zero n p fit = join_with_zero p (zero_of n) (IsPartition-of (sym fit.length) fit) ((zero_of_is_partition n fit.count).length ∙ sym fit.length) (zero_of_is_zero n)
+pub join_zero : (n : ℕ) (p q : List ℕ) → p ≡ zero_of n → IsPartition n q → IsJoin p q q
+join_zero n p q is fit = subst (λ (zero : List ℕ). IsJoin zero q q) (sym is) (join_with_zero q (zero_of n) (IsPartition-of (sym fit.length) fit) ((zero_of_is_partition n fit.count).length ∙ sym fit.length) (zero_of_is_zero n))
 
 pub before_never : (p : List ℕ) → Before p p → ⊥
 before_never p before = before_irreflexive p before

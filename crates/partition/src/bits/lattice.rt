@@ -1,29 +1,16 @@
-//! Rows of bits made from labels, and meet and join on rows.
+//! Meet and join on rows of bits.
 
-ghost use Rattle.std.specs.Prelude.{◌≡◌, ℕ, ◌<◌, ◌≤◌, ◌↔◌, ◌⊎◌, ◌+◌, min, length, IfOk, slice_index};
-ghost use Rattle.partition.specs.Partition.{IsPartition, IsStateCount, Together, blocks_of};
+ghost use Rattle.std.specs.Prelude.{◌≡◌, ℕ, ◌<◌, ◌≤◌, ◌↔◌, min, length, IfOk};
+ghost use Rattle.partition.specs.Partition.{IsPartition, Together};
 ghost use Rattle.partition.specs.MeetAndJoin.{IsMeet, IsJoin, IsGreatestBelow, IsLeastAbove, Chain};
-ghost use Rattle.partition.specs.Bits.{bit_of, Has, row_of, IsRows, AreBlocks, AreSets, Reaches};
+ghost use Rattle.partition.specs.Bits.{bit_of, Has, row_of, AreBlocks, Reaches};
 
 use super::BitPart;
 use super::comparing::begun_blocks;
-use crate::Partition;
 use crate::states::StateSet;
 use std::alloc::{AllocError, Global};
 
 impl BitPart {
-    /// The same partition as rows of bits.
-    pub fn of(alloc: Global, p: &Partition) -> Result<BitPart, AllocError>
-        ensures labels { IfOk result (λ q. q ≡ p.now) }
-        ensures lawful { IfOk result (λ q. IsPartition (length p.now) q) }
-    {
-        let blocks = p.blocks();
-        Ok(BitPart {
-            rows: label_rows(alloc, p.labels(), blocks)?,
-            blocks: Some(blocks),
-        })
-    }
-
     /// States are together where they are together here and in q. Its blocks are not counted.
     pub fn meet(&self, alloc: Global, q: &BitPart) -> Result<BitPart, AllocError>
         requires { length q.now ≡ length self.now }
@@ -113,80 +100,6 @@ fn common_states(alloc: Global, p: &[StateSet], q: &[StateSet]) -> Result<Vec<St
         rows.push(row.intersection(&q[s]))?;
     }
     Ok(rows)
-}
-
-/// The rows of a partition with this number of blocks.
-fn label_rows(alloc: Global, labels: &[u16], blocks: usize) -> Result<Vec<StateSet>, AllocError>
-    requires lawful { IsPartition (length labels.now) labels.now }
-    requires blocks { blocks ≡ blocks_of labels.now }
-    ensures { IfOk result (λ v. IsRows labels.now v.items) }
-{
-    let sets = block_sets(alloc, labels, blocks)?;
-    rows_of(alloc, sets.as_slice(), labels)
-}
-
-/// The states of each block.
-fn block_sets(alloc: Global, labels: &[u16], blocks: usize) -> Result<Vec<StateSet>, AllocError>
-    requires lawful { IsPartition (length labels.now) labels.now }
-    requires blocks { blocks ≡ blocks_of labels.now }
-    ensures { IfOk result (λ v. AreSets labels.now v.items blocks (length labels.now)) }
-{
-    let mut sets = vec![in alloc; StateSet::empty(); blocks]?;
-    for (t, label) in labels.iter().enumerate() {
-        let set = &mut sets[*label as usize];
-        set.insert(t);
-    }
-    Ok(sets)
-}
-
-/// For each state the set at its label.
-fn rows_of(alloc: Global, sets: &[StateSet], labels: &[u16]) -> Result<Vec<StateSet>, AllocError>
-    requires { (s : ℕ) → s < length labels.now → slice_index labels.now s < length sets.now }
-    ensures length { IfOk result (λ v. length v.items ≡ length labels.now) }
-    ensures rows { IfOk result (λ v. (s : ℕ) → s < length labels.now
-        → row_of v.items s ≡ row_of sets.now (slice_index labels.now s)) }
-{
-    let mut rows = Vec::with_capacity(alloc, labels.len())?;
-    for label in labels {
-        rows.push(sets[*label as usize])?;
-    }
-    Ok(rows)
-}
-
-/// The labels of rows that say which states are together.
-pub fn numbered_rows(alloc: Global, rows: &[StateSet]) -> Result<Partition, AllocError>
-    requires { AreBlocks rows.now }
-    ensures lawful { IfOk result (λ p. IsPartition (length rows.now) p) }
-    ensures rows { IfOk result (λ p. IsRows p rows.now) }
-{
-    let mut labels = Vec::with_capacity(alloc, rows.len())?;
-    let mut blocks: u16 = 0;
-    for row in rows {
-        let label = label_of_row(row, labels.as_slice(), &mut blocks);
-        labels.push(label)?;
-    }
-    Ok(Partition {
-        labels,
-        blocks: blocks as usize,
-    })
-}
-
-/// The label of an earlier state of the row, or the next one where there is none.
-fn label_of_row(row: &StateSet, labels: &[u16], blocks: &mut u16) -> u16
-    requires { blocks.old < 256 }
-    ensures { ((t : ℕ) × (t < length labels.now) × Has row.now t
-        × (result ≡ slice_index labels.now t) × (blocks.new ≡ blocks.old))
-        ⊎ (((t : ℕ) → t < length labels.now → bit_of row.now t ≡ 0)
-        × (result ≡ blocks.old) × (blocks.new ≡ blocks.old + 1)) }
-{
-    match row.first() {
-        Some(t) if t < labels.len() => labels[t],
-        _ => {
-            let label = *blocks;
-            *blocks += 1;
-            label
-        }
-    }
 }
 
 /// The states that are reached from s by the rows of p and q, one after another.

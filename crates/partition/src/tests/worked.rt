@@ -1,10 +1,10 @@
 //! Worked partitions, refusals, and sizes at the edges of words.
 
-use crate::{BitPart, PartFail, Partition};
+use crate::{BitPart, PartFail, Partition, parse_of_show};
 use std::alloc::{AllocError, Global};
 use std::test::Fail;
 
-fn text_of(alloc: Global, p: &Partition) -> Result<Vec<u8>, AllocError> {
+fn labels_text(alloc: Global, p: &Partition) -> Result<Vec<u8>, AllocError> {
     let mut text = Vec::new(alloc);
     p.show(alloc, &mut text)?;
     Ok(text)
@@ -20,8 +20,8 @@ fn meet_and_join_are(
 ) -> Result<bool, PartFail> {
     let p = Partition::parse(alloc, p.as_bytes(), 4)?;
     let q = Partition::parse(alloc, q.as_bytes(), 4)?;
-    let lower = text_of(alloc, &p.meet(alloc, &q)?)?;
-    let upper = text_of(alloc, &p.join(alloc, &q)?)?;
+    let lower = labels_text(alloc, &p.meet(alloc, &q)?)?;
+    let upper = labels_text(alloc, &p.join(alloc, &q)?)?;
     Ok(lower.as_slice() == meet.as_bytes() && upper.as_slice() == join.as_bytes())
 }
 
@@ -43,11 +43,14 @@ fn meets_and_joins(rt: HostRuntime) -> Result<(), Fail> {
 fn holds_and_complements(rt: HostRuntime) -> Result<(), Fail> {
     let alloc = rt.alloc();
     let held = Partition::hold(alloc, 4, 0, 2)?;
-    assert_eq!(rt; text_of(alloc, &held)?.as_slice(), b"0,1,0,2".as_slice());
+    assert_eq!(rt;
+        labels_text(alloc, &held)?.as_slice(),
+        b"0,1,0,2".as_slice()
+    );
     let halves = Partition::from_labels(alloc, &[0, 0, 1, 1])?;
     let complement = halves.complement(alloc)?;
     assert_eq!(rt;
-        text_of(alloc, &complement)?.as_slice(),
+        labels_text(alloc, &complement)?.as_slice(),
         b"0,1,0,1".as_slice()
     );
     assert!(rt; held.copy(alloc)?.equal(&held));
@@ -62,7 +65,10 @@ fn blocks_inside_blocks(rt: HostRuntime) -> Result<(), Fail> {
     assert!(rt; finer.len() == 4 && halves.len() == 4);
     if finer.len() == halves.len() && finer.le(&halves) {
         let inside = halves.inside(alloc, &finer)?;
-        assert_eq!(rt; text_of(alloc, &inside)?.as_slice(), b"0,1,0,0".as_slice());
+        assert_eq!(rt;
+            labels_text(alloc, &inside)?.as_slice(),
+            b"0,1,0,0".as_slice()
+        );
     } else {
         panic!(rt; "the one is below the other");
     }
@@ -178,5 +184,16 @@ fn bits_hold_two_states_together(rt: HostRuntime) -> Result<(), Fail> {
     assert_eq!(rt; together, [true; 3]);
     let apart = [held.same(0, 64), held.same(1, 63)];
     assert_eq!(rt; apart, [false; 2]);
+    Ok(())
+}
+
+#[test]
+fn shown_texts_are_read_back(rt: HostRuntime) -> Result<(), Fail> {
+    let alloc = rt.alloc();
+    for n in [1usize, 10, 101, 256] {
+        let zero = Partition::zero(alloc, n)?;
+        assert!(rt; parse_of_show(alloc, &zero)?.equal(&zero));
+        assert_eq!(rt; BitPart::of(alloc, &zero)?.len(), n);
+    }
     Ok(())
 }

@@ -13,11 +13,11 @@ use Rattle.partition.specs.Laws.Labels.{label-lt-blocks_of, block_stands}
 use Rattle.state_codes.specs.declared.split.Part.{Part}
 use Rattle.state_codes.specs.declared.Codes.{Codes}
 use Rattle.state_codes.specs.Split.{IsPart, TogetherInAll}
-use Rattle.state_codes.specs.Code.{Place, need, label_places, part_places, places_of, bit_of, code_of, IsWritten, IsCode, CodesAreOne}
+use Rattle.state_codes.specs.Code.{Place, need, label_places, part_places, places_of, bit_of, state_code, IsLaidOut, IsCode, CodesAreOne}
 use Rattle.state_codes.specs.Agreement.{AgreeAt, AgreeOnPart, AgreeOnCarrier, AreDistinct, PartBitsTell, CarrierBitsTell, BitsHalve}
 use Rattle.state_codes.specs.Fault.{AreApart}
 use Rattle.state_codes.specs.Laws.Need.{need-enough}
-use Rattle.state_codes.specs.Laws.Inner.{inside_tells, inside_same}
+use Rattle.state_codes.specs.Laws.InnerLabels.{inside_tells, inside_same}
 use Rattle.state_codes.specs.Laws.Places.{All-left, All-right, AreInside-once, label_places-all, label_places-at, part_places-at, places_of-all}
 
 -- two states have the same bit at this place
@@ -41,12 +41,12 @@ label_told labels s t in_s in_t same =
     same
 
 -- the bit of a state at place i of its code
-spelled_at : (n : ℕ) (places : List Place) (bits : ℕ) (words owner : List ℕ) (carried : List Bool) → IsWritten n places bits words owner carried → (s : ℕ) → s < n → (i : ℕ) (d : Place) → i < length places → bit_at (get_or words s 0) i ≡ bit_of s (get_or places i d)
+spelled_at : (n : ℕ) (places : List Place) (bits : ℕ) (words owner : List ℕ) (carried : List Bool) → IsLaidOut n places bits words owner carried → (s : ℕ) → s < n → (i : ℕ) (d : Place) → i < length places → bit_at (get_or words s 0) i ≡ bit_of s (get_or places i d)
 spelled_at n places bits words owner carried written s in_s i d within =
     written.spelled s in_s i ∙ get_or-map (bit_of s) places i d 0 within
 
 -- agreement at place i is agreement of the two bits that stand there
-agree_at : (n : ℕ) (places : List Place) (bits : ℕ) (words owner : List ℕ) (carried : List Bool) → IsWritten n places bits words owner carried → (s t : ℕ) → s < n → t < n → (i : ℕ) (d : Place) → i < length places → AgreeAt words i s t ↔ SameBit s t (get_or places i d)
+agree_at : (n : ℕ) (places : List Place) (bits : ℕ) (words owner : List ℕ) (carried : List Bool) → IsLaidOut n places bits words owner carried → (s t : ℕ) → s < n → t < n → (i : ℕ) (d : Place) → i < length places → AgreeAt words i s t ↔ SameBit s t (get_or places i d)
 agree_at n places bits words owner carried written s t in_s in_t i d within =
     let at_s = spelled_at n places bits words owner carried written s in_s i d within in
     let at_t = spelled_at n places bits words owner carried written t in_t i d within in
@@ -64,7 +64,7 @@ mark_at places carried is i d within =
 somewhere : Place
 somewhere = record { part = 0; carried = true; labels = []; weight = 0 }
 
-module _ (n : ℕ) (places : List Place) (codes : Codes) (written : IsWritten n places codes.bits codes.words codes.owner codes.carried) (j s t : ℕ) (in_s : s < n) (in_t : t < n) where
+module _ (n : ℕ) (places : List Place) (codes : Codes) (written : IsLaidOut n places codes.bits codes.words codes.owner codes.carried) (j s t : ℕ) (in_s : s < n) (in_t : t < n) where
   part_agrees : AgreeOnPart codes j s t → All (SameInPart j s t) places
   part_agrees agree i d within owned =
       (agree_at n places codes.bits codes.words codes.owner codes.carried written s t in_s in_t i d within).0
@@ -217,7 +217,7 @@ codes_are_one n parts one other left right =
     let words : one.words ≡ other.words = ext_get_or 0 one.words other.words (left.written.states ∙ sym right.written.states) (λ s within.
     let in_s : s < n = omega (arith, left.written.states) in
     same_from_bits (get_or one.words s 0) (get_or other.words s 0) (λ i.
-    left.written.spelled s in_s i ∙ ap (λ (inners : List (List ℕ)). get_or (code_of (places inners) s) i 0) same ∙ sym (right.written.spelled s in_s i))) in
+    left.written.spelled s in_s i ∙ ap (λ (inners : List (List ℕ)). get_or (state_code (places inners) s) i 0) same ∙ sym (right.written.spelled s in_s i))) in
     same_codes one.bits other.bits one.words other.words one.owner other.owner one.carried other.carried
     (left.written.size ∙ ap (λ (inners : List (List ℕ)). length (places inners)) same ∙ sym right.written.size)
     words

@@ -8,7 +8,7 @@ use Rattle.partition.specs.Partition.{blocks_of}
 use Rattle.partition.specs.Inside.{IsInside}
 use Rattle.state_codes.specs.declared.split.Part.{Part}
 use Rattle.state_codes.specs.Code.{Place, label_places, part_places, places_of, AreInside, need}
-use Rattle.state_codes.specs.Laws.Inner.{inside_once}
+use Rattle.state_codes.specs.Laws.InnerLabels.{inside_once}
 
 pub All-left : {X : Type 0} (P : X → Type 0) (xs ys : List X) → All P (xs ++ ys) → All P xs
 All-left P xs ys all = subst (All P) (take_at xs ys (length xs) refl) (All-take P (length xs) (xs ++ ys) all)

@@ -1,5 +1,5 @@
 -- The parts of splits of the two plain kinds are lawful.
-use Rattle.std.proofs.Common.{◌≡◌, ℕ, suc, ◌+◌, List, [], ◌∷◌, ◌++◌, length, ap, arith}
+use Rattle.std.proofs.Common.{◌≡◌, ℕ, suc, ◌+◌, List, [], ◌∷◌, ◌++◌, length, ap, refl, arith}
 use Rattle.std.proofs.lemmas.List.Elements.{All-nil, All-cons, All-head, All-tail}
 use Rattle.std.specs.List.{All}
 use Rattle.partition.specs.Partition.{IsPartition}
@@ -20,3 +20,8 @@ pub given_parts-push : (count j i : ℕ) (partitions : List (List ℕ)) (partiti
 given_parts-push count j i [] partition at = ap (λ (k : ℕ). record { partition = partition; carrier = partition; reads = others count k } ∷ []) (omega arith)
 given_parts-push count j i (first ∷ partitions) partition at =
     ap (λ (rest : List Part). record { partition = first; carrier = first; reads = others count j } ∷ rest) (given_parts-push count (suc j) i partitions partition (omega arith))
+
+-- there are as many parts as partitions
+pub given_parts-length : (count j : ℕ) (partitions : List (List ℕ)) → length (given_parts count j partitions) ≡ length partitions
+given_parts-length count j [] = refl
+given_parts-length count j (partition ∷ partitions) = ap suc (given_parts-length count (suc j) partitions)

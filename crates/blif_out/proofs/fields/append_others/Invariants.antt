@@ -1,7 +1,7 @@
 -- The numbers so far were appended.
 use Rattle.std.proofs.Common.{◌≡◌, ◌++◌, take}
 use Rattle.std.specs.List.{flat_map}
-use Rattle.blif_out.specs.Pieces.{comma_number}
+use Rattle.blif_out.specs.Inner.Pieces.{comma_number}
 use Rattle.blif_out.proofs.fields.append_others.Given as goal
 
 abbrev pub invariant-loop-number : goal.invariant-loop-number

@@ -1,7 +1,7 @@
 use Rattle.std.proofs.Common.{ℕ, List, [], ◌∷◌, ◌++◌, ap, ◌∙◌, codes}
 use Rattle.std.specs.Fmt.{decimal}
 use Rattle.hs_io.specs.Spelling.{spaced, line_text}
-use Rattle.partition.specs.Text.{text_of}
+use Rattle.partition.specs.Text.{labels_text}
 use Rattle.blif_out.proofs.Appending.{text_more, field_more}
 use Rattle.blif_out.proofs.header_text.append_note.Goals as goal
 
@@ -11,8 +11,8 @@ returns c =
     let mark : List ℕ = codes "#" in
     let number : List ℕ = decimal c.args.number in
     let part : List ℕ = decimal c.args.latch.now.part in
-    let from : List ℕ = text_of c.args.latch.now.from in
-    let to : List ℕ = text_of c.args.latch.now.to in
+    let from : List ℕ = labels_text c.args.latch.now.from in
+    let to : List ℕ = labels_text c.args.latch.now.to in
     let one = field_more start _ _ mark (codes "latch" ∷ []) number c.in_ok-extend_from_slice.ensures.items c.in_ok-append_number_field.ensures in
     let two = field_more start _ _ mark (codes "latch" ∷ number ∷ []) (codes "part") one c.in_ok-append_field.ensures in
     let three = field_more start _ _ mark (codes "latch" ∷ number ∷ codes "part" ∷ []) part two (c.in_ok-append_number_field-2.ensures ∙ ap (λ (n : ℕ). c.append_field.new.text.items ++ spaced (decimal n)) c.from.ensures) in

@@ -1,5 +1,5 @@
 use Rattle.std.proofs.Common.{arith, sym}
-use Rattle.blif_out.specs.Pieces.{note_line}
+use Rattle.blif_out.specs.Inner.Pieces.{note_line}
 use Rattle.blif_out.proofs.Appending.{numbered_more, all_numbered}
 use Rattle.blif_out.proofs.header_text.append_notes.Goals as goal
 

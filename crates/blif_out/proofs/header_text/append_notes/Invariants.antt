@@ -1,7 +1,7 @@
 -- The lines of the latches so far were appended.
 use Rattle.std.proofs.Common.{◌≡◌, ◌++◌, take}
 use Rattle.std.specs.List.{enumerate_from, flat_map}
-use Rattle.blif_out.specs.Pieces.{note_line}
+use Rattle.blif_out.specs.Inner.Pieces.{note_line}
 use Rattle.blif_out.proofs.header_text.append_notes.Given as goal
 
 abbrev pub invariant-loop-number : goal.invariant-loop-number

@@ -1,7 +1,7 @@
 use Rattle.std.proofs.Common.{ℕ, List, [], ◌∷◌, ◌++◌, ap, ◌∙◌, codes}
 use Rattle.std.specs.Fmt.{decimal}
 use Rattle.hs_io.specs.Spelling.{spaced, line_text}
-use Rattle.partition.specs.Text.{text_of}
+use Rattle.partition.specs.Text.{labels_text}
 use Rattle.blif_out.specs.Head.{numbers_text}
 use Rattle.blif_out.proofs.Appending.{text_more, field_more}
 use Rattle.blif_out.proofs.header_text.append_part.Goals as goal
@@ -11,8 +11,8 @@ returns c =
     let start : List ℕ = c.args.text.now.items in
     let mark : List ℕ = codes "#" in
     let number : List ℕ = decimal c.args.number in
-    let own : List ℕ = text_of c.args.part.now.partition in
-    let carrier : List ℕ = text_of c.args.part.now.carrier in
+    let own : List ℕ = labels_text c.args.part.now.partition in
+    let carrier : List ℕ = labels_text c.args.part.now.carrier in
     let reads : List ℕ = numbers_text c.args.part.now.reads in
     let one = field_more start _ _ mark (codes "part" ∷ []) number c.in_ok-extend_from_slice.ensures.items c.in_ok-append_number_field.ensures in
     let two = field_more start _ _ mark (codes "part" ∷ number ∷ []) own one c.in_ok-append_partition_field.ensures in

@@ -1,7 +1,7 @@
 -- The lines of the parts so far were appended.
 use Rattle.std.proofs.Common.{◌≡◌, ◌++◌, take}
 use Rattle.std.specs.List.{enumerate_from, flat_map}
-use Rattle.blif_out.specs.Pieces.{part_line}
+use Rattle.blif_out.specs.Inner.Pieces.{part_line}
 use Rattle.blif_out.proofs.header_text.append_parts.Given as goal
 
 abbrev pub invariant-loop-number : goal.invariant-loop-number

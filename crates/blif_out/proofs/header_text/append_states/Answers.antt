@@ -3,7 +3,7 @@ use Rattle.std.specs.List.{zip}
 use Rattle.std.proofs.lemmas.Slice.Zip.{length-zip}
 use Rattle.std.proofs.lemmas.Option.{get_or_from_slice_get}
 use Rattle.std.proofs.lemmas.Grind.{get_or_default_zero}
-use Rattle.blif_out.specs.Pieces.{state_line}
+use Rattle.blif_out.specs.Inner.Pieces.{state_line}
 use Rattle.blif_out.proofs.Appending.{zipped_more, all_items}
 use Rattle.blif_out.proofs.header_text.append_states.Goals as goal
 

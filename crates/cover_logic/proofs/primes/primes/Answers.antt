@@ -1,7 +1,7 @@
 use Rattle.std.proofs.Common.{◌≡◌, ◌<◌, ◌+◌, List, [], ◌∷◌, ◌++◌, subst, rules, arith, vec_len, ⊎_elim}
 use Rattle.cover_logic.specs.declared.term.Term.{Term}
 use Rattle.cover_logic.proofs.Lists.{held_none}
-use Rattle.cover_logic.specs.Term.{IsHeld}
+use Rattle.cover_logic.specs.Term.{IsCovered}
 use Rattle.cover_logic.proofs.PrimeRows.{ArePrimes, primes_none, primes_more}
 use Rattle.cover_logic.proofs.primes.primes.Goals as goal
 
@@ -30,4 +30,4 @@ loop-seed-preserved c =
 pub returns-clause-covers : goal.returns-clause-covers
 returns-clause-covers c = λ x h.
     let none : c.loop-seed.left.items ≡ [] = search rules in
-    ⊎_elim (λ k. k) (λ k. absurd (held_none x (subst (λ (left : List Term). IsHeld left x) none k))) (c.loop-seed.invariant.held x h)
+    ⊎_elim (λ k. k) (λ k. absurd (held_none x (subst (λ (left : List Term). IsCovered left x) none k))) (c.loop-seed.invariant.held x h)

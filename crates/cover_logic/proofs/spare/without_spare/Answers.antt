@@ -1,7 +1,7 @@
 use Rattle.std.proofs.Common.{◌≡◌, ◌+◌, List, ◌∷◌, [], ◌++◌, drop, ap, ◌∙◌, sym, subst, rules}
 use Rattle.cover_logic.specs.declared.term.Term.{Term}
-use Rattle.cover_logic.specs.Pair.{agree}
-use Rattle.cover_logic.specs.Rows.{EachNeeded}
+use Rattle.cover_logic.specs.Inner.Pair.{agree}
+use Rattle.cover_logic.specs.Inner.Rows.{EachNeeded}
 use Rattle.cover_logic.proofs.SpareRows.{AreKept, kept_none, row_kept, row_left_out, rest_from, rest_slice, covers_alone}
 use Rattle.std.proofs.lemmas.List.{drop_all}
 use Rattle.cover_logic.proofs.Gaps.{IsNear}

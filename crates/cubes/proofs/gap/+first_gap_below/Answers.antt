@@ -3,7 +3,7 @@ use Rattle.std.proofs.lemmas.Bool.{false≢true}
 use Rattle.std.proofs.lemmas.Nat.{one_shl}
 use Rattle.cubes.specs.declared.cube.Cube.{Cube}
 use Rattle.cubes.specs.Gap.{HoldsOfEach, IsLeastWithout}
-use Rattle.cubes.specs.Tail.{IsHeldTail}
+use Rattle.cubes.specs.Inner.Tail.{IsHeldTail}
 use Rattle.cubes.proofs.Halves.{half, held_by_whole, gap_at_least_symbol, low_gap, high_gap, no_gap}
 use Rattle.cubes.proofs.gap.+first_gap_below.Goals as goal
 

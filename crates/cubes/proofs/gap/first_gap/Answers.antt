@@ -1,6 +1,6 @@
 use Rattle.std.proofs.Common.{ℕ, ◌^◌, IfOk, IfSome, IfNone, subst}
 use Rattle.cubes.specs.Gap.{HoldsOfEach, IsLeastWithout}
-use Rattle.cubes.specs.Tail.{IsHeldTail}
+use Rattle.cubes.specs.Inner.Tail.{IsHeldTail}
 use Rattle.cubes.proofs.Halves.{some_from_tail, none_from_tail}
 use Rattle.cubes.proofs.gap.first_gap.Goals as goal
 

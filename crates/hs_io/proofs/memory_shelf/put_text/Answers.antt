@@ -1,5 +1,5 @@
 use Rattle.std.proofs.Common.{Some, None, ap, ◌∙◌}
-use Rattle.hs_io.specs.ShelfState.{IsPlaceOf}
+use Rattle.hs_io.specs.Inner.Places.{IsPlaceOf}
 use Rattle.hs_io.proofs.Lookups.{written, added}
 use Rattle.hs_io.proofs.memory_shelf.put_text.Goals as goal
 

@@ -1,54 +1,70 @@
-use Rattle.std.proofs.Common.{◌≡◌, [], subst, sym, refl, map, arith}
-use Rattle.std.proofs.lemmas.List.Quantifiers.{Any-push}
-use Rattle.std.proofs.lemmas.List.{nil_from_length}
+use Rattle.std.proofs.Common.{map, All}
+use Rattle.std.proofs.lemmas.List.{length-map}
+use Rattle.std.proofs.lemmas.List.Elements.{All-map}
 use Rattle.hs_lattice.specs.JoinWorld.{IsGenerated}
-use Rattle.hs_lattice.specs.Search.{IsSearch}
-use Rattle.hs_lattice.proofs.Searches.{search_begun, closed_begun, search_taken, closed_taken, lists_all, is_evidence}
+use Rattle.hs_lattice.specs.Inner.Search.{IsPicked}
+use Rattle.hs_lattice.proofs.Distinct.{picked_fit, picked_is_evidence, lists_picked, joins_picked, evidence_picked}
+use Rattle.hs_lattice.proofs.Exclusion.{StrictOrder, few_exclude_more}
+use Rattle.hs_lattice.proofs.Outcomes.{whole-from, more-from, whole-from_three}
 use Rattle.hs_lattice.proofs.closure.join_closure.Goals as goal
 
-pub loop-value-init : goal.loop-value-init
-loop-value-init g c =
+pub joins_of-requires-clause-generators : goal.joins_of-requires-clause-generators
+joins_of-requires-clause-generators g c =
+    let w = g.W.JoinWorld in
+    rw c.as_slice.ensures (picked_fit w.meaning (w.precedes c.args.world.now) (w.fits c.args.world.now) c.args.generators.now _ (rw c.in-Whole.is at c.in_ok-kept.ensures.picked) c.requires.generators)
+
+pub returns-in-Whole-clause-whole : goal.returns-in-Whole-clause-whole
+returns-in-Whole-clause-whole g c =
     let w = g.W.JoinWorld in
     let world = c.args.world.now in
-    let adds = rw (c.new.ensures.items, c.new-2.ensures.items) at c.in_ok-add.ensures in
-    record {
-      search =
-          subst (λ b. IsSearch w.meaning (w.fits world) (w.precedes world) (IsGenerated b (w.joins world) (map w.meaning c.args.generators.now)) b c.add.new.search.known.items c.add.new.search.untried.items)
-          c.in_ok-bottom.ensures
-          (search_begun w.meaning (w.fits world) (w.precedes world) (w.joins world) (map w.meaning c.args.generators.now) c.in_ok-bottom.bottom _ _ adds
-          (subst (w.fits world) (sym c.in_ok-bottom.ensures) (g.met.W.JoinWorld.least_fits world c.requires.world)));
-      closed = closed_begun w.meaning (w.precedes world) (w.joins world) c.args.generators.now c.in_ok-bottom.bottom _ _ adds;
-      small = omega (arith, adds.small, c.requires.positive);
-    }
+    let kept = c.as_slice.result.now in
+    let picked : IsPicked w.meaning (w.precedes world) c.args.generators.now kept = rw c.as_slice.ensures (rw c.in-Whole.is at c.in_ok-kept.ensures.picked) in
+    whole-from c.joins_of.result _ _ (λ items. lists_picked w.meaning (w.precedes world) (w.least world) (w.joins world) c.args.generators.now kept (map w.meaning items) picked.from (rw c.as_slice.ensures (rw c.in-Whole.is at c.in_ok-kept.ensures.all))) c.joins_of.ensures.whole
 
-pub try_joins-requires-clause-value : goal.try_joins-requires-clause-value
-try_joins-requires-clause-value g c =
-    let w = g.W.JoinWorld in
-    (rw c.in-Some.ensures.items at c.loop-value.invariant.search.untried_known) (w.meaning c.in-Some.value)
-    (Any-push (λ x. w.meaning x ≡ w.meaning c.in-Some.value) c.pop.new.self.items c.in-Some.value refl)
-
-pub try_joins-requires-clause-search : goal.try_joins-requires-clause-search
-try_joins-requires-clause-search g c =
+pub returns-in-Whole-clause-joined : goal.returns-in-Whole-clause-joined
+returns-in-Whole-clause-joined g c =
     let w = g.W.JoinWorld in
     let world = c.args.world.now in
-    search_taken w.meaning (w.fits world) (w.precedes world) _ (w.least world) c.loop-value.search.known.items c.pop.new.self.items c.in-Some.value
-    (rw c.in-Some.ensures.items at c.loop-value.invariant.search)
+    let kept = c.as_slice.result.now in
+    whole-from c.joins_of.result _ _ (λ items. joins_picked w.meaning (w.least world) (w.joins world) c.args.generators.now kept (rw c.as_slice.ensures (rw c.in-Whole.is at c.in_ok-kept.ensures.all))) c.joins_of.ensures.joined
 
-pub try_joins-requires-clause-closed : goal.try_joins-requires-clause-closed
-try_joins-requires-clause-closed g c =
+pub returns-in-Whole-clause-no_more : goal.returns-in-Whole-clause-no_more
+returns-in-Whole-clause-no_more g c =
     let w = g.W.JoinWorld in
-    closed_taken w.meaning (w.joins c.args.world.now) c.args.generators.now c.loop-value.search.known.items c.pop.new.self.items c.in-Some.value
-    (rw c.in-Some.ensures.items at c.loop-value.invariant.closed)
+    let laws = g.met.W.JoinWorld in
+    let world = c.args.world.now in
+    let order : StrictOrder (w.fits world) (w.precedes world) = record {
+      irreflexive = λ x. laws.precedes_irreflexive world x c.requires.world;
+      transitive = λ x y z. laws.precedes_transitive world x y z c.requires.world;
+    } in
+    let P = IsGenerated (w.least world) (w.joins world) (map w.meaning c.args.generators.now) in
+    whole-from_three c.joins_of.result _ _ (λ items. All (λ x. w.fits world (w.meaning x)) items) _
+    (λ items lists few fit values evidence. few_exclude_more (w.fits world) (w.precedes world) P (map w.meaning items) values c.args.limit order (All-map (w.fits world) w.meaning items fit) lists (rw (length-map items w.meaning) few) evidence)
+    (returns-in-Whole-clause-whole g c) c.joins_of.ensures.within c.joins_of.ensures.fit
 
-pub returns-then-not-branch-clause-more : goal.returns-then-not-branch-clause-more
-returns-then-not-branch-clause-more g c =
+pub returns-in-Whole-clause-more : goal.returns-in-Whole-clause-more
+returns-in-Whole-clause-more g c =
     let w = g.W.JoinWorld in
     let world = c.args.world.now in
-    rw c.from.ensures (is_evidence w.meaning (w.fits world) (w.precedes world) _ (w.least world) c.try_joins.new.search.known.items c.try_joins.new.search.untried.items c.args.limit c.in_ok-try_joins.ensures.search (omega (arith, rw c.if-not-branch.true at c.in_ok-try_joins.ensures.more)))
+    let kept = c.as_slice.result.now in
+    let picked : IsPicked w.meaning (w.precedes world) c.args.generators.now kept = rw c.as_slice.ensures (rw c.in-Whole.is at c.in_ok-kept.ensures.picked) in
+    more-from c.joins_of.result _ _ (λ items. evidence_picked w.meaning (w.precedes world) (w.least world) (w.joins world) c.args.generators.now kept c.args.limit (map w.meaning items) picked.from) c.joins_of.ensures.more
 
-pub returns-clause-whole : goal.returns-clause-whole
-returns-clause-whole g c =
+pub returns-in-More-clause-more : goal.returns-in-More-clause-more
+returns-in-More-clause-more g c =
     let w = g.W.JoinWorld in
+    let laws = g.met.W.JoinWorld in
     let world = c.args.world.now in
-    let none : c.loop-value.search.untried.items ≡ [] = nil_from_length _ (omega (arith, c.in_default.ensures.cases)) in
-    rw c.from-2.ensures (lists_all w.meaning (w.fits world) (w.precedes world) (w.joins world) (w.least world) c.args.generators.now c.loop-value.search.known.items (rw none at c.loop-value.invariant.search) (rw none at c.loop-value.invariant.closed))
+    let lawful = c.requires.world in
+    let bottom = w.meaning c.in_ok-bottom.bottom in
+    let is = c.in_ok-bottom.ensures in
+    let bottom_fits = laws.least_fits world bottom lawful is in
+    picked_is_evidence w.meaning (w.precedes world) (w.least world) (w.joins world) c.args.generators.now c.in-More.some c.args.limit bottom
+    (rw c.in-More.is at c.in_ok-kept.ensures.picked) is
+    (λ k d lt. let fit = c.requires.generators k d lt in laws.joins_commute world bottom _ _ lawful bottom_fits fit (laws.joins_least world bottom _ lawful is fit))
+    (rw c.in-More.is at c.in_ok-kept.ensures.more)
+
+pub returns-in-More-clause-fit : goal.returns-in-More-clause-fit
+returns-in-More-clause-fit g c =
+    let w = g.W.JoinWorld in
+    picked_fit w.meaning (w.precedes c.args.world.now) (w.fits c.args.world.now) c.args.generators.now c.in-More.some (rw c.in-More.is at c.in_ok-kept.ensures.picked) c.requires.generators

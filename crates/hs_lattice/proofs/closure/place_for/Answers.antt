@@ -1,6 +1,6 @@
 use Rattle.std.proofs.Common.{◌≡◌, arith}
 use Rattle.std.proofs.lemmas.List.Elements.{at_read}
-use Rattle.hs_lattice.proofs.Places.{order_of_meanings, narrowed_above, narrowed_below, gap_at}
+use Rattle.hs_lattice.proofs.Places.{order_of_meanings, narrowed_above, narrowed_below, place_at}
 use Rattle.hs_lattice.proofs.closure.place_for.Goals as goal
 use Rattle.hs_lattice.proofs.closure.place_for.Goals.{else-low-known-via-then-low-known+else-same, else-low-known-via-else-low-known}
 
@@ -33,7 +33,7 @@ returns-else-low-known-clause-new g c =
     let laws = g.met.W.JoinWorld in
     let world = c.args.world.now in
     let lawful = c.requires.world in
-    gap_at _ _ _ c.args.known.now c.args.item.now _ _
+    place_at _ _ _ c.args.known.now c.args.item.now _ _
     (order_of_meanings w.meaning (w.fits world) (w.precedes world) (λ x y z. laws.precedes_transitive world x y z lawful) (λ x y. laws.precedes_total world x y lawful))
     c.requires.known_fit c.requires.item_fits c.requires.ascending c.loop-low.invariant (omega arith)
     (λ d lt.

@@ -35,14 +35,12 @@ loop-generator-preserved g c =
     let adds = c.in_ok-add.ensures in
     let v = w.meaning c.args.value.now in
     let joined = c.in_ok-joined.ensures in
-    let generator_fits = read_has (λ x. w.fits world (w.meaning x)) generators i generator c.requires.generators inside c.generator-item.is in
     record {
       search = search_joined w.meaning (w.fits world) (w.precedes world) (w.joins world) (w.least world) generators known untried i generator item _ _ v
           (λ x y z. laws.joins_fit world x y z c.requires.world) c.requires.generators inside c.generator-item.is inv.search inv.value joined adds;
-      value = adds.known_kept v inv.value;
+      value = adds.learns.kept v inv.value;
       closed = closed_more w.meaning (w.precedes world) (w.joins world) generators known untried item _ _ v inv.closed adds;
-      done = joins_more w.meaning (w.precedes world) (w.joins world) generators known untried item _ _ v i generator adds inside c.generator-item.is joined
-          (λ z h. laws.joins_once world _ _ _ _ c.requires.world generator_fits (inv.search.fit v inv.value) joined h) inv.done;
+      done = joins_more w.meaning (w.precedes world) (w.joins world) generators known untried item _ _ v i generator adds inside c.generator-item.is joined inv.done;
       even = omega (arith, adds.even, inv.even);
       small = omega arith;
     }

@@ -1,6 +1,6 @@
 use Rattle.std.proofs.Common.{◌≡◌, ◌+◌, ◌≤◌, length, map}
 use Rattle.hs_lattice.specs.JoinWorld.{IsGenerated}
-use Rattle.hs_lattice.specs.Search.{IsSearch, IsClosedBut, Knows}
+use Rattle.hs_lattice.specs.Inner.Search.{IsSearch, IsClosedBut, Knows}
 use Rattle.hs_lattice.proofs.Searches.{KnowsJoins}
 use Rattle.hs_lattice.proofs.closure.try_joins.Given as goal
 

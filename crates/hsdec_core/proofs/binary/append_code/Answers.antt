@@ -1,5 +1,5 @@
 use Rattle.std.proofs.Common.{ap, ◌∙◌}
-use Rattle.hsdec_core.specs.Inner.CodeNetwork.{digit}
+use Rattle.hsdec_core.specs.Digits.{digit}
 use Rattle.hsdec_core.proofs.Bits.{code_more}
 use Rattle.hsdec_core.proofs.binary.append_code.Goals as goal
 

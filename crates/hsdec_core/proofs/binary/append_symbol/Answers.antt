@@ -1,6 +1,6 @@
 use Rattle.std.proofs.Common.{ap, ◌∙◌}
 use Rattle.cubes.specs.Symbol.{bit}
-use Rattle.hsdec_core.specs.Inner.CodeNetwork.{digit}
+use Rattle.hsdec_core.specs.Digits.{digit}
 use Rattle.hsdec_core.proofs.Bits.{symbol_more, symbol_done}
 use Rattle.hsdec_core.proofs.binary.append_symbol.Goals as goal
 

@@ -6,4 +6,4 @@ use Rattle.hsdec_core.proofs.network_of_code.push_rows.Given as goal
 
 abbrev pub invariant-loop-state : goal.invariant-loop-state
 invariant-loop-state l =
-    map (λ text. text.items) l.rows.items ≡ map (λ text. text.items) l.initial.rows.items ++ flat_map (row_at l.file l.codes l.signal l.symbol) (range_with_len 0 l.state)
+    map (λ text. text.items) l.rows.items ≡ map (λ text. text.items) l.initial.rows.items ++ flat_map (row_at l.machine l.codes l.signal l.symbol) (range_with_len 0 l.state)

@@ -1,7 +1,7 @@
 use Rattle.std.proofs.Common.{◌≡◌, ℕ, List, length, Err, inl, ap, ◌∙◌, subst, arith}
 use Rattle.state_codes.specs.declared.split.Part.{Part}
 use Rattle.state_codes.specs.declared.Codes.{Codes}
-use Rattle.state_codes.specs.Code.{AreInside, places_of, IsWritten}
+use Rattle.state_codes.specs.Code.{AreInside, places_of, IsLaidOut}
 use Rattle.state_codes.specs.Fault.{AreApart}
 use Rattle.state_codes.specs.Laws.Places.{AreInside-length}
 use Rattle.state_codes.specs.Laws.Codes.{codes_differ}
@@ -29,8 +29,8 @@ returns-clause-distinct c =
     let same : c.as_slice-parts.result.now ≡ parts = c.as_slice-parts.ensures in
     let apart : AreApart c.args.n parts = subst (AreApart c.args.n) same c.in_default.ensures.none in
     let inside : AreInside parts inners = subst (λ (list : List Part). AreInside list inners) same (rw c.as_slice-inners.ensures.value c.in_ok-table.ensures) in
-    let written : IsWritten c.args.n (places_of 0 parts inners) codes.bits codes.words codes.owner codes.carried =
-    subst (λ (list : List Part). IsWritten c.args.n (places_of 0 list inners) codes.bits codes.words codes.owner codes.carried) same c.in_ok-written.ensures in
+    let written : IsLaidOut c.args.n (places_of 0 parts inners) codes.bits codes.words codes.owner codes.carried =
+    subst (λ (list : List Part). IsLaidOut c.args.n (places_of 0 list inners) codes.bits codes.words codes.owner codes.carried) same c.in_ok-written.ensures in
     codes_differ c.args.n parts codes c.requires.parts (record { inners = inners; inside = inside; written = written }) apart
 
 pub returns-clause-caused : goal.returns-clause-caused

@@ -1,7 +1,7 @@
 use Rattle.std.proofs.Common.{◌≡◌, ℕ, ◌-◌, List, [], ◌∷◌, ◌++◌, ap, sym, ◌∙◌, subst, arith}
 use Rattle.std.proofs.lemmas.List.{append-nil}
 use Rattle.partition.specs.Partition.{blocks_of}
-use Rattle.state_codes.specs.Code.{need, Place, label_places, IsWritten}
+use Rattle.state_codes.specs.Code.{need, Place, label_places, IsLaidOut}
 use Rattle.state_codes.specs.Laws.Places.{label_places-next}
 use Rattle.state_codes.proofs.draft.put_label.Goals as goal
 
@@ -23,4 +23,4 @@ returns c n places start =
     let so_far = c.loop-weight.invariant.written n places start in
     let none : c.loop-weight.weight ≡ 0 = omega arith in
     let whole = sym (append-nil so_far.0) ∙ ap (λ (k : ℕ). so_far.0 ++ label_places c.args.part c.args.carried c.args.labels.now k) (sym none) ∙ so_far.1 in
-    subst (λ (list : List Place). IsWritten n list c.loop-weight.draft.bits c.loop-weight.draft.words.items c.loop-weight.draft.owner c.loop-weight.draft.carried) whole so_far.2
+    subst (λ (list : List Place). IsLaidOut n list c.loop-weight.draft.bits c.loop-weight.draft.words.items c.loop-weight.draft.owner c.loop-weight.draft.carried) whole so_far.2

@@ -6,7 +6,7 @@ use Rattle.partition.specs.Partition.{blocks_of}
 use Rattle.partition.specs.Inside.{IsInside}
 use Rattle.state_codes.specs.declared.split.Part.{Part}
 use Rattle.state_codes.specs.Split.{IsPart}
-use Rattle.state_codes.specs.Code.{need, Place, label_places, places_of, IsWritten}
+use Rattle.state_codes.specs.Code.{need, Place, label_places, places_of, IsLaidOut}
 use Rattle.state_codes.specs.Laws.Places.{AreInside-length, AreInside-at, places_of-take-more, places_of-take-room, length-label_places}
 use Rattle.state_codes.proofs.draft.written.Goals as goal
 
@@ -64,7 +64,7 @@ loop-j-preserved c =
     ap (λ (labels : List ℕ). (front ++ outer) ++ inner_of labels) read
     ∙ append_assoc front outer (inner_of (get_or inners c.loop-j.j []))
     ∙ sym (places_of-take-more parts inners c.loop-j.j part (omega arith) sizes c.index-parts-j.is) in
-    subst (λ (list : List Place). IsWritten c.args.n list c.put_label-in-loop-j.new.draft.bits c.put_label-in-loop-j.new.draft.words.items c.put_label-in-loop-j.new.draft.owner c.put_label-in-loop-j.new.draft.carried) whole more
+    subst (λ (list : List Place). IsLaidOut c.args.n list c.put_label-in-loop-j.new.draft.bits c.put_label-in-loop-j.new.draft.words.items c.put_label-in-loop-j.new.draft.owner c.put_label-in-loop-j.new.draft.carried) whole more
 
 pub returns : goal.returns
 returns c =
@@ -73,4 +73,4 @@ returns c =
     let inners = take_all c.loop-j.j c.args.inners.now (omega (arith, sizes)) in
     let all : places_of 0 (take c.loop-j.j c.args.parts.now) (take c.loop-j.j c.args.inners.now) ≡ places_of 0 c.args.parts.now c.args.inners.now =
     ap (λ (list : List Part). places_of 0 list (take c.loop-j.j c.args.inners.now)) parts ∙ ap (λ (list : List (List ℕ)). places_of 0 c.args.parts.now list) inners in
-    rw c.from.ensures (subst (λ (list : List Place). IsWritten c.args.n list c.loop-j.draft.bits c.loop-j.draft.words.items c.loop-j.draft.owner c.loop-j.draft.carried) all c.loop-j.invariant)
+    rw c.from.ensures (subst (λ (list : List Place). IsLaidOut c.args.n list c.loop-j.draft.bits c.loop-j.draft.words.items c.loop-j.draft.owner c.loop-j.draft.carried) all c.loop-j.invariant)

@@ -9,5 +9,5 @@ copies-preserved c = record {
   few = omega (arith, c.in_ok-push.ensures.len);
 }
 
-pub returns : goal.returns
-returns c = c.in_ok-given.ensures.lawful 4 c.copies.invariant.lawful
+pub returns-clause-lawful : goal.returns-clause-lawful
+returns-clause-lawful c = c.in_ok-given.ensures.lawful 4 c.copies.invariant.lawful

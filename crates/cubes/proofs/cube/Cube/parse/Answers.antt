@@ -1,6 +1,6 @@
 use Rattle.std.proofs.Common.{◌≡◌, get_or, arith, below_more, refl}
 use Rattle.cubes.proofs.Reading.{value_kept, spelled-push, byte_is_character, below-push, care_below, value_below}
-use Rattle.cubes.specs.Character.{bit_of, care_of, value_of}
+use Rattle.cubes.specs.Inner.Character.{bit_of, care_of, value_of}
 use Rattle.cubes.specs.Field.{characters, byte_of}
 use Rattle.cubes.proofs.cube.Cube.parse.Goals as goal
 

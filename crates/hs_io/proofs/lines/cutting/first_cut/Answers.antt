@@ -1,6 +1,6 @@
 use Rattle.std.proofs.Common.{sym, ◌∙◌, arith}
 use Rattle.std.proofs.lemmas.List.Sums.{position_or_len_is}
-use Rattle.hs_io.specs.Cut.{cuts}
+use Rattle.hs_io.specs.Inner.Cut.{cuts}
 use Rattle.hs_io.proofs.lines.cutting.first_cut.Goals as goal
 
 pub returns-then-is_cut-clause-place : goal.returns-then-is_cut-clause-place

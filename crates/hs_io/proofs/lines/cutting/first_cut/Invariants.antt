@@ -1,5 +1,5 @@
 use Rattle.std.proofs.Common.{◌≡◌, ℕ, ◌<◌, false, get_or}
-use Rattle.hs_io.specs.Cut.{cuts}
+use Rattle.hs_io.specs.Inner.Cut.{cuts}
 use Rattle.hs_io.proofs.lines.cutting.first_cut.Given as goal
 
 abbrev pub invariant-loop-place : goal.invariant-loop-place

@@ -1,0 +1,22 @@
+-- From what is known of a listing, if there is one, to what follows of it.
+use Rattle.std.proofs.Common.{List, Result, Ok, Err, IfOk}
+use Rattle.hs_lattice.specs.declared.Listing.{Listing}
+use Rattle.hs_lattice.specs.declared.Listing.TheVariants.{Whole, More}
+use Rattle.hs_lattice.specs.Listing.{items_of, IfWhole, IfMore}
+
+pub whole-from : {X E : Type 0} (r : Result (Listing X) E) (P Q : List X → Type 0) → ((xs : List X) → P xs → Q xs) → IfOk r (λ l. IfWhole l P) → IfOk r (λ l. IfWhole l Q)
+whole-from (Ok (Whole xs)) P Q turn h = turn xs h
+whole-from (Ok (More xs)) P Q turn h = tt
+whole-from (Err e) P Q turn h = tt
+
+pub more-from : {X E : Type 0} (r : Result (Listing X) E) (P Q : List X → Type 0) → ((xs : List X) → P xs → Q xs) → IfOk r (λ l. IfMore l P) → IfOk r (λ l. IfMore l Q)
+more-from (Ok (Whole xs)) P Q turn h = tt
+more-from (Ok (More xs)) P Q turn h = turn xs h
+more-from (Err e) P Q turn h = tt
+
+pub whole-from_three :
+    {X E : Type 0} (r : Result (Listing X) E) (A B C Q : List X → Type 0) → ((xs : List X) → A xs → B xs → C xs → Q xs) →
+    IfOk r (λ l. IfWhole l A) → IfOk r (λ l. IfWhole l B) → IfOk r (λ l. C (items_of l)) → IfOk r (λ l. IfWhole l Q)
+whole-from_three (Ok (Whole xs)) A B C Q turn a b c = turn xs a b c
+whole-from_three (Ok (More xs)) A B C Q turn a b c = tt
+whole-from_three (Err e) A B C Q turn a b c = tt

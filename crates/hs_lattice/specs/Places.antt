@@ -1,8 +1,0 @@
--- Places in an ascending list.
-use Rattle.std.specs.Prelude.{ℕ, ◌<◌, ◌≤◌, List, length, slice_index_or}
-
--- what stands below the place comes before the item, and what stands from the place on comes after it
-pub record IsGap {X : Type 0} (comes_before : X → X → Type 0) (xs : List X) (item : X) (place : ℕ) : Type 0 where
-  pub within : place ≤ length xs
-  pub below : (k : ℕ) (d : X) → k < place → comes_before (slice_index_or xs k d) item
-  pub above : (k : ℕ) (d : X) → place ≤ k → k < length xs → comes_before item (slice_index_or xs k d)

@@ -1,0 +1,69 @@
+//! The refusals of a text and of a machine, each with its line.
+
+ghost use Rattle.std.specs.Prelude.{◌≡◌, ℕ, ◌<◌, ◌≤◌, ◌^◌, IfOk, Some, length, map, slice_get};
+ghost use Rattle.cubes.specs.Symbol.{symbol_of};
+ghost use Rattle.hs_texts.specs.ErrLines.{conflict_line, kiss_line};
+ghost use Rattle.hsdec_core.specs.Digits.{digit};
+ghost use Rattle.hsdec_core.specs.Inner.Made.{IsRefusal};
+ghost use Rattle.hsdec_core.specs.KissTexts.{kind_text};
+ghost use Rattle.hsdec_core.specs.Line.{IsOpenLine, missing_text};
+
+use crate::binary::append_symbol;
+use crate::kiss_texts::text_of_kind;
+use crate::{Answer, Outcome};
+use hs_texts::err_lines;
+use kiss2::{KissFault, KissFile};
+use machine_table::Missing;
+use std::alloc::{AllocError, Global};
+
+/// The refusal of a text that says no machine.
+pub fn kiss_refused(alloc: Global, fault: KissFault) -> Result<Outcome, AllocError>
+    ensures { IfOk result (IsRefusal Answer.KissRefused (λ line. line ≡ kiss_line fault.line (kind_text fault.kind))) }
+{
+    let text = text_of_kind(alloc, fault.kind)?;
+    let line = err_lines::kiss(alloc, fault.line, text.as_slice())?;
+    Ok(Outcome::refused(alloc, Answer::KissRefused, line))
+}
+
+/// The refusal of a machine with two rows that conflict, counted from 1.
+pub fn conflict(alloc: Global, row: u32, other: u32) -> Result<Outcome, AllocError>
+    ensures { IfOk result (IsRefusal Answer.Conflict (λ line. line ≡ conflict_line row other)) }
+{
+    let line = err_lines::conflict(alloc, row, other)?;
+    Ok(Outcome::refused(alloc, Answer::Conflict, line))
+}
+
+/// The refusal of a machine that leaves a part open, at a state and the symbol of a number.
+pub fn unspecified(
+    alloc: Global,
+    file: &KissFile,
+    state: usize,
+    symbol: u32,
+    part: Missing,
+) -> Result<Outcome, AllocError>
+    requires state { state < length file.now.states }
+    requires inputs { file.now.inputs ≤ 32 }
+    ensures { IfOk result (IsRefusal Answer.Unspecified (IsOpenLine file.now state symbol part)) }
+{
+    let mut digits = Vec::new(alloc);
+    append_symbol(&mut digits, file.inputs, symbol as usize)?;
+    let missing = text_of_missing(alloc, part)?;
+    let name = file.states.name(state);
+    let line = err_lines::unspecified(alloc, name, digits.as_slice(), missing.as_slice())?;
+    Ok(Outcome::refused(alloc, Answer::Unspecified, line))
+}
+
+/// The text of what is missing.
+fn text_of_missing(alloc: Global, part: Missing) -> Result<Vec<u8>, AllocError>
+    ensures { IfOk result (λ text. text.items ≡ missing_text part) }
+{
+    match part {
+        Missing::Next => Vec::from_slice(alloc, b"next"),
+        Missing::Output(b) => {
+            let number = b.to_string(alloc)?;
+            let mut text = Vec::from_slice(alloc, b"output ")?;
+            text.extend_from_slice(number.as_bytes())?;
+            Ok(text)
+        }
+    }
+}

@@ -1,0 +1,43 @@
+use Rattle.std.proofs.Common.{◌≡◌, true, false, Some, None, refl, ap, sym, ◌∙◌}
+use Rattle.std.proofs.lemmas.Result.{err_from_is_err_and}
+use Rattle.std.specs.Option.{is_some, option_map}
+use Rattle.kiss2.specs.declared.fault.KissLimit.TheVariants.{Inputs, Outputs}
+use Rattle.kiss2.specs.declared.line_kind.LineKind.TheVariants.{InputNames, OutputNames}
+use Rattle.kiss2.specs.Faults.{form_fault, names_fault, stands_again}
+use Rattle.kiss2.specs.Standing.{has_stood}
+use Rattle.kiss2.specs.Words.{operands}
+use Rattle.kiss2.proofs.Stood.{fails_at, fault_again, fault_form, is_some-map, operand_field, own, stay}
+use Rattle.kiss2.proofs.said.Said.take_input_names.Goals as goal
+
+pub returns-then-is_some-clause-judged : goal.returns-then-is_some-clause-judged
+returns-then-is_some-clause-judged c before stands = fault_again before c.args.line.now InputNames c.requires.clean c.requires.kind (sym (is_some-map _ _) ∙ (ap is_some (sym stands.input_names) ∙ (sym c.is_some.ensures ∙ c.if-is_some.true)))
+
+pub returns-in_err-names-clause-judged : goal.returns-in_err-names-clause-judged
+returns-in_err-names-clause-judged c before stands =
+    let p = err_from_is_err_and c.from_residual.result c.from_residual.ensures.1 in
+    let fresh : has_stood InputNames before ≡ false = (sym (is_some-map _ _) ∙ (ap is_some (sym stands.input_names) ∙ (sym c.is_some.ensures ∙ c.if-is_some.false))) in
+    let line = c.args.line.now in
+    let same : form_fault InputNames before line ≡ names_fault c.args.self.now.inputs c.given-others.result.now c.operands_of.result.now =
+    rw (c.given-others.ensures, c.operands_of.ensures, stands.inputs, stands.output_names) refl in
+    rw (p.1, p.2) (fails_at c.in_err-names.field-0.0 (fault_form before line InputNames c.requires.clean c.requires.kind fresh ∙ same) c.in_err-names.ensures.judged)
+
+pub returns-clause-judged : goal.returns-clause-judged
+returns-clause-judged c before stands =
+    let fresh : has_stood InputNames before ≡ false = (sym (is_some-map _ _) ∙ (ap is_some (sym stands.input_names) ∙ (sym c.is_some.ensures ∙ c.if-is_some.false))) in
+    let kept = stay before c.args.line.now InputNames c.requires.kind in
+    let line = c.args.line.now in
+    let same : form_fault InputNames before line ≡ names_fault c.args.self.now.inputs c.given-others.result.now c.operands_of.result.now =
+    rw (c.given-others.ensures, c.operands_of.ensures, stands.inputs, stands.output_names) refl in (
+      fault_form before line InputNames c.requires.clean c.requires.kind fresh ∙ (same ∙ c.in_ok-names.ensures.judged.0),
+      record {
+        inputs = stands.inputs ∙ kept.inputs refl;
+        outputs = stands.outputs ∙ kept.outputs refl;
+        row_word = stands.row_word ∙ kept.row_word refl;
+        state_word = stands.state_word ∙ kept.state_word refl;
+        reset = stands.reset ∙ kept.reset refl;
+        input_names = ap Some (c.in_ok-names.ensures.judged.1 ∙ c.operands_of.ensures) ∙ sym (ap (option_map operands) (own before line InputNames c.requires.kind refl fresh));
+        output_names = stands.output_names ∙ kept.output_names refl;
+        rows = stands.rows ∙ kept.rows refl;
+        states = stands.states ∙ kept.states refl;
+      },
+    )

@@ -1,0 +1,8 @@
+use Rattle.std.proofs.Common.{◌≡◌, true, false, not, refl, ap, sym, ◌∙◌}
+use Rattle.std.proofs.lemmas.Bool.{not_from_false}
+use Rattle.kiss2.proofs.Once.{put_once}
+use Rattle.kiss2.proofs.said.add_name.Goals as goal
+
+pub returns-in_ok-add : goal.returns-in_ok-add
+returns-in_ok-add c =
+    put_once c.args.names.now c.add.new.self c.args.field.now c.in_ok-add.ensures.known c.in_ok-add.ensures.last (ap not (sym c.is_open_field.ensures) ∙ ap not c.if-not-is_open_field.true)

@@ -1,0 +1,198 @@
+//! Judges a line after the lines before it.
+ghost use Rattle.std.specs.Prelude.{ℕ, ◌≡◌, ◌+◌, ◌<◌, ◌≤◌, ◌^◌, All, List, [], ◌∷◌, ◌++◌, false, true, not, filter, nat_lt, IfErr, IfOk, IfNone, IfSome, MatchResult, None, OnOk, Some, length, unwrap_or};
+ghost use Rattle.std.specs.List.{list_any};
+ghost use Rattle.hs_io.specs.declared.lines.Line.{Line};
+ghost use Rattle.kiss2.specs.declared.line_kind.LineKind.TheVariants.{InputCount, InputNames, OutputCount, OutputNames, Reset, Row, RowCount, StateCount};
+ghost use Rattle.kiss2.specs.Faults.{count_fault, fault_in, first_of, fault_where, has_twice, is_not_one, long_name, names_fault, number_fault, operand_of, reset_fault, row_fault};
+ghost use Rattle.kiss2.specs.Words.{field_at, has_backslash, is_character_field, line_kind_of, decimal_value, output_field};
+ghost use Rattle.kiss2.specs.Names.{AreDistinct};
+ghost use Rattle.kiss2.specs.Inner.Judging.{Judges};
+
+use crate::StateNames;
+use crate::fault::{KissKind, KissLimit};
+use crate::words::{holds_backslash, number_in};
+use hs_io::{Name, Names};
+use std::alloc::{AllocError, Global};
+
+/// Why a line was not taken.
+#[derive(Clone, Copy)]
+pub(crate) enum LineFail {
+    /// It has this fault.
+    Fault(KissKind),
+    /// There is no memory left.
+    NoMemory,
+}
+
+impl From<AllocError> for LineFail {
+    ghost use Rattle.std.specs.Prelude.{◌≡◌};
+    ghost use Rattle.kiss2.specs.declared.judging.LineFail.TheVariants.{NoMemory};
+
+    ghost from_gives = { λ _ e. e ≡ NoMemory };
+
+    fn from(_: AllocError) -> Self {
+        LineFail::NoMemory
+    }
+}
+
+impl From<KissKind> for LineFail {
+    ghost use Rattle.std.specs.Prelude.{◌≡◌};
+    ghost use Rattle.kiss2.specs.declared.judging.LineFail.TheVariants.{Fault};
+
+    ghost from_gives = { λ kind e. e ≡ Fault kind };
+
+    fn from(kind: KissKind) -> Self {
+        LineFail::Fault(kind)
+    }
+}
+
+/// The one field after a word.
+fn one_operand(fields: &[Name]) -> Result<&[u8], KissKind>
+    ensures { MatchResult result (λ field. (is_not_one fields.now ≡ false) × (field.now ≡ operand_of fields.now)) (λ kind. (is_not_one fields.now ≡ true) × (kind ≡ KissKind.BadFields)) }
+{
+    match fields {
+        [field] => Ok(field.bytes()),
+        _ => Err(KissKind::BadFields),
+    }
+}
+
+/// The number of `.i` or `.o`.
+pub(crate) fn count_said(fields: &[Name], what: KissLimit, limit: u8) -> Result<u8, KissKind>
+    ensures { MatchResult result (λ count. (count_fault what limit fields.now ≡ None) × (count ≡ decimal_value (operand_of fields.now))) (λ kind. count_fault what limit fields.now ≡ Some kind) }
+{
+    let field = one_operand(fields)?;
+    let Some(number) = number_in(field) else {
+        return Err(KissKind::BadNumber);
+    };
+    if number == 0 {
+        return Err(KissKind::BadNumber);
+    }
+    if number > u32::from(limit) {
+        return Err(KissKind::OverLimit {
+            what,
+            found: number,
+        });
+    }
+    Ok(number as u8)
+}
+
+/// The number of `.p` or `.s`, which is compared with nothing.
+pub(crate) fn judge_number(fields: &[Name]) -> Result<(), KissKind>
+    ensures { MatchResult result (λ _. number_fault fields.now ≡ None) (λ kind. number_fault fields.now ≡ Some kind) }
+{
+    let field = one_operand(fields)?;
+    match number_in(field) {
+        Some(_) => Ok(()),
+        None => Err(KissKind::BadNumber),
+    }
+}
+
+/// Whether each name is short enough.
+pub(crate) fn judge_lengths(names: &[Name]) -> Result<(), KissKind>
+    requires { All (λ name. length name < 2 ^ 32) names.now }
+    ensures { MatchResult result (λ _. long_name names.now ≡ None) (λ kind. long_name names.now ≡ Some kind) }
+{
+    for name in names {
+        let found = name.bytes().len();
+        if found > 64 {
+            return Err(KissKind::OverLimit {
+                what: KissLimit::NameBytes,
+                found: found as u32,
+            });
+        }
+    }
+    Ok(())
+}
+
+/// The name of `.r`.
+pub(crate) fn reset_said(fields: &[Name]) -> Result<&[u8], KissKind>
+    requires { All (λ name. length name < 2 ^ 32) fields.now }
+    ensures { MatchResult result (λ name. (reset_fault fields.now ≡ None) × (name.now ≡ operand_of fields.now)) (λ kind. reset_fault fields.now ≡ Some kind) }
+{
+    let name = one_operand(fields)?;
+    judge_lengths(fields)?;
+    Ok(name)
+}
+
+/// Whether a backslash stands in some name.
+fn some_backslash(names: &[Name]) -> bool
+    ensures { result ≡ list_any has_backslash names.now }
+{
+    names.iter().any(|name| holds_backslash(name.bytes()))
+}
+
+/// Adds names to others, and says whether each was new. Where one was not, not all are added.
+fn add_new(seen: &mut StateNames, names: &[Name]) -> Result<bool, AllocError>
+    requires few { length seen.old + length names.now < 65535 }
+    requires distinct { AreDistinct seen.old }
+    ensures twice { IfOk result (λ new. has_twice (seen.old ++ names.now) ≡ not new) }
+    ensures all { IfOk result (λ new. new ≡ true → seen.new ≡ seen.old ++ names.now) }
+    ensures distinct { AreDistinct seen.new }
+{
+    for name in names {
+        let name = name.bytes();
+        if seen.number(name).is_some() {
+            return Ok(false);
+        }
+        seen.add(name)?;
+    }
+    Ok(true)
+}
+
+/// Whether some name stands twice in two lists.
+fn stands_twice(alloc: Global, first: &[Name], second: &[Name]) -> Result<bool, AllocError>
+    requires { length first.now + length second.now < 65535 }
+    ensures { IfOk result (λ twice. twice ≡ has_twice (first.now ++ second.now)) }
+{
+    let mut seen = StateNames::new(alloc);
+    if !add_new(&mut seen, first)? {
+        return Ok(true);
+    }
+    let new = add_new(&mut seen, second)?;
+    Ok(!new)
+}
+
+/// The names of `.ilb` or `.ob`, given how many things they name, and the names of the other word.
+pub(crate) fn names_said(
+    alloc: Global,
+    count: Option<u8>,
+    others: &[Name],
+    fields: &[Name],
+) -> Result<Names, LineFail>
+    requires short { All (λ name. length name < 2 ^ 32) fields.now }
+    requires others { length others.now < 2 ^ 8 }
+    ensures judged { Judges result (names_fault count others.now fields.now) (λ names. names ≡ fields.now) }
+    ensures few { IfOk result (λ names. length names < 256) }
+{
+    let Some(count) = count else {
+        return Err(LineFail::Fault(KissKind::MissingCounts));
+    };
+    if fields.len() != usize::from(count) || some_backslash(fields) {
+        return Err(LineFail::Fault(KissKind::BadFields));
+    }
+    judge_lengths(fields)?;
+    if stands_twice(alloc, others, fields)? {
+        return Err(LineFail::Fault(KissKind::Repeated));
+    }
+    Ok(copied(alloc, fields)?)
+}
+
+/// A copy of names.
+fn copied(alloc: Global, names: &[Name]) -> Result<Names, AllocError>
+    ensures { IfOk result (λ copy. copy ≡ names.now) }
+{
+    let mut copy = Names::new(alloc);
+    for name in names {
+        copy.push(Name::new(alloc, name.bytes())?)?;
+    }
+    Ok(copy)
+}
+
+/// Names that may be given, as a list.
+pub(crate) fn given(names: &Option<Names>) -> &[Name]
+    ensures { result.now ≡ unwrap_or names.now [] }
+{
+    match names {
+        Some(names) => names.as_slice(),
+        None => &[],
+    }
+}

@@ -1,0 +1,84 @@
+ghost use Rattle.std.specs.Prelude.{◌≡◌};
+ghost use Rattle.kiss2.specs.Words.{is_ending, is_of_kind, line_kind_of, kind_of_field};
+ghost use Rattle.kiss2.specs.declared.line_kind.LineKind.TheVariants.{Row};
+
+use hs_io::Line;
+
+/// What a line of a KISS2 text is, by its first field.
+#[derive(Clone, Copy, Debug, PartialEq, Eq)]
+pub(crate) enum LineKind {
+    /// It has no fields.
+    Blank,
+    /// `.e` or `.end`: the text ends before it.
+    End,
+    /// `.i`: the number of inputs.
+    InputCount,
+    /// `.o`: the number of outputs.
+    OutputCount,
+    /// `.p`: a number of rows, which is compared with nothing.
+    RowCount,
+    /// `.s`: a number of states, which is compared with nothing.
+    StateCount,
+    /// `.r`: the name of the reset state.
+    Reset,
+    /// `.ilb`: the names of the inputs.
+    InputNames,
+    /// `.ob`: the names of the outputs.
+    OutputNames,
+    /// Another word with a dot.
+    Unknown,
+    /// A row: no dot stands first.
+    Row,
+}
+
+/// What the line is.
+pub(crate) fn line_kind(line: &Line) -> LineKind
+    ensures { result ≡ line_kind_of line.now }
+{
+    match line.fields.as_slice() {
+        [] => LineKind::Blank,
+        [first, ..] => first_field_kind(first.bytes()),
+    }
+}
+
+/// Whether the line is a row.
+pub(crate) fn is_row(line: &Line) -> bool
+    ensures { result ≡ is_of_kind Row line.now }
+{
+    line_kind(line) == LineKind::Row
+}
+
+/// Whether the text ends before the line.
+pub(crate) fn ends(line: &Line) -> bool
+    ensures { result ≡ is_ending line.now }
+{
+    !line.bad && line_kind(line) == LineKind::End
+}
+
+/// What a line is whose first field this is.
+#[tactic(auto, unfolding(crate::specs::Words::kind_of_field))]
+fn first_field_kind(field: &[u8]) -> LineKind
+    ensures { result ≡ kind_of_field field.now }
+{
+    if field == b".e".as_slice() || field == b".end".as_slice() {
+        LineKind::End
+    } else if field == b".i".as_slice() {
+        LineKind::InputCount
+    } else if field == b".o".as_slice() {
+        LineKind::OutputCount
+    } else if field == b".p".as_slice() {
+        LineKind::RowCount
+    } else if field == b".s".as_slice() {
+        LineKind::StateCount
+    } else if field == b".r".as_slice() {
+        LineKind::Reset
+    } else if field == b".ilb".as_slice() {
+        LineKind::InputNames
+    } else if field == b".ob".as_slice() {
+        LineKind::OutputNames
+    } else if field.first() == Some(&b'.') {
+        LineKind::Unknown
+    } else {
+        LineKind::Row
+    }
+}

@@ -1,0 +1,169 @@
+//! The record of lines without a fault.
+ghost use Rattle.std.specs.Prelude.{ℕ, ◌≡◌, ◌+◌, ◌<◌, ◌≤◌, ◌^◌, All, Contains, List, IfNone, IfOk, IfSome, None, OnOk, Some, false, true, length, slice_get, slice_index_or};
+ghost use Rattle.kiss2.specs.declared.kiss_file.KissRow.{KissRow};
+ghost use Rattle.std.specs.List.{AllZip};
+ghost use Rattle.cubes.specs.Cube.{text_of};
+ghost use Rattle.hs_io.specs.declared.lines.Line.{Line};
+ghost use Rattle.kiss2.specs.Kiss.{HaveNoFault, IsNextOf, IsRecordOf, IsRowOf, closing_fault};
+ghost use Rattle.kiss2.specs.Standing.{names_in_column, reset_name, row_lines, state_names};
+ghost use Rattle.kiss2.specs.Words.{current_field, is_character_field, is_open, next_field};
+ghost use Rattle.kiss2.specs.Inner.Good.{IsGoodRow, IsKnownRow};
+ghost use Rattle.kiss2.specs.Inner.Judging.{Stands, once_after};
+
+use crate::line_kind::is_row;
+use crate::said::{ResetLine, Said, add_name};
+use crate::words::{field_of, is_open_field, outputs_in_field};
+use crate::{KissFile, KissRow, Rows, StateNames};
+use cubes::Cube;
+use hs_io::Line;
+use std::alloc::{AllocError, Global};
+
+/// The record that lines without a fault give.
+pub(crate) fn record_of(alloc: Global, lines: &[Line], said: Said) -> Result<KissFile, AllocError>
+    requires stands { Stands said lines.now }
+    requires faultless { HaveNoFault lines.now }
+    requires closed { closing_fault lines.now ≡ None }
+    ensures { IfOk result (λ file. IsRecordOf lines.now file) }
+{
+    let Some(inputs) = said.inputs else {
+        unreachable!()
+    };
+    let Some(outputs) = said.outputs else {
+        unreachable!()
+    };
+    let states = states_of(alloc, lines)?;
+    let rows = rows_of(alloc, lines, &states, inputs)?;
+    let reset = reset_of(&said.reset, &states, rows.as_slice());
+    Ok(KissFile {
+        inputs,
+        outputs,
+        reset,
+        states,
+        rows,
+        input_names: said.input_names,
+        output_names: said.output_names,
+    })
+}
+
+/// The names of the states in the order of their numbers.
+fn states_of(alloc: Global, lines: &[Line]) -> Result<StateNames, AllocError>
+    requires few { length (state_names lines.now) ≤ 256 }
+    requires long { All (λ line. length line.fields ≡ 4) (row_lines lines.now) }
+    ensures { IfOk result (λ names. names ≡ state_names lines.now) }
+{
+    let mut names = StateNames::new(alloc);
+    add_column(&mut names, lines, 1)?;
+    add_column(&mut names, lines, 2)?;
+    Ok(names)
+}
+
+/// Adds the names that stand at a place of rows.
+fn add_column(names: &mut StateNames, lines: &[Line], place: usize) -> Result<(), AllocError>
+    requires few { length (once_after names.old (names_in_column place (row_lines lines.now))) ≤ 256 }
+    requires long { All (λ line. length line.fields ≡ 4) (row_lines lines.now) }
+    requires place { place < 4 }
+    ensures { OnOk result (names.new ≡ once_after names.old (names_in_column place (row_lines lines.now))) }
+{
+    for line in lines {
+        if is_row(line) {
+            add_name(names, field_of(line, place))?;
+        }
+    }
+    Ok(())
+}
+
+/// The rows in order.
+fn rows_of(
+    alloc: Global,
+    lines: &[Line],
+    states: &StateNames,
+    inputs: u8,
+) -> Result<Rows, AllocError>
+    requires some_input { 1 ≤ inputs }
+    requires inputs { inputs ≤ 32 }
+    requires states { length states.now ≤ 256 }
+    requires good { (outputs : ℕ) × (outputs ≤ 64) × All (IsGoodRow inputs outputs) (row_lines lines.now) }
+    requires known { All (IsKnownRow states.now) (row_lines lines.now) }
+    ensures { IfOk result (λ rows. AllZip (IsRowOf states.now) (row_lines lines.now) rows) }
+{
+    let mut rows = Rows::new(alloc);
+    for line in lines {
+        if is_row(line) {
+            rows.push(row_of(line, states, inputs))?;
+        }
+    }
+    Ok(rows)
+}
+
+/// The row that a line gives.
+fn row_of(line: &Line, states: &StateNames, inputs: u8) -> KissRow
+    requires some_input { 1 ≤ inputs }
+    requires inputs { inputs ≤ 32 }
+    requires states { length states.now ≤ 256 }
+    requires good { (outputs : ℕ) × (outputs ≤ 64) × IsGoodRow inputs outputs line.now }
+    requires known { IsKnownRow states.now line.now }
+    ensures { IsRowOf states.now line.now result }
+{
+    let cube = cube_of(field_of(line, 0), inputs);
+    let from = number_in(states, field_of(line, 1));
+    let to = next_of(states, field_of(line, 2));
+    let (care, value) = outputs_in_field(field_of(line, 3));
+    KissRow {
+        cube,
+        from,
+        to,
+        care,
+        value,
+    }
+}
+
+/// The cube of an input field.
+fn cube_of(field: &[u8], inputs: u8) -> Cube
+    requires some_input { 1 ≤ inputs }
+    requires inputs { inputs ≤ 32 }
+    requires characters { is_character_field inputs field.now ≡ true }
+    ensures { text_of result ≡ field.now }
+{
+    match Cube::parse(field, inputs) {
+        Ok(cube) => cube,
+        Err(_) => unreachable!(),
+    }
+}
+
+/// The number of a state.
+fn number_in(states: &StateNames, name: &[u8]) -> u16
+    requires few { length states.now ≤ 256 }
+    requires known { Contains states.now name.now }
+    ensures { slice_get states.now result ≡ Some name.now }
+{
+    match states.number(name) {
+        Some(number) => number,
+        None => unreachable!(),
+    }
+}
+
+/// The number of the next state, where the field names one.
+fn next_of(states: &StateNames, field: &[u8]) -> Option<u16>
+    requires few { length states.now ≤ 256 }
+    requires known { is_open field.now ≡ false → Contains states.now field.now }
+    ensures { IsNextOf states.now field.now result }
+{
+    if is_open_field(field) {
+        return None;
+    }
+    Some(number_in(states, field))
+}
+
+/// The number of the reset state: of the state that `.r` names, and without it of the first row's current state.
+fn reset_of(reset: &Option<ResetLine>, states: &StateNames, rows: &[KissRow]) -> u16
+    requires few { length states.now ≤ 256 }
+    requires known { IfSome reset.now (λ line. Contains states.now line.name) }
+    requires some_row { 0 < length rows.now }
+    ensures named { IfSome reset.now (λ line. slice_get states.now result ≡ Some line.name) }
+    ensures first { IfNone reset.now ((d : KissRow) → result ≡ (slice_index_or rows.now 0 d).from) }
+{
+    match reset {
+        Some(line) => number_in(states, line.name.bytes()),
+        None => rows[0].from,
+    }
+}

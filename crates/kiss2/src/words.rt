@@ -1,0 +1,110 @@
+//! Fields of a line, one at a time.
+ghost use Rattle.std.specs.Prelude.{ℕ, ◌≡◌, ◌<◌, ◌≤◌, ◌^◌, false, true, IfNone, IfSome, length};
+ghost use Rattle.std.specs.Char.{is_ascii_digit};
+ghost use Rattle.std.specs.List.{list_all};
+ghost use Rattle.kiss2.specs.Words.{care_in, field_at, has_backslash, is_character, is_character_field, is_decimal, is_open, decimal_value, operands, value_in};
+
+use hs_io::{Line, Name};
+
+/// The fields after the first.
+pub(crate) fn operands_of(line: &Line) -> &[Name]
+    ensures { result.now ≡ operands line.now }
+{
+    match line.fields.as_slice() {
+        [] => &[],
+        [_, fields @ ..] => fields,
+    }
+}
+
+/// The field at a place.
+pub(crate) fn field_of(line: &Line, place: usize) -> &[u8]
+    requires { place < length line.now.fields }
+    ensures { result.now ≡ field_at place line.now }
+{
+    line.fields.as_slice()[place].bytes()
+}
+
+/// The number that the field is, if it has one to nine digits and nothing else.
+pub(crate) fn number_in(field: &[u8]) -> Option<u32>
+    ensures some { IfSome result (λ number. (is_decimal field.now ≡ true) × (number ≡ decimal_value field.now)) }
+    ensures none { IfNone result (is_decimal field.now ≡ false) }
+{
+    if field.is_empty() || field.len() > 9 || !are_digits(field) {
+        return None;
+    }
+    Some(value_of_digits(field))
+}
+
+/// Whether each byte is a decimal digit.
+fn are_digits(field: &[u8]) -> bool
+    ensures { result ≡ list_all is_ascii_digit field.now }
+{
+    field.iter().all(|byte| byte.is_ascii_digit())
+}
+
+/// The number that the digits write.
+fn value_of_digits(field: &[u8]) -> u32
+    requires short { length field.now ≤ 9 }
+    requires digits { list_all is_ascii_digit field.now ≡ true }
+    ensures { result ≡ decimal_value field.now }
+{
+    let mut number = 0u32;
+    for byte in field {
+        number = 10 * number + u32::from(*byte - b'0');
+    }
+    number
+}
+
+/// Whether the field stands for no state, in the place of one.
+pub(crate) fn is_open_field(field: &[u8]) -> bool
+    ensures { result ≡ is_open field.now }
+{
+    field == b"*".as_slice() || field == b"-".as_slice()
+}
+
+/// Whether a backslash stands in it.
+pub(crate) fn holds_backslash(name: &[u8]) -> bool
+    ensures { result ≡ has_backslash name.now }
+{
+    name.iter().any(|byte| *byte == b'\\')
+}
+
+/// Whether the byte is a character of an input or output field.
+fn is_field_character(byte: u8) -> bool
+    ensures { result ≡ is_character byte }
+{
+    byte == b'0' || byte == b'1' || byte == b'-'
+}
+
+/// Whether each byte is one.
+fn are_characters(field: &[u8]) -> bool
+    ensures { result ≡ list_all is_character field.now }
+{
+    field.iter().all(|byte| is_field_character(*byte))
+}
+
+/// Whether the field has so many characters, and nothing else.
+pub(crate) fn has_characters(field: &[u8], count: u8) -> bool
+    ensures { result ≡ is_character_field count field.now }
+{
+    field.len() == usize::from(count) && are_characters(field)
+}
+
+/// The outputs of which an output field says something, and those that it gives as 1: output b at 2^b.
+pub(crate) fn outputs_in_field(field: &[u8]) -> (u64, u64)
+    requires { length field.now ≤ 64 }
+    ensures care { result.0 ≡ care_in field.now }
+    ensures value { result.1 ≡ value_in field.now }
+{
+    let mut care = 0u64;
+    let mut value = 0u64;
+    for (output, byte) in field.iter().enumerate() {
+        if *byte != b'-' {
+            care += 1 << output;
+        }
+        if *byte == b'1' {
+            value += 1 << output;
+        }
+    }
+    (care, value)
+}

@@ -1,0 +1,10 @@
+pub mod Against
+pub mod Asking
+pub mod Conflicts
+pub mod Copies
+pub mod Lawful
+pub mod OpenCubes
+pub mod OpenParts
+pub mod Outputs
+pub mod RowNumbers
+pub mod Specified

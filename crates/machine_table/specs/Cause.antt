@@ -1,0 +1,28 @@
+-- Why a file has no machine.
+use Rattle.std.specs.Prelude.{◌≡◌, ⊤}
+use Rattle.kiss2.specs.declared.fill.Fill.{Fill}
+use Rattle.kiss2.specs.declared.fill.Fill.TheVariants.{Refuse}
+use Rattle.kiss2.specs.declared.kiss_file.KissFile.{KissFile}
+use Rattle.kiss2.specs.Machine.{Conflicting}
+use Rattle.machine_table.specs.declared.building.BuildFail.{BuildFail}
+use Rattle.machine_table.specs.declared.building.BuildFail.TheVariants.{Conflict, Unspecified, NoMemory}
+use Rattle.machine_table.specs.Conflict.{IsFirstConflict}
+use Rattle.machine_table.specs.Said.{IsFirstOpen}
+
+-- the refusal names the first conflict, or memory was wanting
+abbrev pub IsConflictOf : KissFile → BuildFail → Type 0
+IsConflictOf F (Conflict row_a row_b) = IsFirstConflict F row_a row_b
+IsConflictOf F (Unspecified state symbol part) = ⊥
+IsConflictOf F NoMemory = ⊤
+
+-- no two rows contradict one another, what is open is refused, and the entry is the first that no row says
+pub record IsRefusedAt (F : KissFile) (fill : Fill) (open_first : Type 0) : Type 0 where
+  pub refused : fill ≡ Refuse
+  pub no_conflict : Conflicting F → ⊥
+  pub entry : open_first
+
+-- the refusal has its cause
+abbrev pub Caused : KissFile → Fill → BuildFail → Type 0
+Caused F fill (Conflict row_a row_b) = IsFirstConflict F row_a row_b
+Caused F fill (Unspecified state symbol part) = IsRefusedAt F fill (IsFirstOpen F state symbol part)
+Caused F fill NoMemory = ⊤

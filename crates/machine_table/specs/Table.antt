@@ -1,0 +1,15 @@
+-- The files of which machines are built.
+use Rattle.std.specs.Prelude.{◌≤◌, ◌<◌, All, length}
+use Rattle.kiss2.specs.declared.kiss_file.KissFile.{KissFile}
+use Rattle.kiss2.specs.Lawful.{IsLawfulRow}
+
+-- the counts are within the limits, and each row and the reset state are of these counts; a lawful file is such, and
+-- of the number of its rows nothing is asked
+pub record IsTable (F : KissFile) : Type 0 where
+  pub some_input : 1 ≤ F.inputs
+  pub inputs : F.inputs ≤ 32
+  pub some_output : 1 ≤ F.outputs
+  pub outputs : F.outputs ≤ 64
+  pub states : length F.states ≤ 256
+  pub rows : All (IsLawfulRow F.inputs F.outputs (length F.states)) F.rows
+  pub reset : F.reset < length F.states

@@ -1,0 +1,55 @@
+//! Another copy of a file.
+ghost use Rattle.std.specs.Prelude.{◌≡◌, ◌<◌, IfOk, IsOk, Option, length};
+
+use hs_io::{Name, Names};
+use kiss2::{KissFile, Rows, StateNames};
+use std::alloc::{AllocError, Global};
+
+/// The file again.
+pub fn copied_file(alloc: Global, file: &KissFile) -> Result<KissFile, AllocError>
+    requires { length file.now.states < 65536 }
+    ensures { IfOk result (λ copy. copy ≡ file.now) }
+{
+    Ok(KissFile {
+        inputs: file.inputs,
+        outputs: file.outputs,
+        reset: file.reset,
+        states: copied_states(alloc, &file.states)?,
+        rows: Rows::from(file.rows.as_slice().to_vec(alloc)?),
+        input_names: copied_given(alloc, &file.input_names)?,
+        output_names: copied_given(alloc, &file.output_names)?,
+    })
+}
+
+/// The names of the states again.
+fn copied_states(alloc: Global, states: &StateNames) -> Result<StateNames, AllocError>
+    requires { length states.now < 65536 }
+    ensures { IfOk result (λ copy. copy ≡ states.now) }
+{
+    let mut copy = StateNames::new(alloc);
+    for i in 0..states.count() {
+        copy.add(states.name(i))?;
+    }
+    Ok(copy)
+}
+
+/// The names of inputs or outputs again, where there are names.
+fn copied_given(alloc: Global, given: &Option<Names>) -> Result<Option<Names>, AllocError>
+    ensures { IfOk result (λ copy. copy ≡ given.now) }
+{
+    match given {
+        None => Ok(None),
+        Some(names) => Ok(Some(copied_names(alloc, names.as_slice())?)),
+    }
+}
+
+/// Names again.
+fn copied_names(alloc: Global, names: &[Name]) -> Result<Names, AllocError>
+    ensures { IfOk result (λ copy. copy ≡ names.now) }
+{
+    let mut copy = Names::new(alloc);
+    for name in names {
+        copy.push(Name::new(alloc, name.bytes())?)?;
+    }
+    Ok(copy)
+}

@@ -1,0 +1,141 @@
+//! What a machine keeps, and the questions about one state and one symbol.
+ghost use Rattle.std.specs.Prelude.{ℕ, ◌≡◌, ◌<◌, ◌≤◌, ◌^◌, All, Contains, Some, length, slice_get};
+ghost use Rattle.cubes.specs.Symbol.{symbol_of};
+ghost use Rattle.kiss2.specs.Lawful.{IsLawfulRow};
+ghost use Rattle.kiss2.specs.Machine.{Conflicting, given_bit, next, output_bit};
+ghost use Rattle.kiss2.specs.declared.kiss_file.KissRow.{KissRow};
+ghost use Rattle.machine_table.specs.Inner.Places.{IsNumberOf};
+ghost use Rattle.machine_table.specs.Table.{IsTable};
+
+use hs_list::Items;
+use kiss2::{KissFile, KissRow};
+use std::marker::Model;
+
+/// The machine of a file, seen by contracts as that file.
+///
+/// A symbol is given by its number: its text read in binary, the first input the most significant bit.
+#[derive(Drop)]
+pub struct Machine {
+    pub(crate) file: KissFile,
+    /// For each state the numbers of its rows, ascending.
+    pub(crate) places: Vec<Items<usize>>,
+}
+
+impl Model for Machine {
+    ghost use Rattle.std.specs.Prelude.{length};
+    ghost use Rattle.kiss2.specs.declared.kiss_file.KissFile.{KissFile};
+    ghost use Rattle.kiss2.specs.Machine.{Conflicting};
+    ghost use Rattle.machine_table.specs.Table.{IsTable};
+    ghost use Rattle.machine_table.specs.Inner.Places.{ArePlaces};
+
+    ghost Value = { KissFile };
+
+    ghost view = { λ m. m.file };
+
+    ghost invariant = { λ m. IsTable m.file × (Conflicting m.file → ⊥)
+        × ArePlaces m.file.rows (length m.file.states) (length m.file.rows) m.places.items };
+}
+
+/// The bit that a row gives at an output, if it gives one.
+pub(crate) fn given(row: &KissRow, b: u8) -> Option<bool>
+    requires { b < 64 }
+    ensures { result ≡ given_bit b row.now }
+{
+    if (row.care >> b) & 1 == 1 {
+        Some((row.value >> b) & 1 == 1)
+    } else {
+        None
+    }
+}
+
+impl Machine {
+    /// The number of states.
+    pub fn states(&self) -> usize
+        ensures count { result ≡ length self.now.states }
+        ensures some { 0 < result }
+        ensures limit { result ≤ 256 }
+    {
+        self.file.states.count()
+    }
+
+    /// The number of input bits.
+    pub fn inputs(&self) -> u8
+        ensures count { result ≡ self.now.inputs }
+        ensures some { 0 < result }
+        ensures limit { result ≤ 32 }
+    {
+        self.file.inputs
+    }
+
+    /// The number of outputs.
+    pub fn outputs(&self) -> u8
+        ensures count { result ≡ self.now.outputs }
+        ensures some { 0 < result }
+        ensures limit { result ≤ 64 }
+    {
+        self.file.outputs
+    }
+
+    /// The number of the reset state.
+    pub fn reset(&self) -> usize
+        ensures number { result ≡ self.now.reset }
+        ensures state { result < length self.now.states }
+    {
+        usize::from(self.file.reset)
+    }
+
+    /// The next state at the symbol of that number: the one that a row names, and the state itself where
+    /// none names one.
+    pub fn next(&self, s: usize, x: u32) -> usize
+        requires s { s < length self.now.states }
+        requires x { x < 2 ^ self.now.inputs }
+        ensures next { result ≡ next self.now s (symbol_of self.now.inputs x) }
+        ensures state { result < length self.now.states }
+    {
+        for number in self.numbers_of(s) {
+            let row = self.row(*number);
+            if row.cube.holds(x) && let Some(t) = row.to {
+                return usize::from(t);
+            }
+        }
+        s
+    }
+
+    /// The output of that number at the symbol of that number: the bit that a row gives, and 0 where none
+    /// gives one.
+    pub fn output_bit(&self, s: usize, x: u32, b: u8) -> bool
+        requires s { s < length self.now.states }
+        requires x { x < 2 ^ self.now.inputs }
+        requires b { b < self.now.outputs }
+        ensures { result ≡ output_bit self.now s (symbol_of self.now.inputs x) b }
+    {
+        for number in self.numbers_of(s) {
+            let row = self.row(*number);
+            if row.cube.holds(x) && let Some(bit) = given(row, b) {
+                return bit;
+            }
+        }
+        false
+    }
+
+    /// The numbers of the rows of a state, ascending.
+    pub(crate) fn numbers_of(&self, s: usize) -> &[usize]
+        requires { s < length self.now.states }
+        ensures inside { All (λ i. i < length self.now.rows) result.now }
+        ensures own { (i : ℕ) → Contains result.now i → IsNumberOf self.now s i }
+        ensures each { (i : ℕ) (row : KissRow) → slice_get self.now.rows i ≡ Some row → row.from ≡ s → Contains result.now i }
+        ensures table { IsTable self.now }
+        ensures no_conflict { Conflicting self.now → ⊥ }
+    {
+        self.places[s].as_slice()
+    }
+
+    /// The row of that number.
+    pub(crate) fn row(&self, number: usize) -> &KissRow
+        requires { number < length self.now.rows }
+        ensures row { slice_get self.now.rows number ≡ Some result.now }
+        ensures lawful { IsLawfulRow self.now.inputs self.now.outputs (length self.now.states) result.now }
+    {
+        &self.file.rows.as_slice()[number]
+    }
+}

@@ -1,0 +1,132 @@
+//! What rows leave open.
+ghost use Rattle.std.specs.Prelude.{ℕ, ◌+◌, ◌-◌, ◌≡◌, ◌<◌, ◌≤◌, ◌^◌, ◌↔◌, All, IfNone, IfOk, IfSome, IsTrue, length};
+ghost use Rattle.cubes.specs.Gap.{IsHeld};
+ghost use Rattle.kiss2.specs.declared.kiss_file.KissFile.{KissFile};
+ghost use Rattle.machine_table.specs.declared.missing.Missing.{Missing};
+ghost use Rattle.machine_table.specs.Inner.OpenSymbol.{IsFirstAmong, IsFirstOf, SaysAll};
+ghost use Rattle.machine_table.specs.Said.{IsEntry, IsFirstOpen, IsSaid, Says, place_of};
+
+use crate::machine::given;
+use crate::{Machine, Missing};
+use cubes::{Cube, first_gap};
+use kiss2::KissRow;
+use std::alloc::{AllocError, Global};
+
+/// A part at a state and a symbol.
+#[derive(Clone, Copy)]
+pub struct Entry {
+    pub state: u16,
+    pub symbol: u32,
+    pub part: Missing,
+}
+
+/// Whether the row says the part.
+fn says(row: &KissRow, part: Missing) -> bool
+    requires { place_of part < 65 }
+    ensures { IsTrue result ↔ Says part row.now }
+{
+    match part {
+        Missing::Next => row.to.is_some(),
+        Missing::Output(b) => given(row, b).is_some(),
+    }
+}
+
+/// The care of a row that gives each of so many outputs.
+fn all_outputs(outputs: u8) -> u64
+    requires { outputs ≤ 64 }
+    ensures { result ≡ 2 ^ outputs - 1 }
+{
+    if outputs < 64 {
+        (1 << outputs) - 1
+    } else {
+        u64::MAX
+    }
+}
+
+/// The earlier of two open parts: the one of the lesser symbol, and the first where they are at one symbol.
+fn earlier(first: Option<(u32, Missing)>, gap: Option<u32>, part: Missing) -> Option<(u32, Missing)>
+    ensures { (F : KissFile) (s : ℕ) → IsFirstAmong F s (place_of part) first → IsFirstOf F s part gap → IsFirstAmong F s (place_of part + 1) result }
+{
+    let Some(other) = gap else {
+        return first;
+    };
+    match first {
+        Some((symbol, kept)) if symbol <= other => Some((symbol, kept)),
+        _ => Some((other, part)),
+    }
+}
+
+impl Machine {
+    /// The first entry that no row says.
+    pub fn first_open(&self, alloc: Global) -> Result<Option<Entry>, AllocError>
+        ensures some { IfOk result (λ found. IfSome found (λ entry. IsFirstOpen self.now entry.state entry.symbol entry.part)) }
+        ensures none { IfOk result (λ found. IfNone found ((s number : ℕ) (part : Missing) → IsEntry self.now s number part → IsSaid self.now s number part)) }
+    {
+        for s in 0..self.states() {
+            if let Some((symbol, part)) = self.first_open_at(alloc, s)? {
+                let state = s as u16;
+                return Ok(Some(Entry { state, symbol, part }));
+            }
+        }
+        Ok(None)
+    }
+
+    /// The first symbol of a state at which a part is open, and the first such part there.
+    fn first_open_at(&self, alloc: Global, s: usize) -> Result<Option<(u32, Missing)>, AllocError>
+        requires { s < length self.now.states }
+        ensures { IfOk result (IsFirstAmong self.now s (self.now.outputs + 1)) }
+    {
+        let gap = self.first_open_of(alloc, s, Missing::Next)?;
+        let mut first = earlier(None, gap, Missing::Next);
+        if self.says_all(s) {
+            return Ok(first);
+        }
+        for b in 0..self.outputs() {
+            let part = Missing::Output(b);
+            let gap = self.first_open_of(alloc, s, part)?;
+            first = earlier(first, gap, part);
+        }
+        Ok(first)
+    }
+
+    /// Whether each row of the state names a next state and gives each output.
+    fn says_all(&self, s: usize) -> bool
+        requires { s < length self.now.states }
+        ensures { IsTrue result → SaysAll self.now s }
+    {
+        for number in self.numbers_of(s) {
+            let row = self.row(*number);
+            if row.to.is_none() || row.care != all_outputs(self.outputs()) {
+                return false;
+            }
+        }
+        true
+    }
+
+    /// The first symbol at which no row of the state says the part.
+    fn first_open_of(&self, alloc: Global, s: usize, part: Missing) -> Result<Option<u32>, AllocError>
+        requires state { s < length self.now.states }
+        requires part { place_of part < self.now.outputs + 1 }
+        ensures { IfOk result (IsFirstOf self.now s part) }
+    {
+        let cubes = self.cubes_that_say(alloc, s, part)?;
+        first_gap(alloc, &cubes, self.inputs())
+    }
+
+    /// The cubes of the rows of a state that say the part.
+    fn cubes_that_say(&self, alloc: Global, s: usize, part: Missing) -> Result<Vec<Cube>, AllocError>
+        requires state { s < length self.now.states }
+        requires part { place_of part < self.now.outputs + 1 }
+        ensures widths { IfOk result (λ cubes. All (λ c. c.width ≡ self.now.inputs) cubes.items) }
+        ensures held { IfOk result (λ cubes. (number : ℕ) → IsHeld cubes.items number ↔ IsSaid self.now s number part) }
+    {
+        let mut cubes = Vec::new(alloc);
+        for number in self.numbers_of(s) {
+            let row = self.row(*number);
+            if says(row, part) {
+                cubes.push(row.cube)?;
+            }
+        }
+        Ok(cubes)
+    }
+}

@@ -1,5 +1,0 @@
-use Rattle.partition.specs.Bits.{AreSets}
-use Rattle.partition.proofs.bits.lattice.block_sets.Given as goal
-
-abbrev pub invariant-loop-t : goal.invariant-loop-t
-invariant-loop-t l = AreSets l.labels l.sets.items l.blocks l.t
