@@ -25,3 +25,4 @@ pub mod SameRecord
 pub mod Made
 pub mod Exact
 pub mod ReadLawful
+pub mod Written

@@ -7,4 +7,5 @@ pub mod Words
 pub mod Standing
 pub mod Faults
 pub mod Kiss
+pub mod Written
 pub mod Inner

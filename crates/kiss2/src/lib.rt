@@ -27,6 +27,7 @@ mod state_names;
 #[cfg(test)]
 mod tests;
 mod words;
+mod writing;
 
 pub use fault::{KissFail, KissFault, KissKind, KissLimit};
 pub use fill::Fill;
@@ -35,3 +36,4 @@ pub use laws::{next_is_a_state, plain_is_accepted, read_is_lawful, read_once, ro
 pub use reader::read;
 pub use reading::{FirstFail, read_first};
 pub use state_names::StateNames;
+pub use writing::write;
