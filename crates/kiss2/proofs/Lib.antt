@@ -26,3 +26,4 @@ pub mod Made
 pub mod Exact
 pub mod ReadLawful
 pub mod Written
+pub mod Scanning

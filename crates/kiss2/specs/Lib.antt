@@ -8,4 +8,5 @@ pub mod Standing
 pub mod Faults
 pub mod Kiss
 pub mod Written
+pub mod Worked
 pub mod Inner
