@@ -4,9 +4,11 @@ use Rattle.hs_io.specs.declared.lines.Line.{Line}
 use Rattle.kiss2.specs.declared.fault.KissFault.{KissFault}
 use Rattle.kiss2.specs.declared.fault.KissKind.{KissKind}
 use Rattle.kiss2.specs.Faults.{fault_in}
-use Rattle.kiss2.specs.Kiss.{HaveNoFault, IsFaultOf, IsFirstFault, closing_fault}
+use Rattle.kiss2.specs.declared.kiss_file.KissRow.{KissRow}
+use Rattle.kiss2.specs.Kiss.{HaveNoFault, IsFaultOf, IsFirstFault, IsRowOf, closing_fault}
 use Rattle.kiss2.proofs.Ending.{faultless_push}
 use Rattle.std.specs.Prelude.{slice_get, take}
+use Rattle.std.specs.List.{AllZip}
 use Rattle.std.proofs.lemmas.List.{take_at}
 use Rattle.std.proofs.lemmas.Option.{none-some, same_Some}
 
@@ -44,3 +46,17 @@ scanned_none front (line ∷ lines) none is = at (fault_in front line) refl is (
       → (fault_in front line ≡ None → scan (front ++ line ∷ []) lines ≡ None → HaveNoFault (front ++ line ∷ lines) × (closing_fault (front ++ line ∷ lines) ≡ None)) → HaveNoFault (front ++ line ∷ lines) × (closing_fault (front ++ line ∷ lines) ≡ None)
   at None e is rest = rest e is
   at (Some kind) e is rest = absurd (none-some (record { line = line.number; kind = kind }) (sym is))
+
+-- three rows of three lines
+pub record AreThree (states : List (List ℕ)) (a b c : Line) (rows : List KissRow) (x y z : KissRow) : Type 0 where
+  pub are : rows ≡ x ∷ y ∷ z ∷ []
+  pub first : IsRowOf states a x
+  pub second : IsRowOf states b y
+  pub third : IsRowOf states c z
+
+pub three_rows : (states : List (List ℕ)) (a b c : Line) (rows : List KissRow) → AllZip (IsRowOf states) (a ∷ b ∷ c ∷ []) rows → (x : KissRow) × (y : KissRow) × (z : KissRow) × AreThree states a b c rows x y z
+three_rows states a b c [] all = absurd all
+three_rows states a b c (x ∷ []) all = absurd all.1
+three_rows states a b c (x ∷ y ∷ []) all = absurd all.1.1
+three_rows states a b c (x ∷ y ∷ z ∷ []) all = (x, y, z, record { are = refl; first = all.0; second = all.1.0; third = all.1.1.0 })
+three_rows states a b c (x ∷ y ∷ z ∷ w ∷ rows) all = absurd all.1.1.1
