@@ -67,10 +67,10 @@ marks_count marks n f long each =
     let same : marks ≡ map f (range_with_len 0 n) =
     same_lists marks (map f (range_with_len 0 n)) (long ∙ sym (length-map-range_with_len f 0 n))
     (λ k d lt.
-        let inside : k < n = omega arith in
-        let within : k < length (range_with_len 0 n) = omega (arith, length-range_with_len 0 n) in
-        let at : get_or (range_with_len 0 n) k 0 ≡ k = get_or-range_with_len 0 n k 0 inside ∙ omega arith in
-        get_or_default marks k d false lt ∙ (each k inside ∙ sym (get_or-map f (range_with_len 0 n) k 0 d within ∙ ap f at))) in
+    let inside : k < n = omega arith in
+    let within : k < length (range_with_len 0 n) = omega (arith, length-range_with_len 0 n) in
+    let at : get_or (range_with_len 0 n) k 0 ≡ k = get_or-range_with_len 0 n k 0 inside ∙ omega arith in
+    get_or_default marks k d false lt ∙ (each k inside ∙ sym (get_or-map f (range_with_len 0 n) k 0 d within ∙ ap f at))) in
     ap (count_by (λ b. b)) same ∙ fold-map (λ a b. a + cond b 1 0) f 0 (range_with_len 0 n)
 
 pub joined : (a b : Bool) (c d : Bool) → a ≡ (false || c) → b ≡ (a || d) → b ≡ (c || d)

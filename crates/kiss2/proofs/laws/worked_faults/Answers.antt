@@ -56,4 +56,3 @@ returns-clause-bad_fields c = scanned [] _ _ faultless_none refl
 pub returns-clause-bad_byte : goal.returns-clause-bad_byte
 unfolding lines_read fault_in kind_of_field state_names each_once
 returns-clause-bad_byte c = scanned [] _ _ faultless_none refl
-

@@ -64,11 +64,15 @@ rows F read =
     let three = three_rows F.states _ _ _ F.rows read.whole.rows in
     let distinct = apart F read in
     let a = named F read 0 (codes "a") refl in
-    let b = named F read 1 (codes "b") refl in
-    (three.0, three.1, three.2, three.3.are,
-     record { cube_is = three.3.first.cube; from_is = number_once F.states (codes "a") three.0.from 0 distinct three.3.first.from a; to_is = next_once F.states (codes "b") three.0.to (Some 1) distinct three.3.first.to (refl, b); care_is = three.3.first.care; value_is = three.3.first.value },
-     record { cube_is = three.3.second.cube; from_is = number_once F.states (codes "b") three.1.from 1 distinct three.3.second.from b; to_is = next_once F.states (codes "*") three.1.to None distinct three.3.second.to refl; care_is = three.3.second.care; value_is = three.3.second.value },
-     record { cube_is = three.3.third.cube; from_is = number_once F.states (codes "a") three.2.from 0 distinct three.3.third.from a; to_is = next_once F.states (codes "b") three.2.to (Some 1) distinct three.3.third.to (refl, b); care_is = three.3.third.care; value_is = three.3.third.value })
+    let b = named F read 1 (codes "b") refl in (
+      three.0,
+      three.1,
+      three.2,
+      three.3.are,
+      record { cube_is = three.3.first.cube; from_is = number_once F.states (codes "a") three.0.from 0 distinct three.3.first.from a; to_is = next_once F.states (codes "b") three.0.to (Some 1) distinct three.3.first.to (refl, b); care_is = three.3.first.care; value_is = three.3.first.value },
+      record { cube_is = three.3.second.cube; from_is = number_once F.states (codes "b") three.1.from 1 distinct three.3.second.from b; to_is = next_once F.states (codes "*") three.1.to None distinct three.3.second.to refl; care_is = three.3.second.care; value_is = three.3.second.value },
+      record { cube_is = three.3.third.cube; from_is = number_once F.states (codes "a") three.2.from 0 distinct three.3.third.from a; to_is = next_once F.states (codes "b") three.2.to (Some 1) distinct three.3.third.to (refl, b); care_is = three.3.third.care; value_is = three.3.third.value },
+    )
 
 three : {A : Type 0} (f : KissRow → A) (list : List KissRow) (x y z : KissRow) (a b c : A) → list ≡ x ∷ y ∷ z ∷ [] → f x ≡ a → f y ≡ b → f z ≡ c → map f list ≡ a ∷ b ∷ c ∷ []
 three f list x y z a b c is p q r = ap (map f) is ∙ (ap (λ n. n ∷ f y ∷ f z ∷ []) p ∙ (ap (λ n. a ∷ n ∷ f z ∷ []) q ∙ ap (λ n. a ∷ b ∷ n ∷ []) r))
