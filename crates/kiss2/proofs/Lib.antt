@@ -27,3 +27,8 @@ pub mod Exact
 pub mod ReadLawful
 pub mod Written
 pub mod Scanning
+pub mod ReadBack
+pub mod Header
+pub mod RowsBack
+pub mod Renumbered
+pub mod RoundTrip

@@ -30,7 +30,7 @@ cube_done text old zero care value le is = sym (append-nil text) ∙ is
 cube_done text old (suc p) care value le is = absurd (omega arith)
 
 -- one output more
-range_push : (a n : ℕ) → range_with_len a (suc n) ≡ range_with_len a n ++ (a + n) ∷ []
+pub range_push : (a n : ℕ) → range_with_len a (suc n) ≡ range_with_len a n ++ (a + n) ∷ []
 range_push a zero = let same : a + 0 ≡ a = omega arith in ap (λ m. m ∷ []) (sym same)
 range_push a (suc n) = let same : (a + 1) + n ≡ a + suc n = omega arith in ap (λ xs. a ∷ xs) (range_push (a + 1) n ∙ ap (λ m. range_with_len (a + 1) n ++ m ∷ []) same)
 

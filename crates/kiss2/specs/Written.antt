@@ -7,7 +7,8 @@ use Rattle.cubes.specs.Field.{byte_of, character}
 use Rattle.hs_io.specs.Spelling.{spelled}
 use Rattle.kiss2.specs.declared.kiss_file.KissFile.{KissFile}
 use Rattle.kiss2.specs.declared.kiss_file.KissRow.{KissRow}
-use Rattle.kiss2.specs.Lawful.{appearances}
+use Rattle.kiss2.specs.Kiss.{Kiss}
+use Rattle.kiss2.specs.Lawful.{IsLawful, appearances}
 use Rattle.kiss2.specs.Names.{name_of}
 
 -- the name of a next state, and a dash where there is none
@@ -47,3 +48,7 @@ kiss_lines F =
 -- the text
 abbrev pub kiss_text : KissFile → List ℕ
 kiss_text F = spelled (kiss_lines F)
+
+-- what is written of a lawful record is read back as that record
+abbrev pub WrittenIsRead : Type 0
+WrittenIsRead = (F : KissFile) → IsLawful F → Kiss (kiss_text F) F

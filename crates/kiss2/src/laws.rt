@@ -6,6 +6,7 @@ ghost use Rattle.cubes.specs.Cube.{text_of};
 ghost use Rattle.kiss2.specs.declared.kiss_file.KissFile.{KissFile};
 ghost use Rattle.kiss2.specs.declared.fault.KissKind.TheVariants.{AnyState, BadByte, BadCube, BadFields, BadNumber, BadOutput, MissingCounts, NoRows, OverLimit, Repeated, ResetUnknown, UnknownWord};
 ghost use Rattle.kiss2.specs.declared.fault.KissLimit.TheVariants.{Inputs};
+ghost use Rattle.kiss2.specs.Written.{WrittenIsRead};
 ghost use Rattle.kiss2.specs.Worked.{IsRefused, text, worked_lines};
 ghost use Rattle.kiss2.specs.Machine.{NextIsAState, PlainIsAccepted, RowsDecide};
 
@@ -20,6 +21,11 @@ pub fn read_once()
 /// What is read is lawful.
 pub fn read_is_lawful()
     ensures { ReadIsLawful }
+{}
+
+/// What is written of a lawful record is read back as that record.
+pub fn written_is_read()
+    ensures { WrittenIsRead }
 {}
 
 /// Texts that are refused, each with the line and the kind of its first fault.

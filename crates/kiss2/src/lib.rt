@@ -39,7 +39,7 @@ pub use fill::Fill;
 pub use kiss_file::{KissFile, KissRow, Rows};
 pub use laws::{
     next_is_a_state, plain_is_accepted, read_is_lawful, read_once, rows_decide, worked_faults,
-    worked_text,
+    worked_text, written_is_read,
 };
 pub use reader::read;
 pub use reading::{FirstFail, read_first};
