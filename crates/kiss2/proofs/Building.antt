@@ -76,7 +76,7 @@ module _ (lines : List Line) (i : ℕ) (line : Line) (inside : i < length lines)
       subst P (ap (λ rs. get_or rs (length (row_lines (take i lines))) line) rows ∙ get_or_at (row_lines (take i lines)) line (row_lines (drop (i + 1) lines)) line (length (row_lines (take i lines))) refl)
       (all (length (row_lines (take i lines))) line there)
 
-names_in_column-append : (place : ℕ) (first second : List Line) → names_in_column place (first ++ second) ≡ names_in_column place first ++ names_in_column place second
+pub names_in_column-append : (place : ℕ) (first second : List Line) → names_in_column place (first ++ second) ≡ names_in_column place first ++ names_in_column place second
 names_in_column-append place first second = ap (filter is_name) (map-append (field_at place) first second) ∙ filter-append is_name (map (field_at place) first) (map (field_at place) second)
 
 -- the names of a column with a row more

@@ -280,7 +280,7 @@ name_at place (r ∷ rows) (suc k) row stands name =
       | inr dropped ↦ subst (λ t. among (field_at place row) (cond t (field_at place r ∷ names_in_column place rows) (names_in_column place rows)) ≡ true) (sym dropped) later
     ]
 
-among_states : (name : List ℕ) (lines : List Line) → among name (state_names lines) ≡ (among name (names_in_column 1 (row_lines lines)) || among name (names_in_column 2 (row_lines lines)))
+pub among_states : (name : List ℕ) (lines : List Line) → among name (state_names lines) ≡ (among name (names_in_column 1 (row_lines lines)) || among name (names_in_column 2 (row_lines lines)))
 unfolding state_names
 among_states name lines =
     among-each_once name (names_in_column 1 (row_lines lines) ++ names_in_column 2 (row_lines lines)) ∙ list_any-append (bytes_eq name) (names_in_column 1 (row_lines lines)) (names_in_column 2 (row_lines lines))

@@ -25,3 +25,10 @@ pub mod SameRecord
 pub mod Made
 pub mod Exact
 pub mod ReadLawful
+pub mod Written
+pub mod Scanning
+pub mod ReadBack
+pub mod Header
+pub mod RowsBack
+pub mod Renumbered
+pub mod RoundTrip

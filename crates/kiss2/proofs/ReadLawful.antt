@@ -155,7 +155,7 @@ kind_output_names OutputNames e = refl
 kind_output_names _ e = absurd (false≢true e)
 
 -- two lists of names of which none stands twice
-twice_parts : (first second : List (List ℕ)) → has_twice (first ++ second) ≡ false
+pub twice_parts : (first second : List (List ℕ)) → has_twice (first ++ second) ≡ false
     → (has_twice first ≡ false) × (has_twice second ≡ false) × ((name : List ℕ) → among name first ≡ true → among name second ≡ false)
 twice_parts [] second once = (refl, once, λ name there. absurd (false≢true there))
 twice_parts (x ∷ first) second once =

@@ -168,7 +168,7 @@ number_once names name i j distinct first second =
       | inr (inr more) ↦ absurd (distinct j i name more (slice_get_within names i name first) (get_or_from_slice_get names j name name second ∙ sym (get_or_from_slice_get names i name name first)))
     ]
 
-next_once : (states : List (List ℕ)) (field : List ℕ) (to other : Option ℕ) → AreDistinct states → IsNextOf states field to → IsNextOf states field other → to ≡ other
+pub next_once : (states : List (List ℕ)) (field : List ℕ) (to other : Option ℕ) → AreDistinct states → IsNextOf states field to → IsNextOf states field other → to ≡ other
 next_once states field None None distinct first second = refl
 next_once states field None (Some t) distinct first second = absurd (false≢true (sym second.0 ∙ first))
 next_once states field (Some t) None distinct first second = absurd (false≢true (sym first.0 ∙ second))

@@ -20,7 +20,7 @@ use Rattle.kiss2.specs.Standing.{each_once, has_stood, inputs_said, line_with, n
 use Rattle.kiss2.specs.Words.{field_at, is_of_kind, line_kind_of, decimal_value, operands, same_kind}
 use Rattle.kiss2.specs.Inner.Judging.{FailsWith, Stands, names_on, names_seen, reset_line}
 
-or_none : {X : Type 0} (o : Option X) → option_or o None ≡ o
+pub or_none : {X : Type 0} (o : Option X) → option_or o None ≡ o
 or_none None = refl
 or_none (Some x) = refl
 
@@ -41,7 +41,7 @@ pub fails_at : {fault other : Option KissKind} (fail : LineFail) → fault ≡ o
 fails_at (Fault kind) same fails = same ∙ fails
 fails_at NoMemory same fails = tt
 
-skip : (test : Bool) (kind : KissKind) (faults : List (Option KissKind)) → test ≡ false → first_of (fault_where test kind ∷ faults) ≡ first_of faults
+pub skip : (test : Bool) (kind : KissKind) (faults : List (Option KissKind)) → test ≡ false → first_of (fault_where test kind ∷ faults) ≡ first_of faults
 skip test kind faults passes = ap (λ t. first_of (fault_where t kind ∷ faults)) passes
 
 -- the one field after a word
