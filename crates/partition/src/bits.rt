@@ -27,7 +27,7 @@ pub struct BitPart {
 impl Model for BitPart {
     ghost use Rattle.std.specs.Prelude.{◌≡◌, List, ℕ, length, IfSome};
     ghost use Rattle.partition.specs.Partition.{IsPartition, blocks_of};
-    ghost use Rattle.partition.specs.Bits.{IsRows, labels_of};
+    ghost use Rattle.partition.specs.Inner.Rows.{IsRows, labels_of};
 
     ghost Value = { List ℕ };
 

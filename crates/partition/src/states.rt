@@ -1,7 +1,8 @@
 //! Sets of states as four words of bits.
 
 ghost use Rattle.std.specs.Prelude.{◌≡◌, ℕ, ◌+◌, ◌-◌, ◌%◌, ◌<◌, ◌≤◌, ◌≢◌, ◌↔◌, min, max, IsTrue, IfSome, IfNone, take, length};
-ghost use Rattle.partition.specs.Bits.{bit_of, Has};
+ghost use Rattle.partition.specs.Bits.{bit_of};
+ghost use Rattle.partition.specs.Inner.Rows.{Has};
 
 use std::marker::Model;
 

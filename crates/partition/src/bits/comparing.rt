@@ -3,7 +3,8 @@
 ghost use Rattle.std.specs.Prelude.{◌≡◌, ℕ, ◌<◌, ◌↔◌, length, IsTrue};
 ghost use Rattle.partition.specs.Partition.{blocks_of};
 ghost use Rattle.partition.specs.Before.{IsSmaller};
-ghost use Rattle.partition.specs.Bits.{bit_of, row_of, AreBlocks, labels_of};
+ghost use Rattle.partition.specs.Bits.{bit_of};
+ghost use Rattle.partition.specs.Inner.Rows.{row_of, AreBlocks, labels_of};
 
 use crate::states::StateSet;
 

@@ -2,7 +2,8 @@
 
 ghost use Rattle.std.specs.Prelude.{◌≡◌, ℕ, ◌<◌, ◌⊎◌, ◌+◌, length, IfOk, slice_index};
 ghost use Rattle.partition.specs.Partition.{IsPartition, blocks_of};
-ghost use Rattle.partition.specs.Bits.{bit_of, Has, row_of, IsRows, AreBlocks, AreSets};
+ghost use Rattle.partition.specs.Bits.{bit_of};
+ghost use Rattle.partition.specs.Inner.Rows.{Has, row_of, IsRows, AreBlocks, AreSets};
 
 use super::BitPart;
 use crate::Partition;

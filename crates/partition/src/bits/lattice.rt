@@ -3,7 +3,8 @@
 ghost use Rattle.std.specs.Prelude.{◌≡◌, ℕ, ◌<◌, ◌≤◌, ◌↔◌, min, length, IfOk};
 ghost use Rattle.partition.specs.Partition.{IsPartition, Together};
 ghost use Rattle.partition.specs.MeetAndJoin.{IsMeet, IsJoin, IsGreatestBelow, IsLeastAbove, Chain};
-ghost use Rattle.partition.specs.Bits.{bit_of, Has, row_of, AreBlocks, Reaches};
+ghost use Rattle.partition.specs.Bits.{bit_of};
+ghost use Rattle.partition.specs.Inner.Rows.{Has, row_of, AreBlocks, Reaches};
 
 use super::BitPart;
 use super::comparing::begun_blocks;

@@ -1,5 +1,5 @@
 use Rattle.std.proofs.Common.{◌≡◌, ℕ, List, length, refl, subst, arith}
-use Rattle.partition.specs.Bits.{Has, row_of}
+use Rattle.partition.specs.Inner.Rows.{Has, row_of}
 use Rattle.partition.specs.Laws.Chains.{chain_within}
 use Rattle.partition.proofs.Rows.{row_read}
 use Rattle.partition.proofs.Reaching.{IsJoining, joining_kept, joining_filled, joining_all}

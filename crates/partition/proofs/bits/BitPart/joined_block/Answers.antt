@@ -1,5 +1,5 @@
 use Rattle.std.proofs.Common.{List, ℕ}
-use Rattle.partition.specs.Bits.{IsRows}
+use Rattle.partition.specs.Inner.Rows.{IsRows}
 use Rattle.partition.proofs.Reaching.{block_is}
 use Rattle.partition.proofs.bits.BitPart.joined_block.Goals as goal
 

@@ -1,5 +1,5 @@
 use Rattle.std.proofs.Common.{List, ℕ, ◌∙◌}
-use Rattle.partition.specs.Bits.{AreBlocks}
+use Rattle.partition.specs.Inner.Rows.{AreBlocks}
 use Rattle.partition.proofs.Outcomes.{IfOk-from_both}
 use Rattle.partition.proofs.RowLabels.{labels_are, rows_are_blocks}
 use Rattle.partition.proofs.bits.BitPart.labels.Goals as goal

@@ -1,5 +1,5 @@
 use Rattle.std.proofs.Common.{List, ℕ}
-use Rattle.partition.specs.Bits.{labels_of}
+use Rattle.partition.specs.Inner.Rows.{labels_of}
 use Rattle.partition.specs.Laws.Chains.{meet_is_greatest}
 use Rattle.partition.proofs.RowNumbering.{meet_blocks, meet_by_rows}
 use Rattle.partition.proofs.RowLabels.{rows_stand, rows_hold}

@@ -1,6 +1,6 @@
 use Rattle.std.proofs.Common.{List, ℕ, length, ap, ◌∙◌, sym}
 use Rattle.partition.specs.Partition.{IsPartition, blocks_of}
-use Rattle.partition.specs.Bits.{IsRows}
+use Rattle.partition.specs.Inner.Rows.{IsRows}
 use Rattle.partition.proofs.RowLabels.{rows_are_blocks, rows_hold, rows_labels}
 use Rattle.partition.proofs.bits.BitPart.of.Goals as goal
 

@@ -1,6 +1,7 @@
 use Rattle.std.proofs.Common.{◌≡◌, ◌≤◌, ◌*◌, ℕ, List, length, take, sym, ap, ◌∙◌, arith}
 use Rattle.std.proofs.lemmas.Grind.{common_steps}
-use Rattle.partition.specs.Bits.{bit_of, row_of, IsRows}
+use Rattle.partition.specs.Bits.{bit_of}
+use Rattle.partition.specs.Inner.Rows.{row_of, IsRows}
 use Rattle.partition.proofs.Rows.{row_read, bits_above, front_bits}
 use Rattle.partition.proofs.bits.BitPart.row.Goals as goal
 

@@ -1,5 +1,5 @@
 use Rattle.std.proofs.Common.{◌≡◌, ℕ, List, sym, subst, arith}
-use Rattle.partition.specs.Bits.{Has, row_of, IsRows}
+use Rattle.partition.specs.Inner.Rows.{Has, row_of, IsRows}
 use Rattle.partition.proofs.Rows.{row_read}
 use Rattle.partition.proofs.bits.BitPart.same.Goals as goal
 

@@ -1,7 +1,8 @@
 use Rattle.std.proofs.Common.{◌≡◌, ◌<◌, ℕ, List, length, sym, ap, ◌∙◌, subst, arith}
 use Rattle.std.proofs.lemmas.List.{take_all}
 use Rattle.partition.specs.Partition.{blocks_of}
-use Rattle.partition.specs.Bits.{bit_of, Has, row_of, labels_of}
+use Rattle.partition.specs.Bits.{bit_of}
+use Rattle.partition.specs.Inner.Rows.{Has, row_of, labels_of}
 use Rattle.partition.proofs.Rows.{row_read}
 use Rattle.partition.proofs.RowLabels.{rows_stand, begins, continues}
 use Rattle.partition.proofs.bits.comparing.begun_blocks.Goals as goal

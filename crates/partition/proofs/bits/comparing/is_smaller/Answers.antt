@@ -1,6 +1,7 @@
 use Rattle.std.proofs.Common.{◌≡◌, ◌<◌, ℕ, List, length, sym, ap, ◌∙◌, inl, inr, subst, arith}
 use Rattle.std.proofs.lemmas.Bool.{cases_lt, ltb-true, lt-ltb, false≢true}
-use Rattle.partition.specs.Bits.{bit_of, Has, row_of, labels_of}
+use Rattle.partition.specs.Bits.{bit_of}
+use Rattle.partition.specs.Inner.Rows.{Has, row_of, labels_of}
 use Rattle.partition.proofs.Rows.{row_read}
 use Rattle.partition.proofs.RowLabels.{rows_stand, alike_more, alike_same, smaller_by_first, not_smaller, alike_not_smaller}
 use Rattle.partition.proofs.bits.comparing.is_smaller.Goals as goal

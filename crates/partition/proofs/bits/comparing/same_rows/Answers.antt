@@ -1,6 +1,7 @@
 use Rattle.std.proofs.Common.{◌≡◌, ℕ, List, sym, ap, ◌∙◌, arith}
 use Rattle.std.proofs.lemmas.Bool.{false≢true}
-use Rattle.partition.specs.Bits.{bit_of, row_of}
+use Rattle.partition.specs.Bits.{bit_of}
+use Rattle.partition.specs.Inner.Rows.{row_of}
 use Rattle.partition.proofs.Rows.{row_read}
 use Rattle.partition.proofs.bits.comparing.same_rows.Goals as goal
 

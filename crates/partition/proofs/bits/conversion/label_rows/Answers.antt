@@ -1,6 +1,6 @@
 use Rattle.std.proofs.Common.{ℕ, List, length, ap, arith}
 use Rattle.partition.specs.Partition.{blocks_of}
-use Rattle.partition.specs.Bits.{AreSets}
+use Rattle.partition.specs.Inner.Rows.{AreSets}
 use Rattle.partition.specs.Laws.Labels.{label-lt-blocks_of}
 use Rattle.partition.proofs.Outcomes.{IfOk-from_both}
 use Rattle.partition.proofs.Rows.{sets_are_rows}

@@ -1,6 +1,6 @@
 use Rattle.std.proofs.Common.{◌≡◌, arith}
 use Rattle.partition.specs.Laws.Labels.{blocks_of-le}
-use Rattle.partition.specs.Bits.{row_of}
+use Rattle.partition.specs.Inner.Rows.{row_of}
 use Rattle.partition.proofs.Rows.{row_read}
 use Rattle.partition.proofs.RowNumbering.{row_numbering_step}
 use Rattle.partition.proofs.bits.conversion.numbered_rows.Goals as goal

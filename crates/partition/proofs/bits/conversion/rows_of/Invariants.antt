@@ -1,5 +1,5 @@
 use Rattle.std.proofs.Common.{◌≡◌, ℕ, ◌<◌, length, get_or}
-use Rattle.partition.specs.Bits.{row_of}
+use Rattle.partition.specs.Inner.Rows.{row_of}
 use Rattle.partition.proofs.bits.conversion.rows_of.Given as goal
 
 abbrev pub invariant-loop-label : goal.invariant-loop-label

@@ -1,5 +1,6 @@
 use Rattle.std.proofs.Common.{◌≡◌, ◌<◌, ℕ, min, length}
-use Rattle.partition.specs.Bits.{bit_of, row_of}
+use Rattle.partition.specs.Bits.{bit_of}
+use Rattle.partition.specs.Inner.Rows.{row_of}
 use Rattle.partition.proofs.bits.lattice.common_states.Given as goal
 
 abbrev pub invariant-loop-s : goal.invariant-loop-s

@@ -1,5 +1,6 @@
 use Rattle.std.proofs.Common.{◌≡◌, ◌-◌, List, ℕ, min, max, sym, ap, ◌∙◌, arith}
-use Rattle.partition.specs.Bits.{bit_of, row_of}
+use Rattle.partition.specs.Bits.{bit_of}
+use Rattle.partition.specs.Inner.Rows.{row_of}
 use Rattle.partition.proofs.Rows.{row_read}
 use Rattle.partition.proofs.Reaching.{reaching_first, reaching_step, reaching_within, reaching_all, not_done, more_done}
 use Rattle.partition.proofs.bits.lattice.reached_block.Goals as goal
