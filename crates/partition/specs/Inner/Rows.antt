@@ -1,5 +1,5 @@
 -- For private functions and proofs alone: rows of bits, and the labels that they denote.
-use Rattle.std.specs.Prelude.{◌≡◌, ℕ, zero, suc, ◌+◌, ◌-◌, ◌*◌, ◌/◌, ◌<◌, ◌==◌, nat_lt, if◌then◌else◌, ◌↔◌, ◌⊎◌, List, [], ◌∷◌, ◌++◌, length, slice_index, slice_index_or}
+use Rattle.std.specs.Prelude.{◌≡◌, ℕ, zero, suc, ◌+◌, ◌-◌, ◌*◌, ◌/◌, ◌<◌, ◌==◌, if◌then◌else◌, ◌↔◌, ◌⊎◌, List, [], ◌∷◌, ◌++◌, length, take, drop, slice_index, slice_index_or}
 use Rattle.partition.specs.Partition.{IsStateCount, Together, blocks_of}
 use Rattle.partition.specs.Bits.{bit_of}
 
@@ -61,15 +61,15 @@ Reaches p q s t = (us : List ℕ) × ReachesBy p q s us t
 abbrev pub words_for : ℕ → ℕ
 words_for n = (n + 63) / 64
 
--- word i of row s, where rows of so many words stand one after another, and 0 past the row
-abbrev pub word_in : List ℕ → ℕ → ℕ → ℕ → ℕ
-word_in words width s i = if nat_lt i width then slice_index words (s * width + i) else 0
+-- up to four words as four of them
+abbrev pub four_of : List ℕ → List ℕ
+four_of words = slice_index words 0 ∷ slice_index words 1 ∷ slice_index words 2 ∷ slice_index words 3 ∷ []
 
--- row s as a set of states
-abbrev pub row_in : List ℕ → ℕ → ℕ → List ℕ
-row_in words width s = word_in words width s 0 ∷ word_in words width s 1 ∷ word_in words width s 2 ∷ word_in words width s 3 ∷ []
+-- the words of row s, where rows of so many words stand one after another
+abbrev pub words_at : List ℕ → ℕ → ℕ → List ℕ
+words_at words width s = take width (drop (s * width) words)
 
 -- the first n rows
 abbrev pub rows_in : List ℕ → ℕ → ℕ → List (List ℕ)
 rows_in words width zero = []
-rows_in words width (suc n) = rows_in words width n ++ row_in words width n ∷ []
+rows_in words width (suc n) = rows_in words width n ++ four_of (words_at words width n) ∷ []
