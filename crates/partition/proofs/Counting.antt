@@ -1,7 +1,8 @@
 -- How many bits are set below a place.
 use Rattle.std.proofs.Common.{◌≡◌, ◌≢◌, ℕ, zero, suc, ◌+◌, ◌<◌, ◌≤◌, List, refl, ap, inl, inr, arith}
 use Rattle.std.proofs.lemmas.Bool.{cases_eq}
-use Rattle.partition.specs.Bits.{bit_of, Has}
+use Rattle.partition.specs.Bits.{bit_of}
+use Rattle.partition.specs.Inner.Rows.{Has}
 use Rattle.partition.proofs.Words.{bit_of-lt}
 
 pub ones : List ℕ → ℕ → ℕ

@@ -15,3 +15,4 @@ pub mod RowNumbering
 pub mod RowLabels
 pub mod Counting
 pub mod Reaching
+pub mod FlatRows

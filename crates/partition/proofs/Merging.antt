@@ -3,7 +3,8 @@ use Rattle.std.proofs.Common.{◌≡◌, ℕ, ◌+◌, ◌<◌, ◌≤◌, ◌�
 use Rattle.std.proofs.lemmas.List.{get_or-set_same, get_or-set_other, length-set}
 use Rattle.std.proofs.lemmas.Bool.{cases_eq, eq-eqb, ne_eqb, cond-true, cond-false}
 use Rattle.partition.specs.Partition.{blocks_of, IsNumbered, IsPartition, SameTogether}
-use Rattle.partition.specs.MeetAndJoin.{Chain, TiesBlocks, IsJoin}
+use Rattle.partition.specs.MeetAndJoin.{Chain, IsJoin}
+use Rattle.partition.specs.Inner.Ties.{TiesBlocks}
 use Rattle.partition.specs.Laws.Labels.{blocks_of-take-more, label-lt-blocks_of, label-lt-blocks_of-take, block_stands, label-le, IsPartition-of}
 use Rattle.partition.specs.Laws.Chains.{chain_link, chain_on, chain_turned, chain_keeps, chain_within}
 

@@ -3,7 +3,8 @@ use Rattle.std.proofs.Common.{◌≡◌, ◌≢◌, ℕ, ◌+◌, ◌-◌, ◌<�
 use Rattle.std.proofs.lemmas.Bool.{cases_eq, cases_lt}
 use Rattle.std.proofs.lemmas.List.{get_or-set_same, get_or-set_other}
 use Rattle.partition.specs.MeetAndJoin.{Leads, Chain}
-use Rattle.partition.specs.Bits.{bit_of, Has, row_of, IsRows, AreBlocks, ReachesBy, Reaches}
+use Rattle.partition.specs.Bits.{bit_of}
+use Rattle.partition.specs.Inner.Rows.{Has, row_of, IsRows, AreBlocks, ReachesBy, Reaches}
 use Rattle.partition.specs.Laws.Chains.{chain_on, chain_turned}
 use Rattle.partition.proofs.Words.{bit_of-lt}
 use Rattle.partition.proofs.Counting.{ones, ones-le, ones_kept, ones_grow}

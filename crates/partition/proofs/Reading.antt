@@ -6,7 +6,8 @@ use Rattle.std.specs.List.{slice_get}
 use Rattle.std.specs.Option.{option_copied}
 use Rattle.std.specs.Fmt.{decimal}
 use Rattle.partition.specs.Partition.{blocks_of, IsNumbered, IsPartition, IsStateCount}
-use Rattle.partition.specs.Text.{labels_text, pieces_of, pieces_after, FirstBadPiece, OtherLength}
+use Rattle.partition.specs.Text.{labels_text, pieces_of, FirstBadPiece, OtherLength}
+use Rattle.partition.specs.Inner.Pieces.{pieces_after}
 use Rattle.partition.specs.Laws.Labels.{blocks_of-push, IsNumbered-none, IsNumbered-push, blocks_of-le}
 use Rattle.partition.proofs.Pieces.{length-pieces_of-le, some_piece, labels_text-pieces}
 

@@ -4,7 +4,8 @@ use Rattle.std.proofs.lemmas.Bool.{cases_eq, cases_lt, cases_order, eq-eqb, ne_e
 use Rattle.std.proofs.lemmas.List.{get_or-take, ext_get_or, length-take-le}
 use Rattle.partition.specs.Partition.{blocks_of, IsNumbered, IsPartition, Together}
 use Rattle.partition.specs.Before.{IsSmaller}
-use Rattle.partition.specs.Bits.{bit_of, Has, row_of, IsRows, AreBlocks, first_below, next_label, front_labels, labels_of}
+use Rattle.partition.specs.Bits.{bit_of}
+use Rattle.partition.specs.Inner.Rows.{Has, row_of, IsRows, AreBlocks, first_below, next_label, front_labels, labels_of}
 use Rattle.partition.specs.Laws.Labels.{same_labels, IsPartition-of, new_label, label-lt-blocks_of-take, blocks_of-take-more}
 use Rattle.partition.proofs.Words.{bit_of-lt}
 use Rattle.partition.proofs.RowNumbering.{IsRowNumbering, row_numbering_none, row_numbering_old, row_numbering_new, row_numbering_is}

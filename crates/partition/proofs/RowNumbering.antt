@@ -4,7 +4,8 @@ use Rattle.std.proofs.lemmas.Bool.{cases_eq, cases_lt}
 use Rattle.std.proofs.lemmas.List.{get_or_past, get_or_append_left, get_or_push, length_push}
 use Rattle.std.proofs.lemmas.Nat.Bits.{bit_at-zero}
 use Rattle.partition.specs.Partition.{blocks_of, IsNumbered, IsPartition, IsStateCount, Together}
-use Rattle.partition.specs.Bits.{bit_of, Has, row_of, IsRows, AreBlocks}
+use Rattle.partition.specs.Bits.{bit_of}
+use Rattle.partition.specs.Inner.Rows.{Has, row_of, IsRows, AreBlocks}
 use Rattle.partition.specs.MeetAndJoin.{IsMeet, IsJoin, Chain}
 use Rattle.partition.specs.Laws.Chains.{chain_none, chain_on, chain_turned, chain_within}
 use Rattle.partition.specs.Laws.Labels.{IsPartition-of, blocks_of-push, label-lt-blocks_of, IsNumbered-none, IsNumbered-push}

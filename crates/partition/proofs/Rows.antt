@@ -5,7 +5,8 @@ use Rattle.std.proofs.lemmas.List.{get_or_read, get_or-take, get_or_past, get_or
 use Rattle.std.proofs.lemmas.Nat.Bits.{bit_at-zero}
 use Rattle.std.specs.Int.{bit_at}
 use Rattle.partition.specs.Partition.{blocks_of, Together}
-use Rattle.partition.specs.Bits.{bit_of, Has, row_of, IsRows, AreSets}
+use Rattle.partition.specs.Bits.{bit_of}
+use Rattle.partition.specs.Inner.Rows.{Has, row_of, IsRows, AreSets}
 use Rattle.partition.specs.Laws.Labels.{label-lt-blocks_of}
 use Rattle.partition.proofs.Words.{bit_of-lt, bit_of_past}
 

@@ -6,7 +6,8 @@ use Rattle.std.proofs.lemmas.List.{get_or_past, get_or-set_same, get_or-set_othe
 use Rattle.std.proofs.lemmas.Nat.Bits.{bit_at-zero, bit_at_and, bit_at_or, bit_at_xor, bit_at_not, bit_at_set_same, bit_at_set_other, bit_at_clear_same, bit_at_clear_other, bit_at-trailing_zeros, bit_at-lt}
 use Rattle.std.specs.Int.{bit_at, bit_not, trailing_zeros, w64}
 use Rattle.std.specs.Int.RustNames.{bit_and, bit_or, bit_xor}
-use Rattle.partition.specs.Bits.{bit_of, Has}
+use Rattle.partition.specs.Bits.{bit_of}
+use Rattle.partition.specs.Inner.Rows.{Has}
 
 -- a fact of each of four words
 pub below_four : (P : ℕ → Type 0) → P 0 → P 1 → P 2 → P 3 → (i : ℕ) → i < 4 → P i

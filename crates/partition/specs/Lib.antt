@@ -5,4 +5,5 @@ pub mod Refusal
 pub mod Text
 pub mod Inside
 pub mod Bits
+pub mod Inner
 pub mod Laws

@@ -1,6 +1,6 @@
 -- Meet and join of two partitions of the same states, after Hartmanis and Stearns.
 use Rattle.std.specs.Prelude.{◌≡◌, ℕ, ◌<◌, ◌↔◌, ◌⊎◌, List, [], ◌∷◌, length, slice_index}
-use Rattle.partition.specs.Partition.{IsPartition, Together, Le, blocks_of}
+use Rattle.partition.specs.Partition.{IsPartition, Together, Le}
 
 -- states are together in the meet where they are together in both
 pub record IsMeet (p q r : List ℕ) : Type 0 where
@@ -34,9 +34,3 @@ pub record IsLeastAbove (p q r : List ℕ) : Type 0 where
   pub left : Le p r
   pub right : Le q r
   pub least : (other : List ℕ) → IsPartition (length p) other → Le p other → Le q other → Le r other
-
--- numbers of the blocks of p, equal where a chain of states leads from the one block to the other
-pub record TiesBlocks (p q numbers : List ℕ) : Type 0 where
-  pub size : length numbers ≡ blocks_of p
-  pub small : (block : ℕ) → block < blocks_of p → slice_index numbers block < blocks_of p
-  pub tied : (s t : ℕ) → s < length p → t < length p → (slice_index numbers (slice_index p s) ≡ slice_index numbers (slice_index p t)) ↔ Chain p q s t

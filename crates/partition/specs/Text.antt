@@ -43,12 +43,3 @@ TextFault n text (NotCanonical place) = ⊥
 TextFault n text (BadText place) = FirstBadPiece text place
 TextFault n text (WrongLength found) = OtherLength n text found
 TextFault n text NoMemory = ⊥
-
--- the pieces of what is left of a text after a comma, or none where nothing is
-abbrev pub pieces_after : Option (List ℕ) → List (List ℕ)
-pieces_after None = []
-pieces_after (Some rest) = pieces_of rest
-
--- it is the digit 0, or begins with another digit
-abbrev pub IsPlain : List ℕ → Type 0
-IsPlain piece = (piece ≡ 48 ∷ []) ⊎ ((48 < slice_index piece 0) × (slice_index piece 0 ≤ 57))

@@ -9,33 +9,35 @@ ghost use Rattle.partition.specs.Bits.{bit_of};
 mod comparing;
 mod conversion;
 mod lattice;
+mod rows;
 
-use crate::states::StateSet;
-use comparing::{begun_blocks, is_smaller, same_rows};
+use comparing::{is_smaller, same_rows};
+use rows::Rows;
 use std::alloc::{AllocError, Global};
 use std::marker::Model;
 
 /// A partition of n states as n rows of n bits, seen by contracts as its list of labels.
 ///
-/// Bit t of row s is 1 exactly where s and t are together. The number of blocks is kept where it was counted.
+/// Bit t of row s is 1 exactly where s and t are together. The rows stand in one vector, each in as many
+/// words as n bits need, and the number of blocks beside them.
 #[derive(Debug, Drop)]
 pub struct BitPart {
-    rows: Vec<StateSet>,
-    blocks: Option<usize>,
+    rows: Rows,
+    blocks: usize,
 }
 
 impl Model for BitPart {
-    ghost use Rattle.std.specs.Prelude.{◌≡◌, List, ℕ, length, IfSome};
+    ghost use Rattle.std.specs.Prelude.{◌≡◌, List, ℕ, length};
     ghost use Rattle.partition.specs.Partition.{IsPartition, blocks_of};
-    ghost use Rattle.partition.specs.Bits.{IsRows, labels_of};
+    ghost use Rattle.partition.specs.Inner.Rows.{IsRows, labels_of};
 
     ghost Value = { List ℕ };
 
-    ghost view = { λ p. labels_of p.rows.items };
+    ghost view = { λ p. labels_of p.rows };
 
-    ghost invariant = { λ p. IsPartition (length (labels_of p.rows.items)) (labels_of p.rows.items)
-        × IsRows (labels_of p.rows.items) p.rows.items
-        × IfSome p.blocks (λ blocks. blocks ≡ blocks_of (labels_of p.rows.items)) };
+    ghost invariant = { λ p. IsPartition (length (labels_of p.rows)) (labels_of p.rows)
+        × IsRows (labels_of p.rows) p.rows
+        × (p.blocks ≡ blocks_of (labels_of p.rows)) };
 }
 
 impl BitPart {
@@ -55,8 +57,7 @@ impl BitPart {
         ensures together { (t : ℕ) → (bit_of result.now t ≡ 1) ↔ Together self.now s t }
         ensures above { (t : ℕ) → length self.now ≤ t → bit_of result.now t ≡ 0 }
     {
-        let count = self.rows.len().div_ceil(64);
-        self.rows[s].words(count)
+        self.rows.words(s)
     }
 
     /// Whether two states are together.
@@ -65,25 +66,22 @@ impl BitPart {
         requires t { t < length self.now }
         ensures { IsTrue result ↔ Together self.now s t }
     {
-        self.rows[s].contains(t)
+        self.rows.row(s).contains(t)
     }
 
-    /// The number of blocks. Those of a meet are counted here, by one look at each row.
+    /// The number of blocks.
     pub fn blocks(&self) -> usize
         ensures blocks { result ≡ blocks_of self.now }
         ensures lawful { IsPartition (length self.now) self.now }
     {
-        match self.blocks {
-            Some(blocks) => blocks,
-            None => begun_blocks(self.rows.as_slice()),
-        }
+        self.blocks
     }
 
     /// Whether q has the same states together.
     pub fn equal(&self, q: &BitPart) -> bool
         ensures { IsTrue result ↔ (self.now ≡ q.now) }
     {
-        same_rows(self.rows.as_slice(), q.rows.as_slice())
+        same_rows(&self.rows, &q.rows)
     }
 
     /// Whether this partition stands before q in a listing, in the order of `Partition::before`.
@@ -93,7 +91,7 @@ impl BitPart {
     {
         let (blocks, others) = (self.blocks(), q.blocks());
         if blocks == others {
-            is_smaller(self.rows.as_slice(), q.rows.as_slice())
+            is_smaller(&self.rows, &q.rows)
         } else {
             others < blocks
         }
@@ -105,7 +103,7 @@ impl BitPart {
         ensures lawful { IfOk result (λ p. IsPartition (length self.now) p) }
     {
         Ok(BitPart {
-            rows: self.rows.as_slice().to_vec(alloc)?,
+            rows: self.rows.copy(alloc)?,
             blocks: self.blocks,
         })
     }

@@ -2,7 +2,8 @@
 
 ghost use Rattle.std.specs.Prelude.{◌≡◌, ℕ, ◌+◌, ◌*◌, ◌<◌, ◌≤◌, ◌==◌, if◌then◌else◌, length, slice_index, IfOk};
 ghost use Rattle.partition.specs.Partition.{IsPartition, blocks_of};
-ghost use Rattle.partition.specs.MeetAndJoin.{IsMeet, IsJoin, IsGreatestBelow, IsLeastAbove, TiesBlocks};
+ghost use Rattle.partition.specs.MeetAndJoin.{IsMeet, IsJoin, IsGreatestBelow, IsLeastAbove};
+ghost use Rattle.partition.specs.Inner.Ties.{TiesBlocks};
 
 use crate::numbering::numbered;
 use crate::{MOST_STATES, Partition};

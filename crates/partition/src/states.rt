@@ -1,7 +1,8 @@
 //! Sets of states as four words of bits.
 
-ghost use Rattle.std.specs.Prelude.{◌≡◌, ℕ, ◌+◌, ◌-◌, ◌%◌, ◌<◌, ◌≤◌, ◌≢◌, ◌↔◌, min, max, IsTrue, IfSome, IfNone, take, length};
-ghost use Rattle.partition.specs.Bits.{bit_of, Has};
+ghost use Rattle.std.specs.Prelude.{◌≡◌, ℕ, ◌+◌, ◌-◌, ◌%◌, ◌^◌, ◌<◌, ◌≤◌, ◌≢◌, ◌↔◌, min, max, IsTrue, IfSome, IfNone, take, length, slice_index};
+ghost use Rattle.partition.specs.Bits.{bit_of};
+ghost use Rattle.partition.specs.Inner.Rows.{Has, four_of};
 
 use std::marker::Model;
 
@@ -27,6 +28,20 @@ impl StateSet {
         ensures { (t : ℕ) → bit_of result t ≡ 0 }
     {
         StateSet { words: [0; 4] }
+    }
+
+    /// The states whose bits stand in up to four words.
+    pub fn of(words: &[u64]) -> StateSet
+        ensures { result ≡ four_of words.now }
+    {
+        StateSet {
+            words: [
+                word_at(words, 0),
+                word_at(words, 1),
+                word_at(words, 2),
+                word_at(words, 3),
+            ],
+        }
     }
 
     /// Whether a state is in the set.
@@ -130,7 +145,17 @@ impl StateSet {
         requires { count ≤ 4 }
         ensures words { result.now ≡ take count self.now }
         ensures length { length result.now ≡ count }
+        ensures four { length self.now ≡ 4 }
+        ensures small { (i : ℕ) → i < 4 → slice_index self.now i < 2 ^ 64 }
     {
-        &self.words[..count]
+        let words = self.words.as_slice();
+        &words[..count]
     }
+}
+
+/// A word, and 0 past the last one.
+fn word_at(words: &[u64], i: usize) -> u64
+    ensures { result ≡ slice_index words.now i }
+{
+    if i < words.len() { words[i] } else { 0 }
 }

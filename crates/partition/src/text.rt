@@ -5,7 +5,8 @@ ghost use Rattle.partition.specs.Partition.{IsPartition, IsStateCount, blocks_of
 ghost use Rattle.std.specs.Prelude.{◌∷◌, ◌⊎◌, List, IfSome, IfNone, IsTrue};
 ghost use Rattle.std.specs.Option.{option_copied};
 ghost use Rattle.std.specs.Fmt.{decimal};
-ghost use Rattle.partition.specs.Text.{labels_text, pieces_of, pieces_after, IsPlain, TextFault};
+ghost use Rattle.partition.specs.Text.{labels_text, pieces_of, TextFault};
+ghost use Rattle.partition.specs.Inner.Pieces.{pieces_after, IsPlain};
 ghost use Rattle.partition.specs.Refusal.{LabelFault, FirstUnlawful, AllLawful, IsLawfulLabel};
 ghost use Rattle.partition.specs.declared.PartFail.{PartFail};
 

@@ -1,10 +1,12 @@
 //! Rows of bits made from labels, and labels from rows.
 
-ghost use Rattle.std.specs.Prelude.{◌≡◌, ℕ, ◌<◌, ◌⊎◌, ◌+◌, length, IfOk, slice_index};
+ghost use Rattle.std.specs.Prelude.{◌≡◌, ℕ, ◌<◌, ◌≤◌, ◌⊎◌, ◌+◌, length, IfOk, slice_index};
 ghost use Rattle.partition.specs.Partition.{IsPartition, blocks_of};
-ghost use Rattle.partition.specs.Bits.{bit_of, Has, row_of, IsRows, AreBlocks, AreSets};
+ghost use Rattle.partition.specs.Bits.{bit_of};
+ghost use Rattle.partition.specs.Inner.Rows.{Has, row_of, IsRows, AreBlocks, AreSets};
 
 use super::BitPart;
+use super::rows::Rows;
 use crate::Partition;
 use crate::states::StateSet;
 use std::alloc::{AllocError, Global};
@@ -18,7 +20,7 @@ impl BitPart {
         let blocks = p.blocks();
         Ok(BitPart {
             rows: label_rows(alloc, p.labels(), blocks)?,
-            blocks: Some(blocks),
+            blocks,
         })
     }
 
@@ -27,15 +29,15 @@ impl BitPart {
         ensures labels { IfOk result (λ p. p ≡ self.now) }
         ensures lawful { IfOk result (λ p. IsPartition (length self.now) p) }
     {
-        numbered_rows(alloc, self.rows.as_slice())
+        numbered_rows(alloc, &self.rows)
     }
 }
 
 /// The rows of a partition with this number of blocks.
-fn label_rows(alloc: Global, labels: &[u16], blocks: usize) -> Result<Vec<StateSet>, AllocError>
+fn label_rows(alloc: Global, labels: &[u16], blocks: usize) -> Result<Rows, AllocError>
     requires lawful { IsPartition (length labels.now) labels.now }
     requires blocks { blocks ≡ blocks_of labels.now }
-    ensures { IfOk result (λ v. IsRows labels.now v.items) }
+    ensures { IfOk result (λ v. IsRows labels.now v) }
 {
     let sets = block_sets(alloc, labels, blocks)?;
     rows_of(alloc, sets.as_slice(), labels)
@@ -56,29 +58,33 @@ fn block_sets(alloc: Global, labels: &[u16], blocks: usize) -> Result<Vec<StateS
 }
 
 /// For each state the set at its label.
-fn rows_of(alloc: Global, sets: &[StateSet], labels: &[u16]) -> Result<Vec<StateSet>, AllocError>
-    requires { (s : ℕ) → s < length labels.now → slice_index labels.now s < length sets.now }
-    ensures length { IfOk result (λ v. length v.items ≡ length labels.now) }
+fn rows_of(alloc: Global, sets: &[StateSet], labels: &[u16]) -> Result<Rows, AllocError>
+    requires few { length labels.now ≤ 256 }
+    requires sets { (s : ℕ) → s < length labels.now → slice_index labels.now s < length sets.now }
+    requires within { (block t : ℕ) → block < length sets.now → Has (row_of sets.now block) t
+        → t < length labels.now }
+    ensures length { IfOk result (λ v. length v ≡ length labels.now) }
     ensures rows { IfOk result (λ v. (s : ℕ) → s < length labels.now
-        → row_of v.items s ≡ row_of sets.now (slice_index labels.now s)) }
+        → row_of v s ≡ row_of sets.now (slice_index labels.now s)) }
 {
-    let mut rows = Vec::with_capacity(alloc, labels.len())?;
-    for label in labels {
-        rows.push(sets[*label as usize])?;
+    let mut rows = Rows::empty(alloc, labels.len())?;
+    for (s, label) in labels.iter().enumerate() {
+        rows.set_row(s, &sets[*label as usize]);
     }
     Ok(rows)
 }
 
 /// The labels of rows that say which states are together.
-fn numbered_rows(alloc: Global, rows: &[StateSet]) -> Result<Partition, AllocError>
+fn numbered_rows(alloc: Global, rows: &Rows) -> Result<Partition, AllocError>
     requires { AreBlocks rows.now }
     ensures lawful { IfOk result (λ p. IsPartition (length rows.now) p) }
     ensures rows { IfOk result (λ p. IsRows p rows.now) }
 {
     let mut labels = Vec::with_capacity(alloc, rows.len())?;
     let mut blocks: u16 = 0;
-    for row in rows {
-        let label = label_of_row(row, labels.as_slice(), &mut blocks);
+    for s in 0..rows.len() {
+        let row = rows.row(s);
+        let label = label_of_row(&row, labels.as_slice(), &mut blocks);
         labels.push(label)?;
     }
     Ok(Partition {

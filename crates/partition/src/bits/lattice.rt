@@ -3,24 +3,25 @@
 ghost use Rattle.std.specs.Prelude.{◌≡◌, ℕ, ◌<◌, ◌≤◌, ◌↔◌, min, length, IfOk};
 ghost use Rattle.partition.specs.Partition.{IsPartition, Together};
 ghost use Rattle.partition.specs.MeetAndJoin.{IsMeet, IsJoin, IsGreatestBelow, IsLeastAbove, Chain};
-ghost use Rattle.partition.specs.Bits.{bit_of, Has, row_of, AreBlocks, Reaches};
+ghost use Rattle.partition.specs.Bits.{bit_of};
+ghost use Rattle.partition.specs.Inner.Rows.{Has, row_of, AreBlocks, Reaches};
 
 use super::BitPart;
 use super::comparing::begun_blocks;
+use super::rows::Rows;
 use crate::states::StateSet;
 use std::alloc::{AllocError, Global};
 
 impl BitPart {
-    /// States are together where they are together here and in q. Its blocks are not counted.
+    /// States are together where they are together here and in q.
     pub fn meet(&self, alloc: Global, q: &BitPart) -> Result<BitPart, AllocError>
         requires { length q.now ≡ length self.now }
         ensures meet { IfOk result (λ r. IsMeet self.now q.now r) }
         ensures greatest { IfOk result (λ r. IsGreatestBelow self.now q.now r) }
     {
-        Ok(BitPart {
-            rows: self.common_rows(alloc, q)?,
-            blocks: None,
-        })
+        let rows = self.common_rows(alloc, q)?;
+        let blocks = begun_blocks(&rows);
+        Ok(BitPart { rows, blocks })
     }
 
     /// States are together where a chain of states leads from the one to the other.
@@ -30,37 +31,35 @@ impl BitPart {
         ensures least { IfOk result (λ r. IsLeastAbove self.now q.now r) }
     {
         let rows = self.joined_rows(alloc, q)?;
-        let blocks = begun_blocks(rows.as_slice());
-        Ok(BitPart {
-            rows,
-            blocks: Some(blocks),
-        })
+        let blocks = begun_blocks(&rows);
+        Ok(BitPart { rows, blocks })
     }
 
     /// The rows of the states between which a chain leads.
-    fn joined_rows(&self, alloc: Global, q: &BitPart) -> Result<Vec<StateSet>, AllocError>
+    fn joined_rows(&self, alloc: Global, q: &BitPart) -> Result<Rows, AllocError>
         requires { length q.now ≡ length self.now }
-        ensures length { IfOk result (λ v. length v.items ≡ length self.now) }
+        ensures length { IfOk result (λ v. length v ≡ length self.now) }
         ensures lawful { IsPartition (length self.now) self.now }
         ensures chains { IfOk result (λ v. (s t : ℕ) → s < length self.now
-            → Has (row_of v.items s) t ↔ Chain self.now q.now s t) }
+            → Has (row_of v s) t ↔ Chain self.now q.now s t) }
     {
-        let mut table = vec![in alloc; StateSet::empty(); self.rows.len()]?;
-        self.join_into(q, table.as_mut_slice());
-        Ok(table)
+        let mut rows = Rows::empty(alloc, self.rows.len())?;
+        self.join_into(q, &mut rows);
+        Ok(rows)
     }
 
     /// Makes each of these empty rows the row of its state in the join.
-    fn join_into(&self, q: &BitPart, rows: &mut [StateSet])
+    fn join_into(&self, q: &BitPart, rows: &mut Rows)
         requires length { length q.now ≡ length self.now }
         requires rows { length rows.old ≡ length self.now }
         requires small { length rows.old ≤ 256 }
         requires empty { (s t : ℕ) → s < length self.now → bit_of (row_of rows.old s) t ≡ 0 }
-        ensures { (s t : ℕ) → s < length self.now → Has (row_of rows.new s) t ↔ Chain self.now q.now s t }
+        ensures length { length rows.new ≡ length self.now }
+        ensures chains { (s t : ℕ) → s < length self.now
+            → Has (row_of rows.new s) t ↔ Chain self.now q.now s t }
     {
-        for s in 0..rows.len() {
-            let row = rows[s];
-            if !row.contains(s) {
+        for s in 0..self.rows.len() {
+            if !rows.row(s).contains(s) {
                 let block = self.joined_block(q, s);
                 fill(rows, &block);
             }
@@ -73,31 +72,34 @@ impl BitPart {
         requires s { s < length self.now }
         ensures { (t : ℕ) → Has result t ↔ Chain self.now q.now s t }
     {
-        reached_block(self.rows.as_slice(), q.rows.as_slice(), s)
+        reached_block(&self.rows, &q.rows, s)
     }
 
     /// The rows of the states that are together here and in q.
-    fn common_rows(&self, alloc: Global, q: &BitPart) -> Result<Vec<StateSet>, AllocError>
+    fn common_rows(&self, alloc: Global, q: &BitPart) -> Result<Rows, AllocError>
         requires { length q.now ≡ length self.now }
-        ensures length { IfOk result (λ v. length v.items ≡ length self.now) }
+        ensures length { IfOk result (λ v. length v ≡ length self.now) }
         ensures lawful { IsPartition (length self.now) self.now }
         ensures both { IfOk result (λ v. (s t : ℕ) → s < length self.now
-            → Has (row_of v.items s) t ↔ (Together self.now s t × Together q.now s t)) }
+            → Has (row_of v s) t ↔ (Together self.now s t × Together q.now s t)) }
     {
-        common_states(alloc, self.rows.as_slice(), q.rows.as_slice())
+        common_states(alloc, &self.rows, &q.rows)
     }
 }
 
 /// For each state the states that both rows have.
-fn common_states(alloc: Global, p: &[StateSet], q: &[StateSet]) -> Result<Vec<StateSet>, AllocError>
-    requires { length q.now ≡ length p.now }
-    ensures length { IfOk result (λ v. length v.items ≡ length p.now) }
+fn common_states(alloc: Global, p: &Rows, q: &Rows) -> Result<Rows, AllocError>
+    requires length { length q.now ≡ length p.now }
+    requires within { (s t : ℕ) → Has (row_of p.now s) t → t < length p.now }
+    ensures length { IfOk result (λ v. length v ≡ length p.now) }
     ensures both { IfOk result (λ v. (s : ℕ) → s < length p.now → (t : ℕ)
-        → bit_of (row_of v.items s) t ≡ min (bit_of (row_of p.now s) t) (bit_of (row_of q.now s) t)) }
+        → bit_of (row_of v s) t ≡ min (bit_of (row_of p.now s) t) (bit_of (row_of q.now s) t)) }
 {
-    let mut rows = Vec::with_capacity(alloc, p.len())?;
-    for (s, row) in p.iter().enumerate() {
-        rows.push(row.intersection(&q[s]))?;
+    let mut rows = Rows::empty(alloc, p.len())?;
+    for s in 0..p.len() {
+        let left = p.row(s);
+        let right = q.row(s);
+        rows.set_row(s, &left.intersection(&right));
     }
     Ok(rows)
 }
@@ -105,17 +107,19 @@ fn common_states(alloc: Global, p: &[StateSet], q: &[StateSet]) -> Result<Vec<St
 /// The states that are reached from s by the rows of p and q, one after another.
 ///
 /// Each row goes into the block once: `left` and `right` are the states whose row of p, or of q, is in it.
-fn reached_block(p: &[StateSet], q: &[StateSet], s: usize) -> StateSet
+fn reached_block(p: &Rows, q: &Rows, s: usize) -> StateSet
     requires p { AreBlocks p.now }
     requires q { AreBlocks q.now }
     requires length { length q.now ≡ length p.now }
     requires s { s < length p.now }
     ensures { (t : ℕ) → Has result t ↔ Reaches p.now q.now s t }
 {
-    let (mut left, mut right) = (p[s], q[s]);
+    let mut left = p.row(s);
+    let mut right = q.row(s);
     let mut block = left.union(&right);
     while let Some(t) = block.difference(&left.intersection(&right)).first() {
-        let (row, other) = (p[t], q[t]);
+        let row = p.row(t);
+        let other = q.row(t);
         block = block.union(&row).union(&other);
         left = left.union(&row);
         right = right.union(&other);
@@ -124,15 +128,16 @@ fn reached_block(p: &[StateSet], q: &[StateSet], s: usize) -> StateSet
 }
 
 /// Makes a block the row of each of its states.
-fn fill(rows: &mut [StateSet], block: &StateSet)
+fn fill(rows: &mut Rows, block: &StateSet)
     requires within { (t : ℕ) → Has block.now t → t < length rows.old }
     requires small { length rows.old ≤ 256 }
+    ensures length { length rows.new ≡ length rows.old }
     ensures members { (t : ℕ) → Has block.now t → row_of rows.new t ≡ block.now }
     ensures others { (t : ℕ) → bit_of block.now t ≡ 0 → row_of rows.new t ≡ row_of rows.old t }
 {
     let mut left = *block;
     while let Some(t) = left.first() {
-        rows[t] = *block;
+        rows.set_row(t, block);
         left.remove(t);
     }
 }

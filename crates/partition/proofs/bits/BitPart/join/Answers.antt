@@ -1,6 +1,6 @@
 use Rattle.std.proofs.Common.{List, ℕ, ap, ◌∙◌}
 use Rattle.partition.specs.Partition.{blocks_of}
-use Rattle.partition.specs.Bits.{labels_of}
+use Rattle.partition.specs.Inner.Rows.{labels_of}
 use Rattle.partition.specs.Laws.Chains.{join_is_least}
 use Rattle.partition.proofs.RowNumbering.{join_blocks, join_by_rows}
 use Rattle.partition.proofs.RowLabels.{rows_stand, rows_hold}
@@ -8,22 +8,22 @@ use Rattle.partition.proofs.bits.BitPart.join.Goals as goal
 
 pub begun_blocks-blocks-requires : goal.begun_blocks-blocks-requires
 begun_blocks-blocks-requires c =
-    rw c.as_slice.ensures.value (join_blocks c.args.self.now c.args.q.now c.in_ok-rows.rows.items c.in_ok-rows.ensures.lawful c.requires c.in_ok-rows.ensures.length c.in_ok-rows.ensures.chains)
+    (join_blocks c.args.self.now c.args.q.now c.in_ok-rows.rows c.in_ok-rows.ensures.lawful c.requires c.in_ok-rows.ensures.length c.in_ok-rows.ensures.chains)
 
 pub invariant_of-result : goal.invariant_of-result
 invariant_of-result c =
-    let rows : List (List ℕ) = c.in_ok-rows.rows.items in
+    let rows : List (List ℕ) = c.in_ok-rows.rows in
     let hold = rows_hold rows (join_blocks c.args.self.now c.args.q.now rows c.in_ok-rows.ensures.lawful c.requires c.in_ok-rows.ensures.length c.in_ok-rows.ensures.chains) in
-    (hold.0, hold.1, c.begun_blocks-blocks.ensures ∙ ap (λ (r : List (List ℕ)). blocks_of (labels_of r)) c.as_slice.ensures.value)
+    (hold.0, hold.1, c.begun_blocks-blocks.ensures)
 
 pub returns-clause-join : goal.returns-clause-join
 returns-clause-join c =
-    let rows : List (List ℕ) = c.in_ok-rows.rows.items in
+    let rows : List (List ℕ) = c.in_ok-rows.rows in
     let stand = rows_stand rows (join_blocks c.args.self.now c.args.q.now rows c.in_ok-rows.ensures.lawful c.requires c.in_ok-rows.ensures.length c.in_ok-rows.ensures.chains) in
     join_by_rows c.args.self.now c.args.q.now (labels_of rows) rows c.requires c.in_ok-rows.ensures.length c.in_ok-rows.ensures.chains stand.0 stand.1
 
 pub returns-clause-least : goal.returns-clause-least
 returns-clause-least c =
-    let rows : List (List ℕ) = c.in_ok-rows.rows.items in
+    let rows : List (List ℕ) = c.in_ok-rows.rows in
     let stand = rows_stand rows (join_blocks c.args.self.now c.args.q.now rows c.in_ok-rows.ensures.lawful c.requires c.in_ok-rows.ensures.length c.in_ok-rows.ensures.chains) in
     join_is_least _ _ _ c.requires (join_by_rows c.args.self.now c.args.q.now (labels_of rows) rows c.requires c.in_ok-rows.ensures.length c.in_ok-rows.ensures.chains stand.0 stand.1)

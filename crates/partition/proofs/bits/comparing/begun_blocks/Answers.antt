@@ -1,8 +1,8 @@
 use Rattle.std.proofs.Common.{◌≡◌, ◌<◌, ℕ, List, length, sym, ap, ◌∙◌, subst, arith}
 use Rattle.std.proofs.lemmas.List.{take_all}
 use Rattle.partition.specs.Partition.{blocks_of}
-use Rattle.partition.specs.Bits.{bit_of, Has, row_of, labels_of}
-use Rattle.partition.proofs.Rows.{row_read}
+use Rattle.partition.specs.Bits.{bit_of}
+use Rattle.partition.specs.Inner.Rows.{Has, row_of, labels_of}
 use Rattle.partition.proofs.RowLabels.{rows_stand, begins, continues}
 use Rattle.partition.proofs.bits.comparing.begun_blocks.Goals as goal
 use Rattle.partition.proofs.bits.comparing.begun_blocks.Goals.{then-first_with-s, else-first_with-s}
@@ -10,7 +10,7 @@ use Rattle.partition.proofs.bits.comparing.begun_blocks.Goals.{then-first_with-s
 pub first_with-requires : goal.first_with-requires
 first_with-requires c =
     let rows : List (List ℕ) = c.args.rows.now in
-    subst (λ (r : List ℕ). Has r c.loop-s.s) (sym (row_read rows c.loop-s.s c.index-rows-s.result (omega arith) c.index-rows-s.is)) (c.requires.own c.loop-s.s (omega arith))
+    subst (λ (r : List ℕ). Has r c.loop-s.s) (sym (c.row-row.ensures)) (c.requires.own c.loop-s.s (omega arith))
 
 pub loop-s-preserved : goal.loop-s-preserved
 loop-s-preserved c =
@@ -19,7 +19,7 @@ loop-s-preserved c =
     let t : ℕ = c.first_with.result in
     let p : List ℕ = labels_of rows in
     let stand = rows_stand rows c.requires in
-    let row : c.index-rows-s.result ≡ row_of rows s = row_read rows s c.index-rows-s.result (omega arith) c.index-rows-s.is in
+    let row : c.row-row.result ≡ row_of rows s = c.row-row.ensures in
     let first : Has (row_of rows s) t = subst (λ (r : List ℕ). Has r t) row c.first_with.ensures.in_set in
     let least : (u : ℕ) → u < t → bit_of (row_of rows s) u ≡ 0 = subst (λ (r : List ℕ). (u : ℕ) → u < t → bit_of r u ≡ 0) row c.first_with.ensures.least in
     let within : s < length p = omega (arith, stand.0.length) in

@@ -1,19 +1,19 @@
 use Rattle.std.proofs.Common.{◌≡◌, ◌<◌, ℕ, List, length, sym, ap, ◌∙◌, inl, inr, subst, arith}
 use Rattle.std.proofs.lemmas.Bool.{cases_lt, ltb-true, lt-ltb, false≢true}
-use Rattle.partition.specs.Bits.{bit_of, Has, row_of, labels_of}
-use Rattle.partition.proofs.Rows.{row_read}
+use Rattle.partition.specs.Bits.{bit_of}
+use Rattle.partition.specs.Inner.Rows.{Has, row_of, labels_of}
 use Rattle.partition.proofs.RowLabels.{rows_stand, alike_more, alike_same, smaller_by_first, not_smaller, alike_not_smaller}
 use Rattle.partition.proofs.bits.comparing.is_smaller.Goals as goal
 
 pub first_with-first-requires : goal.first_with-first-requires
 first_with-first-requires c =
     let p : List (List ℕ) = c.args.p.now in
-    subst (λ (r : List ℕ). Has r c.loop-s.s) (sym (row_read p c.loop-s.s c.index-p-s.result (omega arith) c.index-p-s.is)) (c.requires.p.own c.loop-s.s (omega arith))
+    subst (λ (r : List ℕ). Has r c.loop-s.s) (sym (c.row-row.ensures)) (c.requires.p.own c.loop-s.s (omega arith))
 
 pub first_with-second-requires : goal.first_with-second-requires
 first_with-second-requires c =
     let q : List (List ℕ) = c.args.q.now in
-    subst (λ (r : List ℕ). Has r c.loop-s.s) (sym (row_read q c.loop-s.s c.index-q-s.result (omega (arith, c.requires.length)) c.index-q-s.is)) (c.requires.q.own c.loop-s.s (omega (arith, c.requires.length)))
+    subst (λ (r : List ℕ). Has r c.loop-s.s) (sym (c.row-other.ensures)) (c.requires.q.own c.loop-s.s (omega (arith, c.requires.length)))
 
 pub returns-then-first-second : goal.returns-then-first-second
 returns-then-first-second c =
@@ -24,8 +24,8 @@ returns-then-first-second c =
     let q : List (List ℕ) = c.args.q.now in
     let one = rows_stand p c.requires.p in
     let two = rows_stand q c.requires.q in
-    let p_row : c.index-p-s.result ≡ row_of p s = row_read p s c.index-p-s.result (omega arith) c.index-p-s.is in
-    let q_row : c.index-q-s.result ≡ row_of q s = row_read q s c.index-q-s.result (omega (arith, c.requires.length)) c.index-q-s.is in
+    let p_row : c.row-row.result ≡ row_of p s = c.row-row.ensures in
+    let q_row : c.row-other.result ≡ row_of q s = c.row-other.ensures in
     let p_first : Has (row_of p s) t = subst (λ (r : List ℕ). Has r t) p_row c.first_with-first.ensures.in_set in
     let p_least : (v : ℕ) → v < t → bit_of (row_of p s) v ≡ 0 = subst (λ (r : List ℕ). (v : ℕ) → v < t → bit_of r v ≡ 0) p_row c.first_with-first.ensures.least in
     let q_first : Has (row_of q s) u = subst (λ (r : List ℕ). Has r u) q_row c.first_with-second.ensures.in_set in
@@ -52,8 +52,8 @@ loop-s-preserved c =
     let q : List (List ℕ) = c.args.q.now in
     let one = rows_stand p c.requires.p in
     let two = rows_stand q c.requires.q in
-    let p_row : c.index-p-s.result ≡ row_of p s = row_read p s c.index-p-s.result (omega arith) c.index-p-s.is in
-    let q_row : c.index-q-s.result ≡ row_of q s = row_read q s c.index-q-s.result (omega (arith, c.requires.length)) c.index-q-s.is in
+    let p_row : c.row-row.result ≡ row_of p s = c.row-row.ensures in
+    let q_row : c.row-other.result ≡ row_of q s = c.row-other.ensures in
     alike_more p q (labels_of p) (labels_of q) s t one.0.numbered two.0.numbered one.1 two.1 (two.0.length ∙ c.requires.length ∙ sym one.0.length) (omega (arith, one.0.length)) c.loop-s.invariant
     (subst (λ (r : List ℕ). Has r t) p_row c.first_with-first.ensures.in_set)
     (subst (λ (r : List ℕ). (u : ℕ) → u < t → bit_of r u ≡ 0) p_row c.first_with-first.ensures.least)
@@ -71,7 +71,7 @@ loop-s-preserved-then-equal c =
     let q : List (List ℕ) = c.args.q.now in
     let one = rows_stand p c.requires.p in
     let two = rows_stand q c.requires.q in
-    let row : c.index-p-s.result ≡ row_of p s = row_read p s c.index-p-s.result (omega arith) c.index-p-s.is in
-    let other : c.index-q-s.result ≡ row_of q s = row_read q s c.index-q-s.result (omega (arith, c.requires.length)) c.index-q-s.is in
+    let row : c.row-row.result ≡ row_of p s = c.row-row.ensures in
+    let other : c.row-other.result ≡ row_of q s = c.row-other.ensures in
     alike_same p q (labels_of p) (labels_of q) s c.requires.p one.0.numbered two.0.numbered one.1 two.1 (two.0.length ∙ c.requires.length ∙ sym one.0.length) (omega arith) c.loop-s.invariant
     (λ u. sym (ap (λ (r : List ℕ). bit_of r u) row) ∙ c.equal.ensures.0 c.if-equal.true u ∙ ap (λ (r : List ℕ). bit_of r u) other)

@@ -1,4 +1,4 @@
-use Rattle.partition.specs.Bits.{labels_of}
+use Rattle.partition.specs.Inner.Rows.{labels_of}
 use Rattle.partition.proofs.RowLabels.{Alike}
 use Rattle.partition.proofs.bits.comparing.is_smaller.Given as goal
 

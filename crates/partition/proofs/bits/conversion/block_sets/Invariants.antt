@@ -1,4 +1,4 @@
-use Rattle.partition.specs.Bits.{AreSets}
+use Rattle.partition.specs.Inner.Rows.{AreSets}
 use Rattle.partition.proofs.bits.conversion.block_sets.Given as goal
 
 abbrev pub invariant-loop-t : goal.invariant-loop-t

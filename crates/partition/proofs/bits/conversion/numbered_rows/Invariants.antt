@@ -1,5 +1,5 @@
 use Rattle.partition.proofs.RowNumbering.{IsRowNumbering}
 use Rattle.partition.proofs.bits.conversion.numbered_rows.Given as goal
 
-abbrev pub invariant-loop-row : goal.invariant-loop-row
-invariant-loop-row l = IsRowNumbering l.rows l.labels.items l.blocks l.row-index
+abbrev pub invariant-loop-s : goal.invariant-loop-s
+invariant-loop-s l = IsRowNumbering l.rows l.labels.items l.blocks l.s

@@ -1,0 +1,4 @@
+-- Definitions that only private functions and proofs need.
+pub mod Rows
+pub mod Pieces
+pub mod Ties
