@@ -1,5 +1,5 @@
 -- The rows at a state and a symbol, found among the numbers of the state's rows.
-use Rattle.std.proofs.Common.{◌≡◌, ℕ, ◌+◌, ◌<◌, ◌≤◌, List, Bool, length, get_or, Some, None, IsNone, Option, Contains, All, slice_get, inl, inr, sym, ◌∙◌, subst, refl, arith, ap}
+use Rattle.std.proofs.Common.{◌≡◌, ℕ, ◌+◌, ◌<◌, List, length, get_or, Some, Contains, slice_get, inl, inr, sym, ◌∙◌, subst, refl, arith, ap}
 use Rattle.std.proofs.lemmas.Bool.{cases_lt}
 use Rattle.std.proofs.lemmas.Option.{slice_get_within, get_or_from_slice_get, slice_get_read}
 use Rattle.std.proofs.lemmas.List.{get_or_default}
@@ -29,7 +29,7 @@ module _ (F : KissFile) (table : IsTable F) (s x : ℕ) where
       record {
         among = (i, slice_get_within F.rows i row at_i, get_or_from_slice_get F.rows i row row at_i);
         from = ap (λ (r : KissRow). r.from) (sym same) ∙ from;
-        held = subst (λ (w : ℕ). Holds row.cube (symbol_of w x)) ((lawful_row F table i row at_i).width) held
+        held = subst (λ (w : ℕ). Holds row.cube (symbol_of w x)) ((lawful_row F table i row at_i).width) held;
       }
 
   -- what holds of each row of the numbers that holds the symbol holds of each row there
@@ -41,7 +41,7 @@ module _ (F : KissFile) (table : IsTable F) (s x : ℕ) where
       let at_number = number_of_row F row at.among in
       let place = each at.among.0 row at_number at.from in
       let held : HoldsNumber row.cube x =
-          subst (λ (w : ℕ). Holds row.cube (symbol_of w x)) (sym ((lawful_row F table at.among.0 row at_number).width)) at.held in
+      subst (λ (w : ℕ). Holds row.cube (symbol_of w x)) (sym ((lawful_row F table at.among.0 row at_number).width)) at.held in
       known place.0 at.among.0 row place.1 (subst (λ (n : ℕ). slice_get F.rows n ≡ Some row) (sym place.2) at_number) held
 
 -- one more number of a list was looked at

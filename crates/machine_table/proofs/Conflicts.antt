@@ -1,11 +1,11 @@
 -- A file is conflicting exactly where two of its rows contradict one another.
-use Rattle.std.proofs.Common.{◌≡◌, ◌≢◌, ℕ, ◌+◌, ◌<◌, ◌^◌, ◌⊎◌, Bool, true, false, All, Contains, List, [], length, get_or, replicate, Some, Option, slice_get, inl, inr, sym, ◌∙◌, subst, refl, arith, ap}
+use Rattle.std.proofs.Common.{◌≡◌, ℕ, ◌+◌, ◌<◌, ◌^◌, ◌⊎◌, true, false, Contains, List, length, Some, slice_get, inl, inr, sym, ◌∙◌, subst, arith, ap}
 use Rattle.std.proofs.lemmas.Bool.{cases_lt, true≢false}
 use Rattle.std.proofs.lemmas.Option.{get_or_from_slice_get, slice_get_within}
 use Rattle.kiss2.specs.declared.kiss_file.KissFile.{KissFile}
 use Rattle.kiss2.specs.declared.kiss_file.KissRow.{KissRow}
-use Rattle.kiss2.specs.Machine.{Conflicting, GiveBoth, NameTwo, given_bit}
-use Rattle.machine_table.specs.Conflict.{AreFirstTwo, ContradictAt, Contradicts}
+use Rattle.kiss2.specs.Machine.{Conflicting, GiveBoth, NameTwo}
+use Rattle.machine_table.specs.Conflict.{AreFirstTwo, ContradictAt}
 use Rattle.machine_table.proofs.Asking.{number_of_row}
 
 module _ (F : KissFile) where
@@ -49,13 +49,14 @@ module _ (F : KissFile) where
                   not_itself row (subst (λ (r : KissRow). NameTwo row r ⊎ GiveBoth row r) it said)
             ]
       ]
-      where
-    ahead : NameTwo row other ⊎ GiveBoth row other → NameTwo row other ⊎ (GiveBoth row other ⊎ GiveBoth other row)
-    ahead (inl two) = inl two
-    ahead (inr both) = inr (inl both)
-    back : NameTwo row other ⊎ GiveBoth row other → NameTwo other row ⊎ (GiveBoth other row ⊎ GiveBoth row other)
-    back (inl (t, u, goes, other_goes, apart)) = inl (u, t, other_goes, goes, λ same. apart (sym same))
-    back (inr both) = inr (inr both)
+    where
+      ahead : NameTwo row other ⊎ GiveBoth row other → NameTwo row other ⊎ (GiveBoth row other ⊎ GiveBoth other row)
+      ahead (inl two) = inl two
+      ahead (inr both) = inr (inl both)
+
+      back : NameTwo row other ⊎ GiveBoth row other → NameTwo other row ⊎ (GiveBoth other row ⊎ GiveBoth row other)
+      back (inl (t, u, goes, other_goes, apart)) = inl (u, t, other_goes, goes, λ same. apart (sym same))
+      back (inr both) = inr (inr both)
 
 -- where rows contradict one another their numbers, counted from 1, fit
 pub few_rows : (F : KissFile) (read : List KissRow) (i j : ℕ) → read ≡ F.rows → (Conflicting F → length F.rows < 2 ^ 32) → AreFirstTwo read i j

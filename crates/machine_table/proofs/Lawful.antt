@@ -11,5 +11,5 @@ table_of_lawful F lawful = record {
   outputs = lawful.outputs;
   states = lawful.state_count;
   rows = lawful.rows;
-  reset = lawful.reset
+  reset = lawful.reset;
 }

@@ -2,9 +2,15 @@ pub mod Against
 pub mod Asking
 pub mod Conflicts
 pub mod Copies
+pub mod Labels
 pub mod Lawful
+pub mod NextLabels
 pub mod OpenCubes
 pub mod OpenParts
+pub mod OutputLabels
+pub mod OutputWords
 pub mod Outputs
 pub mod RowNumbers
+pub mod SharedCubes
+pub mod Sought
 pub mod Specified

@@ -1,21 +1,18 @@
 -- The cubes of the rows of a state that say a part.
-use Rattle.std.proofs.Common.{◌≡◌, ℕ, zero, suc, ◌+◌, ◌-◌, ◌<◌, ◌≤◌, ◌^◌, ◌⊎◌, ◌↔◌, List, [], ◌∷◌, ◌++◌, length, get_or, All, Any, Contains, Option, Some, None, IsSome, IfSome, IfNone, IfOk, Result, Ok, Err, slice_get, true, inl, inr, sym, ◌∙◌, subst, refl, arith, ap}
-use Rattle.std.proofs.lemmas.Bool.{cases_lt}
-use Rattle.std.proofs.lemmas.List.{get_or_default}
+use Rattle.std.proofs.Common.{◌≡◌, ℕ, zero, suc, ◌+◌, ◌<◌, ◌^◌, ◌↔◌, List, [], ◌∷◌, ◌++◌, length, get_or, All, Contains, Option, Some, None, IfSome, IfNone, IfOk, Result, Ok, Err, slice_get, inl, inr, sym, ◌∙◌, subst, refl, arith, ap}
 use Rattle.std.proofs.lemmas.List.Elements.{Contains-append_cases, Contains-append_left, Contains-append_right, Contains-get_or}
-use Rattle.std.proofs.lemmas.Option.{slice_get_within, slice_get-get_or}
 use Rattle.cubes.specs.declared.cube.Cube.{Cube}
 use Rattle.cubes.specs.Cube.{Holds, HoldsNumber}
-use Rattle.cubes.specs.Gap.{HoldsEach, IsFirstGap, IsHeld, IsLeastWithout}
+use Rattle.cubes.specs.Gap.{HoldsEach, IsFirstGap, IsHeld}
 use Rattle.cubes.specs.Symbol.{symbol_of}
 use Rattle.kiss2.specs.declared.kiss_file.KissFile.{KissFile}
 use Rattle.kiss2.specs.declared.kiss_file.KissRow.{KissRow}
 use Rattle.machine_table.specs.declared.missing.Missing.{Missing}
 use Rattle.machine_table.specs.Said.{IsSaid, Says}
 use Rattle.machine_table.specs.Table.{IsTable}
-use Rattle.machine_table.specs.Inner.OpenSymbol.{AreCubesOf, IsFirstOf, IsFirstOpenOf}
+use Rattle.machine_table.specs.Inner.OpenSymbol.{AreCubesOf, IsFirstOf}
 use Rattle.machine_table.specs.Inner.Places.{IsNumberOf}
-use Rattle.machine_table.proofs.Asking.{is_row_at, lawful_row, looked_at, number_of_row, of_each_row}
+use Rattle.machine_table.proofs.Asking.{is_row_at, lawful_row, looked_at, number_of_row}
 
 only_one : {X : Type 0} (x y : X) → Contains (x ∷ []) y → y ≡ x
 only_one x y (zero, lt, e) = sym e
@@ -36,14 +33,14 @@ module _ (F : KissFile) (s : ℕ) (part : Missing) (numbers : List ℕ) (count :
     ];
     each = looked_at F.rows numbers count (λ r. Says part r → Contains (cubes ++ row.cube ∷ []) r.cube) row
         (λ k d r before at_r said. Contains-append_left cubes (row.cube ∷ []) r.cube (known.each k d r before at_r said))
-        inside at_row (λ _. Contains-append_right cubes (row.cube ∷ []) row.cube (itself row.cube))
+        inside at_row (λ _. Contains-append_right cubes (row.cube ∷ []) row.cube (itself row.cube));
   }
 
   -- a row that does not say it gives none
   pub without_cube : (Says part row → ⊥) → AreCubesOf F s part numbers (count + 1) cubes
   without_cube silent = record {
     own = known.own;
-    each = looked_at F.rows numbers count (λ r. Says part r → Contains cubes r.cube) row known.each inside at_row (λ said. absurd (silent said))
+    each = looked_at F.rows numbers count (λ r. Says part r → Contains cubes r.cube) row known.each inside at_row (λ said. absurd (silent said));
   }
 
 module _ (F : KissFile) (table : IsTable F) (s : ℕ) (part : Missing) (numbers : List ℕ) (cubes : List Cube)
@@ -58,17 +55,24 @@ module _ (F : KissFile) (table : IsTable F) (s : ℕ) (part : Missing) (numbers 
   -- a symbol that one of them holds is one at which the part is said
   pub said_from_held : (number : ℕ) → IsHeld cubes number → IsSaid F s number part
   said_from_held number (k, cube, within, is, held) =
-      let found = known.own (get_or cubes k cube) (Contains-get_or cubes k cube within) in
-      (found.1, is_row_at F table s number found.0 found.1 found.2 found.3
-      (subst (λ (c : Cube). HoldsNumber c number) (sym (found.5 ∙ is)) held), found.4)
+      let found = known.own (get_or cubes k cube) (Contains-get_or cubes k cube within) in (
+        found.1,
+        is_row_at F table s number found.0 found.1 found.2 found.3
+            (subst (λ (c : Cube). HoldsNumber c number) (sym (found.5 ∙ is)) held),
+        found.4,
+      )
 
   pub held_from_said : (number : ℕ) → IsSaid F s number part → IsHeld cubes number
   held_from_said number (row, at, says) =
       let at_number = number_of_row F row at.among in
       let place = every at.among.0 row at_number at.from in
-      let there = known.each place.0 at.among.0 row place.1 (subst (λ (n : ℕ). slice_get F.rows n ≡ Some row) (sym place.2) at_number) says in
-      (there.0, row.cube, there.1, there.2,
-      subst (λ (w : ℕ). Holds row.cube (symbol_of w number)) (sym ((lawful_row F table at.among.0 row at_number).width)) at.held)
+      let there = known.each place.0 at.among.0 row place.1 (subst (λ (n : ℕ). slice_get F.rows n ≡ Some row) (sym place.2) at_number) says in (
+        there.0,
+        row.cube,
+        there.1,
+        there.2,
+        subst (λ (w : ℕ). Holds row.cube (symbol_of w number)) (sym ((lawful_row F table at.among.0 row at_number).width)) at.held,
+      )
 
 module _ (F : KissFile) (s : ℕ) (part : Missing) (cubes : List Cube) (width : ℕ) (same : width ≡ F.inputs)
     (held : (number : ℕ) → IsHeld cubes number ↔ IsSaid F s number part) where
@@ -78,7 +82,7 @@ module _ (F : KissFile) (s : ℕ) (part : Missing) (cubes : List Cube) (width : 
   first_of_gap (Some number) some none = record {
     within = subst (λ (w : ℕ). number < 2 ^ w) same some.within;
     not_said = λ said. some.without ((held number).1 said);
-    least = λ lower below. (held lower).0 (some.least lower below)
+    least = λ lower below. (held lower).0 (some.least lower below);
   }
 
   pub first_from_gap : {E : Type 0} (answer : Result (Option ℕ) E) → IfOk answer (λ gap. IfSome gap (IsFirstGap cubes width))

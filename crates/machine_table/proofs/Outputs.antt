@@ -1,12 +1,11 @@
 -- Where two rows give 0 and 1 at one output.
-use Rattle.std.proofs.Common.{◌≡◌, ◌≢◌, ℕ, ◌+◌, ◌-◌, ◌%◌, ◌^◌, ◌<◌, ◌⊎◌, min, Bool, true, false, Some, None, IsSome, Option, subst, ap, sym, ◌∙◌, arith, bit_and, eqb, not, inl, inr, w64, if◌then◌else◌, refl}
+use Rattle.std.proofs.Common.{◌≡◌, ◌≢◌, ℕ, ◌+◌, ◌-◌, ◌%◌, ◌^◌, ◌<◌, ◌⊎◌, min, Bool, true, false, Some, None, IsSome, Option, subst, ap, sym, ◌∙◌, arith, bit_and, eqb, not, inl, inr, w64, refl}
 use Rattle.std.proofs.lemmas.Bool.{cases_Bool}
 use Rattle.std.proofs.lemmas.Bool.Decides.{nat_tests}
 use Rattle.std.proofs.lemmas.Nat.Bits.{bit_at_and, bit_at_xor, bit_at-lt, bit_at-zero, bit_at_ones, bit_at-trailing_zeros}
 use Rattle.std.specs.Int.{bit_at, trailing_zeros}
 use Rattle.std.specs.Int.RustNames.{bit_xor}
 use Rattle.cubes.specs.Symbol.{bit}
-use Rattle.cubes.specs.Field.{character}
 use Rattle.cubes.proofs.Bits.{one_from_bit, zero_from_bit, bit_from_one, bit_from_zero}
 use Rattle.kiss2.specs.declared.kiss_file.KissRow.{KissRow}
 use Rattle.kiss2.specs.Machine.{GiveBoth, given_bit}
@@ -45,8 +44,8 @@ both_from_clash row other some below =
     let k = trailing_zeros w64 (clash_of row other) in
     let one = bit_at-trailing_zeros w64 (clash_of row other) (omega (arith, some)) below in
     let digits = digits_differ (bit_at row.care k) (bit_at other.care k) (bit_at row.value k) (bit_at other.value k)
-        (bit_at-lt row.care k) (bit_at-lt other.care k) (bit_at-lt row.value k) (bit_at-lt other.value k)
-        (sym (clash_digit row other k) ∙ one.1) in
+    (bit_at-lt row.care k) (bit_at-lt other.care k) (bit_at-lt row.value k) (bit_at-lt other.value k)
+    (sym (clash_digit row other k) ∙ one.1) in
     elim digits.2 [
       | inl up ↦ inl (k, given_at row k false digits.0 (bit_from_zero row.value k up.0), given_at other k true digits.1 (bit_from_one other.value k up.1))
       | inr down ↦ inr (k, given_at other k false digits.1 (bit_from_zero other.value k down.1), given_at row k true digits.0 (bit_from_one row.value k down.0))
@@ -69,8 +68,8 @@ pub clash_from_both : (row other : KissRow) → GiveBoth row other → clash_of 
 clash_from_both row other (k, zero_there, one_there) none =
     let digit = clash_digit row other k in
     let clash = digits_clash (bit_at row.care k) (bit_at other.care k) (bit_at row.value k) (bit_at other.value k)
-        (one_from_bit row.care k (care_of_given row k false zero_there)) (one_from_bit other.care k (care_of_given other k true one_there))
-        (omega (arith, zero_from_bit row.value k (value_of_given row k false zero_there), one_from_bit other.value k (value_of_given other k true one_there))) in
+    (one_from_bit row.care k (care_of_given row k false zero_there)) (one_from_bit other.care k (care_of_given other k true one_there))
+    (omega (arith, zero_from_bit row.value k (value_of_given row k false zero_there), one_from_bit other.value k (value_of_given other k true one_there))) in
     let zero_digit = ap (λ n. bit_at n k) none ∙ bit_at-zero k in
     omega (arith, digit, clash, zero_digit)
 
@@ -79,8 +78,8 @@ pub clash_from_both_back : (row other : KissRow) → GiveBoth other row → clas
 clash_from_both_back row other (k, zero_there, one_there) none =
     let digit = clash_digit row other k in
     let clash = digits_clash (bit_at row.care k) (bit_at other.care k) (bit_at row.value k) (bit_at other.value k)
-        (one_from_bit row.care k (care_of_given row k true one_there)) (one_from_bit other.care k (care_of_given other k false zero_there))
-        (omega (arith, zero_from_bit other.value k (value_of_given other k false zero_there), one_from_bit row.value k (value_of_given row k true one_there))) in
+    (one_from_bit row.care k (care_of_given row k true one_there)) (one_from_bit other.care k (care_of_given other k false zero_there))
+    (omega (arith, zero_from_bit other.value k (value_of_given other k false zero_there), one_from_bit row.value k (value_of_given row k true one_there))) in
     let zero_digit = ap (λ n. bit_at n k) none ∙ bit_at-zero k in
     omega (arith, digit, clash, zero_digit)
 

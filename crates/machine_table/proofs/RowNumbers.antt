@@ -1,10 +1,9 @@
 -- One more row is numbered at the end of its state's list.
-use Rattle.std.proofs.Common.{◌≡◌, ◌≢◌, ℕ, zero, suc, ◌+◌, ◌<◌, ◌≤◌, ◌⊎◌, List, [], ◌∷◌, ◌++◌, length, get_or, set, Some, Option, Contains, AllPairs, slice_get, inl, inr, sym, ◌∙◌, subst, refl, arith, ap, length-append, length-set}
+use Rattle.std.proofs.Common.{◌≡◌, ◌≢◌, ℕ, zero, suc, ◌+◌, ◌<◌, List, [], ◌∷◌, ◌++◌, length, get_or, set, Some, Contains, AllPairs, slice_get, inl, inr, sym, ◌∙◌, subst, refl, arith, ap, length-append, length-set}
 use Rattle.std.proofs.lemmas.Bool.{cases_lt, cases_eq}
 use Rattle.std.proofs.lemmas.List.{get_or-set_same, get_or-set_other, get_or_append_left}
 use Rattle.std.proofs.Math.Seq.{get_or-append_seam}
 use Rattle.std.proofs.lemmas.List.Elements.{Contains-append_left, Contains-append_right, Contains-append_cases, Contains-get_or}
-use Rattle.std.proofs.lemmas.Option.{slice_get_within}
 use Rattle.kiss2.specs.declared.kiss_file.KissRow.{KissRow}
 use Rattle.machine_table.specs.Inner.Places.{ArePlaces, places_of}
 
@@ -94,5 +93,5 @@ module _ (rows : List KissRow) (states n : ℕ) (places : List (List ℕ)) (row 
     size = length-set places row.from (places_of places row.from ++ n ∷ []) ∙ old.size;
     own = own_of_new;
     each = each_of_new;
-    ascending = ascending_of_new
+    ascending = ascending_of_new;
   }

@@ -1,3 +1,4 @@
 -- What private functions and proofs need; no public contract cites it.
 pub mod Places
 pub mod OpenSymbol
+pub mod Asked

@@ -2,4 +2,6 @@ pub mod Table
 pub mod Said
 pub mod Conflict
 pub mod Cause
+pub mod Pairs
+pub mod Walk
 pub mod Inner

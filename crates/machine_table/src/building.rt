@@ -16,10 +16,17 @@ use std::alloc::{AllocError, AllocFailed, Global};
 pub enum BuildFail {
     /// Two rows of one state share a symbol, and name two next states or give 0 and 1 at one output. Rows
     /// are counted from 1; of all such pairs the later row is the least, and then the earlier one.
-    Conflict { row_a: u32, row_b: u32 },
+    Conflict {
+        row_a: u32,
+        row_b: u32,
+    },
     /// With `Fill::Refuse` alone: no row says this part at the state and the symbol of that number. It is
     /// the least such state, then the least symbol, then the next state before the outputs in order.
-    Unspecified { state: u16, symbol: u32, part: Missing },
+    Unspecified {
+        state: u16,
+        symbol: u32,
+        part: Missing,
+    },
     /// There is no memory left.
     NoMemory,
 }

@@ -16,9 +16,13 @@ mod laws;
 mod machine;
 mod missing;
 mod open_entry;
+mod pairs;
 mod places;
+mod question;
+mod searching;
 #[cfg(test)]
 mod tests;
+mod walking;
 
 pub use building::BuildFail;
 pub use laws::lawful_is_a_table;

@@ -94,7 +94,9 @@ impl Machine {
     {
         for number in self.numbers_of(s) {
             let row = self.row(*number);
-            if row.cube.holds(x) && let Some(t) = row.to {
+            if row.cube.holds(x)
+                && let Some(t) = row.to
+            {
                 return usize::from(t);
             }
         }
@@ -111,7 +113,9 @@ impl Machine {
     {
         for number in self.numbers_of(s) {
             let row = self.row(*number);
-            if row.cube.holds(x) && let Some(bit) = given(row, b) {
+            if row.cube.holds(x)
+                && let Some(bit) = given(row, b)
+            {
                 return bit;
             }
         }

@@ -65,7 +65,11 @@ impl Machine {
         for s in 0..self.states() {
             if let Some((symbol, part)) = self.first_open_at(alloc, s)? {
                 let state = s as u16;
-                return Ok(Some(Entry { state, symbol, part }));
+                return Ok(Some(Entry {
+                    state,
+                    symbol,
+                    part,
+                }));
             }
         }
         Ok(None)
@@ -104,7 +108,12 @@ impl Machine {
     }
 
     /// The first symbol at which no row of the state says the part.
-    fn first_open_of(&self, alloc: Global, s: usize, part: Missing) -> Result<Option<u32>, AllocError>
+    fn first_open_of(
+        &self,
+        alloc: Global,
+        s: usize,
+        part: Missing,
+    ) -> Result<Option<u32>, AllocError>
         requires state { s < length self.now.states }
         requires part { place_of part < self.now.outputs + 1 }
         ensures { IfOk result (IsFirstOf self.now s part) }
@@ -114,7 +123,12 @@ impl Machine {
     }
 
     /// The cubes of the rows of a state that say the part.
-    fn cubes_that_say(&self, alloc: Global, s: usize, part: Missing) -> Result<Vec<Cube>, AllocError>
+    fn cubes_that_say(
+        &self,
+        alloc: Global,
+        s: usize,
+        part: Missing,
+    ) -> Result<Vec<Cube>, AllocError>
         requires state { s < length self.now.states }
         requires part { place_of part < self.now.outputs + 1 }
         ensures widths { IfOk result (λ cubes. All (λ c. c.width ≡ self.now.inputs) cubes.items) }

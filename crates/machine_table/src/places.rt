@@ -7,7 +7,11 @@ use kiss2::KissRow;
 use std::alloc::{AllocError, Global};
 
 /// For each of so many states the numbers of its rows, ascending.
-pub fn places_of_states(alloc: Global, rows: &[KissRow], states: usize) -> Result<Vec<Items<usize>>, AllocError>
+pub fn places_of_states(
+    alloc: Global,
+    rows: &[KissRow],
+    states: usize,
+) -> Result<Vec<Items<usize>>, AllocError>
     requires { All (λ row. row.from < states) rows.now }
     ensures { IfOk result (λ places. ArePlaces rows.now states (length rows.now) places.items) }
 {

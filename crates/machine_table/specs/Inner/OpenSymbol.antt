@@ -1,6 +1,6 @@
 -- The first open entry of one state, among the parts at the first places. Private functions need it; no public
 -- contract cites it.
-use Rattle.std.specs.Prelude.{ℕ, ◌+◌, ◌≡◌, ◌<◌, ◌^◌, ◌⊎◌, Contains, IsSome, List, MatchOption, Option, Some, slice_get, slice_index_or}
+use Rattle.std.specs.Prelude.{ℕ, ◌≡◌, ◌<◌, ◌^◌, ◌⊎◌, Contains, IsSome, List, MatchOption, Option, Some, slice_get, slice_index_or}
 use Rattle.cubes.specs.declared.cube.Cube.{Cube}
 use Rattle.kiss2.specs.declared.kiss_file.KissFile.{KissFile}
 use Rattle.kiss2.specs.declared.kiss_file.KissRow.{KissRow}

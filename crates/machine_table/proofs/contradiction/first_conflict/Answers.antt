@@ -1,9 +1,9 @@
-use Rattle.std.proofs.Common.{ℕ, ◌≡◌, ◌<◌, ◌≤◌, List, All, AllPairs, Contains, length, get_or, slice_get, Some, sym, ap, ◌∙◌, subst, inl, inr, arith}
+use Rattle.std.proofs.Common.{ℕ, ◌≡◌, ◌<◌, ◌≤◌, List, All, AllPairs, Contains, length, get_or, sym, subst, inl, inr, arith}
 use Rattle.std.proofs.lemmas.Bool.{cases_lt}
 use Rattle.std.proofs.lemmas.Option.{slice_get_within}
 use Rattle.kiss2.specs.declared.kiss_file.KissRow.{KissRow}
 use Rattle.machine_table.specs.Conflict.{ContradictAt}
-use Rattle.machine_table.specs.Inner.Places.{AreNumbersOf, ContradictsRow, places_of}
+use Rattle.machine_table.specs.Inner.Places.{AreNumbersOf, ContradictsRow}
 use Rattle.machine_table.proofs.Against.{earlier_among, first_two, list_at, numbers_of_state, row_at}
 use Rattle.machine_table.proofs.contradiction.first_conflict.Goals as goal
 
@@ -51,7 +51,7 @@ loop-number-preserved c i j before below pair =
           let at_row = row_at c.args.rows.now c.loop-number.number row c.loop-number-test.true c.index-rows-number.is in
           let earlier : i < c.loop-number.number = omega arith in
           let among = earlier_among c.args.rows.now c.args.places.now c.requires.places i c.loop-number.number row earlier at_row
-              (subst (λ (n : ℕ). ContradictAt c.args.rows.now i n) same pair) in
+          (subst (λ (n : ℕ). ContradictAt c.args.rows.now i n) same pair) in
           c.in_default.ensures.none i (subst (λ (numbers : List ℕ). Contains numbers i) (sym list) among.0) earlier among.1
     ]
 

@@ -1,8 +1,6 @@
-use Rattle.std.proofs.Common.{ℕ, ◌≡◌, ◌<◌, ◌≤◌, ◌+◌, Option, Some, None, sym, ◌∙◌, subst, inl, inr, arith}
-use Rattle.kiss2.specs.declared.kiss_file.KissFile.{KissFile}
-use Rattle.machine_table.specs.declared.missing.Missing.{Missing}
+use Rattle.std.proofs.Common.{subst}
 use Rattle.machine_table.specs.Said.{place_of}
-use Rattle.machine_table.specs.Inner.OpenSymbol.{IsFirstAmong, IsFirstOf, IsFirstOpenAt}
+use Rattle.machine_table.specs.Inner.OpenSymbol.{IsFirstAmong, IsFirstOf}
 use Rattle.machine_table.proofs.OpenParts.{with_earlier, with_first, with_later, with_none}
 use Rattle.machine_table.proofs.open_entry.earlier.Goals as goal
 

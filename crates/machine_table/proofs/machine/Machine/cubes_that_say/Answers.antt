@@ -1,4 +1,4 @@
-use Rattle.std.proofs.Common.{ℕ, ◌≡◌, ◌<◌, ◌+◌, List, [], ◌∷◌, ◌++◌, Contains, length, get_or, slice_get, Some, true, false, Vec, Global, sym, ap, ◌∙◌, subst, arith}
+use Rattle.std.proofs.Common.{ℕ, ◌≡◌, ◌+◌, length, get_or, Vec, Global, sym, ap, ◌∙◌, subst, arith}
 use Rattle.std.proofs.lemmas.Bool.{true≢false}
 use Rattle.std.proofs.lemmas.List.Elements.{Contains-get_or}
 use Rattle.cubes.specs.declared.cube.Cube.{Cube}
@@ -39,6 +39,7 @@ returns-clause-widths c =
 
 pub returns-clause-held : goal.returns-clause-held
 returns-clause-held c number =
-    let asked = c.numbers_of-number-items in
-    (said_from_held c.args.self.now asked.ensures.table c.args.s c.args.part asked.result.now c.loop-number.cubes.items (all_seen c) asked.ensures.each number,
-    held_from_said c.args.self.now asked.ensures.table c.args.s c.args.part asked.result.now c.loop-number.cubes.items (all_seen c) asked.ensures.each number)
+    let asked = c.numbers_of-number-items in (
+      said_from_held c.args.self.now asked.ensures.table c.args.s c.args.part asked.result.now c.loop-number.cubes.items (all_seen c) asked.ensures.each number,
+      held_from_said c.args.self.now asked.ensures.table c.args.s c.args.part asked.result.now c.loop-number.cubes.items (all_seen c) asked.ensures.each number,
+    )

@@ -1,4 +1,4 @@
-use Rattle.std.proofs.Common.{ℕ, ◌≡◌, ◌<◌, ◌+◌, Option, Some, None, arith}
+use Rattle.std.proofs.Common.{arith}
 use Rattle.machine_table.proofs.OpenParts.{with_all_said}
 use Rattle.machine_table.proofs.machine.Machine.first_open_at.Goals as goal
 

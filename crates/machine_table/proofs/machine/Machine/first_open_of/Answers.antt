@@ -1,4 +1,4 @@
-use Rattle.std.proofs.Common.{ℕ, ◌≡◌, ◌↔◌, List, sym, subst}
+use Rattle.std.proofs.Common.{ℕ, ◌↔◌, List, sym, subst}
 use Rattle.cubes.specs.declared.cube.Cube.{Cube}
 use Rattle.cubes.specs.Gap.{IsHeld}
 use Rattle.machine_table.specs.Said.{IsSaid}

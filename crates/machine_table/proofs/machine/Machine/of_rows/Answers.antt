@@ -1,8 +1,8 @@
-use Rattle.std.proofs.Common.{ℕ, ◌≡◌, ◌<◌, ◌+◌, ◌^◌, List, length, sym, ap, ◌∙◌, subst, arith}
+use Rattle.std.proofs.Common.{ℕ, ◌<◌, List, length, sym, subst, arith}
 use Rattle.kiss2.specs.declared.kiss_file.KissFile.{KissFile}
 use Rattle.kiss2.specs.declared.kiss_file.KissRow.{KissRow}
 use Rattle.kiss2.specs.Machine.{Conflicting}
-use Rattle.machine_table.specs.Conflict.{AreFirstTwo, ContradictAt}
+use Rattle.machine_table.specs.Conflict.{ContradictAt}
 use Rattle.machine_table.specs.Table.{IsTable}
 use Rattle.machine_table.specs.Inner.Places.{ArePlaces}
 use Rattle.machine_table.proofs.Conflicts.{few_rows, none_conflicting}
@@ -32,10 +32,10 @@ pub invariant_of-result : goal.invariant_of-result
 invariant_of-result c =
     let F = c.args.file.now in
     let none = none_conflicting F
-        (subst (λ (list : List KissRow). (i j : ℕ) → i < j → ContradictAt list i j → ⊥) c.as_slice-rows.ensures c.in_default.ensures.none) in
+    (subst (λ (list : List KissRow). (i j : ℕ) → i < j → ContradictAt list i j → ⊥) c.as_slice-rows.ensures c.in_default.ensures.none) in
     let stand : ArePlaces F.rows (length F.states) (length F.rows) c.in_ok-places.places.items =
-        subst (λ (n : ℕ). ArePlaces F.rows n (length F.rows) c.in_ok-places.places.items) c.count.ensures.count
-        (subst (λ (list : List KissRow). ArePlaces list c.count.result (length list) c.in_ok-places.places.items) c.as_slice-rows.ensures c.in_ok-places.ensures) in
+    subst (λ (n : ℕ). ArePlaces F.rows n (length F.rows) c.in_ok-places.places.items) c.count.ensures.count
+    (subst (λ (list : List KissRow). ArePlaces list c.count.result (length list) c.in_ok-places.places.items) c.as_slice-rows.ensures c.in_ok-places.ensures) in
     subst (λ (G : KissFile). IsTable G × (Conflicting G → ⊥) × ArePlaces G.rows (length G.states) (length G.rows) c.in_ok-places.places.items)
     (sym c.in_ok-file.ensures) (c.requires.table, none, stand)
 

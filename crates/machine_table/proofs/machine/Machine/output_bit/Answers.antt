@@ -1,4 +1,4 @@
-use Rattle.std.proofs.Common.{ℕ, ◌≡◌, ◌<◌, List, Bool, Contains, length, get_or, slice_get, Some, None, IsNone, Option, refl, sym, ap, ◌∙◌, subst, arith}
+use Rattle.std.proofs.Common.{◌≡◌, Bool, get_or, None, IsNone, Option, refl, sym, ◌∙◌, subst, arith}
 use Rattle.std.proofs.lemmas.List.Elements.{Contains-get_or}
 use Rattle.cubes.specs.Symbol.{symbol_of}
 use Rattle.kiss2.specs.declared.kiss_file.KissRow.{KissRow}
@@ -16,8 +16,8 @@ returns-in-loop-number c =
     let asked = c.numbers_of-number-items in
     let i = get_or asked.result.now c.loop-number.number-index 0 in
     let at = is_row_at F asked.ensures.table c.args.s c.args.x i c.row-row.result.now
-        (asked.ensures.own i (Contains-get_or asked.result.now c.loop-number.number-index 0 c.loop-number-test.true)) c.row-row.ensures.row
-        (c.holds.ensures.0 c.if-holds.true) in
+    (asked.ensures.own i (Contains-get_or asked.result.now c.loop-number.number-index 0 c.loop-number-test.true)) c.row-row.ensures.row
+    (c.holds.ensures.0 c.if-holds.true) in
     sym (output_bit_said F c.args.s (symbol_of F.inputs c.args.x) asked.ensures.no_conflict c.row-row.result.now c.args.b c.in-Some.bit at
     (sym c.given.ensures ∙ c.in-Some.is))
 
@@ -28,5 +28,5 @@ returns c =
     sym (output_bit_not_said F c.args.s (symbol_of F.inputs c.args.x) c.args.b
     (of_each_row F asked.ensures.table c.args.s c.args.x asked.result.now (λ (row : KissRow). IsNone (given_bit c.args.b row)) asked.ensures.each
     (λ k d row within at_row held.
-        let none : given_bit c.args.b row ≡ None = c.loop-number.invariant k d row (omega (arith, within, c.loop-number-test.false)) at_row held in
-        subst (λ (t : Option Bool). IsNone t) (sym none) refl)))
+    let none : given_bit c.args.b row ≡ None = c.loop-number.invariant k d row (omega (arith, within, c.loop-number-test.false)) at_row held in
+    subst (λ (t : Option Bool). IsNone t) (sym none) refl)))

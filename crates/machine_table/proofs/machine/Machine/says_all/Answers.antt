@@ -1,4 +1,4 @@
-use Rattle.std.proofs.Common.{ℕ, ◌≡◌, ◌<◌, ◌+◌, ◌-◌, ◌^◌, List, Contains, IsSome, length, get_or, slice_get, Some, sym, ap, ◌∙◌, subst, arith}
+use Rattle.std.proofs.Common.{ℕ, ◌≡◌, ◌-◌, ◌^◌, IsSome, slice_get, Some, sym, ap, ◌∙◌, subst, arith}
 use Rattle.kiss2.specs.declared.kiss_file.KissRow.{KissRow}
 use Rattle.machine_table.proofs.Asking.{looked_at, number_of_row}
 use Rattle.machine_table.proofs.Outputs.{given_in_all}
@@ -16,5 +16,5 @@ returns c passed row among from =
     let at_number = number_of_row c.args.self.now row among in
     let place = c.numbers_of-number-items.ensures.each among.0 row at_number from in
     let says = c.loop-number.invariant place.0 among.0 row (omega (arith, place.1, c.loop-number-test.false))
-        (subst (λ (n : ℕ). slice_get c.args.self.now.rows n ≡ Some row) (sym place.2) at_number) in
+    (subst (λ (n : ℕ). slice_get c.args.self.now.rows n ≡ Some row) (sym place.2) at_number) in
     (says.0, λ b within. given_in_all row c.args.self.now.outputs b says.1 within)

@@ -1,0 +1,81 @@
+-- Next states by their labels.
+use Rattle.std.proofs.Common.{◌≡◌, ℕ, ◌<◌, ◌^◌, List, Option, Some, None, IsNone, IfSome, Bool, true, length, slice_index, inl, inr, sym, ◌∙◌, subst, refl, ap}
+use Rattle.std.specs.Option.{option_map}
+use Rattle.cubes.specs.Symbol.{symbol_of}
+use Rattle.kiss2.specs.declared.kiss_file.KissFile.{KissFile}
+use Rattle.kiss2.specs.declared.kiss_file.KissRow.{KissRow}
+use Rattle.kiss2.specs.Machine.{Conflicting, next}
+use Rattle.kiss2.proofs.Machine.{next_not_said, next_said}
+use Rattle.partition.specs.Partition.{Together}
+use Rattle.machine_table.specs.Inner.Asked.{DifferAt, IsLabelAt, IsMetBy, IsOpenAt}
+use Rattle.machine_table.specs.Pairs.{AtEachSymbol, GoInto, IsFirstWithout}
+use Rattle.machine_table.specs.Table.{IsTable}
+use Rattle.machine_table.proofs.Asking.{lawful_row, number_of_row}
+use Rattle.machine_table.proofs.Labels.{all_from_none, first_from_least, first_without, if_some_each, label_or_open, none_from_all}
+
+-- the value behind a label
+mapped : (f : ℕ → ℕ) (o : Option ℕ) (v : ℕ) → option_map f o ≡ Some v → (u : ℕ) × (o ≡ Some u) × (f u ≡ v)
+mapped f None v is = absurd (cc)
+mapped f (Some u) v is = (u, refl, (cc))
+
+not_mapped : (f : ℕ → ℕ) (o : Option ℕ) → IsNone (option_map f o) → IsNone o
+not_mapped f None none = refl
+not_mapped f (Some u) none = none
+
+below_of_some : (o : Option ℕ) (n v : ℕ) → o ≡ Some v → IfSome o (λ state. state < n) → v < n
+below_of_some None n v is below = absurd (cc)
+below_of_some (Some u) n v is below = let same : u ≡ v = cc in subst (λ k. k < n) same below
+
+-- the label of what a row names
+abbrev pub named : (ℕ → ℕ) → KissRow → Option ℕ
+named f row = option_map f row.to
+
+module _ (F : KissFile) (table : IsTable F) (no_conflict : Conflicting F → ⊥) where
+  -- a machine never leaves its states
+  pub next_in_states : (s x : ℕ) → s < length F.states → next F s (symbol_of F.inputs x) < length F.states
+  next_in_states s x within =
+      elim (label_or_open F table (λ row. row.to) s x) [
+        | inl (v, (row, at, says)) ↦
+            subst (λ (n : ℕ). n < length F.states) (sym (next_said F s (symbol_of F.inputs x) no_conflict row v at says))
+            (below_of_some row.to (length F.states) v says (lawful_row F table at.among.0 row (number_of_row F row at.among)).to)
+        | inr silent ↦ subst (λ (n : ℕ). n < length F.states) (sym (next_not_said F s (symbol_of F.inputs x) silent)) within
+      ]
+
+abbrev pub label_of_next : (ℕ → ℕ) → KissFile → (s x : ℕ) → ℕ
+label_of_next f F s x = f (next F s (symbol_of F.inputs x))
+
+module _ (F : KissFile) (no_conflict : Conflicting F → ⊥) (f : ℕ → ℕ) where
+  when_named : (s x v : ℕ) → IsLabelAt (named f) F s x v → label_of_next f F s x ≡ v
+  when_named s x v (row, at, says) =
+      let state = mapped f row.to v says in
+      ap f (next_said F s (symbol_of F.inputs x) no_conflict row state.0 at state.1) ∙ state.2
+
+  when_silent : (s x : ℕ) → IsOpenAt (named f) F s x → label_of_next f F s x ≡ f s
+  when_silent s x silent = ap f (next_not_said F s (symbol_of F.inputs x) (λ row at. not_mapped f row.to (silent row at)))
+
+-- what a search for labels of next states that differ tells of a relation that holds where they are equal
+module _ (F : KissFile) (table : IsTable F) (no_conflict : Conflicting F → ⊥) (f : ℕ → ℕ) (s t : ℕ) (R : ℕ → ℕ → Type 0)
+    (alike : (x : ℕ) → label_of_next f F s x ≡ label_of_next f F t x → GoInto R F s t x) (equal : (x : ℕ) → GoInto R F s t x → label_of_next f F s x ≡ label_of_next f F t x)
+    (found : Option ℕ) (within : IfSome found (λ x. x < 2 ^ F.inputs)) (some : IfSome found (DifferAt (named f) f F s t)) where
+  pub go_from_none : (least : Bool) → ((y : ℕ) → DifferAt (named f) f F s t y → IsMetBy found least y) → IsNone found → AtEachSymbol F.inputs (GoInto R F s t)
+  go_from_none least met none x inside =
+      alike x (all_from_none F table (named f) f (label_of_next f F) (when_named F no_conflict f) (when_silent F no_conflict f) s t found least none met x)
+
+  pub none_from_go : AtEachSymbol F.inputs (GoInto R F s t) → IsNone found
+  none_from_go go =
+      none_from_all F table (named f) f (label_of_next f F) (when_named F no_conflict f) (when_silent F no_conflict f) s t found some within (λ x inside. equal x (go x inside))
+
+  pub first_not_gone : ((y : ℕ) → DifferAt (named f) f F s t y → IsMetBy found true y) → IfSome found (IsFirstWithout F.inputs (GoInto R F s t))
+  first_not_gone met =
+      if_some_each (IsFirstWithout F.inputs (λ x. label_of_next f F s x ≡ label_of_next f F t x)) (IsFirstWithout F.inputs (GoInto R F s t)) found
+      (λ x first. first_without (λ y. label_of_next f F s y ≡ label_of_next f F t y) (GoInto R F s t) F.inputs x alike equal first)
+      (first_from_least F table (named f) f (label_of_next f F) (when_named F no_conflict f) (when_silent F no_conflict f) s t found some within met)
+
+-- equal labels of a partition are states that are together
+pub together_in : (F : KissFile) → IsTable F → (Conflicting F → ⊥) → (q : List ℕ) (s t : ℕ) → s < length F.states → t < length F.states → length q ≡ length F.states
+    → (x : ℕ) → label_of_next (slice_index q) F s x ≡ label_of_next (slice_index q) F t x → GoInto (Together q) F s t x
+together_in F table no_conflict q s t first second states x same = (
+  subst (λ (n : ℕ). next F s (symbol_of F.inputs x) < n) (sym states) (next_in_states F table no_conflict s x first),
+  subst (λ (n : ℕ). next F t (symbol_of F.inputs x) < n) (sym states) (next_in_states F table no_conflict t x second),
+  same,
+)

@@ -1,0 +1,154 @@
+-- Outputs by their labels.
+use Rattle.std.proofs.Common.{◌≡◌, ℕ, ◌+◌, ◌<◌, ◌≤◌, ◌^◌, ◌⊎◌, Option, Some, None, IsNone, IfSome, IfNone, Bool, true, false, inl, inr, sym, ◌∙◌, subst, refl, arith, ap}
+use Rattle.std.proofs.lemmas.Bool.{cases_lt, false≢true, true≢false}
+use Rattle.std.specs.Option.{option_map}
+use Rattle.cubes.specs.Symbol.{symbol_of}
+use Rattle.kiss2.specs.declared.kiss_file.KissFile.{KissFile}
+use Rattle.kiss2.specs.declared.kiss_file.KissRow.{KissRow}
+use Rattle.kiss2.specs.Machine.{Conflicting, given_bit, output_bit}
+use Rattle.kiss2.proofs.Machine.{output_bit_not_said, output_bit_said}
+use Rattle.machine_table.specs.Inner.Asked.{DifferAt, IsLabelAt, IsMetBy, IsOpenAt, digit, lesser_of}
+use Rattle.machine_table.specs.Pairs.{AgreeAt, AgreeInBit, AtEachSymbol, IsFirstWithout}
+use Rattle.machine_table.specs.Table.{IsTable}
+use Rattle.machine_table.proofs.Labels.{all_from_none, first_from_least, first_without, if_some_each, none_from_all}
+use Rattle.machine_table.proofs.OutputWords.{same_map, same_values}
+use Rattle.machine_table.proofs.Sought.{lesser_has, met_left, met_right}
+
+-- the bit behind a label
+mapped_bit : (o : Option Bool) (v : ℕ) → option_map digit o ≡ Some v → (bit : Bool) × (o ≡ Some bit) × (digit bit ≡ v)
+mapped_bit None v is = absurd (cc)
+mapped_bit (Some bit) v is = (bit, refl, (cc))
+
+no_bit : (o : Option Bool) → IsNone (option_map digit o) → IsNone o
+no_bit None none = refl
+no_bit (Some bit) none = none
+
+bit_from_digit : (a b : Bool) → digit a ≡ digit b → a ≡ b
+bit_from_digit false false same = refl
+bit_from_digit true true same = refl
+bit_from_digit false true same = absurd (omega arith)
+bit_from_digit true false same = absurd (omega arith)
+
+one_or_two : (a b : Bool) → (a ≡ b) ⊎ (a ≡ b → ⊥)
+one_or_two false false = inl refl
+one_or_two true true = inl refl
+one_or_two false true = inr false≢true
+one_or_two true false = inr true≢false
+
+-- the label of what a row gives
+abbrev pub given_label : ℕ → KissRow → Option ℕ
+given_label b row = option_map digit (given_bit b row)
+
+abbrev pub no_label : ℕ → ℕ
+no_label s = 0
+
+abbrev pub label_of_output : ℕ → KissFile → (s x : ℕ) → ℕ
+label_of_output b F s x = digit (output_bit F s (symbol_of F.inputs x) b)
+
+module _ (F : KissFile) (no_conflict : Conflicting F → ⊥) (b : ℕ) where
+  when_given : (s x v : ℕ) → IsLabelAt (given_label b) F s x v → label_of_output b F s x ≡ v
+  when_given s x v (row, at, gives) =
+      let bit = mapped_bit (given_bit b row) v gives in
+      ap digit (output_bit_said F s (symbol_of F.inputs x) no_conflict row b bit.0 at bit.1) ∙ bit.2
+
+  when_not_given : (s x : ℕ) → IsOpenAt (given_label b) F s x → label_of_output b F s x ≡ no_label s
+  when_not_given s x silent = ap digit (output_bit_not_said F s (symbol_of F.inputs x) b (λ row at. no_bit (given_bit b row) (silent row at)))
+
+module _ (F : KissFile) (table : IsTable F) (no_conflict : Conflicting F → ⊥) (b s t : ℕ)
+    (found : Option ℕ) (within : IfSome found (λ x. x < 2 ^ F.inputs)) (some : IfSome found (DifferAt (given_label b) no_label F s t)) where
+  alike : (x : ℕ) → label_of_output b F s x ≡ label_of_output b F t x → AgreeInBit b F s t x
+  alike x same = bit_from_digit (output_bit F s (symbol_of F.inputs x) b) (output_bit F t (symbol_of F.inputs x) b) same
+
+  equal : (x : ℕ) → AgreeInBit b F s t x → label_of_output b F s x ≡ label_of_output b F t x
+  equal x agree = ap digit agree
+
+  pub agree_from_none : (least : Bool) → ((y : ℕ) → DifferAt (given_label b) no_label F s t y → IsMetBy found least y) → IsNone found → AtEachSymbol F.inputs (AgreeInBit b F s t)
+  agree_from_none least met none x inside =
+      alike x (all_from_none F table (given_label b) no_label (label_of_output b F) (when_given F no_conflict b) (when_not_given F no_conflict b) s t found least none met x)
+
+  pub none_from_agree : AtEachSymbol F.inputs (AgreeInBit b F s t) → IsNone found
+  none_from_agree agree =
+      none_from_all F table (given_label b) no_label (label_of_output b F) (when_given F no_conflict b) (when_not_given F no_conflict b) s t found some within (λ x inside. equal x (agree x inside))
+
+  pub first_in_bit : ((y : ℕ) → DifferAt (given_label b) no_label F s t y → IsMetBy found true y) → IfSome found (IsFirstWithout F.inputs (AgreeInBit b F s t))
+  first_in_bit met =
+      if_some_each (IsFirstWithout F.inputs (λ x. label_of_output b F s x ≡ label_of_output b F t x)) (IsFirstWithout F.inputs (AgreeInBit b F s t)) found
+      (λ x first. first_without (λ y. label_of_output b F s y ≡ label_of_output b F t y) (AgreeInBit b F s t) F.inputs x alike equal first)
+      (first_from_least F table (given_label b) no_label (label_of_output b F) (when_given F no_conflict b) (when_not_given F no_conflict b) s t found some within met)
+
+-- ---- all outputs
+-- some output differs there
+abbrev pub DiffersAt : KissFile → (s t x : ℕ) → Type 0
+DiffersAt F s t x = (x < 2 ^ F.inputs) × ((b : ℕ) × (b < F.outputs) × (AgreeInBit b F s t x → ⊥))
+
+-- the lesser of the first symbols of the outputs so far
+pub record AreFirstOf (F : KissFile) (s t count : ℕ) (found : Option ℕ) : Type 0 where
+  pub some : IfSome found (DiffersAt F s t)
+  pub met : (b y : ℕ) → b < count → y < 2 ^ F.inputs → (AgreeInBit b F s t y → ⊥) → IsMetBy found true y
+
+module _ (F : KissFile) (s t : ℕ) where
+  -- outputs that are equal are so in each bit, and the other way round
+  pub in_each_bit : (x b : ℕ) → b < F.outputs → AgreeAt F s t x → AgreeInBit b F s t x
+  in_each_bit x b within agree =
+      same_values (output_bit F s (symbol_of F.inputs x)) (output_bit F t (symbol_of F.inputs x)) F.outputs agree b within
+
+  pub from_each_bit : (x : ℕ) → ((b : ℕ) → b < F.outputs → AgreeInBit b F s t x) → AgreeAt F s t x
+  from_each_bit x each = same_map (output_bit F s (symbol_of F.inputs x)) (output_bit F t (symbol_of F.inputs x)) F.outputs each
+
+  met_in_bit : (b : ℕ) (found : Option ℕ) → IfSome found (IsFirstWithout F.inputs (AgreeInBit b F s t)) → IfNone found (AtEachSymbol F.inputs (AgreeInBit b F s t))
+      → (y : ℕ) → y < 2 ^ F.inputs → (AgreeInBit b F s t y → ⊥) → IsMetBy found true y
+  met_in_bit b None some none y within differ = differ (none y within)
+  met_in_bit b (Some x) some none y within differ = λ asked. not_after where
+    not_after : x ≤ y
+    not_after =
+        elim (cases_lt y x) [
+          | inl less ↦ absurd (differ (some.before y less))
+          | inr no_less ↦ no_less
+        ]
+
+  pub first_more : (b : ℕ) (found more result : Option ℕ) → b < F.outputs → AreFirstOf F s t b found → result ≡ lesser_of found more
+      → IfSome more (IsFirstWithout F.inputs (AgreeInBit b F s t)) → IfNone more (AtEachSymbol F.inputs (AgreeInBit b F s t)) → AreFirstOf F s t (b + 1) result
+  first_more b found more result inside known is some none =
+      subst (AreFirstOf F s t (b + 1)) (sym is)
+      (record {
+        some = lesser_has (DiffersAt F s t) found more known.some
+            (if_some_each (IsFirstWithout F.inputs (AgreeInBit b F s t)) (DiffersAt F s t) more (λ x first. (first.within, (b, inside, first.without))) some);
+        met = up_to;
+      })
+    where
+      up_to : (k y : ℕ) → k < b + 1 → y < 2 ^ F.inputs → (AgreeInBit k F s t y → ⊥) → IsMetBy (lesser_of found more) true y
+      up_to k y below within differ =
+          elim (cases_lt k b) [
+            | inl lower ↦ met_left found more true y (known.met k y lower within differ)
+            | inr here ↦
+                let same : k ≡ b = omega arith in
+                met_right found more true y (met_in_bit b more some none y within (subst (λ (n : ℕ). AgreeInBit n F s t y → ⊥) same differ))
+          ]
+
+  -- the lesser of all is the first symbol at which the outputs are not equal
+  pub first_of_all : (found : Option ℕ) → AreFirstOf F s t F.outputs found → IfSome found (IsFirstWithout F.inputs (AgreeAt F s t))
+  first_of_all None known = tt
+  first_of_all (Some x) known = record {
+    within = known.some.0;
+    without = λ agree. let one = known.some.1 in one.2 (in_each_bit x one.0 one.1 agree);
+    before = λ y less. from_each_bit y (λ b inside. earlier y less b inside);
+  }
+    where
+      earlier : (y : ℕ) → y < x → (b : ℕ) → b < F.outputs → AgreeInBit b F s t y
+      earlier y less b inside =
+          elim (one_or_two (output_bit F s (symbol_of F.inputs y) b) (output_bit F t (symbol_of F.inputs y) b)) [
+            | inl same ↦ same
+            | inr two ↦
+                let later = known.met b y inside (omega (arith, known.some.0)) two refl in
+                absurd (omega (arith, later))
+          ]
+
+  pub none_of_all : (found : Option ℕ) → AreFirstOf F s t F.outputs found → IfNone found (AtEachSymbol F.inputs (AgreeAt F s t))
+  none_of_all (Some x) known = tt
+  none_of_all None known = λ x within. from_each_bit x (λ b inside. each x within b inside) where
+    each : (x : ℕ) → x < 2 ^ F.inputs → (b : ℕ) → b < F.outputs → AgreeInBit b F s t x
+    each x within b inside =
+        elim (one_or_two (output_bit F s (symbol_of F.inputs x) b) (output_bit F t (symbol_of F.inputs x) b)) [
+          | inl same ↦ same
+          | inr two ↦ absurd (known.met b x inside within two)
+        ]

@@ -1,0 +1,146 @@
+-- Searches over the rows of a state, which keep the lesser of what they found.
+use Rattle.std.proofs.Common.{◌≡◌, ℕ, ◌+◌, ◌<◌, ◌≤◌, ◌^◌, ◌⊎◌, min, Bool, true, false, List, length, get_or, Option, Some, None, IsSome, IfSome, Contains, slice_get, inl, inr, sym, ◌∙◌, subst, refl, arith, ap}
+use Rattle.std.proofs.lemmas.Bool.{cases_lt, true≢false}
+use Rattle.std.proofs.lemmas.Option.{slice_get_within, get_or_from_slice_get}
+use Rattle.cubes.specs.Cube.{Holds, HoldsNumber}
+use Rattle.cubes.specs.Symbol.{symbol_of}
+use Rattle.kiss2.specs.declared.kiss_file.KissFile.{KissFile}
+use Rattle.kiss2.specs.declared.kiss_file.KissRow.{KissRow}
+use Rattle.kiss2.specs.Machine.{IsRowAt}
+use Rattle.machine_table.specs.Inner.Asked.{IsAloneAt, IsApartAt, IsMetBy, IsRowOf, IsSearched, MeetsWanted, SayTwo, SaysAlone, lesser_of}
+use Rattle.machine_table.specs.Inner.Places.{IsNumberOf}
+use Rattle.machine_table.specs.Table.{IsTable}
+use Rattle.machine_table.proofs.Asking.{lawful_row, looked_at, number_of_row}
+
+pub met_left : (a b : Option ℕ) (least : Bool) (y : ℕ) → IsMetBy a least y → IsMetBy (lesser_of a b) least y
+met_left None b least y met = absurd met
+met_left (Some x) None least y met = met
+met_left (Some x) (Some z) least y met = λ asked. omega (arith, met asked)
+
+pub met_right : (a b : Option ℕ) (least : Bool) (y : ℕ) → IsMetBy b least y → IsMetBy (lesser_of a b) least y
+met_right None b least y met = met
+met_right (Some x) None least y met = absurd met
+met_right (Some x) (Some z) least y met = λ asked. omega (arith, met asked)
+
+-- what both that were found have, the lesser has
+pub lesser_has : (P : ℕ → Type 0) (a b : Option ℕ) → IfSome a P → IfSome b P → IfSome (lesser_of a b) P
+lesser_has P None b first second = second
+lesser_has P (Some x) None first second = first
+lesser_has P (Some x) (Some y) first second =
+    elim (cases_lt x y) [
+      | inl lower ↦ let it : x ≡ min x y = omega arith in subst P it first
+      | inr no_lower ↦ let it : y ≡ min x y = omega arith in subst P it second
+    ]
+
+-- a search for any is done with the first that it finds
+pub met_settled : (found : Option ℕ) (least : Bool) (y : ℕ) → IsSome found → least ≡ false → IsMetBy found least y
+met_settled None least y some any = absurd (true≢false (sym some))
+met_settled (Some x) least y some any = λ asked. absurd (true≢false (sym asked ∙ any))
+
+-- what is the least is so, asked for or not
+pub met_least : (found : Option ℕ) (least : Bool) (y : ℕ) → IsMetBy found true y → IsMetBy found least y
+met_least None least y met = met
+met_least (Some x) least y met = λ asked. met refl
+
+pub if_some_map : (P R : ℕ → Type 0) (a : Option ℕ) → ((x : ℕ) → P x → R x) → IfSome a P → IfSome a R
+if_some_map P R None f has = tt
+if_some_map P R (Some x) f has = f x has
+
+-- the lesser of what two searches found
+module _ (P R : ℕ → Type 0) (a b : Option ℕ) where
+  pub lesser_either : IfSome a P → IfSome b R → IfSome (lesser_of a b) (λ x. P x ⊎ R x)
+  lesser_either first second =
+      lesser_has (λ x. P x ⊎ R x) a b (if_some_map P (λ x. P x ⊎ R x) a (λ x has. inl has) first) (if_some_map R (λ x. P x ⊎ R x) b (λ x has. inr has) second)
+
+  pub met_either : (least : Bool) → ((y : ℕ) → P y → IsMetBy a least y) → ((y : ℕ) → R y → IsMetBy b least y)
+      → (y : ℕ) → P y ⊎ R y → IsMetBy (lesser_of a b) least y
+  met_either least first second y (inl has) = met_left a b least y (first y has)
+  met_either least first second y (inr has) = met_right a b least y (second y has)
+
+module _ (rows : List KissRow) (numbers : List ℕ) (count : ℕ) (Wanted : KissRow → ℕ → Type 0) (found other : Option ℕ) (least : Bool) (row : KissRow) where
+  -- one more row was searched
+  pub meets_more : MeetsWanted rows numbers count Wanted found least → count < length numbers → slice_get rows (get_or numbers count 0) ≡ Some row
+      → ((y : ℕ) → Wanted row y → IsMetBy other least y) → MeetsWanted rows numbers (count + 1) Wanted (lesser_of found other) least
+  meets_more known inside at_row now =
+      looked_at rows numbers count (λ r. (y : ℕ) → Wanted r y → IsMetBy (lesser_of found other) least y) row
+      (λ k d r before at y wants. met_left found other least y (known k d r before at y wants))
+      inside at_row (λ y wants. met_right found other least y (now y wants))
+
+module _ (F : KissFile) (numbers : List ℕ) (count : ℕ) (Wanted : KissRow → ℕ → Type 0) (Found : ℕ → Type 0) (found other result : Option ℕ) (least : Bool) (row : KissRow) where
+  pub searched_more : IsSearched F numbers count Wanted Found found least → result ≡ lesser_of found other → count < length numbers
+      → slice_get F.rows (get_or numbers count 0) ≡ Some row → IfSome other Found → IfSome other (λ x. x < 2 ^ F.inputs)
+      → ((y : ℕ) → Wanted row y → IsMetBy other least y) → IsSearched F numbers (count + 1) Wanted Found result least
+  searched_more known is inside at_row some within now =
+      subst (λ (o : Option ℕ). IsSearched F numbers (count + 1) Wanted Found o least) (sym is)
+      (record {
+        some = lesser_has Found found other known.some some;
+        within = lesser_has (λ x. x < 2 ^ F.inputs) found other known.within within;
+        met = meets_more F.rows numbers count Wanted found other least row known.met inside at_row now;
+      })
+
+-- with all numbers of a state searched, each row of the state was
+pub meets_all : (F : KissFile) (s : ℕ) (numbers : List ℕ) (count : ℕ) (Wanted : KissRow → ℕ → Type 0) (found : Option ℕ) (least : Bool)
+    → ((i : ℕ) (row : KissRow) → slice_get F.rows i ≡ Some row → row.from ≡ s → Contains numbers i)
+    → MeetsWanted F.rows numbers count Wanted found least → length numbers ≤ count
+    → (row : KissRow) → IsRowOf F s row → (y : ℕ) → Wanted row y → IsMetBy found least y
+meets_all F s numbers count Wanted found least each known all row (among, from) y wants =
+    let at_number = number_of_row F row among in
+    let place = each among.0 row at_number from in
+    known place.0 among.0 row (omega (arith, place.1)) (subst (λ (n : ℕ). slice_get F.rows n ≡ Some row) (sym place.2) at_number) y wants
+
+-- a row at a number of the state is one of the state
+pub row_of : (F : KissFile) (s i : ℕ) (row : KissRow) → IsNumberOf F s i → slice_get F.rows i ≡ Some row → IsRowOf F s row
+row_of F s i row (there, at_there, from) at_row =
+    let same : there ≡ row = (let both : Some there ≡ Some row = sym at_there ∙ at_row in cc) in
+    ((i, slice_get_within F.rows i row at_row, get_or_from_slice_get F.rows i row row at_row), ap (λ (r : KissRow). r.from) (sym same) ∙ from)
+
+module _ (F : KissFile) (table : IsTable F) (s x : ℕ) (row : KissRow) where
+  -- a row of the state that holds the symbol is a row there
+  pub at_from_held : IsRowOf F s row → HoldsNumber row.cube x → IsRowAt F s (symbol_of F.inputs x) row
+  at_from_held (among, from) held = record {
+    among = among;
+    from = from;
+    held = subst (λ (w : ℕ). Holds row.cube (symbol_of w x)) ((lawful_row F table among.0 row (number_of_row F row among)).width) held;
+  }
+
+  pub row_from_at : IsRowAt F s (symbol_of F.inputs x) row → IsRowOf F s row
+  row_from_at at = (at.among, at.from)
+
+  pub held_from_at : IsRowAt F s (symbol_of F.inputs x) row → HoldsNumber row.cube x
+  held_from_at at = subst (λ (w : ℕ). Holds row.cube (symbol_of w x)) (sym ((lawful_row F table at.among.0 row (number_of_row F row at.among)).width)) at.held
+
+-- ---- what rows say of two states
+module _ (F : KissFile) (table : IsTable F) (said : KissRow → Option ℕ) (s t : ℕ) where
+  -- a row of the first state that is apart from one of the second
+  pub two_of_row : (row : KissRow) → IsRowOf F s row → (x : ℕ) → IsApartAt said F t row x → SayTwo said F s t x
+  two_of_row row of_state x (other, of_other, apart) =
+      let differ = apart.differ in (
+        differ.0,
+        differ.1,
+        (row, at_from_held F table s x row of_state apart.first, differ.2),
+        (other, at_from_held F table t x other of_other apart.second, differ.3),
+        differ.4,
+      )
+
+  pub apart_wanted : (x : ℕ) → SayTwo said F s t x → (row : KissRow) × IsRowOf F s row × IsApartAt said F t row x
+  apart_wanted x (v, w, (row, at, says), (other, also, tells), two) = (
+    row,
+    row_from_at F table s x row at,
+    (
+      other,
+      row_from_at F table t x other also,
+      record {
+        first = held_from_at F table s x row at;
+        second = held_from_at F table t x other also;
+        differ = (v, w, says, tells, two);
+      },
+    ),
+  )
+
+  -- a row of the first state that says what no row of the second does
+  pub alone_of_row : (label : ℕ) (row : KissRow) → IsRowOf F s row → (x : ℕ) → IsAloneAt said F t label row x → SaysAlone said F s t label x
+  alone_of_row label row of_state x (v, held, says, two, silent) = (v, (row, at_from_held F table s x row of_state held, says), two, silent)
+
+  pub alone_wanted : (label x : ℕ) → SaysAlone said F s t label x → (row : KissRow) × IsRowOf F s row × IsAloneAt said F t label row x
+  alone_wanted label x (v, (row, at, says), two, silent) =
+      (row, row_from_at F table s x row at, (v, held_from_at F table s x row at, says, two, silent))

@@ -1,0 +1,22 @@
+use Rattle.std.proofs.Common.{ℕ, ◌↔◌, ◌∙◌, IsTrue, ap, false, not, subst, sym}
+use Rattle.kiss2.specs.declared.kiss_file.KissFile.{KissFile}
+use Rattle.kiss2.specs.Machine.{Conflicting}
+use Rattle.machine_table.specs.Pairs.{AgreeInBit, AtEachSymbol}
+use Rattle.machine_table.specs.Table.{IsTable}
+use Rattle.machine_table.proofs.Labels.{true_from_not}
+use Rattle.machine_table.proofs.OutputLabels.{agree_from_none, none_from_agree}
+use Rattle.machine_table.proofs.machine.Machine.bit_agrees.Goals as goal
+
+pub returns : goal.returns
+returns c =
+    let F = c.args.self.now in
+    let table = subst IsTable c.self.view_is c.self.invariant.0 in
+    let no_conflict = subst (λ (G : KissFile). Conflicting G → ⊥) c.self.view_is c.self.invariant.1 in
+    let found = c.first_differing in
+    let both : IsTrue c.is_none.result ↔ AtEachSymbol F.inputs (AgreeInBit c.new.result.b F c.args.s c.args.t) = (
+      λ none. agree_from_none F table no_conflict c.new.result.b c.args.s c.args.t found.result found.ensures.within found.ensures.some false found.ensures.met
+          (c.is_none.ensures ∙ ap not none),
+      λ agree. true_from_not c.is_none.result (sym c.is_none.ensures
+          ∙ none_from_agree F table no_conflict c.new.result.b c.args.s c.args.t found.result found.ensures.within found.ensures.some agree),
+    ) in
+    subst (λ (n : ℕ). IsTrue c.is_none.result ↔ AtEachSymbol F.inputs (AgreeInBit n F c.args.s c.args.t)) c.new.ensures both

@@ -1,0 +1,35 @@
+use Rattle.std.proofs.Common.{ℕ, ◌≡◌, ◌↔◌, ◌∙◌, List, IsTrue, ap, false, not, slice_index, subst, sym}
+use Rattle.std.specs.Int.{bit_at}
+use Rattle.cubes.specs.Symbol.{symbol_of}
+use Rattle.cubes.proofs.Bits.{same_bits, same_digits}
+use Rattle.kiss2.specs.declared.kiss_file.KissFile.{KissFile}
+use Rattle.kiss2.specs.Machine.{Conflicting, next}
+use Rattle.machine_table.specs.Pairs.{AtEachSymbol, GoInto, HaveOneBit}
+use Rattle.machine_table.specs.Table.{IsTable}
+use Rattle.machine_table.proofs.Labels.{true_from_not}
+use Rattle.machine_table.proofs.NextLabels.{go_from_none, label_of_next, none_from_go}
+use Rattle.machine_table.proofs.machine.Machine.bit_goes.Goals as goal
+
+pub returns : goal.returns
+returns c =
+    let F = c.args.self.now in
+    let s = c.args.s in
+    let t = c.args.t in
+    let words = c.new.result.words.now in
+    let at = c.new.result.at in
+    let bit_of = (λ (u : ℕ). bit_at (slice_index words u) at) in
+    let table = subst IsTable c.self.view_is c.self.invariant.0 in
+    let no_conflict = subst (λ (G : KissFile). Conflicting G → ⊥) c.self.view_is c.self.invariant.1 in
+    let alike = (λ (x : ℕ) (same : label_of_next bit_of F s x ≡ label_of_next bit_of F t x).
+    same_bits (slice_index words (next F s (symbol_of F.inputs x))) (slice_index words (next F t (symbol_of F.inputs x))) at at same) in
+    let equal = (λ (x : ℕ) (goes : GoInto (HaveOneBit words at) F s t x).
+    same_digits (slice_index words (next F s (symbol_of F.inputs x))) (slice_index words (next F t (symbol_of F.inputs x))) at at goes) in
+    let found = c.first_differing in
+    let both : IsTrue c.is_none.result ↔ AtEachSymbol F.inputs (GoInto (HaveOneBit words at) F s t) = (
+      λ none. go_from_none F table no_conflict bit_of s t (HaveOneBit words at) alike equal found.result found.ensures.within found.ensures.some false found.ensures.met
+          (c.is_none.ensures ∙ ap not none),
+      λ go. true_from_not c.is_none.result (sym c.is_none.ensures
+          ∙ none_from_go F table no_conflict bit_of s t (HaveOneBit words at) alike equal found.result found.ensures.within found.ensures.some go),
+    ) in
+    subst (λ (list : List ℕ). IsTrue c.is_none.result ↔ AtEachSymbol F.inputs (GoInto (HaveOneBit list c.args.at) F s t)) c.new.ensures.words
+    (subst (λ (n : ℕ). IsTrue c.is_none.result ↔ AtEachSymbol F.inputs (GoInto (HaveOneBit words n) F s t)) c.new.ensures.at both)

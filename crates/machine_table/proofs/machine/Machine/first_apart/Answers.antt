@@ -1,0 +1,32 @@
+use Rattle.std.proofs.Common.{ℕ, ◌≡◌, true, slice_index, subst}
+use Rattle.kiss2.specs.declared.kiss_file.KissFile.{KissFile}
+use Rattle.kiss2.specs.Machine.{Conflicting}
+use Rattle.partition.specs.Partition.{Together}
+use Rattle.machine_table.specs.Pairs.{AtEachSymbol, GoInto}
+use Rattle.machine_table.specs.Table.{IsTable}
+use Rattle.machine_table.proofs.Labels.{if_none_given}
+use Rattle.machine_table.proofs.NextLabels.{first_not_gone, go_from_none, label_of_next, together_in}
+use Rattle.machine_table.proofs.machine.Machine.first_apart.Goals as goal
+
+pub returns-clause-some : goal.returns-clause-some
+returns-clause-some c =
+    let F = c.args.self.now in
+    let q = c.args.q.now in
+    let table = subst IsTable c.self.view_is c.self.invariant.0 in
+    let no_conflict = subst (λ (G : KissFile). Conflicting G → ⊥) c.self.view_is c.self.invariant.1 in
+    let alike = (λ (x : ℕ) (same : label_of_next (slice_index q) F c.args.s x ≡ label_of_next (slice_index q) F c.args.t x).
+    together_in F table no_conflict q c.args.s c.args.t c.requires.s c.requires.t c.requires.states x same) in
+    let equal = (λ (x : ℕ) (goes : GoInto (Together q) F c.args.s c.args.t x). goes.2) in
+    first_not_gone F table no_conflict (slice_index q) c.args.s c.args.t (Together q) alike equal c.first_differing.result c.first_differing.ensures.within c.first_differing.ensures.some c.first_differing.ensures.met
+
+pub returns-clause-none : goal.returns-clause-none
+returns-clause-none c =
+    let F = c.args.self.now in
+    let q = c.args.q.now in
+    let table = subst IsTable c.self.view_is c.self.invariant.0 in
+    let no_conflict = subst (λ (G : KissFile). Conflicting G → ⊥) c.self.view_is c.self.invariant.1 in
+    let alike = (λ (x : ℕ) (same : label_of_next (slice_index q) F c.args.s x ≡ label_of_next (slice_index q) F c.args.t x).
+    together_in F table no_conflict q c.args.s c.args.t c.requires.s c.requires.t c.requires.states x same) in
+    let equal = (λ (x : ℕ) (goes : GoInto (Together q) F c.args.s c.args.t x). goes.2) in
+    if_none_given (AtEachSymbol F.inputs (GoInto (Together q) F c.args.s c.args.t)) c.first_differing.result
+    (go_from_none F table no_conflict (slice_index q) c.args.s c.args.t (Together q) alike equal c.first_differing.result c.first_differing.ensures.within c.first_differing.ensures.some true c.first_differing.ensures.met)

@@ -1,0 +1,27 @@
+use Rattle.std.proofs.Common.{ℕ, IfSome, IfNone, true, subst}
+use Rattle.kiss2.specs.declared.kiss_file.KissFile.{KissFile}
+use Rattle.kiss2.specs.Machine.{Conflicting}
+use Rattle.machine_table.specs.Pairs.{AgreeInBit, AtEachSymbol, IsFirstWithout}
+use Rattle.machine_table.specs.Table.{IsTable}
+use Rattle.machine_table.proofs.Labels.{if_none_given}
+use Rattle.machine_table.proofs.OutputLabels.{agree_from_none, first_in_bit}
+use Rattle.machine_table.proofs.machine.Machine.first_bit_apart.Goals as goal
+
+pub returns-clause-some : goal.returns-clause-some
+returns-clause-some c =
+    let F = c.args.self.now in
+    let table = subst IsTable c.self.view_is c.self.invariant.0 in
+    let no_conflict = subst (λ (G : KissFile). Conflicting G → ⊥) c.self.view_is c.self.invariant.1 in
+    let found = c.first_differing in
+    subst (λ (n : ℕ). IfSome found.result (IsFirstWithout F.inputs (AgreeInBit n F c.args.s c.args.t))) c.new.ensures
+    (first_in_bit F table no_conflict c.new.result.b c.args.s c.args.t found.result found.ensures.within found.ensures.some found.ensures.met)
+
+pub returns-clause-none : goal.returns-clause-none
+returns-clause-none c =
+    let F = c.args.self.now in
+    let table = subst IsTable c.self.view_is c.self.invariant.0 in
+    let no_conflict = subst (λ (G : KissFile). Conflicting G → ⊥) c.self.view_is c.self.invariant.1 in
+    let found = c.first_differing in
+    subst (λ (n : ℕ). IfNone found.result (AtEachSymbol F.inputs (AgreeInBit n F c.args.s c.args.t))) c.new.ensures
+    (if_none_given (AtEachSymbol F.inputs (AgreeInBit c.new.result.b F c.args.s c.args.t)) found.result
+    (agree_from_none F table no_conflict c.new.result.b c.args.s c.args.t found.result found.ensures.within found.ensures.some true found.ensures.met))

@@ -1,0 +1,22 @@
+use Rattle.std.proofs.Common.{ℕ, ◌≡◌, ◌∙◌, ap, false, not, slice_index, subst, sym}
+use Rattle.kiss2.specs.declared.kiss_file.KissFile.{KissFile}
+use Rattle.kiss2.specs.Machine.{Conflicting}
+use Rattle.partition.specs.Partition.{Together}
+use Rattle.machine_table.specs.Pairs.{GoInto}
+use Rattle.machine_table.specs.Table.{IsTable}
+use Rattle.machine_table.proofs.Labels.{true_from_not}
+use Rattle.machine_table.proofs.NextLabels.{go_from_none, label_of_next, none_from_go, together_in}
+use Rattle.machine_table.proofs.machine.Machine.pair_goes.Goals as goal
+
+pub returns : goal.returns
+returns c =
+    let F = c.args.self.now in
+    let q = c.args.q.now in
+    let table = subst IsTable c.self.view_is c.self.invariant.0 in
+    let no_conflict = subst (λ (G : KissFile). Conflicting G → ⊥) c.self.view_is c.self.invariant.1 in
+    let alike = (λ (x : ℕ) (same : label_of_next (slice_index q) F c.args.s x ≡ label_of_next (slice_index q) F c.args.t x).
+    together_in F table no_conflict q c.args.s c.args.t c.requires.s c.requires.t c.requires.states x same) in
+    let equal = (λ (x : ℕ) (goes : GoInto (Together q) F c.args.s c.args.t x). goes.2) in (
+      λ none. go_from_none F table no_conflict (slice_index q) c.args.s c.args.t (Together q) alike equal c.first_differing.result c.first_differing.ensures.within c.first_differing.ensures.some false c.first_differing.ensures.met (c.is_none.ensures ∙ ap not none),
+      λ go. true_from_not c.is_none.result (sym c.is_none.ensures ∙ none_from_go F table no_conflict (slice_index q) c.args.s c.args.t (Together q) alike equal c.first_differing.result c.first_differing.ensures.within c.first_differing.ensures.some go),
+    )

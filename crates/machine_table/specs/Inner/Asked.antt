@@ -1,0 +1,90 @@
+-- What rows say of two states at one symbol, where a part has labels: a function gives the label of what a row says.
+-- Private functions need it; no public contract cites it.
+use Rattle.std.specs.Prelude.{ℕ, ◌≡◌, ◌≢◌, ◌<◌, ◌≤◌, ◌^◌, ◌⊎◌, min, Bool, false, true, Contains, IfSome, IsNone, IsTrue, List, Option, None, Some, slice_get, slice_index_or}
+use Rattle.cubes.specs.Cube.{HoldsNumber}
+use Rattle.cubes.specs.Symbol.{symbol_of}
+use Rattle.kiss2.specs.declared.kiss_file.KissFile.{KissFile}
+use Rattle.kiss2.specs.declared.kiss_file.KissRow.{KissRow}
+use Rattle.kiss2.specs.Machine.{IsRowAt}
+
+-- a bit as a number
+abbrev pub digit : Bool → ℕ
+digit false = 0
+digit true = 1
+
+-- some row at the symbol of that number says the label
+abbrev pub IsLabelAt : (KissRow → Option ℕ) → KissFile → (s x label : ℕ) → Type 0
+IsLabelAt said F s x label = (row : KissRow) × IsRowAt F s (symbol_of F.inputs x) row × (said row ≡ Some label)
+
+-- no row there says any
+abbrev pub IsOpenAt : (KissRow → Option ℕ) → KissFile → (s x : ℕ) → Type 0
+IsOpenAt said F s x = (row : KissRow) → IsRowAt F s (symbol_of F.inputs x) row → IsNone (said row)
+
+-- rows of both states say labels that differ
+abbrev pub SayTwo : (KissRow → Option ℕ) → KissFile → (s t x : ℕ) → Type 0
+SayTwo said F s t x = (v w : ℕ) × IsLabelAt said F s x v × IsLabelAt said F t x w × (v ≢ w)
+
+-- a row of the first says another label than the one given, and no row of the second says any
+abbrev pub SaysAlone : (KissRow → Option ℕ) → KissFile → (s t other x : ℕ) → Type 0
+SaysAlone said F s t other x = (v : ℕ) × IsLabelAt said F s x v × (v ≢ other) × IsOpenAt said F t x
+
+-- no row of either says any
+abbrev pub AreOpenAt : (KissRow → Option ℕ) → KissFile → (s t x : ℕ) → Type 0
+AreOpenAt said F s t x = IsOpenAt said F s x × IsOpenAt said F t x
+
+-- no row of either says any, and the states have labels of their own that differ
+abbrev pub DifferBothOpen : (KissRow → Option ℕ) → (ℕ → ℕ) → KissFile → (s t x : ℕ) → Type 0
+DifferBothOpen said unsaid F s t x = AreOpenAt said F s t x × (unsaid s ≢ unsaid t)
+
+-- the labels differ there, and no row of one of the states says any
+abbrev pub DifferOpen : (KissRow → Option ℕ) → (ℕ → ℕ) → KissFile → (s t x : ℕ) → Type 0
+DifferOpen said unsaid F s t x =
+    SaysAlone said F s t (unsaid t) x ⊎ (SaysAlone said F t s (unsaid s) x ⊎ DifferBothOpen said unsaid F s t x)
+
+-- the labels of the states differ there, where a state has a label of its own for what no row says
+abbrev pub DifferAt : (KissRow → Option ℕ) → (ℕ → ℕ) → KissFile → (s t x : ℕ) → Type 0
+DifferAt said unsaid F s t x = SayTwo said F s t x ⊎ DifferOpen said unsaid F s t x
+
+-- the rows say labels that differ
+abbrev pub SayApart : (KissRow → Option ℕ) → KissRow → KissRow → Type 0
+SayApart said row other = (v w : ℕ) × (said row ≡ Some v) × (said other ≡ Some w) × (v ≢ w)
+
+-- both rows hold the symbol of that number, and say labels that differ
+pub record AreApartAt (said : KissRow → Option ℕ) (row other : KissRow) (x : ℕ) : Type 0 where
+  pub first : HoldsNumber row.cube x
+  pub second : HoldsNumber other.cube x
+  pub differ : SayApart said row other
+
+-- the row is one of the state
+abbrev pub IsRowOf : KissFile → ℕ → KissRow → Type 0
+IsRowOf F s row = Contains F.rows row × (row.from ≡ s)
+
+-- some row of the state is apart from the row at the symbol of that number
+abbrev pub IsApartAt : (KissRow → Option ℕ) → KissFile → ℕ → KissRow → ℕ → Type 0
+IsApartAt said F t row x = (other : KissRow) × IsRowOf F t other × AreApartAt said row other x
+
+-- the row holds the symbol of that number and says another label than the one given, and no row of the state says any
+abbrev pub IsAloneAt : (KissRow → Option ℕ) → KissFile → (t other : ℕ) → KissRow → ℕ → Type 0
+IsAloneAt said F t other row x = (v : ℕ) × HoldsNumber row.cube x × (said row ≡ Some v) × (v ≢ other) × IsOpenAt said F t x
+
+-- a search found something, and where the least is looked for nothing later than the number
+abbrev pub IsMetBy : Option ℕ → Bool → ℕ → Type 0
+IsMetBy None least y = ⊥
+IsMetBy (Some x) least y = IsTrue least → x ≤ y
+
+-- the lesser of two numbers that were found
+abbrev pub lesser_of : Option ℕ → Option ℕ → Option ℕ
+lesser_of None found = found
+lesser_of (Some x) None = Some x
+lesser_of (Some x) (Some y) = Some (min x y)
+
+-- what a search over the first rows of these numbers has met: each number that one of the rows wants
+abbrev pub MeetsWanted : List KissRow → List ℕ → (count : ℕ) → (KissRow → ℕ → Type 0) → Option ℕ → Bool → Type 0
+MeetsWanted rows numbers count Wanted found least =
+    (k d : ℕ) (row : KissRow) → k < count → slice_get rows (slice_index_or numbers k d) ≡ Some row → (y : ℕ) → Wanted row y → IsMetBy found least y
+
+-- a search over the first rows of these numbers: what it found, and what it has met
+pub record IsSearched (F : KissFile) (numbers : List ℕ) (count : ℕ) (Wanted : KissRow → ℕ → Type 0) (Found : ℕ → Type 0) (found : Option ℕ) (least : Bool) : Type 0 where
+  pub some : IfSome found Found
+  pub within : IfSome found (λ x. x < 2 ^ F.inputs)
+  pub met : MeetsWanted F.rows numbers count Wanted found least

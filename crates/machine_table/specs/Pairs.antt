@@ -1,0 +1,31 @@
+-- Two states at all symbols, each symbol given by its number.
+use Rattle.std.specs.Prelude.{ℕ, ◌≡◌, ◌<◌, ◌^◌, List, slice_index}
+use Rattle.cubes.specs.Symbol.{bit, symbol_of}
+use Rattle.kiss2.specs.declared.kiss_file.KissFile.{KissFile}
+use Rattle.kiss2.specs.Machine.{next, out, output_bit}
+
+-- a relation of states holds of the next states at the symbol of that number
+abbrev pub GoInto : (ℕ → ℕ → Type 0) → KissFile → (s t x : ℕ) → Type 0
+GoInto R F s t x = R (next F s (symbol_of F.inputs x)) (next F t (symbol_of F.inputs x))
+
+-- the outputs are equal there
+abbrev pub AgreeAt : KissFile → (s t x : ℕ) → Type 0
+AgreeAt F s t x = out F s (symbol_of F.inputs x) ≡ out F t (symbol_of F.inputs x)
+
+-- one output is equal there
+abbrev pub AgreeInBit : ℕ → KissFile → (s t x : ℕ) → Type 0
+AgreeInBit b F s t x = output_bit F s (symbol_of F.inputs x) b ≡ output_bit F t (symbol_of F.inputs x) b
+
+-- so it is at each symbol of so many inputs
+abbrev pub AtEachSymbol : (inputs : ℕ) → (ℕ → Type 0) → Type 0
+AtEachSymbol inputs P = (x : ℕ) → x < 2 ^ inputs → P x
+
+-- the least symbol of so many inputs at which it is not so
+pub record IsFirstWithout (inputs : ℕ) (P : ℕ → Type 0) (x : ℕ) : Type 0 where
+  pub within : x < 2 ^ inputs
+  pub without : ¬ P x
+  pub before : (y : ℕ) → y < x → P y
+
+-- the words of two states have the same bit at a place
+abbrev pub HaveOneBit : List ℕ → (at : ℕ) → (s t : ℕ) → Type 0
+HaveOneBit words at s t = bit (slice_index words s) at ≡ bit (slice_index words t) at

@@ -1,0 +1,100 @@
+//! The questions about two states at all symbols.
+ghost use Rattle.std.specs.Prelude.{◌≡◌, ◌<◌, ◌↔◌, IfNone, IfSome, IsTrue, length};
+ghost use Rattle.partition.specs.Partition.{Together};
+ghost use Rattle.machine_table.specs.Pairs.{AgreeAt, AgreeInBit, AtEachSymbol, GoInto, HaveOneBit, IsFirstWithout};
+
+use crate::Machine;
+use crate::question::{OutputBit, WordBits};
+use crate::searching::lesser;
+use partition::Partition;
+
+impl Machine {
+    /// Whether the next states are together in the partition at each symbol.
+    pub fn pair_goes(&self, s: usize, t: usize, q: &Partition) -> bool
+        requires s { s < length self.now.states }
+        requires t { t < length self.now.states }
+        requires states { length q.now ≡ length self.now.states }
+        ensures { IsTrue result ↔ AtEachSymbol self.now.inputs (GoInto (Together q.now) self.now s t) }
+    {
+        let _ = &self.file;
+        self.first_differing(q, s, t, false).is_none()
+    }
+
+    /// The least symbol at which the next states are not together in the partition.
+    pub fn first_apart(&self, s: usize, t: usize, q: &Partition) -> Option<u32>
+        requires s { s < length self.now.states }
+        requires t { t < length self.now.states }
+        requires states { length q.now ≡ length self.now.states }
+        ensures some { IfSome result (IsFirstWithout self.now.inputs (GoInto (Together q.now) self.now s t)) }
+        ensures none { IfNone result (AtEachSymbol self.now.inputs (GoInto (Together q.now) self.now s t)) }
+    {
+        let _ = &self.file;
+        self.first_differing(q, s, t, true)
+    }
+
+    /// Whether the words of the next states have the same bit at 2^at, at each symbol. There is a word for
+    /// each state.
+    pub fn bit_goes(&self, s: usize, t: usize, words: &[u64], at: usize) -> bool
+        requires s { s < length self.now.states }
+        requires t { t < length self.now.states }
+        requires states { length words.now ≡ length self.now.states }
+        requires at { at < 64 }
+        ensures { IsTrue result ↔ AtEachSymbol self.now.inputs (GoInto (HaveOneBit words.now at) self.now s t) }
+    {
+        let _ = &self.file;
+        self.first_differing(&WordBits::new(words, at), s, t, false)
+            .is_none()
+    }
+
+    /// Whether the output of that number is the same at each symbol.
+    pub fn bit_agrees(&self, s: usize, t: usize, b: u8) -> bool
+        requires s { s < length self.now.states }
+        requires t { t < length self.now.states }
+        requires b { b < self.now.outputs }
+        ensures { IsTrue result ↔ AtEachSymbol self.now.inputs (AgreeInBit b self.now s t) }
+    {
+        let _ = &self.file;
+        self.first_differing(&OutputBit::new(b), s, t, false)
+            .is_none()
+    }
+
+    /// The least symbol at which the output of that number is not the same.
+    fn first_bit_apart(&self, s: usize, t: usize, b: u8) -> Option<u32>
+        requires s { s < length self.now.states }
+        requires t { t < length self.now.states }
+        requires b { b < self.now.outputs }
+        ensures some { IfSome result (IsFirstWithout self.now.inputs (AgreeInBit b self.now s t)) }
+        ensures none { IfNone result (AtEachSymbol self.now.inputs (AgreeInBit b self.now s t)) }
+    {
+        let _ = &self.file;
+        self.first_differing(&OutputBit::new(b), s, t, true)
+    }
+
+    /// Whether the outputs are the same at each symbol.
+    pub fn outputs_agree(&self, s: usize, t: usize) -> bool
+        requires s { s < length self.now.states }
+        requires t { t < length self.now.states }
+        ensures { IsTrue result ↔ AtEachSymbol self.now.inputs (AgreeAt self.now s t) }
+    {
+        for b in 0..self.outputs() {
+            if !self.bit_agrees(s, t, b) {
+                return false;
+            }
+        }
+        true
+    }
+
+    /// The least symbol at which the outputs are not the same.
+    pub fn first_output_apart(&self, s: usize, t: usize) -> Option<u32>
+        requires s { s < length self.now.states }
+        requires t { t < length self.now.states }
+        ensures some { IfSome result (IsFirstWithout self.now.inputs (AgreeAt self.now s t)) }
+        ensures none { IfNone result (AtEachSymbol self.now.inputs (AgreeAt self.now s t)) }
+    {
+        let mut first = None;
+        for b in 0..self.outputs() {
+            first = lesser(first, self.first_bit_apart(s, t, b));
+        }
+        first
+    }
+}

@@ -1,0 +1,142 @@
+//! What may be asked of two states: one part of what rows say, and which of its values are alike.
+ghost use Rattle.std.specs.Prelude.{ℕ, ◌≡◌, ◌<◌, IfSome, Option, length, slice_index};
+ghost use Rattle.std.specs.Int.{bit_at};
+ghost use Rattle.kiss2.specs.declared.kiss_file.KissRow.{KissRow};
+
+use crate::machine::given;
+use kiss2::KissRow;
+use partition::Partition;
+
+/// A question about one part of what rows say. Each value of the part has a label, and values are alike
+/// where their labels are equal.
+pub(crate) trait Question {
+    /// Of how many states it can be asked.
+    ghost states: { Self → ℕ };
+
+    /// The label of what a row says, if it says the part.
+    ghost said: { Self → KissRow → Option ℕ };
+
+    /// The label of what holds at a state where no row says the part.
+    ghost unsaid: { Self → ℕ → ℕ };
+
+    /// The label of what a row says, if it says the part.
+    fn said(&self, row: &KissRow) -> Option<u16>
+        requires { IfSome row.now.to (λ t. t < states self.now) }
+        ensures { result ≡ said self.now row.now };
+
+    /// The label of what holds at a state where no row says the part.
+    fn unsaid(&self, s: usize) -> u16
+        requires { s < states self.now }
+        ensures { result ≡ unsaid self.now s };
+}
+
+/// Of next states those in one block are alike.
+impl Question for Partition {
+    ghost use Rattle.std.specs.Prelude.{length, slice_index, option_map};
+
+    ghost states = { λ q. length q };
+
+    ghost said = { λ q row. option_map (slice_index q) row.to };
+
+    ghost unsaid = { λ q s. slice_index q s };
+
+    fn said(&self, row: &KissRow) -> Option<u16> {
+        match row.to {
+            Some(t) => Some(self.label(usize::from(t))),
+            None => None,
+        }
+    }
+
+    fn unsaid(&self, s: usize) -> u16 {
+        self.label(s)
+    }
+}
+
+/// The bits of words of states at one place.
+#[derive(Clone, Copy)]
+pub(crate) struct WordBits<'a> {
+    words: &'a [u64],
+    at: usize,
+    pub ghost place: { at < 64 },
+}
+
+impl<'a> WordBits<'a> {
+    pub fn new(words: &'a [u64], at: usize) -> WordBits<'a>
+        requires { at < 64 }
+        ensures words { result.words.now ≡ words.now }
+        ensures at { result.at ≡ at }
+    {
+        WordBits { words, at }
+    }
+
+    /// The bit of the word of a state.
+    fn bit(&self, s: usize) -> u16
+        requires { s < length self.now.words.now }
+        ensures { result ≡ bit_at (slice_index self.now.words.now s) self.now.at }
+    {
+        ((self.words[s] >> self.at) & 1) as u16
+    }
+}
+
+/// Of next states those whose words have one bit at the place are alike.
+impl<'a> Question for WordBits<'a> {
+    ghost use Rattle.std.specs.Prelude.{length, slice_index, option_map};
+    ghost use Rattle.std.specs.Int.{bit_at};
+
+    ghost states = { λ q. length q.words.now };
+
+    ghost said = { λ q row. option_map (λ t. bit_at (slice_index q.words.now t) q.at) row.to };
+
+    ghost unsaid = { λ q s. bit_at (slice_index q.words.now s) q.at };
+
+    fn said(&self, row: &KissRow) -> Option<u16> {
+        match row.to {
+            Some(t) => Some(self.bit(usize::from(t))),
+            None => None,
+        }
+    }
+
+    fn unsaid(&self, s: usize) -> u16 {
+        self.bit(s)
+    }
+}
+
+/// The output of that number.
+#[derive(Clone, Copy)]
+pub(crate) struct OutputBit {
+    b: u8,
+    pub ghost place: { b < 64 },
+}
+
+impl OutputBit {
+    pub fn new(b: u8) -> OutputBit
+        requires { b < 64 }
+        ensures { result.b ≡ b }
+    {
+        OutputBit { b }
+    }
+}
+
+/// Equal bits are alike.
+impl Question for OutputBit {
+    ghost use Rattle.std.specs.Prelude.{option_map};
+    ghost use Rattle.kiss2.specs.Machine.{given_bit};
+    ghost use Rattle.machine_table.specs.Inner.Asked.{digit};
+
+    ghost states = { λ _. 65536 };
+
+    ghost said = { λ q row. option_map digit (given_bit q.b row) };
+
+    ghost unsaid = { λ _ _. 0 };
+
+    fn said(&self, row: &KissRow) -> Option<u16> {
+        match given(row, self.b) {
+            Some(bit) => Some(u16::from(bit)),
+            None => None,
+        }
+    }
+
+    fn unsaid(&self, _s: usize) -> u16 {
+        0
+    }
+}

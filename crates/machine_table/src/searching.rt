@@ -1,0 +1,367 @@
+//! The symbols at which what is asked of two states differs.
+//!
+//! No symbol is gone through: what two rows that meet both hold has its least symbol, and the symbols of a
+//! cube at which rows leave the part open are found by halving the cube at a place at which such a row looks.
+ghost use Rattle.std.specs.Prelude.{ℕ, ◌≡◌, ◌<◌, ◌≤◌, ◌^◌, ◌↔◌, IfNone, IfSome, IsSome, IsTrue, length, false, true};
+ghost use Rattle.cubes.specs.Cube.{HoldsNumber, IsHalf, Meets};
+ghost use Rattle.cubes.specs.Symbol.{bit};
+ghost use Rattle.kiss2.specs.Lawful.{IsLawfulRow};
+ghost use Rattle.machine_table.specs.Inner.Asked.{AreApartAt, IsAloneAt, IsApartAt, AreOpenAt, SayApart, DifferAt, DifferBothOpen, DifferOpen, IsMetBy, IsOpenAt, SayTwo, SaysAlone, lesser_of};
+
+use crate::Machine;
+use crate::question::Question;
+use cubes::Cube;
+use kiss2::KissRow;
+
+/// The lesser of two numbers that were found.
+pub(crate) fn lesser(first: Option<u32>, second: Option<u32>) -> Option<u32>
+    ensures { result ≡ lesser_of first second }
+{
+    match (first, second) {
+        (None, found) => found,
+        (Some(x), None) => Some(x),
+        (Some(x), Some(y)) => Some(x.min(y)),
+    }
+}
+
+/// Whether nothing more is to be looked for: something was found, and the least is not asked for.
+fn is_settled(found: Option<u32>, least: bool) -> bool
+    ensures some { IsTrue result → IsSome found }
+    ensures any { IsTrue result → least ≡ false }
+{
+    found.is_some() && !least
+}
+
+/// The half of the cube that has a 1, or a 0, at the place of a dash.
+fn half(cube: Cube, place: u32, one: bool) -> Cube
+    requires place { place < cube.width }
+    requires dash { bit cube.care place ≡ false }
+    ensures half { IsHalf cube result place one }
+    ensures care { cube.care < result.care }
+{
+    let at = 1 << place;
+    Cube {
+        care: cube.care | at,
+        value: if one { cube.value | at } else { cube.value },
+        width: cube.width,
+    }
+}
+
+/// The cube of all symbols.
+fn whole(width: u8) -> Cube
+    requires some { 0 < width }
+    requires bound { width ≤ 32 }
+    ensures width { result.width ≡ width }
+    ensures all { (y : ℕ) → HoldsNumber result y }
+{
+    Cube {
+        care: 0,
+        value: 0,
+        width,
+    }
+}
+
+/// The lowest place at which the other cube looks and the cube does not.
+fn free_place(cube: &Cube, other: &Cube) -> Option<u32>
+    requires width { cube.now.width ≡ other.now.width }
+    requires meets { Meets cube.now other.now }
+    ensures within { IfSome result (λ place. place < cube.now.width) }
+    ensures dash { IfSome result (λ place. bit cube.now.care place ≡ false) }
+    ensures none { IfNone result ((y : ℕ) → HoldsNumber cube.now y → HoldsNumber other.now y) }
+{
+    let free = other.care & (other.care ^ cube.care);
+    if free == 0 {
+        None
+    } else {
+        Some(free.trailing_zeros())
+    }
+}
+
+/// Whether the rows say labels that differ.
+fn say_two<Q: Question>(question: &Q, row: &KissRow, other: &KissRow) -> bool
+    requires row { IfSome row.now.to (λ t. t < Q.states question.now) }
+    requires other { IfSome other.now.to (λ t. t < Q.states question.now) }
+    ensures { IsTrue result ↔ SayApart (Q.said question.now) row.now other.now }
+{
+    match (question.said(row), question.said(other)) {
+        (Some(v), Some(w)) => v != w,
+        _ => false,
+    }
+}
+
+/// The least symbol that both rows hold, where they say labels that differ.
+fn first_between<Q: Question>(question: &Q, row: &KissRow, other: &KissRow) -> Option<u32>
+    requires width { row.now.cube.width ≡ other.now.cube.width }
+    requires row { IfSome row.now.to (λ t. t < Q.states question.now) }
+    requires other { IfSome other.now.to (λ t. t < Q.states question.now) }
+    ensures some { IfSome result (AreApartAt (Q.said question.now) row.now other.now) }
+    ensures within { IfSome result (λ x. x < 2 ^ row.now.cube.width) }
+    ensures least { (y : ℕ) → AreApartAt (Q.said question.now) row.now other.now y → IsMetBy result true y }
+{
+    if !say_two(question, row, other) {
+        return None;
+    }
+    least_of_both(&row.cube, &other.cube)
+}
+
+/// The least symbol that both cubes hold.
+fn least_of_both(cube: &Cube, other: &Cube) -> Option<u32>
+    requires { cube.now.width ≡ other.now.width }
+    ensures first { IfSome result (HoldsNumber cube.now) }
+    ensures second { IfSome result (HoldsNumber other.now) }
+    ensures within { IfSome result (λ x. x < 2 ^ cube.now.width) }
+    ensures least { (y : ℕ) → HoldsNumber cube.now y → HoldsNumber other.now y → IsMetBy result true y }
+{
+    if cube.meets(other) {
+        Some(cube.value | other.value)
+    } else {
+        None
+    }
+}
+
+/// Whether the row says the part and shares a symbol with the cube.
+fn says_in<Q: Question>(question: &Q, row: &KissRow, cube: &Cube) -> bool
+    requires width { cube.now.width ≡ row.now.cube.width }
+    requires row { IfSome row.now.to (λ t. t < Q.states question.now) }
+    ensures { IsTrue result ↔ (IsSome (Q.said question.now row.now) × Meets cube.now row.now.cube) }
+{
+    cube.meets(&row.cube) && question.said(row).is_some()
+}
+
+impl Machine {
+    /// A symbol at which what is asked differs; where the least is asked for, it is the least such.
+    pub(crate) fn first_differing<Q: Question>(
+        &self,
+        question: &Q,
+        s: usize,
+        t: usize,
+        least: bool,
+    ) -> Option<u32>
+        requires s { s < length self.now.states }
+        requires t { t < length self.now.states }
+        requires known { length self.now.states ≤ Q.states question.now }
+        ensures some { IfSome result (DifferAt (Q.said question.now) (Q.unsaid question.now) self.now s t) }
+        ensures within { IfSome result (λ x. x < 2 ^ self.now.inputs) }
+        ensures met { (y : ℕ) → DifferAt (Q.said question.now) (Q.unsaid question.now) self.now s t y → IsMetBy result least y }
+    {
+        let found = self.first_said(question, s, t, least);
+        if is_settled(found, least) {
+            return found;
+        }
+        lesser(found, self.first_open_differing(question, s, t, least))
+    }
+
+    /// The same among the symbols at which rows of both states say the part.
+    fn first_said<Q: Question>(&self, question: &Q, s: usize, t: usize, least: bool) -> Option<u32>
+        requires s { s < length self.now.states }
+        requires t { t < length self.now.states }
+        requires known { length self.now.states ≤ Q.states question.now }
+        ensures some { IfSome result (SayTwo (Q.said question.now) self.now s t) }
+        ensures within { IfSome result (λ x. x < 2 ^ self.now.inputs) }
+        ensures met { (y : ℕ) → SayTwo (Q.said question.now) self.now s t y → IsMetBy result least y }
+    {
+        let mut found = None;
+        for number in self.numbers_of(s) {
+            found = lesser(
+                found,
+                self.first_apart_from(question, self.row(*number), t, least),
+            );
+            if is_settled(found, least) {
+                return found;
+            }
+        }
+        found
+    }
+
+    /// The same among the symbols that the row holds, with the label that it says.
+    fn first_apart_from<Q: Question>(
+        &self,
+        question: &Q,
+        row: &KissRow,
+        t: usize,
+        least: bool,
+    ) -> Option<u32>
+        requires t { t < length self.now.states }
+        requires known { length self.now.states ≤ Q.states question.now }
+        requires row { IsLawfulRow self.now.inputs self.now.outputs (length self.now.states) row.now }
+        ensures some { IfSome result (IsApartAt (Q.said question.now) self.now t row.now) }
+        ensures within { IfSome result (λ x. x < 2 ^ self.now.inputs) }
+        ensures met { (y : ℕ) → IsApartAt (Q.said question.now) self.now t row.now y → IsMetBy result least y }
+    {
+        let mut found = None;
+        for number in self.numbers_of(t) {
+            found = lesser(found, first_between(question, row, self.row(*number)));
+            if is_settled(found, least) {
+                return found;
+            }
+        }
+        found
+    }
+
+    /// The same among the symbols at which no row of one of the states says the part.
+    fn first_open_differing<Q: Question>(
+        &self,
+        question: &Q,
+        s: usize,
+        t: usize,
+        least: bool,
+    ) -> Option<u32>
+        requires s { s < length self.now.states }
+        requires t { t < length self.now.states }
+        requires known { length self.now.states ≤ Q.states question.now }
+        ensures some { IfSome result (DifferOpen (Q.said question.now) (Q.unsaid question.now) self.now s t) }
+        ensures within { IfSome result (λ x. x < 2 ^ self.now.inputs) }
+        ensures met { (y : ℕ) → DifferOpen (Q.said question.now) (Q.unsaid question.now) self.now s t y → IsMetBy result least y }
+    {
+        let first = self.first_alone(question, s, t, least);
+        if is_settled(first, least) {
+            return first;
+        }
+        let either = lesser(first, self.first_alone(question, t, s, least));
+        if is_settled(either, least) {
+            return either;
+        }
+        lesser(either, self.first_both_open(question, s, t, least))
+    }
+
+    /// The same among the symbols at which no row of either state says the part.
+    fn first_both_open<Q: Question>(
+        &self,
+        question: &Q,
+        s: usize,
+        t: usize,
+        least: bool,
+    ) -> Option<u32>
+        requires s { s < length self.now.states }
+        requires t { t < length self.now.states }
+        requires known { length self.now.states ≤ Q.states question.now }
+        ensures some { IfSome result (DifferBothOpen (Q.said question.now) (Q.unsaid question.now) self.now s t) }
+        ensures within { IfSome result (λ x. x < 2 ^ self.now.inputs) }
+        ensures met { (y : ℕ) → DifferBothOpen (Q.said question.now) (Q.unsaid question.now) self.now s t y → IsMetBy result least y }
+    {
+        if question.unsaid(s) == question.unsaid(t) {
+            return None;
+        }
+        self.first_open_in(question, s, t, whole(self.inputs()), least)
+    }
+
+    /// The same among the symbols at which a row of the first state says another label than the second has
+    /// for what no row says, and no row of the second says the part.
+    fn first_alone<Q: Question>(&self, question: &Q, s: usize, t: usize, least: bool) -> Option<u32>
+        requires s { s < length self.now.states }
+        requires t { t < length self.now.states }
+        requires known { length self.now.states ≤ Q.states question.now }
+        ensures some { IfSome result (SaysAlone (Q.said question.now) self.now s t (Q.unsaid question.now t)) }
+        ensures within { IfSome result (λ x. x < 2 ^ self.now.inputs) }
+        ensures met { (y : ℕ) → SaysAlone (Q.said question.now) self.now s t (Q.unsaid question.now t) y → IsMetBy result least y }
+    {
+        let mut found = None;
+        for number in self.numbers_of(s) {
+            found = lesser(
+                found,
+                self.first_alone_in(question, self.row(*number), t, least),
+            );
+            if is_settled(found, least) {
+                return found;
+            }
+        }
+        found
+    }
+
+    /// The same among the symbols that the row holds.
+    fn first_alone_in<Q: Question>(
+        &self,
+        question: &Q,
+        row: &KissRow,
+        t: usize,
+        least: bool,
+    ) -> Option<u32>
+        requires t { t < length self.now.states }
+        requires known { length self.now.states ≤ Q.states question.now }
+        requires row { IsLawfulRow self.now.inputs self.now.outputs (length self.now.states) row.now }
+        ensures some { IfSome result (IsAloneAt (Q.said question.now) self.now t (Q.unsaid question.now t) row.now) }
+        ensures within { IfSome result (λ x. x < 2 ^ self.now.inputs) }
+        ensures met { (y : ℕ) → IsAloneAt (Q.said question.now) self.now t (Q.unsaid question.now t) row.now y → IsMetBy result least y }
+    {
+        match question.said(row) {
+            Some(label) if label != question.unsaid(t) => self.first_open_in(
+                question, t, t, row.cube, least,
+            ),
+            _ => None,
+        }
+    }
+
+    /// A symbol of the cube at which no row of either state says the part; where the least is asked for, it
+    /// is the least such.
+    fn first_open_in<Q: Question>(
+        &self,
+        question: &Q,
+        s: usize,
+        t: usize,
+        cube: Cube,
+        least: bool,
+    ) -> Option<u32>
+        requires s { s < length self.now.states }
+        requires t { t < length self.now.states }
+        requires known { length self.now.states ≤ Q.states question.now }
+        requires width { cube.width ≡ self.now.inputs }
+        ensures some { IfSome result (λ x. HoldsNumber cube x × AreOpenAt (Q.said question.now) self.now s t x) }
+        ensures within { IfSome result (λ x. x < 2 ^ self.now.inputs) }
+        ensures met { (y : ℕ) → HoldsNumber cube y → AreOpenAt (Q.said question.now) self.now s t y → IsMetBy result least y }
+    {
+        let Some(said) = self.said_within(question, s, t, &cube) else {
+            return Some(cube.value);
+        };
+        let place = free_place(&cube, &said)?;
+        let low = self.first_open_in(question, s, t, half(cube, place, false), least);
+        if is_settled(low, least) {
+            return low;
+        }
+        lesser(
+            low,
+            self.first_open_in(question, s, t, half(cube, place, true), least),
+        )
+    }
+
+    /// The cube of a row of either state that says the part and shares a symbol with the cube.
+    fn said_within<Q: Question>(
+        &self,
+        question: &Q,
+        s: usize,
+        t: usize,
+        cube: &Cube,
+    ) -> Option<Cube>
+        requires s { s < length self.now.states }
+        requires t { t < length self.now.states }
+        requires known { length self.now.states ≤ Q.states question.now }
+        requires width { cube.now.width ≡ self.now.inputs }
+        ensures width { IfSome result (λ found. found.width ≡ self.now.inputs) }
+        ensures meets { IfSome result (Meets cube.now) }
+        ensures some { IfSome result (λ found. (y : ℕ) → HoldsNumber found y → AreOpenAt (Q.said question.now) self.now s t y → ⊥) }
+        ensures none { IfNone result ((y : ℕ) → HoldsNumber cube.now y → AreOpenAt (Q.said question.now) self.now s t y) }
+    {
+        match self.said_in(question, s, cube) {
+            Some(found) => Some(found),
+            None => self.said_in(question, t, cube),
+        }
+    }
+
+    /// The cube of a row of the state that says the part and shares a symbol with the cube.
+    fn said_in<Q: Question>(&self, question: &Q, s: usize, cube: &Cube) -> Option<Cube>
+        requires s { s < length self.now.states }
+        requires known { length self.now.states ≤ Q.states question.now }
+        requires width { cube.now.width ≡ self.now.inputs }
+        ensures width { IfSome result (λ found. found.width ≡ self.now.inputs) }
+        ensures meets { IfSome result (Meets cube.now) }
+        ensures some { IfSome result (λ found. (y : ℕ) → HoldsNumber found y → IsOpenAt (Q.said question.now) self.now s y → ⊥) }
+        ensures none { IfNone result ((y : ℕ) → HoldsNumber cube.now y → IsOpenAt (Q.said question.now) self.now s y) }
+    {
+        for number in self.numbers_of(s) {
+            let row = self.row(*number);
+            if says_in(question, row, cube) {
+                return Some(row.cube);
+            }
+        }
+        None
+    }
+}
