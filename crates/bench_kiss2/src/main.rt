@@ -54,7 +54,10 @@ fn main(rt: HostRuntime) -> anyhow::Result<()> {
     let kind = words.next().context("a kind of text is missing")?;
     let size: usize = words.next().context("a size is missing")?.parse()?;
     let work = work_of(words.next().context("the work is missing")?.as_str())?;
-    let times: u32 = words.next().context("a number of times is missing")?.parse()?;
+    let times: u32 = words
+        .next()
+        .context("a number of times is missing")?
+        .parse()?;
     let text = texts::text_of(alloc, kind.as_str(), size)?;
     println!(rt; "bytes {}", text.len())?;
     for _ in 0..times {
