@@ -4,6 +4,8 @@
 //! nothing is done.
 #![tactic(auto)]
 
+ghost use Rattle.std.specs.Prelude.{◌≤◌, length};
+
 mod texts;
 
 use anyhow::{Context, bail};
@@ -28,10 +30,9 @@ fn work_of(word: &str) -> anyhow::Result<Work> {
 }
 
 /// Does the work, and prints what it came to.
-fn run(rt: &impl Print, alloc: Global, text: &[u8], work: Work) -> anyhow::Result<()> {
-    if text.len() > 4_194_304 {
-        bail!("the text is too long");
-    }
+fn run(rt: &impl Print, alloc: Global, text: &[u8], work: Work) -> anyhow::Result<()>
+    requires { length text.now ≤ 4194304 }
+{
     if work == Work::Cut {
         println!(rt; "lines {}", cut_lines(alloc, text)?.len())?;
         return Ok(());

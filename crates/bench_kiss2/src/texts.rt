@@ -1,4 +1,6 @@
 //! Large KISS2 texts of several kinds.
+ghost use Rattle.std.specs.Prelude.{◌≤◌, IfOk, length, vec_len};
+
 use anyhow::{Error, bail};
 use std::alloc::{AllocError, Global};
 
@@ -9,10 +11,13 @@ const LIMIT: usize = 4_194_304;
 #[derive(Drop)]
 struct Text {
     bytes: Vec<u8>,
+    ghost bounded: { vec_len bytes ≤ 4194304 },
 }
 
 impl Text {
-    fn new(alloc: Global, front: &[u8]) -> Result<Text, AllocError> {
+    fn new(alloc: Global, front: &[u8]) -> Result<Text, AllocError>
+        requires { length front.now ≤ 4194304 }
+    {
         Ok(Text {
             bytes: Vec::from_slice(alloc, front)?,
         })
@@ -20,7 +25,7 @@ impl Text {
 
     /// Adds the piece, where there is room for it.
     fn add(&mut self, piece: &[u8]) -> Result<(), AllocError> {
-        if self.bytes.len() <= LIMIT && piece.len() <= LIMIT - self.bytes.len() {
+        if piece.len() <= LIMIT - self.bytes.len() {
             self.bytes.extend_from_slice(piece)?;
         }
         Ok(())
@@ -74,7 +79,9 @@ fn rows(alloc: Global, front: &[u8], size: usize) -> Result<Text, AllocError> {
 /// - `comments` are so many short comment lines before the toggle, `blanks` so many empty ones;
 /// - `line` is one line that is one field of so many bytes, `fields` a line `.ilb` with so many names;
 /// - `refused` is a fault on the first line, and then so many rows.
-pub fn text_of(alloc: Global, kind: &str, size: usize) -> Result<Vec<u8>, Error> {
+pub fn text_of(alloc: Global, kind: &str, size: usize) -> Result<Vec<u8>, Error>
+    ensures { IfOk result (λ bytes. vec_len bytes ≤ 4194304) }
+{
     let toggle = b".i 1\n.o 1\n0 a a 0\n1 a b 1\n0 b b 1\n1 b a 0\n.e\n";
     let mut text = Text::new(alloc, b"")?;
     match kind {
