@@ -1,5 +1,5 @@
 -- Meet and join of two partitions of the same states, after Hartmanis and Stearns.
-use Rattle.std.specs.Prelude.{◌≡◌, ℕ, ◌<◌, ◌↔◌, ◌⊎◌, List, [], ◌∷◌, length, slice_index}
+use Rattle.std.specs.Prelude.{◌≡◌, ℕ, ◌<◌, ◌↔◌, ◌⊎◌, List, [], ◌∷◌, length}
 use Rattle.partition.specs.Partition.{IsPartition, Together, Le}
 
 -- states are together in the meet where they are together in both

@@ -1,5 +1,4 @@
-use Rattle.std.proofs.Common.{List, ℕ, ap, ◌∙◌}
-use Rattle.partition.specs.Partition.{blocks_of}
+use Rattle.std.proofs.Common.{List, ℕ}
 use Rattle.partition.specs.Inner.Rows.{labels_of}
 use Rattle.partition.specs.Laws.Chains.{join_is_least}
 use Rattle.partition.proofs.RowNumbering.{join_blocks, join_by_rows}

@@ -1,5 +1,5 @@
 use Rattle.std.proofs.Common.{◌≡◌, ℕ, List, length, refl, subst, ap, ◌∙◌, arith}
-use Rattle.partition.specs.Inner.Rows.{Has, row_of}
+use Rattle.partition.specs.Inner.Rows.{Has}
 use Rattle.partition.specs.Laws.Chains.{chain_within}
 use Rattle.partition.proofs.Reaching.{IsJoining, joining_kept, joining_filled, joining_all}
 use Rattle.partition.proofs.bits.BitPart.join_into.Goals as goal

@@ -1,6 +1,6 @@
 use Rattle.std.proofs.Common.{◌≡◌, ◌≤◌, ℕ, List, length, sym, ap, ◌∙◌, arith}
 use Rattle.partition.specs.Bits.{bit_of}
-use Rattle.partition.specs.Inner.Rows.{row_of, IsRows, four_of}
+use Rattle.partition.specs.Inner.Rows.{row_of, IsRows}
 use Rattle.partition.proofs.Rows.{bits_above}
 use Rattle.partition.proofs.FlatRows.{bits_of_four}
 use Rattle.partition.proofs.bits.BitPart.row.Goals as goal

@@ -1,4 +1,4 @@
-use Rattle.std.proofs.Common.{◌≡◌, arith}
+use Rattle.std.proofs.Common.{arith}
 use Rattle.partition.specs.Laws.Labels.{blocks_of-le}
 use Rattle.partition.proofs.RowNumbering.{row_numbering_step}
 use Rattle.partition.proofs.bits.conversion.numbered_rows.Goals as goal

@@ -1,4 +1,4 @@
-use Rattle.std.proofs.Common.{◌≡◌, ◌+◌, ◌<◌, ◌≤◌, ℕ, arith}
+use Rattle.std.proofs.Common.{arith}
 use Rattle.partition.proofs.bits.rows.put_words.Goals as goal
 
 pub returns-clause-put : goal.returns-clause-put

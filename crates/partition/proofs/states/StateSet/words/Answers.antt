@@ -1,4 +1,4 @@
-use Rattle.std.proofs.Common.{◌≡◌, ◌<◌, ◌^◌, ℕ, List, get_or, ◌∙◌, subst, arith, rules}
+use Rattle.std.proofs.Common.{◌<◌, ◌^◌, ℕ, List, get_or, ◌∙◌, subst, arith}
 use Rattle.partition.proofs.states.StateSet.words.Goals as goal
 
 pub returns-clause-small : goal.returns-clause-small

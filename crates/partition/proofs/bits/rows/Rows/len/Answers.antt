@@ -1,4 +1,4 @@
-use Rattle.std.proofs.Common.{◌≡◌, length, sym, arith}
+use Rattle.std.proofs.Common.{sym, arith}
 use Rattle.partition.proofs.FlatRows.{states_of}
 use Rattle.partition.proofs.bits.rows.Rows.len.Goals as goal
 

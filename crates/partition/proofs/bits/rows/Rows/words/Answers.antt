@@ -1,5 +1,5 @@
-use Rattle.std.proofs.Common.{◌≡◌, ◌+◌, ◌*◌, ◌<◌, ◌≤◌, ℕ, ◌-◌, List, length, take, drop, sym, ap, subst, ◌∙◌, arith}
-use Rattle.partition.specs.Inner.Rows.{words_for, four_of, row_of, rows_in, words_at}
+use Rattle.std.proofs.Common.{◌≡◌, ◌+◌, ◌*◌, ℕ, ◌-◌, List, length, take, drop, sym, ap, ◌∙◌, arith}
+use Rattle.partition.specs.Inner.Rows.{words_for, four_of, row_of, words_at}
 use Rattle.partition.proofs.FlatRows.{states_of, row_room, words_between, row_of-rows_in, length-words_at}
 use Rattle.partition.proofs.bits.rows.Rows.words.Goals as goal
 
