@@ -12,7 +12,7 @@ use Rattle.kiss2.specs.declared.kiss_file.KissRow.{KissRow}
 use Rattle.kiss2.specs.declared.line_kind.LineKind.TheVariants.{Reset}
 use Rattle.kiss2.specs.declared.said.ResetLine.{ResetLine}
 use Rattle.kiss2.specs.declared.said.Said.{Said}
-use Rattle.kiss2.specs.Inner.Judging.{Stands, names_seen, reset_line}
+use Rattle.kiss2.specs.Inner.Judging.{Stands, reset_line}
 use Rattle.kiss2.specs.Kiss.{IsRowOf, closing_fault, reset_unknown}
 use Rattle.kiss2.specs.Standing.{line_with, reset_name, row_lines, state_names}
 use Rattle.kiss2.specs.Words.{current_field, field_at}

@@ -1,20 +1,19 @@
 -- The lines before the ending word, and faults among them.
-use Rattle.std.proofs.Common.{◌≡◌, ℕ, zero, suc, ◌+◌, ◌<◌, ◌≤◌, Bool, true, false, not, List, [], ◌∷◌, ◌++◌, length, get_or, take, Option, Some, None, ap, sym, ◌∙◌, refl, subst, inl, inr, arith}
+use Rattle.std.proofs.Common.{◌≡◌, ℕ, zero, suc, ◌+◌, ◌<◌, true, false, not, List, [], ◌∷◌, ◌++◌, length, get_or, take, Some, None, ap, sym, ◌∙◌, refl, subst, inl, inr, arith}
 use Rattle.std.specs.Prelude.{slice_get}
 use Rattle.std.specs.List.{prefix_len}
-use Rattle.std.proofs.lemmas.Bool.{cases_lt, cases_eq, false≢true, not_from_false, not_from_true}
-use Rattle.std.proofs.lemmas.List.{get_or_read, get_or-take, length-take-le, length_push, take-append-le, take-take, take_all, take_at, take_more}
-use Rattle.std.proofs.lemmas.List.Sums.{prefix_len-le-length, prefix_len_is, prefix_len_passes, prefix_len_stops}
-use Rattle.std.proofs.lemmas.Option.{get_or_from_slice_get, none-some, same_Some, slice_get-get_or, slice_get_past, slice_get_within}
+use Rattle.std.proofs.lemmas.Bool.{cases_lt, false≢true, not_from_false, not_from_true}
+use Rattle.std.proofs.lemmas.List.{get_or_read, get_or-take, length-take-le, length_push, take-append-le, take-take, take_all, take_at}
+use Rattle.std.proofs.lemmas.List.Sums.{prefix_len-le-length, prefix_len_is, prefix_len_stops}
+use Rattle.std.proofs.lemmas.Option.{none-some, same_Some, slice_get-get_or, slice_get_within}
 use Rattle.hs_io.specs.declared.lines.Line.{Line}
-use Rattle.kiss2.specs.declared.fault.KissKind.{KissKind}
 use Rattle.kiss2.specs.declared.fault.KissFault.{KissFault}
 use Rattle.kiss2.specs.declared.fault.KissFail.TheVariants.{Refused}
 use Rattle.kiss2.specs.declared.judging.LineFail.{LineFail}
 use Rattle.kiss2.specs.declared.judging.LineFail.TheVariants.{Fault, NoMemory}
 use Rattle.kiss2.specs.declared.said.Said.{Said}
 use Rattle.kiss2.specs.Faults.{fault_in}
-use Rattle.kiss2.specs.Kiss.{HaveNoFault, IsFirstFault, IsLineFault, before_end}
+use Rattle.kiss2.specs.Kiss.{HaveNoFault, IsLineFault, before_end}
 use Rattle.kiss2.specs.Inner.Judging.{FailsWith, IsSmall, Stands, fail_at}
 use Rattle.kiss2.specs.Words.{is_ending}
 

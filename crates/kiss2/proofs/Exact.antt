@@ -1,5 +1,5 @@
 -- An answer of the reader is the one that the text has.
-use Rattle.std.proofs.Common.{◌≡◌, ◌⊎◌, ℕ, List, Result, Ok, Err, refl, ap, inl, inr, sym}
+use Rattle.std.proofs.Common.{◌≡◌, ◌⊎◌, ℕ, List, Result, Ok, Err, refl, ap, inl, inr}
 use Rattle.std.specs.Prelude.{IfOk, MatchResult}
 use Rattle.kiss2.specs.declared.fault.KissFail.{KissFail}
 use Rattle.kiss2.specs.declared.fault.KissFail.TheVariants.{NoMemory, Refused}

@@ -1,15 +1,15 @@
 -- The bytes of the fields of a text.
-use Rattle.std.proofs.Common.{◌≡◌, ◌≢◌, ℕ, zero, suc, ◌+◌, ◌-◌, ◌<◌, ◌≤◌, Bool, true, false, not, cond, eqb, leb, ◌&&◌, ◌||◌, List, [], ◌∷◌, length, get_or, take, All, ap, sym, ◌∙◌, refl, subst, inl, inr, arith}
+use Rattle.std.proofs.Common.{◌≡◌, ℕ, suc, ◌+◌, ◌-◌, ◌<◌, ◌≤◌, Bool, true, false, cond, eqb, List, [], ◌∷◌, length, get_or, take, All, sym, subst, inl, inr, arith}
 use Rattle.std.specs.Prelude.{filter}
 use Rattle.std.specs.List.{AllByRecursion, before_first, list_all, onto_first, position_or_len, slice_split}
 use Rattle.std.specs.Str.Lines.{strip_carriage_return}
-use Rattle.std.proofs.lemmas.Bool.{and_parts, cases_Bool, false≢true, not-false, not_from_true}
+use Rattle.std.proofs.lemmas.Bool.{cases_Bool, not-false}
 use Rattle.std.proofs.lemmas.Bool.Decides.{nat_tests}
 use Rattle.std.proofs.lemmas.List.{get_or-take, length-take}
-use Rattle.std.proofs.lemmas.List.Elements.{All-from_recursion, recursion_from_All, All-take, All-weaker}
+use Rattle.std.proofs.lemmas.List.Elements.{All-from_recursion, recursion_from_All}
 use Rattle.std.proofs.lemmas.List.Sums.{AllPass-from_list_all, fails_before_first}
 use Rattle.hs_io.specs.declared.lines.Line.{Line}
-use Rattle.hs_io.specs.Lines.{begins_comment, content, ends_line, fields_in, fields_of, is_allowed, is_blank, is_field, line_of, lines_from, lines_of, lines_of_pieces, physical_lines}
+use Rattle.hs_io.specs.Lines.{begins_comment, content, ends_line, fields_of, is_allowed, is_blank, is_field, line_of, lines_from, lines_of, lines_of_pieces, physical_lines}
 use Rattle.kiss2.specs.Names.{IsNameByte}
 
 -- a part of a text that is cut: it is no longer, no byte of it cuts, and its bytes are the text's

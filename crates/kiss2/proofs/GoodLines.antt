@@ -1,9 +1,9 @@
 -- What lines without a fault have.
-use Rattle.std.proofs.Common.{◌≡◌, ℕ, zero, suc, ◌+◌, ◌<◌, ◌≤◌, Bool, true, false, not, eqb, ltb, cond, ◌&&◌, ◌||◌, List, [], ◌∷◌, ◌++◌, length, get_or, take, drop, Option, Some, None, All, Contains, ap, sym, ◌∙◌, refl, subst, inl, inr, arith}
-use Rattle.std.specs.Prelude.{filter, find, slice_get, unwrap_or}
-use Rattle.std.specs.List.{list_any, position_or_len}
-use Rattle.std.specs.Option.{is_none, is_some, option_map, option_or}
-use Rattle.std.proofs.lemmas.Bool.{cases_Bool, cases_lt, eqb-true, false≢true, ltb-false, not-false, ltb-true, not_from_false, or_left, or_parts, or_right}
+use Rattle.std.proofs.Common.{◌≡◌, ℕ, zero, suc, ◌<◌, ◌≤◌, Bool, true, false, not, eqb, ltb, cond, ◌||◌, List, [], ◌∷◌, ◌++◌, length, get_or, take, drop, Option, Some, None, All, ap, sym, ◌∙◌, refl, subst, inl, inr, arith}
+use Rattle.std.specs.Prelude.{filter, find, slice_get}
+use Rattle.std.specs.List.{position_or_len}
+use Rattle.std.specs.Option.{option_map, option_or}
+use Rattle.std.proofs.lemmas.Bool.{cases_Bool, eqb-true, false≢true, ltb-false, not-false, ltb-true, not_from_false, or_left, or_parts, or_right}
 use Rattle.std.proofs.lemmas.List.{length_push, take-append-drop, take_all}
 use Rattle.std.proofs.lemmas.List.Elements.{All-cons, All-nil}
 use Rattle.std.proofs.lemmas.List.Folds.{find-append, find_at, list_any-append}

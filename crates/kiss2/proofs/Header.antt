@@ -1,20 +1,18 @@
 -- The lines above the rows, as they are written, have no fault.
-use Rattle.std.proofs.Common.{◌≡◌, ◌≢◌, ℕ, zero, suc, ◌+◌, ◌<◌, ◌≤◌, ◌^◌, Bool, true, false, not, cond, eqb, ltb, ◌||◌, List, [], ◌∷◌, ◌++◌, length, Option, Some, None, All, ap, sym, ◌∙◌, refl, subst, inl, inr, arith, codes}
-use Rattle.std.specs.Prelude.{find, slice_get, take, unwrap_or}
+use Rattle.std.proofs.Common.{◌≡◌, ◌≢◌, ℕ, ◌<◌, ◌≤◌, ◌^◌, false, not, cond, eqb, ltb, ◌||◌, List, [], ◌∷◌, ◌++◌, length, Option, Some, None, All, ap, ◌∙◌, refl, arith}
+use Rattle.std.specs.Prelude.{find}
 use Rattle.std.specs.Fmt.{decimal}
 use Rattle.std.specs.List.{list_any}
 use Rattle.std.specs.Option.{option_map}
-use Rattle.std.proofs.lemmas.Bool.{eq-eqb, le-ltb, ne_eqb, not_from_true, or_from}
+use Rattle.std.proofs.lemmas.Bool.{eq-eqb, le-ltb, ne_eqb, or_from}
 use Rattle.std.proofs.lemmas.List.Elements.{All-head, All-tail}
-use Rattle.hs_io.specs.declared.lines.Line.{Line}
 use Rattle.kiss2.specs.declared.fault.KissKind.{KissKind}
-use Rattle.kiss2.specs.declared.fault.KissKind.TheVariants.{BadFields, BadNumber, MissingCounts, OverLimit, Repeated}
+use Rattle.kiss2.specs.declared.fault.KissKind.TheVariants.{BadFields, BadNumber, OverLimit, Repeated}
 use Rattle.kiss2.specs.declared.fault.KissLimit.{KissLimit}
-use Rattle.kiss2.specs.declared.fault.KissLimit.TheVariants.{Inputs, NameBytes, Outputs}
-use Rattle.kiss2.specs.Faults.{count_fault, fault_in, fault_where, first_of, has_twice, long_name, names_fault, number_fault, reset_fault}
-use Rattle.kiss2.specs.Kiss.{HaveNoFault}
+use Rattle.kiss2.specs.declared.fault.KissLimit.TheVariants.{NameBytes}
+use Rattle.kiss2.specs.Faults.{count_fault, fault_where, first_of, has_twice, long_name, names_fault, number_fault, reset_fault}
 use Rattle.kiss2.specs.Lawful.{IsGivenName}
-use Rattle.kiss2.specs.Words.{decimal_value, has_backslash, is_decimal}
+use Rattle.kiss2.specs.Words.{decimal_value, has_backslash}
 use Rattle.kiss2.proofs.ReadBack.{decimal_read}
 
 -- `.i` and `.o`

@@ -1,9 +1,9 @@
 -- Names, each once.
-use Rattle.std.proofs.Common.{◌≡◌, ◌≢◌, ℕ, zero, suc, ◌+◌, ◌<◌, ◌≤◌, Bool, true, false, not, cond, ◌||◌, ◌&&◌, List, [], ◌∷◌, ◌++◌, length, get_or, map, Contains, ap, sym, ◌∙◌, refl, subst, inl, inr, arith, append_assoc, append-nil}
+use Rattle.std.proofs.Common.{◌≡◌, ℕ, zero, suc, ◌+◌, ◌<◌, ◌≤◌, Bool, true, false, not, cond, ◌||◌, ◌&&◌, List, [], ◌∷◌, ◌++◌, length, Contains, ap, sym, ◌∙◌, refl, subst, inl, inr, arith, append_assoc, append-nil}
 use Rattle.std.specs.Prelude.{filter}
 use Rattle.std.specs.List.{flat_map, list_any}
 use Rattle.std.specs.Str.{bytes_eq}
-use Rattle.std.proofs.lemmas.Bool.{cases_Bool, false≢true, not_from_true, not_from_false, or_left, or_right, or_from, or_parts}
+use Rattle.std.proofs.lemmas.Bool.{cases_Bool, false≢true, or_left, or_right, or_from, or_parts}
 use Rattle.std.proofs.lemmas.List.Elements.{Contains-get_or, filter-append}
 use Rattle.std.proofs.lemmas.List.Folds.{list_any-append}
 use Rattle.std.proofs.lemmas.List.{length_push}
@@ -13,7 +13,7 @@ use Rattle.kiss2.specs.Faults.{has_twice}
 use Rattle.kiss2.specs.Inner.Judging.{names_on, names_seen, once_after}
 use Rattle.kiss2.specs.Names.{AreDistinct}
 use Rattle.kiss2.specs.Standing.{each_once, names_in_column, row_lines, state_names}
-use Rattle.kiss2.specs.Words.{current_field, field_at, is_name, next_field}
+use Rattle.kiss2.specs.Words.{current_field, is_name, next_field}
 use Rattle.kiss2.proofs.Finding.{contained_from_test, contained_test}
 
 -- a name is another one

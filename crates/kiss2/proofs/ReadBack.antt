@@ -1,21 +1,16 @@
 -- What is written of a lawful record is read back: its lines, and what stands in their fields.
-use Rattle.std.proofs.Common.{◌≡◌, ◌≢◌, ◌⊎◌, ℕ, zero, suc, ◌+◌, ◌-◌, ◌*◌, ◌/◌, ◌%◌, ◌<◌, ◌≤◌, ◌^◌, Bool, true, false, not, cond, eqb, ltb, leb, ◌&&◌, ◌||◌, List, [], ◌∷◌, ◌++◌, length, map, take, drop, get_or, Option, Some, None, All, Contains, ap, sym, ◌∙◌, refl, subst, inl, inr, arith, codes, append-nil, append_assoc}
-use Rattle.std.specs.Prelude.{count_by, filter, find, slice_get, unwrap_or}
+use Rattle.std.proofs.Common.{◌≡◌, ◌≢◌, ℕ, ◌+◌, ◌<◌, ◌^◌, true, false, not, cond, leb, ◌&&◌, List, [], ◌∷◌, length, map, ap, sym, ◌∙◌, refl, arith}
 use Rattle.std.specs.Char.{digit_value, is_ascii_digit}
 use Rattle.std.specs.Fmt.{decimal}
-use Rattle.std.specs.Int.{bit_at}
-use Rattle.std.specs.List.{AllByRecursion, AllZip, flat_map, list_all, list_any, range_with_len, take_while}
-use Rattle.std.specs.Str.Parse.{AllDigits, IsNumeral, digits_value}
-use Rattle.std.proofs.lemmas.Bool.{and_from, cases_Bool, cases_lt, eq-eqb, false≢true, le-leb, le-ltb, lt-ltb, ne_eqb, not_from_false, not_from_true, or_from}
+use Rattle.std.specs.List.{AllByRecursion, list_all}
+use Rattle.std.specs.Str.Parse.{AllDigits}
+use Rattle.std.proofs.lemmas.Bool.{and_from, le-leb}
 use Rattle.std.proofs.lemmas.Bool.Decides.{nat_tests}
 use Rattle.std.proofs.lemmas.Fmt.{decimal_is_IsNumeral, decimal_nonempty, length-decimal-le}
-use Rattle.std.proofs.lemmas.List.{length-map}
-use Rattle.std.proofs.lemmas.List.Elements.{All-from_recursion, recursion_from_All}
 use Rattle.std.proofs.lemmas.List.Folds.{flat_map-map}
-use Rattle.std.proofs.lemmas.List.Sums.{list_all-from_AllPass, take_while-cons}
-use Rattle.std.proofs.lemmas.Nat.Bits.{bit_at-lt, bit_at-suc, bit_at-zero, bit_at_above, bit_at_lowest, same_from_bits}
+use Rattle.std.proofs.lemmas.List.Sums.{take_while-cons}
 use Rattle.hs_io.specs.declared.lines.Line.{Line}
-use Rattle.hs_io.specs.Lines.{line_of, lines_from, lines_of, physical_lines}
+use Rattle.hs_io.specs.Lines.{lines_from, lines_of}
 use Rattle.hs_io.specs.Spelling.{ArePlainFields, IsFieldByte, IsPlainField, ended, line_text, spelled}
 use Rattle.hs_io.proofs.Spelled.{IsLineByte, line_bytes, line_of-fields, physical_lines-all}
 use Rattle.kiss2.specs.Kiss.{before_end}

@@ -1,19 +1,18 @@
 -- What is read is lawful.
-use Rattle.std.proofs.Common.{◌≡◌, ◌≢◌, ◌⊎◌, ℕ, zero, suc, ◌+◌, ◌-◌, ◌*◌, ◌%◌, ◌/◌, ◌<◌, ◌≤◌, ◌^◌, Bool, true, false, not, cond, eqb, ltb, ◌||◌, List, [], ◌∷◌, ◌++◌, length, map, take, drop, get_or, Option, Some, None, All, Contains, ap, sym, ◌∙◌, refl, subst, inl, inr, arith, codes, append-nil}
-use Rattle.std.specs.Prelude.{filter, find, slice_get, unwrap_or}
+use Rattle.std.proofs.Common.{◌≡◌, ◌≢◌, ◌⊎◌, ℕ, zero, suc, ◌+◌, ◌*◌, ◌%◌, ◌/◌, ◌<◌, ◌≤◌, ◌^◌, Bool, true, false, not, cond, eqb, ltb, ◌||◌, List, [], ◌∷◌, ◌++◌, length, map, take, drop, get_or, Option, Some, None, All, Contains, ap, sym, ◌∙◌, refl, subst, inl, inr, arith, codes, append-nil}
+use Rattle.std.specs.Prelude.{find, slice_get, unwrap_or}
 use Rattle.std.specs.Int.{bit_at}
 use Rattle.std.specs.List.{AllZip, cons_option, filter_map, list_any, prefix_len}
-use Rattle.std.specs.Option.{IfSome, is_none, option_map, option_or}
+use Rattle.std.specs.Option.{IfSome, option_map, option_or}
 use Rattle.std.specs.Str.{bytes_eq}
-use Rattle.std.proofs.lemmas.Bool.{cases_Bool, cases_eq, cases_lt, cases_order, eqb-true, false≢true, ltb-false, not-false, not-true, not_from_false, or_cases, or_from, or_left, or_parts, or_right}
+use Rattle.std.proofs.lemmas.Bool.{cases_Bool, cases_lt, cases_order, eqb-true, false≢true, ltb-false, not-false, not-true, not_from_false, or_cases, or_from, or_left, or_parts, or_right}
 use Rattle.std.proofs.lemmas.Bool.Decides.{nat_tests}
 use Rattle.std.proofs.lemmas.List.{append_assoc, take-append-drop}
-use Rattle.std.proofs.lemmas.List.Elements.{All-append, All-contains, All-cons, All-drop, All-filter, All-head, All-nil, All-tail, All-take, All-weaker}
+use Rattle.std.proofs.lemmas.List.Elements.{All-append, All-cons, All-drop, All-filter, All-head, All-nil, All-tail, All-take, All-weaker}
 use Rattle.std.proofs.lemmas.List.Folds.{find-append, list_any-append}
-use Rattle.std.proofs.lemmas.Nat.Bits.{bit_at-lt, bit_at-suc, bit_at-zero, bit_at_above, bit_at_lowest}
+use Rattle.std.proofs.lemmas.Nat.Bits.{bit_at-lt, bit_at-suc, bit_at_above, bit_at_lowest}
 use Rattle.std.proofs.lemmas.Option.{get_or_from_slice_get, none-some, same_Some, slice_get-get_or, slice_get_within}
 use Rattle.std.proofs.lemmas.Slice.Eq.{bytes_eq-Decides}
-use Rattle.cubes.specs.Cube.{text_of}
 use Rattle.cubes.specs.Symbol.{bit}
 use Rattle.hs_io.specs.declared.lines.Line.{Line}
 use Rattle.hs_io.specs.Lines.{lines_of}
@@ -24,11 +23,11 @@ use Rattle.kiss2.specs.declared.kiss_file.KissFile.{KissFile}
 use Rattle.kiss2.specs.declared.kiss_file.KissRow.{KissRow}
 use Rattle.kiss2.specs.declared.line_kind.LineKind.{LineKind}
 use Rattle.kiss2.specs.declared.line_kind.LineKind.TheVariants.{InputNames, OutputNames, Row}
-use Rattle.kiss2.specs.Faults.{fault_in, fault_where, first_of, has_twice, long_name, names_fault}
-use Rattle.kiss2.specs.Inner.Good.{IsGoodRow, IsKnownRow}
+use Rattle.kiss2.specs.Faults.{fault_where, has_twice, long_name, names_fault}
+use Rattle.kiss2.specs.Inner.Good.{IsGoodRow}
 use Rattle.kiss2.specs.Inner.Judging.{once_after}
-use Rattle.kiss2.specs.Kiss.{HaveNoFault, IsNextOf, IsReadAs, IsRecordOf, IsRowOf, Kiss, lines_read}
-use Rattle.kiss2.specs.Lawful.{AreGiven, AreNumbered, IsGivenName, IsLawful, IsLawfulRow, appearances, given_names}
+use Rattle.kiss2.specs.Kiss.{HaveNoFault, IsNextOf, IsRecordOf, IsRowOf, Kiss, lines_read}
+use Rattle.kiss2.specs.Lawful.{AreGiven, AreNumbered, IsGivenName, IsLawful, IsLawfulRow, appearances}
 use Rattle.kiss2.specs.Names.{AreDistinct, IsNameByte, IsPlainName}
 use Rattle.kiss2.specs.Standing.{each_once, inputs_said, line_with, names_in_column, names_said, outputs_said, row_lines, state_names}
 use Rattle.kiss2.specs.Words.{care_in, current_field, field_at, has_backslash, is_ending, is_name, is_of_kind, is_open, line_kind_of, next_field, operands, output_field, same_kind, value_in}
@@ -36,7 +35,7 @@ use Rattle.kiss2.proofs.Building.{field_length}
 use Rattle.kiss2.proofs.Closing.{some_rows}
 use Rattle.kiss2.proofs.FieldBytes.{HasGoodFields, fields_good}
 use Rattle.kiss2.proofs.Finding.{contained_from_test, contained_test}
-use Rattle.kiss2.proofs.GoodLines.{IsFound, all_kept, counts_there, few, fine, form_at, found, inputs_on, inputs_range, kind_row, none_first, outputs_on, outputs_range, passes, rows_good, some_from_map}
+use Rattle.kiss2.proofs.GoodLines.{IsFound, all_kept, few, fine, form_at, found, inputs_on, inputs_range, none_first, outputs_on, outputs_range, passes, rows_good}
 use Rattle.kiss2.proofs.Once.{among, among-each_once, distinct_from_once, each_once-append, itself, once-each_once}
 use Rattle.kiss2.proofs.SameRecord.{length-text, number_once, reset_there, states_distinct}
 

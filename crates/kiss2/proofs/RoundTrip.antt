@@ -1,5 +1,5 @@
 -- What is written of a lawful record is read back as that record.
-use Rattle.std.proofs.Common.{◌≡◌, ◌≢◌, ℕ, zero, suc, ◌+◌, ◌-◌, ◌<◌, ◌≤◌, ◌^◌, Bool, true, false, not, cond, eqb, List, [], ◌∷◌, ◌++◌, length, map, Option, Some, None, All, Contains, ap, sym, ◌∙◌, refl, subst, inl, inr, arith, codes, append_assoc, append-nil}
+use Rattle.std.proofs.Common.{◌≡◌, ℕ, suc, ◌+◌, ◌<◌, ◌≤◌, ◌^◌, Bool, true, false, cond, eqb, List, [], ◌∷◌, ◌++◌, length, map, Option, Some, None, All, ap, sym, ◌∙◌, refl, subst, arith, codes, append_assoc, append-nil}
 use Rattle.std.specs.Prelude.{slice_get, unwrap_or}
 use Rattle.std.specs.Fmt.{decimal}
 use Rattle.std.specs.List.{AllByRecursion, AllZip, cons_option, filter_map, list_any, range_with_len}
@@ -23,10 +23,10 @@ use Rattle.kiss2.specs.declared.kiss_file.KissFile.{KissFile}
 use Rattle.kiss2.specs.declared.kiss_file.KissRow.{KissRow}
 use Rattle.kiss2.specs.declared.line_kind.LineKind.{LineKind}
 use Rattle.kiss2.specs.declared.line_kind.LineKind.TheVariants.{InputCount, InputNames, OutputCount, OutputNames, Reset, Row, RowCount, StateCount}
-use Rattle.kiss2.specs.Faults.{fault_in, has_twice, names_fault}
+use Rattle.kiss2.specs.Faults.{has_twice, names_fault}
 use Rattle.kiss2.specs.Kiss.{HaveNoFault, IsReadAs, IsRowOf, Kiss, before_end, closing_fault, lines_read, reset_unknown}
 use Rattle.kiss2.specs.Lawful.{AreGiven, IsGivenName, IsLawful, IsLawfulRow, appearances, given_names}
-use Rattle.kiss2.specs.Names.{AreDistinct, IsNameByte, IsPlainName, name_of}
+use Rattle.kiss2.specs.Names.{IsNameByte, IsPlainName, name_of}
 use Rattle.kiss2.specs.Standing.{each_once, has_stood, inputs_said, line_with, names_in_column, names_said, outputs_said, row_lines, state_names}
 use Rattle.kiss2.specs.Words.{decimal_value, field_at, is_ending, is_of_kind, kind_of_field, operands, same_kind}
 use Rattle.kiss2.specs.Written.{fields_of_row, given_line, kiss_lines, kiss_text, next_name, output_characters, states_standing}
@@ -223,11 +223,16 @@ module _ (states : List (List ℕ)) (k o : ℕ) (some_k : 1 ≤ k) (some_o : 1 �
   row_plain row lawful =
       let wide : length (text_of row.cube) ≡ row.cube.width = length-text row.cube in
       let width = lawful.width in
-      let long : length (output_characters o row) ≡ o = length-map-range_with_len (λ b. byte_of (character row.care row.value b)) 0 o in
-      (record { some = omega arith; visible = characters_bytes (characters row.cube.width row.cube.care row.cube.value) },
-       (state_field row.from lawful.from,
-        (next_plain row.to lawful.to,
-         (record { some = omega arith; visible = outputs_bytes row (range_with_len 0 o) }, tt))))
+      let long : length (output_characters o row) ≡ o = length-map-range_with_len (λ b. byte_of (character row.care row.value b)) 0 o in (
+        record { some = omega arith; visible = characters_bytes (characters row.cube.width row.cube.care row.cube.value) },
+        (
+          state_field row.from lawful.from,
+          (
+            next_plain row.to lawful.to,
+            (record { some = omega arith; visible = outputs_bytes row (range_with_len 0 o) }, tt),
+          ),
+        ),
+      )
 
   rows_plain : (rows : List KissRow) → All (IsLawfulRow k o (length states)) rows → AllByRecursion ArePlainFields (map (fields_of_row states o) rows)
   rows_plain [] lawful = tt
@@ -251,14 +256,20 @@ head_plain k o ilb ob p s r sk so sp ss rp ga gb =
     let b = letter 98 (omega arith) (omega arith) in
     let oo = letter 111 (omega arith) (omega arith) in
     let ilb_plain : IsPlainField (codes ".ilb") = record { some = omega arith; visible = (dot, (i, (l, (b, tt)))) } in
-    let ob_plain : IsPlainField (codes ".ob") = record { some = omega arith; visible = (dot, (oo, (b, tt))) } in
-    ((word_plain 46 105 dot i, (decimal_plain k sk, tt)),
-     ((word_plain 46 111 dot oo, (decimal_plain o so, tt)),
-      all_append (given_line (codes ".ilb") ilb) _ (given_plain (codes ".ilb") ilb k ilb_plain ga)
-      (all_append (given_line (codes ".ob") ob) _ (given_plain (codes ".ob") ob o ob_plain gb)
-      ((word_plain 46 112 dot (letter 112 (omega arith) (omega arith)), (decimal_plain p sp, tt)),
-       ((word_plain 46 115 dot (letter 115 (omega arith) (omega arith)), (decimal_plain s ss, tt)),
-        ((word_plain 46 114 dot (letter 114 (omega arith) (omega arith)), (rp, tt)), tt))))))
+    let ob_plain : IsPlainField (codes ".ob") = record { some = omega arith; visible = (dot, (oo, (b, tt))) } in (
+      (word_plain 46 105 dot i, (decimal_plain k sk, tt)),
+      (
+        (word_plain 46 111 dot oo, (decimal_plain o so, tt)),
+        all_append (given_line (codes ".ilb") ilb) _ (given_plain (codes ".ilb") ilb k ilb_plain ga)
+            (all_append (given_line (codes ".ob") ob) _ (given_plain (codes ".ob") ob o ob_plain gb) (
+              (word_plain 46 112 dot (letter 112 (omega arith) (omega arith)), (decimal_plain p sp, tt)),
+              (
+                (word_plain 46 115 dot (letter 115 (omega arith) (omega arith)), (decimal_plain s ss, tt)),
+                ((word_plain 46 114 dot (letter 114 (omega arith) (omega arith)), (rp, tt)), tt),
+              ),
+            )),
+      ),
+    )
 
 -- lines that do not end the text, and the ending word behind them
 last_ends : (n : ℕ) → before_end (numbered n ((codes ".e" ∷ []) ∷ [])) ≡ []

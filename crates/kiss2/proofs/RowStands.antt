@@ -1,11 +1,10 @@
 -- What stands after one row more.
-use Rattle.std.proofs.Common.{◌≡◌, ℕ, ◌+◌, ◌<◌, ◌≤◌, Bool, true, false, not, ltb, cond, List, [], ◌∷◌, ◌++◌, length, Option, Some, None, ap, sym, ◌∙◌, refl, arith}
+use Rattle.std.proofs.Common.{◌≡◌, ℕ, ◌+◌, ◌<◌, ◌≤◌, Bool, true, false, not, ltb, List, [], ◌∷◌, ◌++◌, length, Some, None, ap, sym, ◌∙◌, refl}
 use Rattle.std.specs.Prelude.{filter}
 use Rattle.std.specs.List.{flat_map}
 use Rattle.std.proofs.lemmas.Bool.{le-ltb, lt-ltb}
 use Rattle.std.proofs.lemmas.List.{flat_map_more, length_push}
 use Rattle.hs_io.specs.declared.lines.Line.{Line}
-use Rattle.kiss2.specs.declared.fault.KissKind.{KissKind}
 use Rattle.kiss2.specs.declared.fault.KissKind.TheVariants.{BadOutput, OverLimit}
 use Rattle.kiss2.specs.declared.fault.KissLimit.TheVariants.{States}
 use Rattle.kiss2.specs.declared.line_kind.LineKind.TheVariants.{Row}
@@ -13,7 +12,7 @@ use Rattle.kiss2.specs.declared.said.Said.{Said}
 use Rattle.kiss2.specs.Faults.{fault_in, fault_where, first_of, row_fault}
 use Rattle.kiss2.specs.Inner.Judging.{Stands, names_on, names_seen, once_after}
 use Rattle.kiss2.specs.Standing.{each_once, row_lines, state_names}
-use Rattle.kiss2.specs.Words.{current_field, is_character_field, is_name, line_kind_of, next_field, output_field}
+use Rattle.kiss2.specs.Words.{current_field, is_name, line_kind_of, next_field}
 use Rattle.kiss2.proofs.Once.{each_once-append, put_both, seen_count}
 use Rattle.kiss2.proofs.Stood.{fault_form, rows_more, stay}
 

@@ -1,17 +1,16 @@
 -- The rows, as they are written, have no fault, and are read as they were.
-use Rattle.std.proofs.Common.{◌≡◌, ◌≢◌, ℕ, zero, suc, ◌+◌, ◌-◌, ◌*◌, ◌/◌, ◌%◌, ◌<◌, ◌≤◌, ◌^◌, Bool, true, false, not, cond, eqb, ltb, ◌&&◌, ◌||◌, List, [], ◌∷◌, ◌++◌, length, map, get_or, min, bit_and, Option, Some, None, All, Contains, ap, sym, ◌∙◌, refl, subst, inl, inr, arith, codes, append_assoc, append-nil}
-use Rattle.std.specs.Prelude.{filter, slice_get}
+use Rattle.std.proofs.Common.{◌≡◌, ℕ, zero, suc, ◌+◌, ◌*◌, ◌/◌, ◌%◌, ◌<◌, ◌≤◌, ◌^◌, Bool, true, false, not, cond, eqb, ltb, List, [], ◌∷◌, ◌++◌, length, map, Option, Some, None, All, ap, sym, ◌∙◌, refl, subst, inl, inr, arith, codes, append_assoc, append-nil}
+use Rattle.std.specs.Prelude.{filter}
 use Rattle.std.specs.Int.{bit_at}
-use Rattle.std.specs.List.{AllByRecursion, AllZip, cons_option, filter_map, list_all, list_any, range_with_len}
+use Rattle.std.specs.List.{AllByRecursion, AllZip, cons_option, filter_map, list_all, range_with_len}
 use Rattle.std.specs.Option.{IfSome}
 use Rattle.std.specs.Str.{bytes_eq}
-use Rattle.std.proofs.lemmas.Bool.{and_from, cases_Bool, cases_lt, eq-eqb, eqb-true, false≢true, false_from_ne_true, le-ltb, lt-ltb, ne_eqb, not_from_false, not_from_true, or_cases, or_from, or_left, or_right}
-use Rattle.std.proofs.lemmas.Bool.Decides.{nat_tests}
-use Rattle.std.proofs.lemmas.List.{length-map, length_push, map-append}
-use Rattle.std.proofs.lemmas.List.Elements.{Contains-get_or, All-cons, All-head, All-nil, All-tail, filter-append}
+use Rattle.std.proofs.lemmas.Bool.{and_from, cases_Bool, cases_lt, eq-eqb, false≢true, false_from_ne_true, le-ltb, lt-ltb, not_from_false, not_from_true, or_cases, or_from, or_left, or_right}
+use Rattle.std.proofs.lemmas.List.{length_push}
+use Rattle.std.proofs.lemmas.List.Elements.{Contains-get_or, All-cons, All-head, All-nil, All-tail}
 use Rattle.std.proofs.lemmas.List.Folds.{list_any-append}
-use Rattle.std.proofs.lemmas.List.FromFn.{length-map-range_with_len, length-range_with_len}
-use Rattle.std.proofs.lemmas.Nat.Bits.{bit_at-lt, bit_at-suc, bit_at-zero, bit_at_above, bit_at_lowest, same_from_bits}
+use Rattle.std.proofs.lemmas.List.FromFn.{length-map-range_with_len}
+use Rattle.std.proofs.lemmas.Nat.Bits.{bit_at-lt, bit_at-suc, bit_at_above, bit_at_lowest, same_from_bits}
 use Rattle.std.proofs.lemmas.Option.{slice_get-get_or}
 use Rattle.std.proofs.lemmas.Slice.Eq.{bytes_eq-Decides}
 use Rattle.cubes.specs.declared.cube.Cube.{Cube}
@@ -20,28 +19,27 @@ use Rattle.cubes.specs.Field.{byte_of, character, characters}
 use Rattle.cubes.specs.Symbol.{bit}
 use Rattle.hs_io.specs.declared.lines.Line.{Line}
 use Rattle.kiss2.specs.declared.fault.KissKind.{KissKind}
-use Rattle.kiss2.specs.declared.fault.KissKind.TheVariants.{AnyState, BadCube, BadFields, BadOutput, MissingCounts, OverLimit}
+use Rattle.kiss2.specs.declared.fault.KissKind.TheVariants.{AnyState, BadCube, BadOutput, OverLimit}
 use Rattle.kiss2.specs.declared.fault.KissLimit.TheVariants.{Rows, States}
 use Rattle.kiss2.specs.declared.kiss_file.KissRow.{KissRow}
 use Rattle.kiss2.specs.declared.line_kind.LineKind.{LineKind}
 use Rattle.kiss2.specs.declared.line_kind.LineKind.TheVariants.{End, Row}
-use Rattle.kiss2.specs.Faults.{fault_in, fault_where, first_of, has_twice, long_name, row_fault}
+use Rattle.kiss2.specs.Faults.{fault_in, fault_where, first_of, has_twice, long_name}
 use Rattle.kiss2.specs.Kiss.{HaveNoFault, IsNextOf, IsRowOf}
 use Rattle.kiss2.specs.Lawful.{IsLawfulRow}
-use Rattle.kiss2.specs.Names.{AreDistinct, IsPlainName, name_of}
+use Rattle.kiss2.specs.Names.{IsPlainName, name_of}
 use Rattle.kiss2.specs.Standing.{inputs_said, line_with, names_in_column, outputs_said, row_lines, state_names}
-use Rattle.kiss2.specs.Words.{care_in, current_field, field_at, input_field, is_character, is_character_field, is_ending, is_name, is_open, kind_of_field, line_kind_of, next_field, output_field, same_kind, value_in}
+use Rattle.kiss2.specs.Words.{care_in, is_character, is_character_field, is_ending, is_name, is_open, kind_of_field, line_kind_of, same_kind, value_in}
 use Rattle.kiss2.specs.Written.{fields_of_row, next_name, output_characters}
 use Rattle.kiss2.proofs.Building.{names_in_column-append}
 use Rattle.kiss2.proofs.Ending.{faultless_push}
-use Rattle.kiss2.proofs.Finding.{contained_test, once_from_distinct}
+use Rattle.kiss2.proofs.Finding.{contained_test}
 use Rattle.kiss2.proofs.GoodLines.{among_states}
 use Rattle.kiss2.proofs.Header.{none_long}
 use Rattle.kiss2.proofs.Once.{among, no_more, once-each_once}
 use Rattle.kiss2.proofs.ReadBack.{numbered}
 use Rattle.kiss2.proofs.SameRecord.{length-text}
 use Rattle.kiss2.proofs.Stood.{fault_form, rows_more, skip, stay}
-use Rattle.kiss2.proofs.Written.{range_push}
 
 -- characters that are written are characters
 byte_test : (c : Option Bool) → is_character (byte_of c) ≡ true

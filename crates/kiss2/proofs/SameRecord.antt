@@ -1,14 +1,13 @@
 -- Lines give at most one record.
-use Rattle.std.proofs.Common.{◌≡◌, ◌≢◌, ℕ, zero, suc, ◌+◌, ◌<◌, ◌≤◌, ◌^◌, Bool, true, false, cond, eqb, min, List, [], ◌∷◌, length, map, Option, Some, None, bit_and, ap, sym, ◌∙◌, refl, subst, inl, inr, arith}
+use Rattle.std.proofs.Common.{◌≡◌, ℕ, zero, suc, ◌<◌, ◌≤◌, ◌^◌, Bool, true, false, cond, eqb, min, List, [], ◌∷◌, length, map, Option, Some, None, bit_and, ap, sym, ◌∙◌, refl, subst, inl, inr, arith}
 use Rattle.std.specs.Prelude.{slice_get}
 use Rattle.std.specs.Int.{bit_at}
 use Rattle.std.specs.List.{AllZip}
 use Rattle.std.specs.Option.{option_map, option_or}
 use Rattle.kiss2.specs.declared.line_kind.LineKind.TheVariants.{Reset}
 use Rattle.std.proofs.lemmas.Bool.{cases_Bool, cases_lt, cases_order, eqb-true, false≢true}
-use Rattle.std.proofs.lemmas.Bool.Decides.{nat_tests}
 use Rattle.std.proofs.lemmas.List.{length-map}
-use Rattle.std.proofs.lemmas.Nat.Bits.{bit_at-lt, bit_at_above, bit_at_and, same_from_bits, same_from_bits_below}
+use Rattle.std.proofs.lemmas.Nat.Bits.{bit_at-lt, bit_at_above, bit_at_and, same_from_bits}
 use Rattle.std.proofs.lemmas.Option.{get_or_from_slice_get, none-some, same_Some, slice_get_within}
 use Rattle.std.proofs.Props.{props}
 use Rattle.cubes.specs.declared.cube.Cube.{Cube}
@@ -18,11 +17,10 @@ use Rattle.cubes.specs.Symbol.{bit}
 use Rattle.hs_io.specs.declared.lines.Line.{Line}
 use Rattle.kiss2.specs.declared.kiss_file.KissFile.{KissFile}
 use Rattle.kiss2.specs.declared.kiss_file.KissRow.{KissRow}
-use Rattle.kiss2.specs.Faults.{has_twice}
 use Rattle.kiss2.specs.Kiss.{IsNextOf, IsRecordOf, IsRowOf}
 use Rattle.kiss2.specs.Names.{AreDistinct}
-use Rattle.kiss2.specs.Standing.{each_once, line_with, reset_name, row_lines, state_names}
-use Rattle.kiss2.specs.Words.{current_field, field_at, is_open, next_field}
+use Rattle.kiss2.specs.Standing.{line_with, reset_name, row_lines, state_names}
+use Rattle.kiss2.specs.Words.{current_field, field_at, next_field}
 use Rattle.kiss2.proofs.Once.{distinct_from_once, once-each_once}
 
 -- cubes with the same numbers are one

@@ -1,12 +1,11 @@
 -- What stands after one line more, and what a line's fault is.
-use Rattle.std.proofs.Common.{◌≡◌, ℕ, ◌+◌, ◌<◌, Bool, true, false, cond, List, [], ◌∷◌, ◌++◌, length, Option, Some, None, ap, sym, ◌∙◌, refl, arith, append-nil}
-use Rattle.std.specs.Prelude.{drop, filter, find, slice_index_or}
+use Rattle.std.proofs.Common.{◌≡◌, ℕ, Bool, true, false, cond, List, [], ◌∷◌, ◌++◌, length, Option, Some, None, ap, sym, ◌∙◌, refl, append-nil}
+use Rattle.std.specs.Prelude.{drop, slice_index_or}
 use Rattle.std.specs.List.{flat_map}
 use Rattle.std.specs.Option.{is_some, option_map, option_or}
 use Rattle.std.proofs.lemmas.Bool.{false≢true}
 use Rattle.std.proofs.lemmas.List.Folds.{find-append}
 use Rattle.std.proofs.lemmas.List.Elements.{filter-append}
-use Rattle.std.proofs.lemmas.List.{length_push}
 use Rattle.hs_io.specs.declared.lines.Line.{Line}
 use Rattle.kiss2.specs.declared.fault.KissKind.{KissKind}
 use Rattle.kiss2.specs.declared.fault.KissKind.TheVariants.{BadByte, Repeated}

@@ -1,5 +1,5 @@
 -- A text that is written, one piece after another.
-use Rattle.std.proofs.Common.{◌≡◌, ℕ, zero, suc, ◌+◌, ◌-◌, ◌<◌, ◌≤◌, ◌^◌, Bool, true, false, cond, eqb, ◌||◌, List, [], ◌∷◌, ◌++◌, length, map, take, get_or, Option, Some, None, ap, sym, ◌∙◌, refl, arith, append_assoc, append-nil}
+use Rattle.std.proofs.Common.{◌≡◌, ℕ, zero, suc, ◌+◌, ◌-◌, ◌<◌, ◌≤◌, ◌^◌, Bool, true, false, cond, eqb, ◌||◌, List, [], ◌∷◌, ◌++◌, length, map, take, get_or, Some, None, ap, sym, ◌∙◌, refl, arith, append_assoc, append-nil}
 use Rattle.std.specs.Prelude.{count_by}
 use Rattle.std.specs.List.{cons_option, filter_map, list_any, range_with_len}
 use Rattle.std.proofs.lemmas.List.{map-append, same_lists, take_more}

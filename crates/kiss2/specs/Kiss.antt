@@ -1,6 +1,6 @@
 -- Which machine a KISS2 text says, or what its first fault is (source: SIS manual, KISS2, narrowed to this product's
 -- profile).
-use Rattle.std.specs.Prelude.{◌≡◌, ◌==◌, ℕ, ◌⊎◌, Bool, true, false, not, if◌then◌else◌, IsTrue, List, [], ◌∷◌, Option, Some, None, length, slice_get, take, take_while}
+use Rattle.std.specs.Prelude.{◌≡◌, ◌==◌, ℕ, ◌⊎◌, true, false, not, if◌then◌else◌, List, Option, Some, None, length, slice_get, take, take_while}
 use Rattle.std.specs.List.{AllZip, list_any}
 use Rattle.std.specs.Str.{bytes_eq}
 use Rattle.cubes.specs.Cube.{text_of}

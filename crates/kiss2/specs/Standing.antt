@@ -1,5 +1,5 @@
 -- What stands in lines of a KISS2 text (source: SIS manual, KISS2).
-use Rattle.std.specs.Prelude.{ℕ, Bool, not, if◌then◌else◌, List, [], ◌∷◌, ◌++◌, Option, Some, None, filter, find, length, map, slice_get}
+use Rattle.std.specs.Prelude.{ℕ, Bool, not, List, [], ◌∷◌, ◌++◌, Option, filter, find, map, slice_get}
 use Rattle.std.specs.Option.{is_some, option_map, option_or}
 use Rattle.std.specs.Str.{bytes_eq}
 use Rattle.hs_io.specs.declared.lines.Line.{Line}

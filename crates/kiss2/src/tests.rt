@@ -164,33 +164,33 @@ fn texts_are_refused(rt: HostRuntime) -> Result<(), Fail> {
     Ok(())
 }
 
-/// The answers to the fronts of the toggle, from a length to another: a fault, or none.
+/// The answers to the fronts of the toggle, from a length up to another: a fault, or none.
 #[test]
 fn truncated_texts(rt: HostRuntime) -> Result<(), Fail> {
     let no_rows = Some((0, KissKind::NoRows));
     let fields = |line: u32| Some((line, KissKind::BadFields));
     let word = |line: u32| Some((line, KissKind::UnknownWord));
     let table = [
-        (0usize, 0usize, no_rows),
-        (1, 1, word(1)),
-        (2, 3, fields(1)),
-        (4, 5, no_rows),
-        (6, 6, word(2)),
-        (7, 8, fields(2)),
-        (9, 10, no_rows),
-        (11, 16, fields(3)),
-        (17, 18, None),
-        (19, 24, fields(4)),
-        (25, 26, None),
-        (27, 32, fields(5)),
-        (33, 34, None),
-        (35, 40, fields(6)),
-        (41, 42, None),
-        (43, 43, word(7)),
-        (44, 45, None),
+        (0usize, 1usize, no_rows),
+        (1, 2, word(1)),
+        (2, 4, fields(1)),
+        (4, 6, no_rows),
+        (6, 7, word(2)),
+        (7, 9, fields(2)),
+        (9, 11, no_rows),
+        (11, 17, fields(3)),
+        (17, 19, None),
+        (19, 25, fields(4)),
+        (25, 27, None),
+        (27, 33, fields(5)),
+        (33, 35, None),
+        (35, 41, fields(6)),
+        (41, 43, None),
+        (43, 44, word(7)),
+        (44, 46, None),
     ];
-    for (first, last, wanted) in table {
-        for length in first..last + 1 {
+    for (first, end, wanted) in table {
+        for length in first..end {
             let Some((text, _)) = TOGGLE.split_at_checked(length) else {
                 panic!(rt; "no front of length {length}");
             };

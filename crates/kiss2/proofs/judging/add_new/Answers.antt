@@ -1,4 +1,4 @@
-use Rattle.std.proofs.Common.{◌≡◌, ◌++◌, length, take, Contains, sym, ◌∙◌, subst, ap, arith}
+use Rattle.std.proofs.Common.{◌≡◌, ◌++◌, take, Contains, sym, ◌∙◌, subst, ap, arith}
 use Rattle.kiss2.specs.Names.{AreDistinct}
 use Rattle.std.proofs.lemmas.List.{take_all}
 use Rattle.kiss2.proofs.Finding.{contained_at, once_from_distinct, twice_at}

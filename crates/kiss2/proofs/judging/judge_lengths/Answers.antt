@@ -1,4 +1,4 @@
-use Rattle.std.proofs.Common.{◌≡◌, ◌<◌, length, get_or, sym, ◌∙◌, subst, arith}
+use Rattle.std.proofs.Common.{◌<◌, length, subst, arith}
 use Rattle.kiss2.proofs.Finding.{long_first, none_long}
 use Rattle.kiss2.proofs.judging.judge_lengths.Goals as goal
 

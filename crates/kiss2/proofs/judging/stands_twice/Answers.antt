@@ -1,4 +1,4 @@
-use Rattle.std.proofs.Common.{◌≡◌, ◌++◌, true, false, not, sym, ◌∙◌, ap}
+use Rattle.std.proofs.Common.{◌≡◌, ◌++◌, false, not, sym, ◌∙◌, ap}
 use Rattle.kiss2.specs.Faults.{has_twice}
 use Rattle.kiss2.proofs.Finding.{twice_more}
 use Rattle.kiss2.proofs.judging.stands_twice.Goals as goal

@@ -1,4 +1,3 @@
-use Rattle.kiss2.proofs.Exact.{same_fault}
 use Rattle.kiss2.proofs.ReadLawful.{read_lawful}
 use Rattle.kiss2.proofs.laws.read_is_lawful.Goals as goal
 

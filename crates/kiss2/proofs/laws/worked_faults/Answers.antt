@@ -1,12 +1,10 @@
-use Rattle.std.proofs.Common.{◌≡◌, refl, ℕ, List, [], ◌∷◌, Some}
-use Rattle.kiss2.specs.declared.fault.KissFault.{KissFault}
-use Rattle.kiss2.specs.declared.fault.KissKind.{KissKind}
+use Rattle.std.proofs.Common.{refl, []}
 use Rattle.kiss2.specs.Faults.{fault_in}
 use Rattle.kiss2.specs.Kiss.{lines_read}
 use Rattle.kiss2.specs.Standing.{each_once, state_names}
 use Rattle.kiss2.specs.Words.{kind_of_field}
 use Rattle.kiss2.proofs.Ending.{faultless_none}
-use Rattle.kiss2.proofs.Scanning.{scan, scanned}
+use Rattle.kiss2.proofs.Scanning.{scanned}
 use Rattle.kiss2.proofs.laws.worked_faults.Goals as goal
 
 pub returns-clause-nothing : goal.returns-clause-nothing

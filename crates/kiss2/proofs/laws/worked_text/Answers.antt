@@ -3,11 +3,10 @@ use Rattle.std.specs.Prelude.{Option, codes, slice_get}
 use Rattle.std.proofs.lemmas.Option.{same_Some}
 use Rattle.cubes.specs.Cube.{text_of}
 use Rattle.kiss2.specs.Names.{AreDistinct}
-use Rattle.hs_io.specs.declared.lines.Line.{Line}
 use Rattle.kiss2.specs.declared.kiss_file.KissFile.{KissFile}
 use Rattle.kiss2.specs.declared.kiss_file.KissRow.{KissRow}
 use Rattle.kiss2.specs.Faults.{fault_in}
-use Rattle.kiss2.specs.Kiss.{HaveNoFault, IsRecordOf, IsRowOf, Kiss, closing_fault, lines_read}
+use Rattle.kiss2.specs.Kiss.{HaveNoFault, Kiss, closing_fault, lines_read}
 use Rattle.kiss2.specs.Standing.{each_once, state_names}
 use Rattle.kiss2.specs.Words.{care_in, kind_of_field, value_in}
 use Rattle.kiss2.specs.Worked.{text, worked_lines}

@@ -1,5 +1,4 @@
-use Rattle.std.proofs.Common.{◌≡◌, false, Contains, sym, ◌∙◌, subst}
-use Rattle.std.specs.Option.{is_some}
+use Rattle.std.proofs.Common.{Contains, sym, ◌∙◌, subst}
 use Rattle.kiss2.proofs.Closing.{reset_known, reset_missing}
 use Rattle.kiss2.proofs.Finding.{contained_at, not_contained}
 use Rattle.kiss2.proofs.reader.closing.Goals as goal

@@ -1,6 +1,6 @@
-use Rattle.std.proofs.Common.{◌≡◌, ◌+◌, ◌++◌, [], ◌∷◌, true, false, length, take, sym, ◌∙◌, ap, subst, arith}
+use Rattle.std.proofs.Common.{◌≡◌, ◌+◌, ◌++◌, [], ◌∷◌, take, sym, ◌∙◌, ap, subst, arith}
 use Rattle.std.proofs.lemmas.List.{take_all, take_more}
-use Rattle.kiss2.specs.Kiss.{HaveNoFault, before_end}
+use Rattle.kiss2.specs.Kiss.{HaveNoFault}
 use Rattle.kiss2.specs.Inner.Judging.{Stands}
 use Rattle.kiss2.proofs.Ending.{end_at, faultless_push, goes_more, line_fault, no_end}
 use Rattle.kiss2.proofs.reader.judge.Goals as goal

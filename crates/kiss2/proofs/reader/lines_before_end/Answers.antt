@@ -1,4 +1,4 @@
-use Rattle.std.proofs.Common.{◌≡◌, ◌<◌, length, sym, ◌∙◌, arith}
+use Rattle.std.proofs.Common.{sym, ◌∙◌, arith}
 use Rattle.kiss2.proofs.Ending.{end_at, no_end}
 use Rattle.kiss2.proofs.reader.lines_before_end.Goals as goal
 

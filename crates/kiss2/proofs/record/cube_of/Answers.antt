@@ -1,4 +1,4 @@
-use Rattle.std.proofs.Common.{◌≡◌, Err, ap, ◌∙◌}
+use Rattle.std.proofs.Common.{Err, ap, ◌∙◌}
 use Rattle.kiss2.proofs.Building.{parsed}
 use Rattle.kiss2.proofs.record.cube_of.Goals as goal
 

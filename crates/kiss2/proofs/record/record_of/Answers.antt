@@ -1,12 +1,11 @@
-use Rattle.std.proofs.Common.{◌≡◌, ◌≤◌, ◌<◌, length, get_or, None, Some, All, Contains, sym, ◌∙◌, ap, subst, arith}
-use Rattle.std.specs.List.{AllZip}
+use Rattle.std.proofs.Common.{◌≡◌, length, get_or, Some, All, Contains, sym, ◌∙◌, subst}
 use Rattle.std.specs.Option.{IfNone, IfSome}
 use Rattle.std.proofs.lemmas.List.Elements.{All-weaker}
 use Rattle.std.proofs.lemmas.Option.{none-some}
 use Rattle.kiss2.specs.declared.kiss_file.KissRow.{KissRow}
 use Rattle.kiss2.specs.Inner.Good.{IsGoodRow, IsKnownRow}
 use Rattle.kiss2.specs.Kiss.{IsRowOf}
-use Rattle.kiss2.specs.Standing.{inputs_said, outputs_said, row_lines, state_names}
+use Rattle.kiss2.specs.Standing.{inputs_said, outputs_said, row_lines}
 use Rattle.kiss2.proofs.Closing.{reset_is_known, reset_number, some_rows, zip_some}
 use Rattle.kiss2.proofs.GoodLines.{counts_there, few, inputs_range, outputs_range, rows_good, rows_known}
 use Rattle.kiss2.proofs.record.record_of.Goals as goal

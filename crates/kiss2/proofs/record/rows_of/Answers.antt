@@ -1,4 +1,4 @@
-use Rattle.std.proofs.Common.{◌≡◌, ◌+◌, ◌++◌, [], ◌∷◌, take, sym, ◌∙◌, ap, subst}
+use Rattle.std.proofs.Common.{◌+◌, ◌++◌, [], ◌∷◌, take, sym, ◌∙◌, subst}
 use Rattle.std.specs.List.{AllZip}
 use Rattle.kiss2.specs.Inner.Good.{IsGoodRow, IsKnownRow}
 use Rattle.kiss2.specs.Kiss.{IsRowOf}

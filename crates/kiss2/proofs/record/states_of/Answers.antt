@@ -1,6 +1,6 @@
-use Rattle.std.proofs.Common.{◌≡◌, ◌≤◌, [], length, sym, ◌∙◌, ap, subst, arith}
+use Rattle.std.proofs.Common.{◌≡◌, [], length, ◌∙◌, ap, arith}
 use Rattle.kiss2.specs.Inner.Judging.{once_after}
-use Rattle.kiss2.specs.Standing.{names_in_column, row_lines, state_names}
+use Rattle.kiss2.specs.Standing.{names_in_column, row_lines}
 use Rattle.kiss2.proofs.Building.{columns, once_after-longer}
 use Rattle.kiss2.proofs.record.states_of.Goals as goal
 

@@ -1,5 +1,4 @@
-use Rattle.std.proofs.Common.{◌≡◌, true, false, not, refl, ap, sym, ◌∙◌}
-use Rattle.std.proofs.lemmas.Bool.{not_from_false}
+use Rattle.std.proofs.Common.{not, ap, sym, ◌∙◌}
 use Rattle.kiss2.proofs.Once.{put_once}
 use Rattle.kiss2.proofs.said.add_name.Goals as goal
 

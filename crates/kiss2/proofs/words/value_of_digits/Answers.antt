@@ -1,4 +1,4 @@
-use Rattle.std.proofs.Common.{◌≡◌, ◌+◌, ◌-◌, ◌*◌, ◌^◌, ◌<◌, ◌≤◌, length, get_or, arith}
+use Rattle.std.proofs.Common.{◌-◌, ◌<◌, ◌≤◌, length, get_or, arith}
 use Rattle.kiss2.proofs.Digits.{digit_at, digit_below, digit_room, digits_more}
 use Rattle.kiss2.proofs.words.value_of_digits.Goals as goal
 

@@ -1,4 +1,4 @@
-use Rattle.std.proofs.Common.{◌++◌, [], ◌∷◌, ◌∙◌, sym, ap, append_assoc, arith}
+use Rattle.std.proofs.Common.{◌++◌, [], ◌∷◌, ◌∙◌, sym, ap, append_assoc}
 use Rattle.kiss2.specs.Written.{output_characters}
 use Rattle.cubes.specs.Field.{byte_of, character}
 use Rattle.kiss2.proofs.Written.{outputs_more}

@@ -1,4 +1,4 @@
-use Rattle.std.proofs.Common.{◌≡◌, ◌++◌, map}
+use Rattle.std.proofs.Common.{◌≡◌, ◌++◌}
 use Rattle.kiss2.specs.Written.{output_characters}
 use Rattle.kiss2.proofs.writing.append_outputs.Given as goal
 

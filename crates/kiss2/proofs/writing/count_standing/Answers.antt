@@ -1,5 +1,4 @@
-use Rattle.std.proofs.Common.{◌≡◌, ◌<◌, ℕ, false, eqb, ◌||◌, ◌++◌, length, get_or, map, ap, sym, ◌∙◌, arith}
-use Rattle.std.specs.Prelude.{replicate}
+use Rattle.std.proofs.Common.{ℕ, false, eqb, ◌||◌, ◌++◌, length, get_or, map, ap, ◌∙◌, arith}
 use Rattle.std.specs.List.{filter_map, list_any}
 use Rattle.std.proofs.lemmas.List.{get_or-replicate}
 use Rattle.kiss2.proofs.Written.{marks_count}

@@ -1,4 +1,4 @@
-use Rattle.std.proofs.Common.{◌≡◌, ℕ, eqb, false, List, ◌++◌, length, map, sym, ◌∙◌, ap}
+use Rattle.std.proofs.Common.{ℕ, eqb, false, List, ◌++◌, length, map, sym, ◌∙◌, ap}
 use Rattle.std.specs.List.{filter_map, list_any, range_with_len}
 use Rattle.kiss2.specs.declared.kiss_file.KissRow.{KissRow}
 use Rattle.std.specs.Prelude.{count_by, replicate}

@@ -1,12 +1,11 @@
-use Rattle.std.proofs.Common.{◌≡◌, true, false, Some, None, refl, ap, sym, ◌∙◌}
+use Rattle.std.proofs.Common.{◌≡◌, false, Some, refl, ap, sym, ◌∙◌}
 use Rattle.std.proofs.lemmas.Result.{err_from_is_err_and}
 use Rattle.std.specs.Option.{is_some, option_map}
-use Rattle.kiss2.specs.declared.fault.KissLimit.TheVariants.{Inputs, Outputs}
-use Rattle.kiss2.specs.declared.line_kind.LineKind.TheVariants.{InputNames, OutputNames}
-use Rattle.kiss2.specs.Faults.{form_fault, names_fault, stands_again}
+use Rattle.kiss2.specs.declared.line_kind.LineKind.TheVariants.{OutputNames}
+use Rattle.kiss2.specs.Faults.{form_fault, names_fault}
 use Rattle.kiss2.specs.Standing.{has_stood}
 use Rattle.kiss2.specs.Words.{operands}
-use Rattle.kiss2.proofs.Stood.{fails_at, fault_again, fault_form, is_some-map, operand_field, own, stay}
+use Rattle.kiss2.proofs.Stood.{fails_at, fault_again, fault_form, is_some-map, own, stay}
 use Rattle.kiss2.proofs.said.Said.take_output_names.Goals as goal
 
 pub returns-then-is_some-clause-judged : goal.returns-then-is_some-clause-judged

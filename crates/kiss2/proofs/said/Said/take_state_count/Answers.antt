@@ -1,12 +1,10 @@
-use Rattle.std.proofs.Common.{◌≡◌, true, false, Some, None, refl, ap, sym, ◌∙◌}
+use Rattle.std.proofs.Common.{◌≡◌, false, refl, ap, sym, ◌∙◌}
 use Rattle.std.proofs.lemmas.Result.{err_from_is_err_and}
-use Rattle.std.specs.Option.{is_some, option_map}
-use Rattle.kiss2.specs.declared.fault.KissLimit.TheVariants.{Inputs, Outputs}
+use Rattle.std.specs.Option.{is_some}
 use Rattle.kiss2.specs.declared.line_kind.LineKind.TheVariants.{StateCount}
-use Rattle.kiss2.specs.Faults.{count_fault, number_fault, operand_of, reset_fault, stands_again}
+use Rattle.kiss2.specs.Faults.{number_fault}
 use Rattle.kiss2.specs.Standing.{has_stood}
-use Rattle.kiss2.specs.Words.{field_at, decimal_value}
-use Rattle.kiss2.proofs.Stood.{fault_again, fault_form, is_some-map, operand_field, own, stay}
+use Rattle.kiss2.proofs.Stood.{fault_again, fault_form, own, stay}
 use Rattle.kiss2.proofs.said.Said.take_state_count.Goals as goal
 
 pub returns-then-self-clause-judged : goal.returns-then-self-clause-judged
