@@ -1,5 +1,7 @@
 //! The pages of `--help` and `--version`.
 
+ghost use Rattle.std.specs.Prelude.{◌≡◌, IfOk, IsSome, length};
+
 use job_words::{CommandOption, Form, OperandKind, Words, built_forms};
 use std::alloc::{AllocError, Global};
 
@@ -22,7 +24,9 @@ Exit status:
 ";
 
 /// The page that the words ask for, where they are `--help` or `--version` alone.
-pub fn page_of(alloc: Global, words: &Words) -> Result<Option<Vec<u8>>, AllocError> {
+pub fn page_of(alloc: Global, words: &Words) -> Result<Option<Vec<u8>>, AllocError>
+    ensures { IfOk result (λ page. IsSome page → length words.now ≡ 1) }
+{
     if words.count() != 1 {
         return Ok(None);
     }
