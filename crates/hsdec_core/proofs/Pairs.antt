@@ -13,7 +13,6 @@ use Rattle.kiss2.specs.declared.kiss_file.KissFile.{KissFile}
 use Rattle.kiss2.specs.Lawful.{IsLawful}
 use Rattle.kiss2.specs.Machine.{next}
 use Rattle.kiss2.proofs.Machine.{next_is_a_state}
-use Rattle.kiss2.proofs.Plain.{value_of}
 use Rattle.net_core.specs.declared.Gate.{Gate}
 use Rattle.net_core.specs.declared.Latch.{Latch}
 use Rattle.net_core.specs.declared.Network.{Network}
@@ -35,6 +34,11 @@ use Rattle.hsdec_core.specs.OwnPairs.{HasOwnPair, IsReadPartition, OwnPairs, Rea
 use Rattle.hsdec_core.specs.Pair.{Pair}
 use Rattle.hsdec_core.specs.Permits.{AgreeOn}
 use Rattle.hsdec_core.proofs.NaturalCodes.{code_part_lawful, codes_apart, owned_by_one}
+
+-- the value of an option that is there and has the property
+value_of : {X : Type 0} (o : Option X) (P : X → Type 0) → IsSomeAnd o P → (x : X) × (o ≡ Some x) × P x
+value_of (Some x) P h = (x, refl, h)
+value_of None P h = elim h [ ]
 
 -- what stands beside an item of the first of two lists that go side by side
 beside_left : {X Y : Type 0} (R : X → Y → Type 0) (xs : List X) (ys : List Y) → AllZip R xs ys → (k : ℕ) (x : X) → slice_get xs k ≡ Some x → (y : Y) × (slice_get ys k ≡ Some y) × R x y

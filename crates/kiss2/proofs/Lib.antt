@@ -1,15 +1,5 @@
 pub mod Known
-pub mod Cuts
-pub mod Outputs
-pub mod Rows
-pub mod Found
-pub mod Fronts
-pub mod FirstPlaces
-pub mod RowTexts
-pub mod Collected
-pub mod Refusals
 pub mod Machine
-pub mod Plain
 pub mod Digits
 pub mod Finding
 pub mod Stood

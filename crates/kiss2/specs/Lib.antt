@@ -1,6 +1,4 @@
 pub mod Names
-pub mod Spelling
-pub mod First
 pub mod Lawful
 pub mod Machine
 pub mod Words

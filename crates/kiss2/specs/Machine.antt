@@ -6,10 +6,9 @@ use Rattle.cubes.specs.declared.cube.Cube.{Cube}
 use Rattle.cubes.specs.Cube.{field_of, Holds, Meets}
 use Rattle.cubes.specs.Field.{character}
 use Rattle.kiss2.specs.declared.fill.Fill.{Fill}
-use Rattle.kiss2.specs.declared.fill.Fill.TheVariants.{Refuse, Hold}
+use Rattle.kiss2.specs.declared.fill.Fill.TheVariants.{Hold}
 use Rattle.kiss2.specs.declared.kiss_file.KissFile.{KissFile}
 use Rattle.kiss2.specs.declared.kiss_file.KissRow.{KissRow}
-use Rattle.kiss2.specs.First.{IsPlain}
 use Rattle.kiss2.specs.Lawful.{IsLawful}
 
 -- a character allows a bit: a dash both, and else its own
@@ -100,7 +99,3 @@ RowsDecide = (F : KissFile) (s : ℕ) (x : List Bool) → (Conflicting F → ⊥
 -- the machine of a lawful file never leaves its states
 abbrev pub NextIsAState : Type 0
 NextIsAState = (F : KissFile) (s : ℕ) (x : List Bool) → IsLawful F → s < length F.states → next F s x < length F.states
-
--- a file of the plain form is lawful, and leaves nothing open
-abbrev pub PlainIsAccepted : Type 0
-PlainIsAccepted = (F : KissFile) → IsPlain F → IsLawful F × Accepted F Refuse

@@ -8,7 +8,7 @@ ghost use Rattle.kiss2.specs.declared.fault.KissKind.TheVariants.{AnyState, BadB
 ghost use Rattle.kiss2.specs.declared.fault.KissLimit.TheVariants.{Inputs};
 ghost use Rattle.kiss2.specs.Written.{WrittenIsRead};
 ghost use Rattle.kiss2.specs.Worked.{IsRefused, text, worked_lines};
-ghost use Rattle.kiss2.specs.Machine.{NextIsAState, PlainIsAccepted, RowsDecide};
+ghost use Rattle.kiss2.specs.Machine.{NextIsAState, RowsDecide};
 
 /// Bytes say one machine or have one first fault, and never both.
 pub fn read_once()
@@ -67,9 +67,4 @@ pub fn rows_decide()
 /// The machine of a lawful file never leaves its states.
 pub fn next_is_a_state()
     ensures { NextIsAState }
-{}
-
-/// A file of the plain form is lawful, and leaves nothing open.
-pub fn plain_is_accepted()
-    ensures { PlainIsAccepted }
 {}

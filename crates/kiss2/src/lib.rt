@@ -11,21 +11,15 @@
 //! `specs/Machine` what the machine of a file is: its next state and outputs at each state and symbol, its
 //! answers to words, and which files have one. The functions of `laws` state what follows from these
 //! definitions; `specs/Inner` is for proofs alone.
-//!
-//! [`read_first`] reads the plain form, in which each state has a row for each symbol, in order
-//! (`specs/Spelling`, `specs/First`).
 #![tactic(auto)]
 
-mod cutting;
 mod fault;
-mod fields;
 mod fill;
 mod judging;
 mod kiss_file;
 mod laws;
 mod line_kind;
 mod reader;
-mod reading;
 mod record;
 mod said;
 mod state_names;
@@ -38,10 +32,9 @@ pub use fault::{KissFail, KissFault, KissKind, KissLimit};
 pub use fill::Fill;
 pub use kiss_file::{KissFile, KissRow, Rows};
 pub use laws::{
-    next_is_a_state, plain_is_accepted, read_is_lawful, read_once, rows_decide, worked_faults,
-    worked_text, written_is_read,
+    next_is_a_state, read_is_lawful, read_once, rows_decide, worked_faults, worked_text,
+    written_is_read,
 };
 pub use reader::read;
-pub use reading::{FirstFail, read_first};
 pub use state_names::StateNames;
 pub use writing::write;

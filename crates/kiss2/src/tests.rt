@@ -1,6 +1,6 @@
 ghost use Rattle.std.specs.Prelude.{◌<◌};
 
-use crate::{FirstFail, KissFail, KissKind, KissLimit, StateNames, read, read_first, write};
+use crate::{KissFail, KissKind, KissLimit, StateNames, read, write};
 use std::alloc::Global;
 use std::process::Abort;
 use std::test::Fail;
@@ -27,7 +27,7 @@ fn names_are_numbered_once(rt: HostRuntime) -> Result<(), Fail> {
 
 #[test]
 fn the_toggle_is_read(rt: HostRuntime) -> Result<(), Fail> {
-    let file = read_first(rt.alloc(), TOGGLE)?;
+    let file = read(rt.alloc(), TOGGLE)?;
     assert_eq!(rt; (file.inputs, file.outputs, file.reset), (1, 1, 0));
     assert_eq!(rt; file.states.count(), 2);
     assert_eq!(rt; file.states.name(0), b"a".as_slice());
@@ -54,7 +54,7 @@ fn three_states_are_read(rt: HostRuntime) -> Result<(), Fail> {
     let text = b".i 2\n.o 2\n00 p q 10\n01 p r 01\n10 p p 11\n11 p q 00\n\
         00 r r 00\n01 r p 01\n10 r q 10\n11 r r 11\n\
         00 q q 11\n01 q q 11\n10 q p 01\n11 q r 10\n.e\n";
-    let file = read_first(rt.alloc(), text)?;
+    let file = read(rt.alloc(), text)?;
     assert_eq!(rt; file.states.count(), 3);
     assert_eq!(rt; file.states.name(1), b"r".as_slice());
     let rows = file.rows.as_slice();
@@ -66,37 +66,6 @@ fn three_states_are_read(rt: HostRuntime) -> Result<(), Fail> {
         (3, 2, Some(1))
     );
     Ok(())
-}
-
-/// Texts that are a step away from the toggle.
-#[test]
-fn other_texts_are_refused(rt: HostRuntime) -> Result<(), Fail> {
-    let texts: [&[u8]; 12] = [
-        b"",
-        b".i 1\n.o 1\n0 a a 0\n1 a b 1\n0 b b 1\n1 b a 0\n.e",
-        b".i 1\n.o 1\n0 a a 0\n1 a b 1\n0 b b 1\n1 b a 0\n",
-        b".i 1\n.o 1\n0  a a 0\n1 a b 1\n0 b b 1\n1 b a 0\n.e\n",
-        b".i 1\n.o 1\n1 a b 1\n0 a a 0\n0 b b 1\n1 b a 0\n.e\n",
-        b".i 1\n.o 1\n0 a a 0\n1 a b 1\n0 a b 1\n1 a a 0\n.e\n",
-        b".i 1\n.o 1\n0 a a 0\n1 a c 1\n0 b b 1\n1 b a 0\n.e\n",
-        b".i 1\n.o 1\n0 a a 0\n1 a b 2\n0 b b 1\n1 b a 0\n.e\n",
-        b".i 1\n.o 1\n- a a 0\n1 a b 1\n0 b b 1\n1 b a 0\n.e\n",
-        b".i 01\n.o 1\n0 a a 0\n1 a b 1\n0 b b 1\n1 b a 0\n.e\n",
-        b".i 1\n.o 1\n0 a# a# 0\n1 a# b 1\n0 b b 1\n1 b a# 0\n.e\n",
-        b".i 1\n.o 1\n0 a a 0\n1 a b 1\n0 b b 1\n1 b a 0\n.e\n\n",
-    ];
-    for text in texts {
-        expect_refused(&rt, rt.alloc(), text);
-    }
-    Ok(())
-}
-
-/// Sees that the text is refused.
-fn expect_refused(rt: &impl Abort, alloc: Global, text: &[u8]) {
-    match read_first(alloc, text) {
-        Ok(_) => panic!(rt; "{text:?} was read"),
-        Err(fail) => assert_eq!(rt; fail, FirstFail::NotYet, "at {text:?}"),
-    }
 }
 
 /// Sees that the text is refused for that fault.
