@@ -11,6 +11,7 @@ pub mod OutputLabels
 pub mod OutputWords
 pub mod Outputs
 pub mod RowNumbers
+pub mod SettledCubes
 pub mod SharedCubes
 pub mod Sought
 pub mod Specified

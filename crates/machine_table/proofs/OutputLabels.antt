@@ -23,7 +23,7 @@ no_bit : (o : Option Bool) → IsNone (option_map digit o) → IsNone o
 no_bit None none = refl
 no_bit (Some bit) none = none
 
-bit_from_digit : (a b : Bool) → digit a ≡ digit b → a ≡ b
+pub bit_from_digit : (a b : Bool) → digit a ≡ digit b → a ≡ b
 bit_from_digit false false same = refl
 bit_from_digit true true same = refl
 bit_from_digit false true same = absurd (omega arith)
@@ -46,12 +46,12 @@ abbrev pub label_of_output : ℕ → KissFile → (s x : ℕ) → ℕ
 label_of_output b F s x = digit (output_bit F s (symbol_of F.inputs x) b)
 
 module _ (F : KissFile) (no_conflict : Conflicting F → ⊥) (b : ℕ) where
-  when_given : (s x v : ℕ) → IsLabelAt (given_label b) F s x v → label_of_output b F s x ≡ v
+  pub when_given : (s x v : ℕ) → IsLabelAt (given_label b) F s x v → label_of_output b F s x ≡ v
   when_given s x v (row, at, gives) =
       let bit = mapped_bit (given_bit b row) v gives in
       ap digit (output_bit_said F s (symbol_of F.inputs x) no_conflict row b bit.0 at bit.1) ∙ bit.2
 
-  when_not_given : (s x : ℕ) → IsOpenAt (given_label b) F s x → label_of_output b F s x ≡ no_label s
+  pub when_not_given : (s x : ℕ) → IsOpenAt (given_label b) F s x → label_of_output b F s x ≡ no_label s
   when_not_given s x silent = ap digit (output_bit_not_said F s (symbol_of F.inputs x) b (λ row at. no_bit (given_bit b row) (silent row at)))
 
 module _ (F : KissFile) (table : IsTable F) (no_conflict : Conflicting F → ⊥) (b s t : ℕ)

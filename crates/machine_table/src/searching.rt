@@ -33,7 +33,7 @@ fn is_settled(found: Option<u32>, least: bool) -> bool
 }
 
 /// The half of the cube that has a 1, or a 0, at the place of a dash.
-fn half(cube: Cube, place: u32, one: bool) -> Cube
+pub(crate) fn half(cube: Cube, place: u32, one: bool) -> Cube
     requires place { place < cube.width }
     requires dash { bit cube.care place ≡ false }
     ensures half { IsHalf cube result place one }
@@ -48,7 +48,7 @@ fn half(cube: Cube, place: u32, one: bool) -> Cube
 }
 
 /// The cube of all symbols.
-fn whole(width: u8) -> Cube
+pub(crate) fn whole(width: u8) -> Cube
     requires some { 0 < width }
     requires bound { width ≤ 32 }
     ensures width { result.width ≡ width }
@@ -62,7 +62,7 @@ fn whole(width: u8) -> Cube
 }
 
 /// The lowest place at which the other cube looks and the cube does not.
-fn free_place(cube: &Cube, other: &Cube) -> Option<u32>
+pub(crate) fn free_place(cube: &Cube, other: &Cube) -> Option<u32>
     requires width { cube.now.width ≡ other.now.width }
     requires meets { Meets cube.now other.now }
     ensures within { IfSome result (λ place. place < cube.now.width) }
