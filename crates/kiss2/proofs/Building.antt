@@ -14,7 +14,7 @@ use Rattle.cubes.specs.Field.{IsCharacter}
 use Rattle.hs_io.specs.declared.lines.Line.{Line}
 use Rattle.kiss2.specs.declared.line_kind.LineKind.TheVariants.{Row}
 use Rattle.kiss2.specs.Inner.Judging.{once_after}
-use Rattle.kiss2.specs.Standing.{each_once, names_at, rows_in, state_names}
+use Rattle.kiss2.specs.Standing.{each_once, names_in_column, row_lines, state_names}
 use Rattle.kiss2.specs.Words.{field_at, is_character, is_character_field, is_name, is_of_kind}
 use Rattle.kiss2.proofs.Once.{among, each_once-append}
 
@@ -51,51 +51,51 @@ once_after-longer names (x ∷ more) =
 
 module _ (lines : List Line) (i : ℕ) (line : Line) (inside : i < length lines) (here : line ≡ get_or lines i line) where
   -- the rows with a row more, and with another line
-  pub rows_row : is_of_kind Row line ≡ true → rows_in (take (i + 1) lines) ≡ rows_in (take i lines) ++ line ∷ []
+  pub rows_row : is_of_kind Row line ≡ true → row_lines (take (i + 1) lines) ≡ row_lines (take i lines) ++ line ∷ []
   rows_row row =
       filter_more (is_of_kind Row) lines i line inside
-      ∙ ap (λ l. rows_in (take i lines) ++ cond (is_of_kind Row l) (l ∷ []) []) (sym here)
-      ∙ ap (λ t. rows_in (take i lines) ++ cond t (line ∷ []) []) row
+      ∙ ap (λ l. row_lines (take i lines) ++ cond (is_of_kind Row l) (l ∷ []) []) (sym here)
+      ∙ ap (λ t. row_lines (take i lines) ++ cond t (line ∷ []) []) row
 
-  pub rows_other : is_of_kind Row line ≡ false → rows_in (take (i + 1) lines) ≡ rows_in (take i lines)
+  pub rows_other : is_of_kind Row line ≡ false → row_lines (take (i + 1) lines) ≡ row_lines (take i lines)
   rows_other other =
       filter_more (is_of_kind Row) lines i line inside
-      ∙ ap (λ l. rows_in (take i lines) ++ cond (is_of_kind Row l) (l ∷ []) []) (sym here)
-      ∙ ap (λ t. rows_in (take i lines) ++ cond t (line ∷ []) []) other
-      ∙ append-nil (rows_in (take i lines))
+      ∙ ap (λ l. row_lines (take i lines) ++ cond (is_of_kind Row l) (l ∷ []) []) (sym here)
+      ∙ ap (λ t. row_lines (take i lines) ++ cond t (line ∷ []) []) other
+      ∙ append-nil (row_lines (take i lines))
 
   -- a row is one of the rows
-  pub row_has : (P : Line → Type 0) → is_of_kind Row line ≡ true → All P (rows_in lines) → P line
+  pub row_has : (P : Line → Type 0) → is_of_kind Row line ≡ true → All P (row_lines lines) → P line
   row_has P row all =
-      let rows : rows_in lines ≡ rows_in (take i lines) ++ line ∷ rows_in (drop (i + 1) lines) =
-      ap rows_in (sym (take-append-drop (i + 1) lines))
+      let rows : row_lines lines ≡ row_lines (take i lines) ++ line ∷ row_lines (drop (i + 1) lines) =
+      ap row_lines (sym (take-append-drop (i + 1) lines))
       ∙ (filter-append (is_of_kind Row) (take (i + 1) lines) (drop (i + 1) lines)
-      ∙ (ap (λ front. front ++ rows_in (drop (i + 1) lines)) (rows_row row)
-      ∙ append_assoc (rows_in (take i lines)) (line ∷ []) (rows_in (drop (i + 1) lines)))) in
-      let there : length (rows_in (take i lines)) < length (rows_in lines) = rw rows (omega (arith, length-append (rows_in (take i lines)) (line ∷ rows_in (drop (i + 1) lines)))) in
-      subst P (ap (λ rs. get_or rs (length (rows_in (take i lines))) line) rows ∙ get_or_at (rows_in (take i lines)) line (rows_in (drop (i + 1) lines)) line (length (rows_in (take i lines))) refl)
-      (all (length (rows_in (take i lines))) line there)
+      ∙ (ap (λ front. front ++ row_lines (drop (i + 1) lines)) (rows_row row)
+      ∙ append_assoc (row_lines (take i lines)) (line ∷ []) (row_lines (drop (i + 1) lines)))) in
+      let there : length (row_lines (take i lines)) < length (row_lines lines) = rw rows (omega (arith, length-append (row_lines (take i lines)) (line ∷ row_lines (drop (i + 1) lines)))) in
+      subst P (ap (λ rs. get_or rs (length (row_lines (take i lines))) line) rows ∙ get_or_at (row_lines (take i lines)) line (row_lines (drop (i + 1) lines)) line (length (row_lines (take i lines))) refl)
+      (all (length (row_lines (take i lines))) line there)
 
-names_at-append : (place : ℕ) (first second : List Line) → names_at place (first ++ second) ≡ names_at place first ++ names_at place second
-names_at-append place first second = ap (filter is_name) (map-append (field_at place) first second) ∙ filter-append is_name (map (field_at place) first) (map (field_at place) second)
+pub names_in_column-append : (place : ℕ) (first second : List Line) → names_in_column place (first ++ second) ≡ names_in_column place first ++ names_in_column place second
+names_in_column-append place first second = ap (filter is_name) (map-append (field_at place) first second) ∙ filter-append is_name (map (field_at place) first) (map (field_at place) second)
 
 -- the names of a column with a row more
 pub column_row : (place : ℕ) (names : List (List ℕ)) (lines : List Line) (i : ℕ) (line : Line) → i < length lines → line ≡ get_or lines i line → is_of_kind Row line ≡ true
-    → once_after names (names_at place (rows_in (take (i + 1) lines))) ≡ once_after (once_after names (names_at place (rows_in (take i lines)))) (filter is_name (field_at place line ∷ []))
+    → once_after names (names_in_column place (row_lines (take (i + 1) lines))) ≡ once_after (once_after names (names_in_column place (row_lines (take i lines)))) (filter is_name (field_at place line ∷ []))
 column_row place names lines i line inside here row =
-    ap (λ rows. once_after names (names_at place rows)) (rows_row lines i line inside here row)
-    ∙ (ap (once_after names) (names_at-append place (rows_in (take i lines)) (line ∷ [])) ∙ once_after-append names (names_at place (rows_in (take i lines))) (filter is_name (field_at place line ∷ [])))
+    ap (λ rows. once_after names (names_in_column place rows)) (rows_row lines i line inside here row)
+    ∙ (ap (once_after names) (names_in_column-append place (row_lines (take i lines)) (line ∷ [])) ∙ once_after-append names (names_in_column place (row_lines (take i lines))) (filter is_name (field_at place line ∷ [])))
 
 -- the first names are no more than all
 pub column_few : (place : ℕ) (names : List (List ℕ)) (lines : List Line) (i : ℕ)
-    → length (once_after names (names_at place (rows_in (take i lines)))) ≤ length (once_after names (names_at place (rows_in lines)))
+    → length (once_after names (names_in_column place (row_lines (take i lines)))) ≤ length (once_after names (names_in_column place (row_lines lines)))
 column_few place names lines i =
-    let whole : once_after names (names_at place (rows_in lines)) ≡ once_after (once_after names (names_at place (rows_in (take i lines)))) (names_at place (rows_in (drop i lines))) =
-    ap (λ ls. once_after names (names_at place (rows_in ls))) (sym (take-append-drop i lines))
-    ∙ (ap (λ rows. once_after names (names_at place rows)) (filter-append (is_of_kind Row) (take i lines) (drop i lines))
-    ∙ (ap (once_after names) (names_at-append place (rows_in (take i lines)) (rows_in (drop i lines)))
-    ∙ once_after-append names (names_at place (rows_in (take i lines))) (names_at place (rows_in (drop i lines))))) in
-    rw whole (once_after-longer (once_after names (names_at place (rows_in (take i lines)))) (names_at place (rows_in (drop i lines))))
+    let whole : once_after names (names_in_column place (row_lines lines)) ≡ once_after (once_after names (names_in_column place (row_lines (take i lines)))) (names_in_column place (row_lines (drop i lines))) =
+    ap (λ ls. once_after names (names_in_column place (row_lines ls))) (sym (take-append-drop i lines))
+    ∙ (ap (λ rows. once_after names (names_in_column place rows)) (filter-append (is_of_kind Row) (take i lines) (drop i lines))
+    ∙ (ap (once_after names) (names_in_column-append place (row_lines (take i lines)) (row_lines (drop i lines)))
+    ∙ once_after-append names (names_in_column place (row_lines (take i lines))) (names_in_column place (row_lines (drop i lines))))) in
+    rw whole (once_after-longer (once_after names (names_in_column place (row_lines (take i lines)))) (names_in_column place (row_lines (drop i lines))))
 
 -- one pair more
 pub zip_push : {A B : Type 0} (R : A → B → Type 0) (xs : List A) (ys : List B) (x : A) (y : B) → AllZip R xs ys → R x y → AllZip R (xs ++ x ∷ []) (ys ++ y ∷ [])
@@ -109,9 +109,9 @@ unfolding each_once
 no_names = refl
 
 -- the names of the one column, and then of the other
-pub columns : (lines : List Line) → once_after (once_after [] (names_at 1 (rows_in lines))) (names_at 2 (rows_in lines)) ≡ state_names lines
+pub columns : (lines : List Line) → once_after (once_after [] (names_in_column 1 (row_lines lines))) (names_in_column 2 (row_lines lines)) ≡ state_names lines
 unfolding state_names
 columns lines =
-    let first : each_once (names_at 1 (rows_in lines)) ≡ once_after (each_once []) (names_at 1 (rows_in lines)) = each_once-append [] (names_at 1 (rows_in lines)) in
+    let first : each_once (names_in_column 1 (row_lines lines)) ≡ once_after (each_once []) (names_in_column 1 (row_lines lines)) = each_once-append [] (names_in_column 1 (row_lines lines)) in
     let none : each_once [] ≡ [] = no_names in
-    sym (each_once-append (names_at 1 (rows_in lines)) (names_at 2 (rows_in lines)) ∙ ap (λ front. once_after front (names_at 2 (rows_in lines))) (first ∙ ap (λ front. once_after front (names_at 1 (rows_in lines))) none))
+    sym (each_once-append (names_in_column 1 (row_lines lines)) (names_in_column 2 (row_lines lines)) ∙ ap (λ front. once_after front (names_in_column 2 (row_lines lines))) (first ∙ ap (λ front. once_after front (names_in_column 1 (row_lines lines))) none))

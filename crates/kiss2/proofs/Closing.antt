@@ -14,7 +14,7 @@ use Rattle.kiss2.specs.declared.said.ResetLine.{ResetLine}
 use Rattle.kiss2.specs.declared.said.Said.{Said}
 use Rattle.kiss2.specs.Inner.Judging.{Stands, names_seen, reset_line}
 use Rattle.kiss2.specs.Kiss.{IsRowOf, closing_fault, reset_unknown}
-use Rattle.kiss2.specs.Standing.{line_with, reset_name, rows_in, state_names}
+use Rattle.kiss2.specs.Standing.{line_with, reset_name, row_lines, state_names}
 use Rattle.kiss2.specs.Words.{current_field, field_at}
 use Rattle.kiss2.proofs.Finding.{absent_test, contained_from_test, contained_test}
 use Rattle.kiss2.proofs.Once.{among, seen_among}
@@ -26,7 +26,7 @@ kept_from (Some line) reset e = (line, refl, same_Some reset (reset_line line) e
 module _ (said : Said) (lines : List Line) (stands : Stands said lines) (some : said.rows ≡ 0 → ⊥) where
   open_rows : closing_fault lines ≡ reset_unknown (state_names lines) (line_with Reset lines)
   open_rows =
-      let test : eqb (length (rows_in lines)) 0 ≡ false = ne_eqb (length (rows_in lines)) 0 (λ e. some (stands.rows ∙ e)) in
+      let test : eqb (length (row_lines lines)) 0 ≡ false = ne_eqb (length (row_lines lines)) 0 (λ e. some (stands.rows ∙ e)) in
       ap (λ t. cond t (Some (record { line = 0; kind = NoRows })) (reset_unknown (state_names lines) (line_with Reset lines))) test
 
   module _ (reset : ResetLine) (is : said.reset ≡ Some reset) where
@@ -50,11 +50,11 @@ module _ (said : Said) (lines : List Line) (stands : Stands said lines) (some : 
     reset_missing absent = test_of false (absent_test said.states reset.name absent)
 
 -- where the lines as a whole have no fault, there is a row, and the name of `.r` is a state
-pub some_rows : (lines : List Line) → closing_fault lines ≡ None → 0 < length (rows_in lines)
+pub some_rows : (lines : List Line) → closing_fault lines ≡ None → 0 < length (row_lines lines)
 some_rows lines closed =
-    elim (cases_eq (length (rows_in lines)) 0) [
+    elim (cases_eq (length (row_lines lines)) 0) [
       | inl none ↦
-          let test : eqb (length (rows_in lines)) 0 ≡ true = eq-eqb (length (rows_in lines)) 0 none in
+          let test : eqb (length (row_lines lines)) 0 ≡ true = eq-eqb (length (row_lines lines)) 0 none in
           absurd (none-some (record { line = 0; kind = NoRows }) (sym closed ∙ ap (λ t. cond t (Some (record { line = 0; kind = NoRows })) (reset_unknown (state_names lines) (line_with Reset lines))) test))
       | inr some ↦ omega arith
     ]
@@ -62,7 +62,7 @@ some_rows lines closed =
 pub reset_state : (lines : List Line) (named : Line) → closing_fault lines ≡ None → line_with Reset lines ≡ Some named → Contains (state_names lines) (field_at 1 named)
 reset_state lines named closed is =
     let some = some_rows lines closed in
-    let test : eqb (length (rows_in lines)) 0 ≡ false = ne_eqb (length (rows_in lines)) 0 (λ e. absurd (omega arith)) in
+    let test : eqb (length (row_lines lines)) 0 ≡ false = ne_eqb (length (row_lines lines)) 0 (λ e. absurd (omega arith)) in
     let at : cond {A = Option KissFault} (among (field_at 1 named) (state_names lines)) None (Some (record { line = named.number; kind = ResetUnknown })) ≡ None =
     sym (ap (reset_unknown (state_names lines)) is)
     ∙ (sym (ap (λ t. cond t (Some (record { line = 0; kind = NoRows })) (reset_unknown (state_names lines) (line_with Reset lines))) test) ∙ closed) in
@@ -101,16 +101,16 @@ no_line (Some line) e = absurd (none-some (reset_line line) e)
 pub reset_number :
     (lines : List Line) (states : List (List ℕ)) (rows : List KissRow) (reset : Option ResetLine) (number : ℕ)
     → reset ≡ option_map reset_line (line_with Reset lines) → IfSome reset (λ line. slice_get states number ≡ Some line.name)
-    → IfNone reset ((d : KissRow) → number ≡ (get_or rows 0 d).from) → AllZip (IsRowOf states) (rows_in lines) rows → 0 < length (rows_in lines)
+    → IfNone reset ((d : KissRow) → number ≡ (get_or rows 0 d).from) → AllZip (IsRowOf states) (row_lines lines) rows → 0 < length (row_lines lines)
     → slice_get states number ≡ reset_name lines
 reset_number lines states rows (Some reset) number is named first all some =
     let from = kept_from (line_with Reset lines) reset is in
-    named ∙ (ap (λ r. Some r.name) from.2 ∙ sym (ap (λ o. option_or (option_map (field_at 1) o) (option_map current_field (slice_get (rows_in lines) 0))) from.1))
+    named ∙ (ap (λ r. Some r.name) from.2 ∙ sym (ap (λ o. option_or (option_map (field_at 1) o) (option_map current_field (slice_get (row_lines lines) 0))) from.1))
 reset_number lines states rows None number is named first all some =
     let none = no_line (line_with Reset lines) is in
-    let row = zip_first (IsRowOf states) (rows_in lines) rows all some in
-    let d = some_of (IsRowOf states) (rows_in lines) rows all some in
+    let row = zip_first (IsRowOf states) (row_lines lines) rows all some in
+    let d = some_of (IsRowOf states) (row_lines lines) rows all some in
     ap (λ n. slice_get states n) (first d)
     ∙ ((row.2 d).from
     ∙ (sym (ap (option_map current_field) row.1)
-    ∙ sym (ap (λ o. option_or (option_map (field_at 1) o) (option_map current_field (slice_get (rows_in lines) 0))) none)))
+    ∙ sym (ap (λ o. option_or (option_map (field_at 1) o) (option_map current_field (slice_get (row_lines lines) 0))) none)))

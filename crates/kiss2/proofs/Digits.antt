@@ -95,31 +95,35 @@ module _ (field : List ℕ) (place old new : ℕ) (inside : place < length field
   care_set so_far other is_new =
       let few : place < 64 = omega arith in
       let added : new ≡ old + 2 ^ place = is_new ∙ ap (λ n. old + n) (one_bit place few) in
-      let test : eqb (get_or field place 0) 45 ≡ false = grind (arith, nat_tests) in
-      (added ∙ (ap (λ n. n + 2 ^ place) so_far ∙ sym (care_more field place inside ∙ (ap (λ b. care_in (take place field) + cond b 0 1 * 2 ^ place) test ∙ omega arith))),
-       rw added (above old place below))
+      let test : eqb (get_or field place 0) 45 ≡ false = grind (arith, nat_tests) in (
+        added ∙ (ap (λ n. n + 2 ^ place) so_far ∙ sym (care_more field place inside ∙ (ap (λ b. care_in (take place field) + cond b 0 1 * 2 ^ place) test ∙ omega arith))),
+        rw added (above old place below),
+      )
 
   pub care_kept : old ≡ care_in (take place field) → get_or field place 0 ≡ 45 → new ≡ old
       → (new ≡ care_in (take (place + 1) field)) × (new < 2 ^ (place + 1))
   care_kept so_far dash is_new =
       let test : eqb (get_or field place 0) 45 ≡ true = grind (arith, nat_tests) in
-      let more = above old place below in
-      (is_new ∙ (so_far ∙ sym (care_more field place inside ∙ (ap (λ b. care_in (take place field) + cond b 0 1 * 2 ^ place) test ∙ omega arith))),
-       omega arith)
+      let more = above old place below in (
+        is_new ∙ (so_far ∙ sym (care_more field place inside ∙ (ap (λ b. care_in (take place field) + cond b 0 1 * 2 ^ place) test ∙ omega arith))),
+        omega arith,
+      )
 
   pub value_set : old ≡ value_in (take place field) → get_or field place 0 ≡ 49 → new ≡ old + 1 * 2 ^ place % 2 ^ 64
       → (new ≡ value_in (take (place + 1) field)) × (new < 2 ^ (place + 1))
   value_set so_far one is_new =
       let few : place < 64 = omega arith in
       let added : new ≡ old + 2 ^ place = is_new ∙ ap (λ n. old + n) (one_bit place few) in
-      let test : eqb (get_or field place 0) 49 ≡ true = grind (arith, nat_tests) in
-      (added ∙ (ap (λ n. n + 2 ^ place) so_far ∙ sym (value_more field place inside ∙ (ap (λ b. value_in (take place field) + cond b 1 0 * 2 ^ place) test ∙ omega arith))),
-       rw added (above old place below))
+      let test : eqb (get_or field place 0) 49 ≡ true = grind (arith, nat_tests) in (
+        added ∙ (ap (λ n. n + 2 ^ place) so_far ∙ sym (value_more field place inside ∙ (ap (λ b. value_in (take place field) + cond b 1 0 * 2 ^ place) test ∙ omega arith))),
+        rw added (above old place below),
+      )
 
   pub value_kept : old ≡ value_in (take place field) → (get_or field place 0 ≡ 49 → ⊥) → new ≡ old
       → (new ≡ value_in (take (place + 1) field)) × (new < 2 ^ (place + 1))
   value_kept so_far other is_new =
       let test : eqb (get_or field place 0) 49 ≡ false = grind (arith, nat_tests) in
-      let more = above old place below in
-      (is_new ∙ (so_far ∙ sym (value_more field place inside ∙ (ap (λ b. value_in (take place field) + cond b 1 0 * 2 ^ place) test ∙ omega arith))),
-       omega arith)
+      let more = above old place below in (
+        is_new ∙ (so_far ∙ sym (value_more field place inside ∙ (ap (λ b. value_in (take place field) + cond b 1 0 * 2 ^ place) test ∙ omega arith))),
+        omega arith,
+      )

@@ -14,49 +14,49 @@ use Rattle.kiss2.specs.declared.judging.LineFail.{LineFail}
 use Rattle.kiss2.specs.declared.judging.LineFail.TheVariants.{Fault, NoMemory}
 use Rattle.kiss2.specs.declared.said.Said.{Said}
 use Rattle.kiss2.specs.Faults.{fault_in}
-use Rattle.kiss2.specs.Kiss.{AreFaultless, IsFirstFault, IsLineFault, before_end}
+use Rattle.kiss2.specs.Kiss.{HaveNoFault, IsFirstFault, IsLineFault, before_end}
 use Rattle.kiss2.specs.Inner.Judging.{FailsWith, IsSmall, Stands, fail_at}
-use Rattle.kiss2.specs.Words.{ends_text}
+use Rattle.kiss2.specs.Words.{is_ending}
 
 -- no line of the first ones ends the text
 abbrev pub GoesOn : List Line → ℕ → Type 0
-GoesOn lines count = (k : ℕ) (d : Line) → k < count → ends_text (get_or lines k d) ≡ false
+GoesOn lines count = (k : ℕ) (d : Line) → k < count → is_ending (get_or lines k d) ≡ false
 
-pub goes_more : (lines : List Line) (i : ℕ) (line : Line) → i < length lines → line ≡ get_or lines i line → ends_text line ≡ false → GoesOn lines i → GoesOn lines (i + 1)
+pub goes_more : (lines : List Line) (i : ℕ) (line : Line) → i < length lines → line ≡ get_or lines i line → is_ending line ≡ false → GoesOn lines i → GoesOn lines (i + 1)
 goes_more lines i line inside here passes before k d lt =
     elim (cases_lt k i) [
       | inl less ↦ before k d less
       | inr more ↦ let same : k ≡ i = omega arith in
-          subst (λ n. ends_text (get_or lines n d) ≡ false) (sym same) (subst (λ l. ends_text l ≡ false) (get_or_read lines i line inside here d) passes)
+          subst (λ n. is_ending (get_or lines n d) ≡ false) (sym same) (subst (λ l. is_ending l ≡ false) (get_or_read lines i line inside here d) passes)
     ]
 
 module _ (lines : List Line) (i : ℕ) (line : Line) (inside : i < length lines) (here : line ≡ get_or lines i line) (before : GoesOn lines i) where
   -- the text ends at a line
-  pub end_at : ends_text line ≡ true → before_end lines ≡ take i lines
+  pub end_at : is_ending line ≡ true → before_end lines ≡ take i lines
   end_at ends =
-      let count : prefix_len (λ l. not (ends_text l)) lines ≡ i =
-      prefix_len_is (λ l. not (ends_text l)) lines i line (omega arith) (λ k lt. not_from_false _ (before k line lt)) (λ _. not_from_true _ (subst (λ l. ends_text l ≡ true) here ends)) in
+      let count : prefix_len (λ l. not (is_ending l)) lines ≡ i =
+      prefix_len_is (λ l. not (is_ending l)) lines i line (omega arith) (λ k lt. not_from_false _ (before k line lt)) (λ _. not_from_true _ (subst (λ l. is_ending l ≡ true) here ends)) in
       ap (λ n. take n lines) count
 
   -- it does not
-  longer : ends_text line ≡ false → i < prefix_len (λ l. not (ends_text l)) lines
+  longer : is_ending line ≡ false → i < prefix_len (λ l. not (is_ending l)) lines
   longer passes =
-      let n = prefix_len (λ l. not (ends_text l)) lines in
+      let n = prefix_len (λ l. not (is_ending l)) lines in
       elim (cases_lt i n) [
         | inl less ↦ less
         | inr more ↦
-            let stops = prefix_len_stops (λ l. not (ends_text l)) lines line (omega arith) in
+            let stops = prefix_len_stops (λ l. not (is_ending l)) lines line (omega arith) in
             absurd (false≢true (sym stops ∙ not_from_false _ (goes_more lines i line inside here passes before n line (omega arith))))
       ]
 
-  pub front_taken : ends_text line ≡ false → take i (before_end lines) ≡ take i lines
-  front_taken passes = let h = longer passes in take-take i (prefix_len (λ l. not (ends_text l)) lines) lines (omega arith)
+  pub front_taken : is_ending line ≡ false → take i (before_end lines) ≡ take i lines
+  front_taken passes = let h = longer passes in take-take i (prefix_len (λ l. not (is_ending l)) lines) lines (omega arith)
 
-  pub line_there : ends_text line ≡ false → slice_get (before_end lines) i ≡ Some line
+  pub line_there : is_ending line ≡ false → slice_get (before_end lines) i ≡ Some line
   line_there passes =
-      let n = prefix_len (λ l. not (ends_text l)) lines in
+      let n = prefix_len (λ l. not (is_ending l)) lines in
       let h = longer passes in
-      let whole = prefix_len-le-length (λ l. not (ends_text l)) lines in
+      let whole = prefix_len-le-length (λ l. not (is_ending l)) lines in
       let count : length (take n lines) ≡ n = length-take-le n lines whole in
       slice_get-get_or (take n lines) i line (omega arith) ∙ ap Some (get_or-take n lines i line h ∙ sym here)
 
@@ -66,12 +66,12 @@ no_end lines before = all lines before where
   all : (ls : List Line) → GoesOn ls (length ls) → before_end ls ≡ ls
   all [] h = refl
   all (l ∷ ls) h =
-      let count : prefix_len (λ m. not (ends_text m)) (l ∷ ls) ≡ length (l ∷ ls) =
-      prefix_len_is (λ m. not (ends_text m)) (l ∷ ls) (length (l ∷ ls)) l (omega arith) (λ k lt. not_from_false _ (h k l lt)) (λ lt. absurd (omega arith)) in
+      let count : prefix_len (λ m. not (is_ending m)) (l ∷ ls) ≡ length (l ∷ ls) =
+      prefix_len_is (λ m. not (is_ending m)) (l ∷ ls) (length (l ∷ ls)) l (omega arith) (λ k lt. not_from_false _ (h k l lt)) (λ lt. absurd (omega arith)) in
       ap (λ n. take n (l ∷ ls)) count ∙ take_all (length (l ∷ ls)) (l ∷ ls) (omega arith)
 
 -- one line more without a fault
-pub faultless_push : (before : List Line) (line : Line) → AreFaultless before → fault_in before line ≡ None → AreFaultless (before ++ line ∷ [])
+pub faultless_push : (before : List Line) (line : Line) → HaveNoFault before → fault_in before line ≡ None → HaveNoFault (before ++ line ∷ [])
 faultless_push before line none here place other stands =
     elim (cases_lt place (length before)) [
       | inl less ↦
@@ -93,7 +93,7 @@ faultless_push before line none here place other stands =
       get_last [] y = refl
       get_last (x ∷ xs) y = get_last xs y
 
-pub faultless_none : AreFaultless []
+pub faultless_none : HaveNoFault []
 faultless_none place line stands = absurd (none-some line stands)
 
 -- what is kept after some lines, none of which ends the text
@@ -101,21 +101,25 @@ pub record Judged (said : Said) (lines : List Line) (count : ℕ) : Type 0 where
   pub stands : Stands said (take count lines)
   pub small : IsSmall said
   pub going : GoesOn lines count
-  pub faultless : AreFaultless (take count lines)
+  pub faultless : HaveNoFault (take count lines)
 
 same_fault : (f g : KissFault) → Refused f ≡ Refused g → f ≡ g
 same_fault f g e = cc
 
 -- the failure at a line is its fault
 pub line_fault :
-    (lines : List Line) (i : ℕ) (line : Line) (fail : LineFail) (fault : KissFault) → i < length lines → line ≡ get_or lines i line → GoesOn lines i → ends_text line ≡ false
-    → AreFaultless (take i lines) → FailsWith (fault_in (take i lines) line) fail → fail_at line.number fail ≡ Refused fault → IsLineFault (before_end lines) fault.line fault.kind
+    (lines : List Line) (i : ℕ) (line : Line) (fail : LineFail) (fault : KissFault) → i < length lines → line ≡ get_or lines i line → GoesOn lines i → is_ending line ≡ false
+    → HaveNoFault (take i lines) → FailsWith (fault_in (take i lines) line) fail → fail_at line.number fail ≡ Refused fault → IsLineFault (before_end lines) fault.line fault.kind
 line_fault lines i line (Fault kind) fault inside here before passes faultless fails same =
     let is : record { line = line.number; kind = kind } ≡ fault = same_fault _ fault same in
-    let front = front_taken lines i line inside here before passes in
-    (i, line, record {
-      stands = line_there lines i line inside here before passes;
-      fault = ap (λ ls. fault_in ls line) front ∙ (fails ∙ ap (λ f. Some f.kind) is);
-      none_before = subst AreFaultless (sym front) faultless;
-    }, sym (ap (λ f. f.line) is))
+    let front = front_taken lines i line inside here before passes in (
+      i,
+      line,
+      record {
+        stands = line_there lines i line inside here before passes;
+        fault = ap (λ ls. fault_in ls line) front ∙ (fails ∙ ap (λ f. Some f.kind) is);
+        none_before = subst HaveNoFault (sym front) faultless;
+      },
+      sym (ap (λ f. f.line) is),
+    )
 line_fault lines i line NoMemory fault inside here before passes faultless fails same = absurd (cc)

@@ -20,9 +20,9 @@ use Rattle.kiss2.specs.declared.line_kind.LineKind.{LineKind}
 use Rattle.kiss2.specs.declared.line_kind.LineKind.TheVariants.{InputCount, OutputCount, Row}
 use Rattle.kiss2.specs.Faults.{count_fault, fault_in, fault_where, first_of, form_fault, is_not_one, long_name, operand_of, row_fault, stands_again}
 use Rattle.kiss2.specs.Inner.Good.{IsGoodRow, IsKnownRow}
-use Rattle.kiss2.specs.Kiss.{AreFaultless}
-use Rattle.kiss2.specs.Standing.{each_once, inputs_in, line_with, names_at, outputs_in, rows_in, state_names}
-use Rattle.kiss2.specs.Words.{current_field, field_at, input_field, is_character_field, is_name, is_number, is_of_kind, is_open, kind_of, next_field, number_of, operands, output_field, same_kind}
+use Rattle.kiss2.specs.Kiss.{HaveNoFault}
+use Rattle.kiss2.specs.Standing.{each_once, inputs_said, line_with, names_in_column, outputs_said, row_lines, state_names}
+use Rattle.kiss2.specs.Words.{current_field, field_at, input_field, is_character_field, is_name, is_decimal, is_of_kind, is_open, line_kind_of, next_field, decimal_value, operands, output_field, same_kind}
 use Rattle.kiss2.proofs.Finding.{contained_from_test}
 use Rattle.kiss2.proofs.Once.{among, among-each_once, itself, names_same}
 use Rattle.kiss2.proofs.Stood.{operand_field, rows_more, rows_stay}
@@ -43,19 +43,19 @@ passes test kind faults none = let p = none_first (fault_where test kind) faults
 -- a line without a fault
 pub record IsFine (before : List Line) (line : Line) : Type 0 where
   pub clean : line.bad ≡ false
-  pub fresh : stands_again (kind_of line) before ≡ false
-  pub form : form_fault (kind_of line) before line ≡ None
+  pub fresh : stands_again (line_kind_of line) before ≡ false
+  pub form : form_fault (line_kind_of line) before line ≡ None
 
 pub fine : (before : List Line) (line : Line) → fault_in before line ≡ None → IsFine before line
 unfolding fault_in
 fine before line none =
     let bad = passes line.bad BadByte _ none in
-    let again = passes (stands_again (kind_of line) before) Repeated _ bad.1 in
-    let rest = none_first (form_fault (kind_of line) before line) [] again.1 in
+    let again = passes (stands_again (line_kind_of line) before) Repeated _ bad.1 in
+    let rest = none_first (form_fault (line_kind_of line) before line) [] again.1 in
     record { clean = bad.0; fresh = again.0; form = rest.0 }
 
 -- where it is of a kind
-pub form_at : (before : List Line) (line : Line) (kind : LineKind) → fault_in before line ≡ None → kind_of line ≡ kind → form_fault kind before line ≡ None
+pub form_at : (before : List Line) (line : Line) (kind : LineKind) → fault_in before line ≡ None → line_kind_of line ≡ kind → form_fault kind before line ≡ None
 form_at before line kind none is = subst (λ k. form_fault k before line ≡ None) is (fine before line none).form
 
 pub kind_row : (kind : LineKind) → same_kind Row kind ≡ true → kind ≡ Row
@@ -89,38 +89,38 @@ found_on lines place kind line is =
     ∙ (find-append (is_of_kind kind) (take place lines) (drop place lines) ∙ ap (λ o. option_or o (line_with kind (drop place lines))) is)
 
 -- a number of inputs or outputs without a fault
-pub count_fine : (what : KissLimit) (limit : ℕ) (fields : List (List ℕ)) → count_fault what limit fields ≡ None → (1 ≤ number_of (operand_of fields)) × (number_of (operand_of fields) ≤ limit)
+pub count_fine : (what : KissLimit) (limit : ℕ) (fields : List (List ℕ)) → count_fault what limit fields ≡ None → (1 ≤ decimal_value (operand_of fields)) × (decimal_value (operand_of fields) ≤ limit)
 count_fine what limit fields none =
-    let n = number_of (operand_of fields) in
+    let n = decimal_value (operand_of fields) in
     let last : List (Option KissKind) = fault_where (ltb limit n) (OverLimit what n) ∷ [] in
-    let bad : Bool = not (is_number (operand_of fields)) in
+    let bad : Bool = not (is_decimal (operand_of fields)) in
     let one = passes (is_not_one fields) BadFields (fault_where (bad || eqb n 0) BadNumber ∷ last) none in
     let number = passes (bad || eqb n 0) BadNumber last one.1 in
     let over = passes (ltb limit n) (OverLimit what n) [] number.1 in
     let not_zero : eqb n 0 ≡ false = (or_parts bad (eqb n 0) number.0).1 in
     (grind (arith, nat_tests), ltb-false limit n over.0)
 
-module _ (lines : List Line) (faultless : AreFaultless lines) where
-  pub inputs_range : (count : ℕ) → inputs_in lines ≡ Some count → (1 ≤ count) × (count ≤ 32)
+module _ (lines : List Line) (faultless : HaveNoFault lines) where
+  pub inputs_range : (count : ℕ) → inputs_said lines ≡ Some count → (1 ≤ count) × (count ≤ 32)
   inputs_range count is = at (line_with InputCount lines) refl is where
-    at : (o : Option Line) → line_with InputCount lines ≡ o → option_map (λ l. number_of (field_at 1 l)) o ≡ Some count → (1 ≤ count) × (count ≤ 32)
+    at : (o : Option Line) → line_with InputCount lines ≡ o → option_map (λ l. decimal_value (field_at 1 l)) o ≡ Some count → (1 ≤ count) × (count ≤ 32)
     at None e is = absurd (none-some count is)
     at (Some line) e is =
         let here = found lines InputCount line e in
-        let form = form_at (take here.0 lines) line InputCount (faultless here.0 line here.1.stands) (kind_inputs (kind_of line) here.1.kind_is) in
+        let form = form_at (take here.0 lines) line InputCount (faultless here.0 line here.1.stands) (kind_inputs (line_kind_of line) here.1.kind_is) in
         let range = count_fine Inputs 32 (operands line) form in
-        let same : number_of (operand_of (operands line)) ≡ count = ap number_of (operand_field line) ∙ same_Some _ count is in
+        let same : decimal_value (operand_of (operands line)) ≡ count = ap decimal_value (operand_field line) ∙ same_Some _ count is in
         subst (λ n. (1 ≤ n) × (n ≤ 32)) same range
 
-  pub outputs_range : (count : ℕ) → outputs_in lines ≡ Some count → (1 ≤ count) × (count ≤ 64)
+  pub outputs_range : (count : ℕ) → outputs_said lines ≡ Some count → (1 ≤ count) × (count ≤ 64)
   outputs_range count is = at (line_with OutputCount lines) refl is where
-    at : (o : Option Line) → line_with OutputCount lines ≡ o → option_map (λ l. number_of (field_at 1 l)) o ≡ Some count → (1 ≤ count) × (count ≤ 64)
+    at : (o : Option Line) → line_with OutputCount lines ≡ o → option_map (λ l. decimal_value (field_at 1 l)) o ≡ Some count → (1 ≤ count) × (count ≤ 64)
     at None e is = absurd (none-some count is)
     at (Some line) e is =
         let here = found lines OutputCount line e in
-        let form = form_at (take here.0 lines) line OutputCount (faultless here.0 line here.1.stands) (kind_outputs (kind_of line) here.1.kind_is) in
+        let form = form_at (take here.0 lines) line OutputCount (faultless here.0 line here.1.stands) (kind_outputs (line_kind_of line) here.1.kind_is) in
         let range = count_fine Outputs 64 (operands line) form in
-        let same : number_of (operand_of (operands line)) ≡ count = ap number_of (operand_field line) ∙ same_Some _ count is in
+        let same : decimal_value (operand_of (operands line)) ≡ count = ap decimal_value (operand_field line) ∙ same_Some _ count is in
         subst (λ n. (1 ≤ n) × (n ≤ 64)) same range
 
 short_one : (test : Bool) (name : List ℕ) (rest : List (List ℕ)) → long_name (cond test (name ∷ rest) rest) ≡ None → (test ≡ true → length name ≤ 64) × (long_name rest ≡ None)
@@ -151,26 +151,29 @@ row_fine (Some k) (Some o) rows states line none =
     let first = short_one (is_name (current_field line)) (current_field line) (filter is_name (next_field line ∷ [])) (both names.0) in
     let second = short_one (is_name (next_field line)) (next_field line) [] first.1 in
     let states_few = passes (ltb 256 (length states)) (OverLimit States 257) _ names.1 in
-    let output = passes (not (is_character_field o (output_field line))) BadOutput _ states_few.1 in
-    (k, o, record {
-      inputs_are = refl;
-      outputs_are = refl;
-      good = record {
-        fields = eqb-true (length line.fields) 4 (not-false _ fields.0);
-        input = not-false _ cube.0;
-        current = any.0;
-        current_short = first.0 (not_from_false _ any.0);
-        next_short = λ e. second.0 (not_from_false _ e);
-        output = not-false _ output.0;
-      };
-      few_rows = ltb-true rows 65536 (not-false _ few.0);
-      few_states = ltb-false 256 (length states) states_few.0;
-    }) where
+    let output = passes (not (is_character_field o (output_field line))) BadOutput _ states_few.1 in (
+      k,
+      o,
+      record {
+        inputs_are = refl;
+        outputs_are = refl;
+        good = record {
+          fields = eqb-true (length line.fields) 4 (not-false _ fields.0);
+          input = not-false _ cube.0;
+          current = any.0;
+          current_short = first.0 (not_from_false _ any.0);
+          next_short = λ e. second.0 (not_from_false _ e);
+          output = not-false _ output.0;
+        };
+        few_rows = ltb-true rows 65536 (not-false _ few.0);
+        few_states = ltb-false 256 (length states) states_few.0;
+      },
+    ) where
       both : long_name (filter is_name (current_field line ∷ next_field line ∷ [])) ≡ None
           → long_name (cond (is_name (current_field line)) (current_field line ∷ filter is_name (next_field line ∷ [])) (filter is_name (next_field line ∷ []))) ≡ None
       both e = e
 
-some_from_map : {X Y : Type 0} (f : X → Y) (o : Option X) (y : Y) → option_map f o ≡ Some y → (x : X) × (o ≡ Some x)
+pub some_from_map : {X Y : Type 0} (f : X → Y) (o : Option X) (y : Y) → option_map f o ≡ Some y → (x : X) × (o ≡ Some x)
 some_from_map f None y e = absurd (none-some y e)
 some_from_map f (Some x) y e = (x, refl)
 
@@ -184,41 +187,47 @@ all_kept p P (x ∷ xs) each =
       | inr dropped ↦ subst (λ t. All P (cond t (x ∷ filter p xs) (filter p xs))) (sym dropped) rest
     ]
 
+-- one line more
+pub take_step : (xs : List Line) (i : ℕ) (x : Line) → slice_get xs i ≡ Some x → take (suc i) xs ≡ take i xs ++ x ∷ []
+take_step [] i x e = absurd (none-some x e)
+take_step (y ∷ ys) zero x e = ap (λ z. z ∷ []) (same_Some y x e)
+take_step (y ∷ ys) (suc i) x e = ap (λ zs. y ∷ zs) (take_step ys i x e)
+
 none_few : length (state_names []) ≤ 256
 unfolding state_names each_once
 none_few = omega arith
 
-module _ (lines : List Line) (faultless : AreFaultless lines) where
+module _ (lines : List Line) (faultless : HaveNoFault lines) where
   -- a row among them
-  pub row_there : (place : ℕ) (line : Line) → slice_get lines place ≡ Some line → kind_of line ≡ Row
-      → (k : ℕ) × (o : ℕ) × IsFineRow (inputs_in (take place lines)) (outputs_in (take place lines)) (length (rows_in (take place lines))) (state_names (take place lines ++ line ∷ [])) line k o
+  pub row_there : (place : ℕ) (line : Line) → slice_get lines place ≡ Some line → line_kind_of line ≡ Row
+      → (k : ℕ) × (o : ℕ) × IsFineRow (inputs_said (take place lines)) (outputs_said (take place lines)) (length (row_lines (take place lines))) (state_names (take place lines ++ line ∷ [])) line k o
   row_there place line stands kind = row_fine _ _ _ _ line (form_at (take place lines) line Row (faultless place line stands) kind)
 
-  pub inputs_on : (place k : ℕ) → inputs_in (take place lines) ≡ Some k → inputs_in lines ≡ Some k
+  pub inputs_on : (place k : ℕ) → inputs_said (take place lines) ≡ Some k → inputs_said lines ≡ Some k
   inputs_on place k is =
-      let line = some_from_map (λ l. number_of (field_at 1 l)) (line_with InputCount (take place lines)) k is in
-      ap (option_map (λ l. number_of (field_at 1 l))) (found_on lines place InputCount line.0 line.1 ∙ sym line.1) ∙ is
+      let line = some_from_map (λ l. decimal_value (field_at 1 l)) (line_with InputCount (take place lines)) k is in
+      ap (option_map (λ l. decimal_value (field_at 1 l))) (found_on lines place InputCount line.0 line.1 ∙ sym line.1) ∙ is
 
-  pub outputs_on : (place o : ℕ) → outputs_in (take place lines) ≡ Some o → outputs_in lines ≡ Some o
+  pub outputs_on : (place o : ℕ) → outputs_said (take place lines) ≡ Some o → outputs_said lines ≡ Some o
   outputs_on place o is =
-      let line = some_from_map (λ l. number_of (field_at 1 l)) (line_with OutputCount (take place lines)) o is in
-      ap (option_map (λ l. number_of (field_at 1 l))) (found_on lines place OutputCount line.0 line.1 ∙ sym line.1) ∙ is
+      let line = some_from_map (λ l. decimal_value (field_at 1 l)) (line_with OutputCount (take place lines)) o is in
+      ap (option_map (λ l. decimal_value (field_at 1 l))) (found_on lines place OutputCount line.0 line.1 ∙ sym line.1) ∙ is
 
   -- each row, with the numbers of inputs and outputs
-  pub rows_good : (k o : ℕ) → inputs_in lines ≡ Some k → outputs_in lines ≡ Some o → All (IsGoodRow k o) (rows_in lines)
+  pub rows_good : (k o : ℕ) → inputs_said lines ≡ Some k → outputs_said lines ≡ Some o → All (IsGoodRow k o) (row_lines lines)
   rows_good k o inputs outputs =
       all_kept (is_of_kind Row) (IsGoodRow k o) lines
       (λ place line stands row.
-          let there = row_there place line stands (kind_row (kind_of line) row) in
-          let same_k : there.0 ≡ k = same_Some there.0 k (sym (inputs_on place there.0 there.2.inputs_are) ∙ inputs) in
-          let same_o : there.1 ≡ o = same_Some there.1 o (sym (outputs_on place there.1 there.2.outputs_are) ∙ outputs) in
-          subst (λ n. IsGoodRow n o line) same_k (subst (λ n. IsGoodRow there.0 n line) same_o there.2.good))
+      let there = row_there place line stands (kind_row (line_kind_of line) row) in
+      let same_k : there.0 ≡ k = same_Some there.0 k (sym (inputs_on place there.0 there.2.inputs_are) ∙ inputs) in
+      let same_o : there.1 ≡ o = same_Some there.1 o (sym (outputs_on place there.1 there.2.outputs_are) ∙ outputs) in
+      subst (λ n. IsGoodRow n o line) same_k (subst (λ n. IsGoodRow there.0 n line) same_o there.2.good))
 
   -- there are counts where there is a row
-  pub counts_there : 0 < length (rows_in lines) → (k : ℕ) × (o : ℕ) × (inputs_in lines ≡ Some k) × (outputs_in lines ≡ Some o)
+  pub counts_there : 0 < length (row_lines lines) → (k : ℕ) × (o : ℕ) × (inputs_said lines ≡ Some k) × (outputs_said lines ≡ Some o)
   counts_there some =
       let first = some_kept (is_of_kind Row) lines some in
-      let there = row_there first.0 first.1 first.2 (kind_row (kind_of first.1) first.3) in
+      let there = row_there first.0 first.1 first.2 (kind_row (line_kind_of first.1) first.3) in
       (there.0, there.1, inputs_on first.0 there.0 there.2.inputs_are, outputs_on first.0 there.1 there.2.outputs_are) where
         some_kept : {X : Type 0} (p : X → Bool) (xs : List X) → 0 < length (filter p xs) → (place : ℕ) × (x : X) × (slice_get xs place ≡ Some x) × (p x ≡ true)
         some_kept p [] some = absurd (omega arith)
@@ -231,7 +240,7 @@ module _ (lines : List Line) (faultless : AreFaultless lines) where
             ]
 
   -- there are at most 256 states and 65,536 rows
-  pub few_up_to : (count : ℕ) → count ≤ length lines → (length (state_names (take count lines)) ≤ 256) × (length (rows_in (take count lines)) ≤ 65536)
+  pub few_up_to : (count : ℕ) → count ≤ length lines → (length (state_names (take count lines)) ≤ 256) × (length (row_lines (take count lines)) ≤ 65536)
   few_up_to zero le = (none_few, omega arith)
   few_up_to (suc count) le =
       let before = few_up_to count (omega arith) in
@@ -239,12 +248,12 @@ module _ (lines : List Line) (faultless : AreFaultless lines) where
       let more : take (suc count) lines ≡ take count lines ++ line.0 ∷ [] = take_step lines count line.0 line.1 in
       elim (cases_Bool (is_of_kind Row line.0)) [
         | inl row ↦
-            let kind = kind_row (kind_of line.0) row in
+            let kind = kind_row (line_kind_of line.0) row in
             let there = row_there count line.0 line.1 kind in
             let fewer = there.2.few_rows in
-            (rw more there.2.few_states, rw (more, rows_more (take count lines) line.0 kind) (omega (arith, length_push (rows_in (take count lines)) line.0)))
+            (rw more there.2.few_states, rw (more, rows_more (take count lines) line.0 kind) (omega (arith, length_push (row_lines (take count lines)) line.0)))
         | inr other ↦
-            let same : rows_in (take count lines ++ line.0 ∷ []) ≡ rows_in (take count lines) = rows_stay (take count lines) line.0 (kind_of line.0) refl other in
+            let same : row_lines (take count lines ++ line.0 ∷ []) ≡ row_lines (take count lines) = rows_stay (take count lines) line.0 (line_kind_of line.0) refl other in
             (rw (more, names_same (take count lines) (take count lines ++ line.0 ∷ []) same) before.0, rw (more, same) before.1)
       ] where
         at_place : (xs : List Line) (i : ℕ) → i < length xs → (x : Line) × (slice_get xs i ≡ Some x)
@@ -252,44 +261,39 @@ module _ (lines : List Line) (faultless : AreFaultless lines) where
         at_place (x ∷ xs) zero lt = (x, refl)
         at_place (x ∷ xs) (suc i) lt = at_place xs i (omega arith)
 
-        take_step : (xs : List Line) (i : ℕ) (x : Line) → slice_get xs i ≡ Some x → take (suc i) xs ≡ take i xs ++ x ∷ []
-        take_step [] i x e = absurd (none-some x e)
-        take_step (y ∷ ys) zero x e = ap (λ z. z ∷ []) (same_Some y x e)
-        take_step (y ∷ ys) (suc i) x e = ap (λ zs. y ∷ zs) (take_step ys i x e)
-
-  pub few : (length (state_names lines) ≤ 256) × (length (rows_in lines) ≤ 65536)
-  few = subst (λ ls. (length (state_names ls) ≤ 256) × (length (rows_in ls) ≤ 65536)) (take_all (length lines) lines (omega arith)) (few_up_to (length lines) (omega arith))
+  pub few : (length (state_names lines) ≤ 256) × (length (row_lines lines) ≤ 65536)
+  few = subst (λ ls. (length (state_names ls) ≤ 256) × (length (row_lines ls) ≤ 65536)) (take_all (length lines) lines (omega arith)) (few_up_to (length lines) (omega arith))
 
 -- a name that stands at a place of a row is among the names of that place
-name_at : (place : ℕ) (rows : List Line) (k : ℕ) (row : Line) → slice_get rows k ≡ Some row → is_name (field_at place row) ≡ true → among (field_at place row) (names_at place rows) ≡ true
+name_at : (place : ℕ) (rows : List Line) (k : ℕ) (row : Line) → slice_get rows k ≡ Some row → is_name (field_at place row) ≡ true → among (field_at place row) (names_in_column place rows) ≡ true
 name_at place [] k row stands name = absurd (none-some row stands)
 name_at place (r ∷ rows) zero row stands name =
     let same : r ≡ row = same_Some r row stands in
-    subst (λ t. among (field_at place row) (cond t (field_at place r ∷ names_at place rows) (names_at place rows)) ≡ true) (sym (subst (λ l. is_name (field_at place l) ≡ true) (sym same) name))
-    (or_left (bytes_eq (field_at place row) (field_at place r)) (among (field_at place row) (names_at place rows))
+    subst (λ t. among (field_at place row) (cond t (field_at place r ∷ names_in_column place rows) (names_in_column place rows)) ≡ true) (sym (subst (λ l. is_name (field_at place l) ≡ true) (sym same) name))
+    (or_left (bytes_eq (field_at place row) (field_at place r)) (among (field_at place row) (names_in_column place rows))
     (subst (λ l. bytes_eq (field_at place row) (field_at place l) ≡ true) (sym same) (itself (field_at place row))))
 name_at place (r ∷ rows) (suc k) row stands name =
     let later = name_at place rows k row stands name in
     elim (cases_Bool (is_name (field_at place r))) [
-      | inl kept ↦ subst (λ t. among (field_at place row) (cond t (field_at place r ∷ names_at place rows) (names_at place rows)) ≡ true) (sym kept)
-          (or_right (bytes_eq (field_at place row) (field_at place r)) (among (field_at place row) (names_at place rows)) later)
-      | inr dropped ↦ subst (λ t. among (field_at place row) (cond t (field_at place r ∷ names_at place rows) (names_at place rows)) ≡ true) (sym dropped) later
+      | inl kept ↦ subst (λ t. among (field_at place row) (cond t (field_at place r ∷ names_in_column place rows) (names_in_column place rows)) ≡ true) (sym kept)
+          (or_right (bytes_eq (field_at place row) (field_at place r)) (among (field_at place row) (names_in_column place rows)) later)
+      | inr dropped ↦ subst (λ t. among (field_at place row) (cond t (field_at place r ∷ names_in_column place rows) (names_in_column place rows)) ≡ true) (sym dropped) later
     ]
 
-among_states : (name : List ℕ) (lines : List Line) → among name (state_names lines) ≡ (among name (names_at 1 (rows_in lines)) || among name (names_at 2 (rows_in lines)))
+pub among_states : (name : List ℕ) (lines : List Line) → among name (state_names lines) ≡ (among name (names_in_column 1 (row_lines lines)) || among name (names_in_column 2 (row_lines lines)))
 unfolding state_names
 among_states name lines =
-    among-each_once name (names_at 1 (rows_in lines) ++ names_at 2 (rows_in lines)) ∙ list_any-append (bytes_eq name) (names_at 1 (rows_in lines)) (names_at 2 (rows_in lines))
+    among-each_once name (names_in_column 1 (row_lines lines) ++ names_in_column 2 (row_lines lines)) ∙ list_any-append (bytes_eq name) (names_in_column 1 (row_lines lines)) (names_in_column 2 (row_lines lines))
 
 -- the names on rows are names of states
-pub rows_known : (lines : List Line) (k o : ℕ) → All (IsGoodRow k o) (rows_in lines) → All (IsKnownRow (state_names lines)) (rows_in lines)
+pub rows_known : (lines : List Line) (k o : ℕ) → All (IsGoodRow k o) (row_lines lines) → All (IsKnownRow (state_names lines)) (row_lines lines)
 rows_known lines k o good place d inside =
-    let rows = rows_in lines in
+    let rows = row_lines lines in
     let row = get_or rows place d in
     let stands : slice_get rows place ≡ Some row = slice_get-get_or rows place d inside in
     record {
       current = contained_from_test (state_names lines) (current_field row)
-          (among_states (current_field row) lines ∙ or_left _ (among (current_field row) (names_at 2 rows)) (name_at 1 rows place row stands (not_from_false _ (good place d inside).current)));
+          (among_states (current_field row) lines ∙ or_left _ (among (current_field row) (names_in_column 2 rows)) (name_at 1 rows place row stands (not_from_false _ (good place d inside).current)));
       next = λ named. contained_from_test (state_names lines) (next_field row)
-          (among_states (next_field row) lines ∙ or_right (among (next_field row) (names_at 1 rows)) _ (name_at 2 rows place row stands (not_from_false _ named)));
+          (among_states (next_field row) lines ∙ or_right (among (next_field row) (names_in_column 1 rows)) _ (name_at 2 rows place row stands (not_from_false _ named)));
     }

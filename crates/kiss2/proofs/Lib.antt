@@ -20,3 +20,15 @@ pub mod Closing
 pub mod GoodLines
 pub mod Building
 pub mod FieldBytes
+pub mod OneFault
+pub mod SameRecord
+pub mod Made
+pub mod Exact
+pub mod ReadLawful
+pub mod Written
+pub mod Scanning
+pub mod ReadBack
+pub mod Header
+pub mod RowsBack
+pub mod Renumbered
+pub mod RoundTrip

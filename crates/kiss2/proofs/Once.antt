@@ -12,7 +12,7 @@ use Rattle.hs_io.specs.declared.lines.Line.{Line}
 use Rattle.kiss2.specs.Faults.{has_twice}
 use Rattle.kiss2.specs.Inner.Judging.{names_on, names_seen, once_after}
 use Rattle.kiss2.specs.Names.{AreDistinct}
-use Rattle.kiss2.specs.Standing.{each_once, names_at, rows_in, state_names}
+use Rattle.kiss2.specs.Standing.{each_once, names_in_column, row_lines, state_names}
 use Rattle.kiss2.specs.Words.{current_field, field_at, is_name, next_field}
 use Rattle.kiss2.proofs.Finding.{contained_from_test, contained_test}
 
@@ -133,12 +133,12 @@ no_more (x ∷ names) others once there =
     let rest : length names ≤ length (filter (differs x) others) =
     no_more names (filter (differs x) others) parts.1
     (λ name h.
-        let apart : bytes_eq name x ≡ false =
-        elim (cases_Bool (bytes_eq name x)) [
-          | inl same ↦ absurd (false≢true (sym parts.0 ∙ subst (λ n. among n names ≡ true) (same_name name x same) h))
-          | inr apart ↦ apart
-        ] in
-        among-filter name x others apart ∙ there name (or_right (bytes_eq name x) (among name names) h)) in
+    let apart : bytes_eq name x ≡ false =
+    elim (cases_Bool (bytes_eq name x)) [
+      | inl same ↦ absurd (false≢true (sym parts.0 ∙ subst (λ n. among n names ≡ true) (same_name name x same) h))
+      | inr apart ↦ apart
+    ] in
+    among-filter name x others apart ∙ there name (or_right (bytes_eq name x) (among name names) h)) in
     omega arith
 
 -- names that are there once and are the same ones are as many
@@ -194,7 +194,7 @@ module _ (name : List ℕ) where
   regroup false false p q = refl
 
   -- the names of rows, row by row and column by column
-  pub among-rows : (rows : List Line) → among name (flat_map names_on rows) ≡ among name (names_at 1 rows ++ names_at 2 rows)
+  pub among-rows : (rows : List Line) → among name (flat_map names_on rows) ≡ among name (names_in_column 1 rows ++ names_in_column 2 rows)
   among-rows [] = refl
   among-rows (row ∷ rows) =
       let current = current_field row in
@@ -204,24 +204,24 @@ module _ (name : List ℕ) where
       list_any-append (bytes_eq name) (names_on row) (flat_map names_on rows)
       ∙ ap (λ t. t || among name (flat_map names_on rows))
       (among-cond (is_name current) current (filter is_name (next ∷ [])) ∙ ap (λ t. one || t) (among-cond (is_name next) next []))
-      ∙ ap (λ t. (one || (two || false)) || t) (among-rows rows ∙ list_any-append (bytes_eq name) (names_at 1 rows) (names_at 2 rows))
-      ∙ regroup one two (among name (names_at 1 rows)) (among name (names_at 2 rows))
-      ∙ sym (list_any-append (bytes_eq name) (names_at 1 (row ∷ rows)) (names_at 2 (row ∷ rows))
-      ∙ (ap (λ t. t || among name (names_at 2 (row ∷ rows))) (among-cond (is_name current) current (names_at 1 rows))
-      ∙ ap (λ t. (one || among name (names_at 1 rows)) || t) (among-cond (is_name next) next (names_at 2 rows))))
+      ∙ ap (λ t. (one || (two || false)) || t) (among-rows rows ∙ list_any-append (bytes_eq name) (names_in_column 1 rows) (names_in_column 2 rows))
+      ∙ regroup one two (among name (names_in_column 1 rows)) (among name (names_in_column 2 rows))
+      ∙ sym (list_any-append (bytes_eq name) (names_in_column 1 (row ∷ rows)) (names_in_column 2 (row ∷ rows))
+      ∙ (ap (λ t. t || among name (names_in_column 2 (row ∷ rows))) (among-cond (is_name current) current (names_in_column 1 rows))
+      ∙ ap (λ t. (one || among name (names_in_column 1 rows)) || t) (among-cond (is_name next) next (names_in_column 2 rows))))
 
 -- as many names are seen as there are states
 pub seen_count : (lines : List Line) → length (names_seen lines) ≡ length (state_names lines)
 unfolding names_seen state_names
 seen_count lines =
-    as_many (flat_map names_on (rows_in lines)) (names_at 1 (rows_in lines) ++ names_at 2 (rows_in lines)) (λ name. among-rows name (rows_in lines))
+    as_many (flat_map names_on (row_lines lines)) (names_in_column 1 (row_lines lines) ++ names_in_column 2 (row_lines lines)) (λ name. among-rows name (row_lines lines))
 
 -- and the same
 pub seen_among : (name : List ℕ) (lines : List Line) → among name (names_seen lines) ≡ among name (state_names lines)
 unfolding names_seen state_names
 seen_among name lines =
-    among-each_once name (flat_map names_on (rows_in lines))
-    ∙ (among-rows name (rows_in lines) ∙ sym (among-each_once name (names_at 1 (rows_in lines) ++ names_at 2 (rows_in lines))))
+    among-each_once name (flat_map names_on (row_lines lines))
+    ∙ (among-rows name (row_lines lines) ∙ sym (among-each_once name (names_in_column 1 (row_lines lines) ++ names_in_column 2 (row_lines lines))))
 
 -- a name that is put last where it is new
 pub put_once : (names new : List (List ℕ)) (name : List ℕ) → (Contains names name → new ≡ names) → ((Contains names name → ⊥) → new ≡ names ++ name ∷ []) → is_name name ≡ true
@@ -257,6 +257,6 @@ put_few names field = few (is_name field) where
   few false = omega arith
 
 -- lines with the same rows have the same states
-pub names_same : (lines others : List Line) → rows_in others ≡ rows_in lines → state_names others ≡ state_names lines
+pub names_same : (lines others : List Line) → row_lines others ≡ row_lines lines → state_names others ≡ state_names lines
 unfolding state_names
-names_same lines others same = ap (λ rows. each_once (names_at 1 rows ++ names_at 2 rows)) same
+names_same lines others same = ap (λ rows. each_once (names_in_column 1 rows ++ names_in_column 2 rows)) same

@@ -12,12 +12,12 @@ use Rattle.kiss2.specs.declared.line_kind.LineKind.TheVariants.{Row}
 use Rattle.kiss2.specs.declared.said.Said.{Said}
 use Rattle.kiss2.specs.Faults.{fault_in, fault_where, first_of, row_fault}
 use Rattle.kiss2.specs.Inner.Judging.{Stands, names_on, names_seen, once_after}
-use Rattle.kiss2.specs.Standing.{each_once, rows_in, state_names}
-use Rattle.kiss2.specs.Words.{current_field, is_character_field, is_name, kind_of, next_field, output_field}
+use Rattle.kiss2.specs.Standing.{each_once, row_lines, state_names}
+use Rattle.kiss2.specs.Words.{current_field, is_character_field, is_name, line_kind_of, next_field, output_field}
 use Rattle.kiss2.proofs.Once.{each_once-append, put_both, seen_count}
 use Rattle.kiss2.proofs.Stood.{fault_form, rows_more, stay}
 
-module _ (said : Said) (before : List Line) (line : Line) (stands : Stands said before) (clean : line.bad ≡ false) (kind : kind_of line ≡ Row) where
+module _ (said : Said) (before : List Line) (line : Line) (stands : Stands said before) (clean : line.bad ≡ false) (kind : line_kind_of line ≡ Row) where
   -- its fault, by what is kept
   pub row_form : fault_in before line ≡ row_fault said.inputs said.outputs said.rows (state_names (before ++ line ∷ [])) line
   row_form = fault_form before line Row clean kind refl ∙ rw (stands.inputs, stands.outputs, stands.rows) refl
@@ -26,7 +26,7 @@ module _ (said : Said) (before : List Line) (line : Line) (stands : Stands said 
   unfolding names_seen
   names_more =
       ap (λ rows. each_once (flat_map names_on rows)) (rows_more before line kind)
-      ∙ (ap each_once (sym (flat_map_more names_on [] (rows_in before) line)) ∙ each_once-append (flat_map names_on (rows_in before)) (names_on line))
+      ∙ (ap each_once (sym (flat_map_more names_on [] (row_lines before) line)) ∙ each_once-append (flat_map names_on (row_lines before)) (names_on line))
 
   -- the names after it
   module _ (first second : List (List ℕ)) (put_first : first ≡ once_after said.states (filter is_name (current_field line ∷ []))) (put_second : second ≡ once_after first (filter is_name (next_field line ∷ []))) where
@@ -52,7 +52,7 @@ module _ (said : Said) (before : List Line) (line : Line) (stands : Stands said 
           reset = stands.reset ∙ kept.reset refl;
           input_names = stands.input_names ∙ kept.input_names refl;
           output_names = stands.output_names ∙ kept.output_names refl;
-          rows = ap (λ n. n + 1) stands.rows ∙ sym (ap length (rows_more before line kind) ∙ length_push (rows_in before) line);
+          rows = ap (λ n. n + 1) stands.rows ∙ sym (ap length (rows_more before line kind) ∙ length_push (row_lines before) line);
           states = names_put;
         }
 

@@ -11,8 +11,8 @@ use Rattle.kiss2.specs.declared.fault.KissKind.{KissKind}
 use Rattle.kiss2.specs.declared.fault.KissKind.TheVariants.{BadByte, UnknownWord, BadNumber, Repeated, MissingCounts, BadFields, BadCube, BadOutput, AnyState, OverLimit}
 use Rattle.kiss2.specs.declared.fault.KissLimit.{KissLimit}
 use Rattle.kiss2.specs.declared.fault.KissLimit.TheVariants.{Rows, States, Inputs, Outputs, NameBytes}
-use Rattle.kiss2.specs.Words.{current_field, has_backslash, input_field, is_character_field, is_name, is_number, is_open, kind_of, next_field, number_of, operands, output_field}
-use Rattle.kiss2.specs.Standing.{has_stood, inputs_in, names_in, outputs_in, rows_in, state_names}
+use Rattle.kiss2.specs.Words.{current_field, has_backslash, input_field, is_character_field, is_name, is_decimal, is_open, line_kind_of, next_field, decimal_value, operands, output_field}
+use Rattle.kiss2.specs.Standing.{has_stood, inputs_said, names_said, outputs_said, row_lines, state_names}
 
 -- a fault where the test gives true
 abbrev pub fault_where : Bool → KissKind → Option KissKind
@@ -46,8 +46,8 @@ count_fault what limit fields =
     let n = operand_of fields in
     first_of
     (fault_where (is_not_one fields) BadFields
-    ∷ fault_where (not (is_number n) || number_of n == 0) BadNumber
-    ∷ fault_where (nat_lt limit (number_of n)) (OverLimit what (number_of n))
+    ∷ fault_where (not (is_decimal n) || decimal_value n == 0) BadNumber
+    ∷ fault_where (nat_lt limit (decimal_value n)) (OverLimit what (decimal_value n))
     ∷ [])
 
 -- `.p N` and `.s N`: N is compared with nothing
@@ -55,7 +55,7 @@ abbrev pub number_fault : List (List ℕ) → Option KissKind
 number_fault fields =
     first_of
     (fault_where (is_not_one fields) BadFields
-    ∷ fault_where (not (is_number (operand_of fields))) BadNumber
+    ∷ fault_where (not (is_decimal (operand_of fields))) BadNumber
     ∷ [])
 
 -- `.r NAME`
@@ -99,10 +99,10 @@ form_fault OutputCount before line = count_fault Outputs 64 (operands line)
 form_fault RowCount before line = number_fault (operands line)
 form_fault StateCount before line = number_fault (operands line)
 form_fault Reset before line = reset_fault (operands line)
-form_fault InputNames before line = names_fault (inputs_in before) (unwrap_or (names_in OutputNames before) []) (operands line)
-form_fault OutputNames before line = names_fault (outputs_in before) (unwrap_or (names_in InputNames before) []) (operands line)
+form_fault InputNames before line = names_fault (inputs_said before) (unwrap_or (names_said OutputNames before) []) (operands line)
+form_fault OutputNames before line = names_fault (outputs_said before) (unwrap_or (names_said InputNames before) []) (operands line)
 form_fault Unknown before line = Some UnknownWord
-form_fault Row before line = row_fault (inputs_in before) (outputs_in before) (length (rows_in before)) (state_names (before ++ line ∷ [])) line
+form_fault Row before line = row_fault (inputs_said before) (outputs_said before) (length (row_lines before)) (state_names (before ++ line ∷ [])) line
 
 -- a word that may stand once, and has stood
 abbrev pub stands_again : LineKind → List Line → Bool
@@ -117,6 +117,6 @@ unfoldable pub fault_in : List Line → Line → Option KissKind
 fault_in before line =
     first_of
     (fault_where line.bad BadByte
-    ∷ fault_where (stands_again (kind_of line) before) Repeated
-    ∷ form_fault (kind_of line) before line
+    ∷ fault_where (stands_again (line_kind_of line) before) Repeated
+    ∷ form_fault (line_kind_of line) before line
     ∷ [])

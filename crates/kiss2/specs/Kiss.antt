@@ -14,20 +14,20 @@ use Rattle.kiss2.specs.declared.kiss_file.KissRow.{KissRow}
 use Rattle.kiss2.specs.declared.line_kind.LineKind.TheVariants.{InputNames, OutputNames, Reset}
 use Rattle.kiss2.specs.Faults.{fault_in}
 use Rattle.kiss2.specs.Lawful.{IsLawful}
-use Rattle.kiss2.specs.Standing.{inputs_in, line_with, names_in, outputs_in, reset_name, rows_in, state_names}
-use Rattle.kiss2.specs.Words.{care_in, current_field, ends_text, field_at, input_field, is_open, next_field, output_field, value_in}
+use Rattle.kiss2.specs.Standing.{inputs_said, line_with, names_said, outputs_said, reset_name, row_lines, state_names}
+use Rattle.kiss2.specs.Words.{care_in, current_field, is_ending, field_at, input_field, is_open, next_field, output_field, value_in}
 
 -- the lines before the ending word, or all where there is none
 abbrev pub before_end : List Line → List Line
-before_end lines = take_while (λ line. not (ends_text line)) lines
+before_end lines = take_while (λ line. not (is_ending line)) lines
 
 -- the lines that are read
 unfoldable pub lines_read : List ℕ → List Line
 lines_read bytes = before_end (lines_of bytes)
 
 -- no line has a fault after those before it
-abbrev pub AreFaultless : List Line → Type 0
-AreFaultless lines = (place : ℕ) (line : Line) → slice_get lines place ≡ Some line → fault_in (take place lines) line ≡ None
+abbrev pub HaveNoFault : List Line → Type 0
+HaveNoFault lines = (place : ℕ) (line : Line) → slice_get lines place ≡ Some line → fault_in (take place lines) line ≡ None
 
 -- the fault of the lines as a whole, where no line has one: there is no row, or the name of `.r` is no state
 abbrev pub reset_unknown : List (List ℕ) → Option Line → Option KissFault
@@ -37,13 +37,13 @@ reset_unknown states (Some line) =
 
 abbrev pub closing_fault : List Line → Option KissFault
 closing_fault lines =
-    if length (rows_in lines) == 0 then Some (record { line = 0; kind = NoRows }) else reset_unknown (state_names lines) (line_with Reset lines)
+    if length (row_lines lines) == 0 then Some (record { line = 0; kind = NoRows }) else reset_unknown (state_names lines) (line_with Reset lines)
 
 -- a line with a fault, before which there is none
 pub record IsFirstFault (lines : List Line) (place : ℕ) (line : Line) (kind : KissKind) : Type 0 where
   pub stands : slice_get lines place ≡ Some line
   pub fault : fault_in (take place lines) line ≡ Some kind
-  pub none_before : AreFaultless (take place lines)
+  pub none_before : HaveNoFault (take place lines)
 
 abbrev pub IsLineFault : List Line → ℕ → KissKind → Type 0
 IsLineFault lines number kind = (place : ℕ) × (line : Line) × IsFirstFault lines place line kind × (number ≡ line.number)
@@ -51,7 +51,7 @@ IsLineFault lines number kind = (place : ℕ) × (line : Line) × IsFirstFault l
 -- the number of its line and the kind of the first fault of lines
 abbrev pub IsFaultOf : List Line → ℕ → KissKind → Type 0
 IsFaultOf lines number kind =
-    IsLineFault lines number kind ⊎ (AreFaultless lines × (closing_fault lines ≡ Some (record { line = number; kind = kind })))
+    IsLineFault lines number kind ⊎ (HaveNoFault lines × (closing_fault lines ≡ Some (record { line = number; kind = kind })))
 
 -- the next state that a field names, if it does
 abbrev pub IsNextOf : List (List ℕ) → List ℕ → Option ℕ → Type 0
@@ -68,17 +68,17 @@ pub record IsRowOf (states : List (List ℕ)) (line : Line) (row : KissRow) : Ty
 
 -- the record that lines without a fault give
 pub record IsRecordOf (lines : List Line) (F : KissFile) : Type 0 where
-  pub inputs : inputs_in lines ≡ Some F.inputs
-  pub outputs : outputs_in lines ≡ Some F.outputs
+  pub inputs : inputs_said lines ≡ Some F.inputs
+  pub outputs : outputs_said lines ≡ Some F.outputs
   pub states : F.states ≡ state_names lines
   pub reset : slice_get F.states F.reset ≡ reset_name lines
-  pub rows : AllZip (IsRowOf F.states) (rows_in lines) F.rows
-  pub input_names : F.input_names ≡ names_in InputNames lines
-  pub output_names : F.output_names ≡ names_in OutputNames lines
+  pub rows : AllZip (IsRowOf F.states) (row_lines lines) F.rows
+  pub input_names : F.input_names ≡ names_said InputNames lines
+  pub output_names : F.output_names ≡ names_said OutputNames lines
 
 -- the lines have no fault and give the record
 pub record IsReadAs (lines : List Line) (F : KissFile) : Type 0 where
-  pub faultless : AreFaultless lines
+  pub faultless : HaveNoFault lines
   pub closed : closing_fault lines ≡ None
   pub whole : IsRecordOf lines F
 

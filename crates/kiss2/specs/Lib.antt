@@ -7,4 +7,6 @@ pub mod Words
 pub mod Standing
 pub mod Faults
 pub mod Kiss
+pub mod Written
+pub mod Worked
 pub mod Inner

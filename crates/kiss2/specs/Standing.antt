@@ -5,7 +5,7 @@ use Rattle.std.specs.Str.{bytes_eq}
 use Rattle.hs_io.specs.declared.lines.Line.{Line}
 use Rattle.kiss2.specs.declared.line_kind.LineKind.{LineKind}
 use Rattle.kiss2.specs.declared.line_kind.LineKind.TheVariants.{InputCount, OutputCount, Reset, Row}
-use Rattle.kiss2.specs.Words.{current_field, field_at, is_name, is_of_kind, number_of, operands}
+use Rattle.kiss2.specs.Words.{current_field, field_at, is_name, is_of_kind, decimal_value, operands}
 
 -- the line of that kind among them, the first where there are several
 abbrev pub line_with : LineKind → List Line → Option Line
@@ -15,19 +15,19 @@ abbrev pub has_stood : LineKind → List Line → Bool
 has_stood kind lines = is_some (line_with kind lines)
 
 -- the numbers of inputs and outputs
-abbrev pub inputs_in : List Line → Option ℕ
-inputs_in lines = option_map (λ line. number_of (field_at 1 line)) (line_with InputCount lines)
+abbrev pub inputs_said : List Line → Option ℕ
+inputs_said lines = option_map (λ line. decimal_value (field_at 1 line)) (line_with InputCount lines)
 
-abbrev pub outputs_in : List Line → Option ℕ
-outputs_in lines = option_map (λ line. number_of (field_at 1 line)) (line_with OutputCount lines)
+abbrev pub outputs_said : List Line → Option ℕ
+outputs_said lines = option_map (λ line. decimal_value (field_at 1 line)) (line_with OutputCount lines)
 
 -- the names that a line of that kind gives
-abbrev pub names_in : LineKind → List Line → Option (List (List ℕ))
-names_in kind lines = option_map operands (line_with kind lines)
+abbrev pub names_said : LineKind → List Line → Option (List (List ℕ))
+names_said kind lines = option_map operands (line_with kind lines)
 
 -- the rows
-abbrev pub rows_in : List Line → List Line
-rows_in lines = filter (is_of_kind Row) lines
+abbrev pub row_lines : List Line → List Line
+row_lines lines = filter (is_of_kind Row) lines
 
 -- names, each once, in the order in which they come first
 unfoldable pub each_once : List (List ℕ) → List (List ℕ)
@@ -35,15 +35,15 @@ each_once [] = []
 each_once (name ∷ names) = name ∷ filter (λ other. not (bytes_eq other name)) (each_once names)
 
 -- the names of states that stand at that place of rows
-abbrev pub names_at : ℕ → List Line → List (List ℕ)
-names_at place rows = filter is_name (map (field_at place) rows)
+abbrev pub names_in_column : ℕ → List Line → List (List ℕ)
+names_in_column place rows = filter is_name (map (field_at place) rows)
 
 -- the names of the states in the order of their numbers: those of the current-state column, by first appearance there,
 -- and then those that stand in the next-state column alone, by first appearance there
 unfoldable pub state_names : List Line → List (List ℕ)
-state_names lines = each_once (names_at 1 (rows_in lines) ++ names_at 2 (rows_in lines))
+state_names lines = each_once (names_in_column 1 (row_lines lines) ++ names_in_column 2 (row_lines lines))
 
 -- the name of the reset state: that of `.r`, and without it the first row's current state
 abbrev pub reset_name : List Line → Option (List ℕ)
 reset_name lines =
-    option_or (option_map (field_at 1) (line_with Reset lines)) (option_map current_field (slice_get (rows_in lines) 0))
+    option_or (option_map (field_at 1) (line_with Reset lines)) (option_map current_field (slice_get (row_lines lines) 0))

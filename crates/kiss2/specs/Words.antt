@@ -31,8 +31,8 @@ kind_of_fields [] = Blank
 kind_of_fields (first ∷ fields) = kind_of_field first
 
 -- what a line is
-abbrev pub kind_of : Line → LineKind
-kind_of line = kind_of_fields line.fields
+abbrev pub line_kind_of : Line → LineKind
+line_kind_of line = kind_of_fields line.fields
 
 -- whether two kinds are one
 abbrev pub same_kind : LineKind → LineKind → Bool
@@ -50,11 +50,11 @@ same_kind Row Row = true
 same_kind _ _ = false
 
 abbrev pub is_of_kind : LineKind → Line → Bool
-is_of_kind kind line = same_kind kind (kind_of line)
+is_of_kind kind line = same_kind kind (line_kind_of line)
 
 -- the ending word stands on it, and it is not bad
-abbrev pub ends_text : Line → Bool
-ends_text line = not line.bad && is_of_kind End line
+abbrev pub is_ending : Line → Bool
+is_ending line = not line.bad && is_of_kind End line
 
 -- the field at a place; place 0 has the word, or the input field of a row
 abbrev pub field_at : ℕ → Line → List ℕ
@@ -78,12 +78,12 @@ abbrev pub output_field : Line → List ℕ
 output_field line = field_at 3 line
 
 -- a number: one to nine decimal digits
-abbrev pub is_number : List ℕ → Bool
-is_number field = (nat_le 1 (length field) && nat_le (length field) 9) && list_all is_ascii_digit field
+abbrev pub is_decimal : List ℕ → Bool
+is_decimal field = (nat_le 1 (length field) && nat_le (length field) 9) && list_all is_ascii_digit field
 
 -- its value
-abbrev pub number_of : List ℕ → ℕ
-number_of field = digits_value 10 field
+abbrev pub decimal_value : List ℕ → ℕ
+decimal_value field = digits_value 10 field
 
 -- a `*` or a `-` in the place of a state
 abbrev pub is_open : List ℕ → Bool

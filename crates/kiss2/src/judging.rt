@@ -4,7 +4,7 @@ ghost use Rattle.std.specs.List.{list_any};
 ghost use Rattle.hs_io.specs.declared.lines.Line.{Line};
 ghost use Rattle.kiss2.specs.declared.line_kind.LineKind.TheVariants.{InputCount, InputNames, OutputCount, OutputNames, Reset, Row, RowCount, StateCount};
 ghost use Rattle.kiss2.specs.Faults.{count_fault, fault_in, first_of, fault_where, has_twice, is_not_one, long_name, names_fault, number_fault, operand_of, reset_fault, row_fault};
-ghost use Rattle.kiss2.specs.Words.{field_at, has_backslash, is_character_field, kind_of, number_of, output_field};
+ghost use Rattle.kiss2.specs.Words.{field_at, has_backslash, is_character_field, line_kind_of, decimal_value, output_field};
 ghost use Rattle.kiss2.specs.Names.{AreDistinct};
 ghost use Rattle.kiss2.specs.Inner.Judging.{Judges};
 
@@ -57,7 +57,7 @@ fn one_operand(fields: &[Name]) -> Result<&[u8], KissKind>
 
 /// The number of `.i` or `.o`.
 pub(crate) fn count_said(fields: &[Name], what: KissLimit, limit: u8) -> Result<u8, KissKind>
-    ensures { MatchResult result (λ count. (count_fault what limit fields.now ≡ None) × (count ≡ number_of (operand_of fields.now))) (λ kind. count_fault what limit fields.now ≡ Some kind) }
+    ensures { MatchResult result (λ count. (count_fault what limit fields.now ≡ None) × (count ≡ decimal_value (operand_of fields.now))) (λ kind. count_fault what limit fields.now ≡ Some kind) }
 {
     let field = one_operand(fields)?;
     let Some(number) = number_in(field) else {

@@ -1,6 +1,5 @@
 ghost use Rattle.std.specs.Prelude.{◌≡◌};
-ghost use Rattle.kiss2.specs.Words.{ends_text, is_of_kind, kind_of, kind_of_field};
-
+ghost use Rattle.kiss2.specs.Words.{is_ending, is_of_kind, line_kind_of, kind_of_field};
 ghost use Rattle.kiss2.specs.declared.line_kind.LineKind.TheVariants.{Row};
 
 use hs_io::Line;
@@ -34,7 +33,7 @@ pub(crate) enum LineKind {
 
 /// What the line is.
 pub(crate) fn line_kind(line: &Line) -> LineKind
-    ensures { result ≡ kind_of line.now }
+    ensures { result ≡ line_kind_of line.now }
 {
     match line.fields.as_slice() {
         [] => LineKind::Blank,
@@ -51,7 +50,7 @@ pub(crate) fn is_row(line: &Line) -> bool
 
 /// Whether the text ends before the line.
 pub(crate) fn ends(line: &Line) -> bool
-    ensures { result ≡ ends_text line.now }
+    ensures { result ≡ is_ending line.now }
 {
     !line.bad && line_kind(line) == LineKind::End
 }

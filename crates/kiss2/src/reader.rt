@@ -4,15 +4,15 @@ ghost use Rattle.hs_io.specs.declared.lines.Line.{Line};
 ghost use Rattle.kiss2.specs.declared.fault.KissFault.{KissFault};
 ghost use Rattle.kiss2.specs.declared.kiss_file.KissFile.{KissFile};
 ghost use Rattle.kiss2.specs.declared.fault.KissFail.TheVariants.{NoMemory, Refused};
-ghost use Rattle.kiss2.specs.Kiss.{AreFaultless, IsFaultOf, IsKissFault, IsLineFault, IsReadAs, Kiss, before_end, closing_fault};
+ghost use Rattle.kiss2.specs.Kiss.{HaveNoFault, IsFaultOf, IsKissFault, IsLineFault, IsReadAs, Kiss, before_end, closing_fault};
 ghost use Rattle.kiss2.specs.Inner.Judging.{HasShortFields, IsSmall, Stands, fail_at};
 
+use crate::KissFile;
 use crate::fault::{KissFail, KissFault, KissKind};
 use crate::judging::LineFail;
 use crate::line_kind::ends;
 use crate::record::record_of;
 use crate::said::Said;
-use crate::KissFile;
 use hs_io::{Line, cut_lines};
 use std::alloc::Global;
 
@@ -21,6 +21,8 @@ pub fn read(alloc: Global, bytes: &[u8]) -> Result<KissFile, KissFail>
     requires { length bytes.now < 2 ^ 32 }
     ensures read { IfOk result (λ file. Kiss bytes.now file) }
     ensures refused { (fault : KissFault) → result ≡ Err (KissFail.Refused fault) → IsKissFault bytes.now fault.line fault.kind }
+    ensures never_refused { (file : KissFile) → Kiss bytes.now file → MatchResult result (λ read. read ≡ file) (λ fail. fail ≡ KissFail.NoMemory) }
+    ensures never_read { (fault : KissFault) → IsKissFault bytes.now fault.line fault.kind → MatchResult result (λ _. ⊥) (λ fail. (fail ≡ KissFail.Refused fault) ⊎ (fail ≡ KissFail.NoMemory)) }
 {
     let lines = cut_lines(alloc, bytes)?;
     read_lines(alloc, &lines)
@@ -44,7 +46,7 @@ fn judge(alloc: Global, lines: &[Line]) -> Result<Said, KissFail>
     requires { All HasShortFields lines.now }
     ensures stands { IfOk result (λ said. Stands said (before_end lines.now)) }
     ensures small { IfOk result IsSmall }
-    ensures faultless { OnOk result (AreFaultless (before_end lines.now)) }
+    ensures faultless { OnOk result (HaveNoFault (before_end lines.now)) }
     ensures refused { (fault : KissFault) → result ≡ Err (KissFail.Refused fault) → IsLineFault (before_end lines.now) fault.line fault.kind }
 {
     let mut said = Said::new(alloc);

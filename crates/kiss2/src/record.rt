@@ -4,8 +4,8 @@ ghost use Rattle.kiss2.specs.declared.kiss_file.KissRow.{KissRow};
 ghost use Rattle.std.specs.List.{AllZip};
 ghost use Rattle.cubes.specs.Cube.{text_of};
 ghost use Rattle.hs_io.specs.declared.lines.Line.{Line};
-ghost use Rattle.kiss2.specs.Kiss.{AreFaultless, IsNextOf, IsRecordOf, IsRowOf, closing_fault};
-ghost use Rattle.kiss2.specs.Standing.{names_at, reset_name, rows_in, state_names};
+ghost use Rattle.kiss2.specs.Kiss.{HaveNoFault, IsNextOf, IsRecordOf, IsRowOf, closing_fault};
+ghost use Rattle.kiss2.specs.Standing.{names_in_column, reset_name, row_lines, state_names};
 ghost use Rattle.kiss2.specs.Words.{current_field, is_character_field, is_open, next_field};
 ghost use Rattle.kiss2.specs.Inner.Good.{IsGoodRow, IsKnownRow};
 ghost use Rattle.kiss2.specs.Inner.Judging.{Stands, once_after};
@@ -21,7 +21,7 @@ use std::alloc::{AllocError, Global};
 /// The record that lines without a fault give.
 pub(crate) fn record_of(alloc: Global, lines: &[Line], said: Said) -> Result<KissFile, AllocError>
     requires stands { Stands said lines.now }
-    requires faultless { AreFaultless lines.now }
+    requires faultless { HaveNoFault lines.now }
     requires closed { closing_fault lines.now ≡ None }
     ensures { IfOk result (λ file. IsRecordOf lines.now file) }
 {
@@ -48,7 +48,7 @@ pub(crate) fn record_of(alloc: Global, lines: &[Line], said: Said) -> Result<Kis
 /// The names of the states in the order of their numbers.
 fn states_of(alloc: Global, lines: &[Line]) -> Result<StateNames, AllocError>
     requires few { length (state_names lines.now) ≤ 256 }
-    requires long { All (λ line. length line.fields ≡ 4) (rows_in lines.now) }
+    requires long { All (λ line. length line.fields ≡ 4) (row_lines lines.now) }
     ensures { IfOk result (λ names. names ≡ state_names lines.now) }
 {
     let mut names = StateNames::new(alloc);
@@ -59,10 +59,10 @@ fn states_of(alloc: Global, lines: &[Line]) -> Result<StateNames, AllocError>
 
 /// Adds the names that stand at a place of rows.
 fn add_column(names: &mut StateNames, lines: &[Line], place: usize) -> Result<(), AllocError>
-    requires few { length (once_after names.old (names_at place (rows_in lines.now))) ≤ 256 }
-    requires long { All (λ line. length line.fields ≡ 4) (rows_in lines.now) }
+    requires few { length (once_after names.old (names_in_column place (row_lines lines.now))) ≤ 256 }
+    requires long { All (λ line. length line.fields ≡ 4) (row_lines lines.now) }
     requires place { place < 4 }
-    ensures { OnOk result (names.new ≡ once_after names.old (names_at place (rows_in lines.now))) }
+    ensures { OnOk result (names.new ≡ once_after names.old (names_in_column place (row_lines lines.now))) }
 {
     for line in lines {
         if is_row(line) {
@@ -82,9 +82,9 @@ fn rows_of(
     requires some_input { 1 ≤ inputs }
     requires inputs { inputs ≤ 32 }
     requires states { length states.now ≤ 256 }
-    requires good { (outputs : ℕ) × (outputs ≤ 64) × All (IsGoodRow inputs outputs) (rows_in lines.now) }
-    requires known { All (IsKnownRow states.now) (rows_in lines.now) }
-    ensures { IfOk result (λ rows. AllZip (IsRowOf states.now) (rows_in lines.now) rows) }
+    requires good { (outputs : ℕ) × (outputs ≤ 64) × All (IsGoodRow inputs outputs) (row_lines lines.now) }
+    requires known { All (IsKnownRow states.now) (row_lines lines.now) }
+    ensures { IfOk result (λ rows. AllZip (IsRowOf states.now) (row_lines lines.now) rows) }
 {
     let mut rows = Rows::new(alloc);
     for line in lines {

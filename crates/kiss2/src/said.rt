@@ -4,7 +4,7 @@ ghost use Rattle.std.specs.Option.{is_none};
 ghost use Rattle.hs_io.specs.declared.lines.Line.{Line};
 ghost use Rattle.kiss2.specs.declared.line_kind.LineKind.TheVariants.{InputCount, InputNames, OutputCount, OutputNames, Reset, Row, RowCount, StateCount};
 ghost use Rattle.kiss2.specs.Faults.{fault_in, first_of, fault_where, row_fault};
-ghost use Rattle.kiss2.specs.Words.{current_field, field_at, is_character_field, is_name, kind_of, next_field, output_field};
+ghost use Rattle.kiss2.specs.Words.{current_field, field_at, is_character_field, is_name, line_kind_of, next_field, output_field};
 ghost use Rattle.kiss2.specs.Inner.Judging.{IsSmall, Judges, Stands, names_on, once_after};
 
 use crate::StateNames;
@@ -88,7 +88,7 @@ impl Said {
     /// `.i`
     fn take_inputs(&mut self, line: &Line) -> Result<(), LineFail>
         requires clean { line.now.bad ≡ false }
-        requires kind { kind_of line.now ≡ InputCount }
+        requires kind { line_kind_of line.now ≡ InputCount }
         requires small { IsSmall self.old }
         ensures judged { (before : List Line) → Stands self.old before → Judges result (fault_in before line.now) (λ _. Stands self.new (before ++ line.now ∷ [])) }
         ensures small { OnOk result (IsSmall self.new) }
@@ -103,7 +103,7 @@ impl Said {
     /// `.o`
     fn take_outputs(&mut self, line: &Line) -> Result<(), LineFail>
         requires clean { line.now.bad ≡ false }
-        requires kind { kind_of line.now ≡ OutputCount }
+        requires kind { line_kind_of line.now ≡ OutputCount }
         requires small { IsSmall self.old }
         ensures judged { (before : List Line) → Stands self.old before → Judges result (fault_in before line.now) (λ _. Stands self.new (before ++ line.now ∷ [])) }
         ensures small { OnOk result (IsSmall self.new) }
@@ -118,7 +118,7 @@ impl Said {
     /// `.p`
     fn take_row_count(&mut self, line: &Line) -> Result<(), LineFail>
         requires clean { line.now.bad ≡ false }
-        requires kind { kind_of line.now ≡ RowCount }
+        requires kind { line_kind_of line.now ≡ RowCount }
         requires small { IsSmall self.old }
         ensures judged { (before : List Line) → Stands self.old before → Judges result (fault_in before line.now) (λ _. Stands self.new (before ++ line.now ∷ [])) }
         ensures small { OnOk result (IsSmall self.new) }
@@ -134,7 +134,7 @@ impl Said {
     /// `.s`
     fn take_state_count(&mut self, line: &Line) -> Result<(), LineFail>
         requires clean { line.now.bad ≡ false }
-        requires kind { kind_of line.now ≡ StateCount }
+        requires kind { line_kind_of line.now ≡ StateCount }
         requires small { IsSmall self.old }
         ensures judged { (before : List Line) → Stands self.old before → Judges result (fault_in before line.now) (λ _. Stands self.new (before ++ line.now ∷ [])) }
         ensures small { OnOk result (IsSmall self.new) }
@@ -150,7 +150,7 @@ impl Said {
     /// `.r`
     fn take_reset(&mut self, alloc: Global, line: &Line) -> Result<(), LineFail>
         requires clean { line.now.bad ≡ false }
-        requires kind { kind_of line.now ≡ Reset }
+        requires kind { line_kind_of line.now ≡ Reset }
         requires short { All (λ field. length field < 2 ^ 32) line.now.fields }
         requires small { IsSmall self.old }
         ensures judged { (before : List Line) → Stands self.old before → Judges result (fault_in before line.now) (λ _. Stands self.new (before ++ line.now ∷ [])) }
@@ -170,7 +170,7 @@ impl Said {
     /// `.ilb`
     fn take_input_names(&mut self, alloc: Global, line: &Line) -> Result<(), LineFail>
         requires clean { line.now.bad ≡ false }
-        requires kind { kind_of line.now ≡ InputNames }
+        requires kind { line_kind_of line.now ≡ InputNames }
         requires short { All (λ field. length field < 2 ^ 32) line.now.fields }
         requires small { IsSmall self.old }
         ensures judged { (before : List Line) → Stands self.old before → Judges result (fault_in before line.now) (λ _. Stands self.new (before ++ line.now ∷ [])) }
@@ -188,7 +188,7 @@ impl Said {
     /// `.ob`
     fn take_output_names(&mut self, alloc: Global, line: &Line) -> Result<(), LineFail>
         requires clean { line.now.bad ≡ false }
-        requires kind { kind_of line.now ≡ OutputNames }
+        requires kind { line_kind_of line.now ≡ OutputNames }
         requires short { All (λ field. length field < 2 ^ 32) line.now.fields }
         requires small { IsSmall self.old }
         ensures judged { (before : List Line) → Stands self.old before → Judges result (fault_in before line.now) (λ _. Stands self.new (before ++ line.now ∷ [])) }
@@ -206,7 +206,7 @@ impl Said {
     /// A row.
     fn take_row(&mut self, line: &Line) -> Result<(), LineFail>
         requires clean { line.now.bad ≡ false }
-        requires kind { kind_of line.now ≡ Row }
+        requires kind { line_kind_of line.now ≡ Row }
         requires short { All (λ field. length field < 2 ^ 32) line.now.fields }
         requires small { IsSmall self.old }
         ensures judged { (before : List Line) → Stands self.old before → Judges result (fault_in before line.now) (λ _. Stands self.new (before ++ line.now ∷ [])) }

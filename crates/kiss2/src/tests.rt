@@ -1,4 +1,6 @@
-use crate::{FirstFail, KissFail, KissKind, KissLimit, StateNames, read, read_first};
+ghost use Rattle.std.specs.Prelude.{◌<◌};
+
+use crate::{FirstFail, KissFail, KissKind, KissLimit, StateNames, read, read_first, write};
 use std::alloc::Global;
 use std::process::Abort;
 use std::test::Fail;
@@ -97,7 +99,7 @@ fn expect_refused(rt: &impl Abort, alloc: Global, text: &[u8]) {
     }
 }
 
-/// Sees that the text is refused for that fault, a length of 0 asking for a text that is read.
+/// Sees that the text is refused for that fault.
 fn expect_fault(rt: &impl Abort, alloc: Global, text: &[u8], line: u32, kind: KissKind) {
     assert!(rt; text.len() < 4096);
     match read(alloc, text) {
@@ -118,7 +120,11 @@ fn over(what: KissLimit, found: u32) -> KissKind {
 fn texts_are_refused(rt: HostRuntime) -> Result<(), Fail> {
     let texts: [(&[u8], u32, KissKind); 34] = [
         (b"", 0, KissKind::NoRows),
-        (b".i 1\n.o 1\n.r b\n0 a a 0\n1 a a 0", 3, KissKind::ResetUnknown),
+        (
+            b".i 1\n.o 1\n.r b\n0 a a 0\n1 a a 0",
+            3,
+            KissKind::ResetUnknown,
+        ),
         (b".i 0", 1, KissKind::BadNumber),
         (b".i 33", 1, over(KissLimit::Inputs, 33)),
         (b".i 1\n.i 1", 2, KissKind::Repeated),
@@ -154,6 +160,150 @@ fn texts_are_refused(rt: HostRuntime) -> Result<(), Fail> {
     ];
     for (text, line, kind) in texts {
         expect_fault(&rt, rt.alloc(), text, line, kind);
+    }
+    Ok(())
+}
+
+/// The answers to the fronts of the toggle, from a length to another: a fault, or none.
+#[test]
+fn truncated_texts(rt: HostRuntime) -> Result<(), Fail> {
+    let no_rows = Some((0, KissKind::NoRows));
+    let fields = |line: u32| Some((line, KissKind::BadFields));
+    let word = |line: u32| Some((line, KissKind::UnknownWord));
+    let table = [
+        (0usize, 0usize, no_rows),
+        (1, 1, word(1)),
+        (2, 3, fields(1)),
+        (4, 5, no_rows),
+        (6, 6, word(2)),
+        (7, 8, fields(2)),
+        (9, 10, no_rows),
+        (11, 16, fields(3)),
+        (17, 18, None),
+        (19, 24, fields(4)),
+        (25, 26, None),
+        (27, 32, fields(5)),
+        (33, 34, None),
+        (35, 40, fields(6)),
+        (41, 42, None),
+        (43, 43, word(7)),
+        (44, 45, None),
+    ];
+    for (first, last, wanted) in table {
+        for length in first..last + 1 {
+            let Some((text, _)) = TOGGLE.split_at_checked(length) else {
+                panic!(rt; "no front of length {length}");
+            };
+            expect_answer(&rt, rt.alloc(), text, wanted);
+        }
+    }
+    Ok(())
+}
+
+/// Compares the fault of a text, if it has one.
+fn expect_answer(rt: &impl Abort, alloc: Global, text: &[u8], wanted: Option<(u32, KissKind)>) {
+    assert!(rt; text.len() < 4096);
+    match read(alloc, text) {
+        Ok(_) => assert_eq!(rt; None, wanted, "at {text:?}"),
+        Err(KissFail::Refused(fault)) => {
+            assert_eq!(rt; Some((fault.line, fault.kind)), wanted, "at {text:?}");
+        }
+        Err(KissFail::NoMemory) => panic!(rt; "no memory at {text:?}"),
+    }
+}
+
+/// Compares what is written of a text that is read.
+fn expect_written(rt: &impl Abort, alloc: Global, text: &[u8], wanted: &[u8]) -> Result<(), Fail> {
+    assert!(rt; text.len() < 4096);
+    let file = read(alloc, text)?;
+    let written = write(alloc, &file)?;
+    assert_eq!(rt; written.as_slice(), wanted);
+    Ok(())
+}
+
+#[test]
+fn texts_are_written(rt: HostRuntime) -> Result<(), Fail> {
+    let toggle = b".i 1\n.o 1\n.p 4\n.s 2\n.r a\n0 a a 0\n1 a b 1\n0 b b 1\n1 b a 0\n.e\n";
+    let texts: [(&[u8], &[u8]); 6] = [
+        (TOGGLE, toggle),
+        (
+            b".i 1\r\n.o 1\r\n0 a a 0 # x\r\n1\ta b 1#\x80\r\n\n 0 b b 1\r\n1 b a 0\r\n.e\r\n",
+            toggle,
+        ),
+        (
+            b".i 1\n.o 1\n.r b\n0 a a 0\n1 a b 1\n0 b b 1\n1 b a 0\n.end 7\n.i",
+            b".i 1\n.o 1\n.p 4\n.s 2\n.r b\n0 a a 0\n1 a b 1\n0 b b 1\n1 b a 0\n.e\n",
+        ),
+        (
+            b".i 2\n.o 1\n1- a a 0\n11 a a -\n0- a a 1",
+            b".i 2\n.o 1\n.p 3\n.s 1\n.r a\n1- a a 0\n11 a a -\n0- a a 1\n.e\n",
+        ),
+        (
+            b".i 16\n.o 1\n---------------- a b 0\n---------------- b a 0",
+            b".i 16\n.o 1\n.p 2\n.s 2\n.r a\n---------------- a b 0\n---------------- b a 0\n.e\n",
+        ),
+        (
+            b".i 1\n.o 1\n.ilb q0\n0 a * -\n1 b c 1",
+            b".i 1\n.o 1\n.ilb q0\n.p 2\n.s 3\n.r a\n0 a - -\n1 b c 1\n.e\n",
+        ),
+    ];
+    for (text, wanted) in texts {
+        expect_written(&rt, rt.alloc(), text, wanted)?;
+    }
+    Ok(())
+}
+
+/// A counter modulo 8 with names, dashes and a reset state is written as it was read, but for the number
+/// of rows.
+#[test]
+fn the_counter_is_written(rt: HostRuntime) -> Result<(), Fail> {
+    let head = b".i 3\n.o 2\n.ilb clr cep cet\n.ob zero top\n.p ";
+    let mut text = Vec::from_slice(rt.alloc(), head)?;
+    let mut wanted = Vec::from_slice(rt.alloc(), head)?;
+    text.extend_from_slice(b"99\n.s 8\n.r c2\n")?;
+    wanted.extend_from_slice(b"32\n.s 8\n.r c2\n")?;
+    for (state, output) in [b"10", b"00", b"00", b"00", b"00", b"00", b"00", b"01"]
+        .iter()
+        .enumerate()
+    {
+        append_counter_rows(&mut text, state % 8, output.as_slice())?;
+        append_counter_rows(&mut wanted, state % 8, output.as_slice())?;
+    }
+    text.extend_from_slice(b".e\n")?;
+    wanted.extend_from_slice(b".e\n")?;
+    expect_written(&rt, rt.alloc(), &text, &wanted)
+}
+
+/// Appends the four rows of a state of the counter.
+fn append_counter_rows(text: &mut Vec<u8>, state: usize, output: &[u8]) -> Result<(), Fail>
+    requires { state < 8 }
+{
+    let here = b'0' + state as u8;
+    let next = b'0' + ((state + 1) % 8) as u8;
+    for (field, to) in [
+        (b"1--", b'0'),
+        (b"00-", here),
+        (b"0-0", here),
+        (b"011", next),
+    ] {
+        text.extend_from_slice(field.as_slice())?;
+        text.extend_from_slice([b' ', b'c', here, b' ', b'c', to, b' '].as_slice())?;
+        text.extend_from_slice(output)?;
+        text.push(b'\n')?;
+    }
+    Ok(())
+}
+
+/// A text that is one comment has no rows.
+#[test]
+fn a_long_comment(rt: HostRuntime) -> Result<(), Fail> {
+    let text = vec![in rt.alloc(); b'#'; 4_194_304]?;
+    assert!(rt; text.len() < 5_000_000);
+    match read(rt.alloc(), &text) {
+        Err(KissFail::Refused(fault)) => {
+            assert_eq!(rt; (fault.line, fault.kind), (0, KissKind::NoRows));
+        }
+        _ => panic!(rt; "it was read"),
     }
     Ok(())
 }

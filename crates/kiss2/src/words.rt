@@ -2,7 +2,7 @@
 ghost use Rattle.std.specs.Prelude.{ℕ, ◌≡◌, ◌<◌, ◌≤◌, ◌^◌, false, true, IfNone, IfSome, length};
 ghost use Rattle.std.specs.Char.{is_ascii_digit};
 ghost use Rattle.std.specs.List.{list_all};
-ghost use Rattle.kiss2.specs.Words.{care_in, field_at, has_backslash, is_character, is_character_field, is_number, is_open, number_of, operands, value_in};
+ghost use Rattle.kiss2.specs.Words.{care_in, field_at, has_backslash, is_character, is_character_field, is_decimal, is_open, decimal_value, operands, value_in};
 
 use hs_io::{Line, Name};
 
@@ -26,8 +26,8 @@ pub(crate) fn field_of(line: &Line, place: usize) -> &[u8]
 
 /// The number that the field is, if it has one to nine digits and nothing else.
 pub(crate) fn number_in(field: &[u8]) -> Option<u32>
-    ensures some { IfSome result (λ number. (is_number field.now ≡ true) × (number ≡ number_of field.now)) }
-    ensures none { IfNone result (is_number field.now ≡ false) }
+    ensures some { IfSome result (λ number. (is_decimal field.now ≡ true) × (number ≡ decimal_value field.now)) }
+    ensures none { IfNone result (is_decimal field.now ≡ false) }
 {
     if field.is_empty() || field.len() > 9 || !are_digits(field) {
         return None;
@@ -46,7 +46,7 @@ fn are_digits(field: &[u8]) -> bool
 fn value_of_digits(field: &[u8]) -> u32
     requires short { length field.now ≤ 9 }
     requires digits { list_all is_ascii_digit field.now ≡ true }
-    ensures { result ≡ number_of field.now }
+    ensures { result ≡ decimal_value field.now }
 {
     let mut number = 0u32;
     for byte in field {

@@ -14,7 +14,7 @@ use Rattle.kiss2.specs.declared.said.ResetLine.{ResetLine}
 use Rattle.kiss2.specs.declared.said.Said.{Said}
 use Rattle.kiss2.specs.declared.line_kind.LineKind.TheVariants.{InputNames, OutputNames, Reset, RowCount, StateCount}
 use Rattle.kiss2.specs.Words.{current_field, field_at, is_name, next_field}
-use Rattle.kiss2.specs.Standing.{each_once, has_stood, inputs_in, line_with, names_in, outputs_in, rows_in}
+use Rattle.kiss2.specs.Standing.{each_once, has_stood, inputs_said, line_with, names_said, outputs_said, row_lines}
 
 -- a failure names the fault, unless memory ran out
 abbrev pub FailsWith : Option KissKind → LineFail → Type 0
@@ -42,7 +42,7 @@ names_on line = filter is_name (current_field line ∷ next_field line ∷ [])
 
 -- the names of states in the order in which they come
 unfoldable pub names_seen : List Line → List (List ℕ)
-names_seen lines = each_once (flat_map names_on (rows_in lines))
+names_seen lines = each_once (flat_map names_on (row_lines lines))
 
 -- what is kept of the line of `.r`
 abbrev pub reset_line : Line → ResetLine
@@ -50,14 +50,14 @@ reset_line line = record { number = line.number; name = field_at 1 line }
 
 -- what is kept after these lines
 pub record Stands (said : Said) (before : List Line) : Type 0 where
-  pub inputs : said.inputs ≡ inputs_in before
-  pub outputs : said.outputs ≡ outputs_in before
+  pub inputs : said.inputs ≡ inputs_said before
+  pub outputs : said.outputs ≡ outputs_said before
   pub row_word : said.row_word ≡ has_stood RowCount before
   pub state_word : said.state_word ≡ has_stood StateCount before
   pub reset : said.reset ≡ option_map reset_line (line_with Reset before)
-  pub input_names : said.input_names ≡ names_in InputNames before
-  pub output_names : said.output_names ≡ names_in OutputNames before
-  pub rows : said.rows ≡ length (rows_in before)
+  pub input_names : said.input_names ≡ names_said InputNames before
+  pub output_names : said.output_names ≡ names_said OutputNames before
+  pub rows : said.rows ≡ length (row_lines before)
   pub states : said.states ≡ names_seen before
 
 -- there are not many names

@@ -1,6 +1,6 @@
 use Rattle.std.proofs.Common.{◌≡◌, ◌+◌, ◌++◌, [], ◌∷◌, true, false, length, take, sym, ◌∙◌, ap, subst, arith}
 use Rattle.std.proofs.lemmas.List.{take_all, take_more}
-use Rattle.kiss2.specs.Kiss.{AreFaultless, before_end}
+use Rattle.kiss2.specs.Kiss.{HaveNoFault, before_end}
 use Rattle.kiss2.specs.Inner.Judging.{Stands}
 use Rattle.kiss2.proofs.Ending.{end_at, faultless_push, goes_more, line_fault, no_end}
 use Rattle.kiss2.proofs.reader.judge.Goals as goal
@@ -13,7 +13,7 @@ returns-then-ends-clause-stands c =
 pub returns-then-ends-clause-faultless : goal.returns-then-ends-clause-faultless
 returns-then-ends-clause-faultless c =
     let cut = end_at c.args.lines.now c.loop-line.line-index c.line-item.result c.loop-line-test.true c.line-item.is c.loop-line.invariant.going (sym c.ends.ensures ∙ c.if-ends.true) in
-    subst AreFaultless (sym cut) c.loop-line.invariant.faultless
+    subst HaveNoFault (sym cut) c.loop-line.invariant.faultless
 
 pub returns-in-Err-clause-refused : goal.returns-in-Err-clause-refused
 returns-in-Err-clause-refused c fault same =
@@ -33,7 +33,7 @@ loop-line-preserved c =
       stands = subst (Stands c.take_line.new.self) (sym more) judged.1;
       small = c.in-Ok.ensures.small;
       going = goes_more lines i line c.loop-line-test.true c.line-item.is (sym c.ends.ensures ∙ c.if-ends.false) c.loop-line.invariant.going;
-      faultless = subst AreFaultless (sym more) (faultless_push (take i lines) line c.loop-line.invariant.faultless judged.0);
+      faultless = subst HaveNoFault (sym more) (faultless_push (take i lines) line c.loop-line.invariant.faultless judged.0);
     }
 
 pub returns-clause-stands : goal.returns-clause-stands
@@ -44,4 +44,4 @@ returns-clause-stands c =
 pub returns-clause-faultless : goal.returns-clause-faultless
 returns-clause-faultless c =
     let all : take c.loop-line.line-index c.args.lines.now ≡ c.args.lines.now = take_all _ _ (omega arith) in
-    subst AreFaultless (all ∙ sym (no_end c.args.lines.now (λ k d lt. c.loop-line.invariant.going k d (omega arith)))) c.loop-line.invariant.faultless
+    subst HaveNoFault (all ∙ sym (no_end c.args.lines.now (λ k d lt. c.loop-line.invariant.going k d (omega arith)))) c.loop-line.invariant.faultless

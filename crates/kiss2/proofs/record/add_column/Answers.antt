@@ -1,7 +1,7 @@
 use Rattle.std.proofs.Common.{◌≡◌, ◌≤◌, ◌<◌, [], ◌∷◌, length, sym, ◌∙◌, ap, arith}
 use Rattle.std.specs.Prelude.{filter}
 use Rattle.kiss2.specs.Inner.Judging.{once_after}
-use Rattle.kiss2.specs.Standing.{names_at}
+use Rattle.kiss2.specs.Standing.{names_in_column}
 use Rattle.kiss2.specs.Words.{field_at, is_name}
 use Rattle.kiss2.proofs.Building.{column_few, column_row, row_has, rows_other}
 use Rattle.kiss2.proofs.record.add_column.Goals as goal
@@ -33,5 +33,5 @@ loop-line-preserved c =
       | else-is_row w ↦
           w.names-is
           ∙ (c.loop-line.invariant
-          ∙ ap (λ rows. once_after names (names_at place rows)) (sym (rows_other lines i line c.loop-line-test.true c.line-item.is (sym c.is_row.ensures ∙ w.if-is_row.false))))
+          ∙ ap (λ rows. once_after names (names_in_column place rows)) (sym (rows_other lines i line c.loop-line-test.true c.line-item.is (sym c.is_row.ensures ∙ w.if-is_row.false))))
     ]

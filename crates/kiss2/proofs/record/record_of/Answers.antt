@@ -6,7 +6,7 @@ use Rattle.std.proofs.lemmas.Option.{none-some}
 use Rattle.kiss2.specs.declared.kiss_file.KissRow.{KissRow}
 use Rattle.kiss2.specs.Inner.Good.{IsGoodRow, IsKnownRow}
 use Rattle.kiss2.specs.Kiss.{IsRowOf}
-use Rattle.kiss2.specs.Standing.{inputs_in, outputs_in, rows_in, state_names}
+use Rattle.kiss2.specs.Standing.{inputs_said, outputs_said, row_lines, state_names}
 use Rattle.kiss2.proofs.Closing.{reset_is_known, reset_number, some_rows, zip_some}
 use Rattle.kiss2.proofs.GoodLines.{counts_there, few, inputs_range, outputs_range, rows_good, rows_known}
 use Rattle.kiss2.proofs.record.record_of.Goals as goal
@@ -29,17 +29,17 @@ states_of-requires-clause-long c =
     let lines = c.args.lines.now in
     let k = c.in-Some.inputs in
     let o = c.in-Some-outputs.outputs in
-    let inputs : inputs_in lines ≡ Some k = sym c.requires.stands.inputs ∙ c.in-Some.is in
-    let outputs : outputs_in lines ≡ Some o = sym c.requires.stands.outputs ∙ c.in-Some-outputs.is in
-    All-weaker (IsGoodRow k o) (λ line. length line.fields ≡ 4) (λ line good. good.fields) (rows_in lines) (rows_good lines c.requires.faultless k o inputs outputs)
+    let inputs : inputs_said lines ≡ Some k = sym c.requires.stands.inputs ∙ c.in-Some.is in
+    let outputs : outputs_said lines ≡ Some o = sym c.requires.stands.outputs ∙ c.in-Some-outputs.is in
+    All-weaker (IsGoodRow k o) (λ line. length line.fields ≡ 4) (λ line good. good.fields) (row_lines lines) (rows_good lines c.requires.faultless k o inputs outputs)
 
 pub rows_of-requires : goal.rows_of-requires
 rows_of-requires c =
     let lines = c.args.lines.now in
     let k = c.in-Some.inputs in
     let o = c.in-Some-outputs.outputs in
-    let inputs : inputs_in lines ≡ Some k = sym c.requires.stands.inputs ∙ c.in-Some.is in
-    let outputs : outputs_in lines ≡ Some o = sym c.requires.stands.outputs ∙ c.in-Some-outputs.is in
+    let inputs : inputs_said lines ≡ Some k = sym c.requires.stands.inputs ∙ c.in-Some.is in
+    let outputs : outputs_said lines ≡ Some o = sym c.requires.stands.outputs ∙ c.in-Some-outputs.is in
     let good = rows_good lines c.requires.faultless k o inputs outputs in
     let range = inputs_range lines c.requires.faultless k inputs in
     record {
@@ -47,7 +47,7 @@ rows_of-requires c =
       inputs = range.1;
       states = rw c.in_ok-states.ensures (few lines c.requires.faultless).0;
       good = (o, (outputs_range lines c.requires.faultless o outputs).1, good);
-      known = subst (λ states. All (IsKnownRow states) (rows_in lines)) (sym c.in_ok-states.ensures) (rows_known lines k o good);
+      known = subst (λ states. All (IsKnownRow states) (row_lines lines)) (sym c.in_ok-states.ensures) (rows_known lines k o good);
     }
 
 pub reset_of-reset-requires : goal.reset_of-reset-requires
@@ -58,7 +58,7 @@ reset_of-reset-requires c =
     record {
       few = rw c.in_ok-states.ensures (few lines c.requires.faultless).0;
       known = subst (λ states. IfSome c.args.said.reset (λ line. Contains states line.name)) (sym c.in_ok-states.ensures) known;
-      some_row = rw c.as_slice.ensures (zip_some (IsRowOf c.in_ok-states.states) (rows_in lines) c.in_ok-rows.rows c.in_ok-rows.ensures some);
+      some_row = rw c.as_slice.ensures (zip_some (IsRowOf c.in_ok-states.states) (row_lines lines) c.in_ok-rows.rows c.in_ok-rows.ensures some);
     }
 
 pub returns : goal.returns

@@ -2,7 +2,7 @@ use Rattle.std.proofs.Common.{◌≡◌, ◌+◌, ◌++◌, [], ◌∷◌, take,
 use Rattle.std.specs.List.{AllZip}
 use Rattle.kiss2.specs.Inner.Good.{IsGoodRow, IsKnownRow}
 use Rattle.kiss2.specs.Kiss.{IsRowOf}
-use Rattle.kiss2.specs.Standing.{rows_in}
+use Rattle.kiss2.specs.Standing.{row_lines}
 use Rattle.kiss2.proofs.Building.{row_has, rows_other, rows_row, zip_push}
 use Rattle.kiss2.proofs.record.rows_of.Goals as goal
 use Rattle.kiss2.proofs.record.rows_of.Goals.{then-is_row+in_ok-push, else-is_row}
@@ -24,11 +24,11 @@ loop-line-preserved c =
     elim c.if-is_row.branch [
       | then-is_row+in_ok-push w ↦
           let more = rows_row lines i line c.loop-line-test.true c.line-item.is (sym c.is_row.ensures ∙ w.if-is_row.true) in
-          subst (λ rows. AllZip (IsRowOf c.args.states.now) (rows_in (take (i + 1) lines)) rows) (sym (w.rows-is ∙ w.in_ok-push.ensures.ok))
+          subst (λ rows. AllZip (IsRowOf c.args.states.now) (row_lines (take (i + 1) lines)) rows) (sym (w.rows-is ∙ w.in_ok-push.ensures.ok))
           (subst (λ front. AllZip (IsRowOf c.args.states.now) front (c.loop-line.rows ++ w.row_of.result ∷ [])) (sym more)
-          (zip_push (IsRowOf c.args.states.now) (rows_in (take i lines)) c.loop-line.rows line w.row_of.result c.loop-line.invariant w.row_of.ensures))
+          (zip_push (IsRowOf c.args.states.now) (row_lines (take i lines)) c.loop-line.rows line w.row_of.result c.loop-line.invariant w.row_of.ensures))
       | else-is_row w ↦
           let same = rows_other lines i line c.loop-line-test.true c.line-item.is (sym c.is_row.ensures ∙ w.if-is_row.false) in
-          subst (λ rows. AllZip (IsRowOf c.args.states.now) (rows_in (take (i + 1) lines)) rows) (sym w.rows-is)
+          subst (λ rows. AllZip (IsRowOf c.args.states.now) (row_lines (take (i + 1) lines)) rows) (sym w.rows-is)
           (subst (λ front. AllZip (IsRowOf c.args.states.now) front c.loop-line.rows) (sym same) c.loop-line.invariant)
     ]

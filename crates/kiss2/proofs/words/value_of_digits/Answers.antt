@@ -22,6 +22,7 @@ loop-byte-preserved c =
     let inside : place < length c.args.field.now = omega arith in
     let d = digit_at c.args.field.now place c.requires.digits inside in
     let high = d.high in
-    let digit : c.from.result ≤ 9 = omega arith in
-    (digits_more c.args.field.now place c.loop-byte.number c.from.result inside c.requires.digits c.loop-byte.invariant.0 (omega arith),
-     digit_below c.loop-byte.number place c.from.result c.loop-byte.invariant.1 digit)
+    let digit : c.from.result ≤ 9 = omega arith in (
+      digits_more c.args.field.now place c.loop-byte.number c.from.result inside c.requires.digits c.loop-byte.invariant.0 (omega arith),
+      digit_below c.loop-byte.number place c.from.result c.loop-byte.invariant.1 digit,
+    )

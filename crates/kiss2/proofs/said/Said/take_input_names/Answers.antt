@@ -27,15 +27,17 @@ returns-clause-judged c before stands =
     let kept = stay before c.args.line.now InputNames c.requires.kind in
     let line = c.args.line.now in
     let same : form_fault InputNames before line ≡ names_fault c.args.self.now.inputs c.given-others.result.now c.operands_of.result.now =
-    rw (c.given-others.ensures, c.operands_of.ensures, stands.inputs, stands.output_names) refl in
-    (fault_form before line InputNames c.requires.clean c.requires.kind fresh ∙ (same ∙ c.in_ok-names.ensures.judged.0), record {
-      inputs = stands.inputs ∙ kept.inputs refl;
-      outputs = stands.outputs ∙ kept.outputs refl;
-      row_word = stands.row_word ∙ kept.row_word refl;
-      state_word = stands.state_word ∙ kept.state_word refl;
-      reset = stands.reset ∙ kept.reset refl;
-      input_names = ap Some (c.in_ok-names.ensures.judged.1 ∙ c.operands_of.ensures) ∙ sym (ap (option_map operands) (own before line InputNames c.requires.kind refl fresh));
-      output_names = stands.output_names ∙ kept.output_names refl;
-      rows = stands.rows ∙ kept.rows refl;
-      states = stands.states ∙ kept.states refl;
-    })
+    rw (c.given-others.ensures, c.operands_of.ensures, stands.inputs, stands.output_names) refl in (
+      fault_form before line InputNames c.requires.clean c.requires.kind fresh ∙ (same ∙ c.in_ok-names.ensures.judged.0),
+      record {
+        inputs = stands.inputs ∙ kept.inputs refl;
+        outputs = stands.outputs ∙ kept.outputs refl;
+        row_word = stands.row_word ∙ kept.row_word refl;
+        state_word = stands.state_word ∙ kept.state_word refl;
+        reset = stands.reset ∙ kept.reset refl;
+        input_names = ap Some (c.in_ok-names.ensures.judged.1 ∙ c.operands_of.ensures) ∙ sym (ap (option_map operands) (own before line InputNames c.requires.kind refl fresh));
+        output_names = stands.output_names ∙ kept.output_names refl;
+        rows = stands.rows ∙ kept.rows refl;
+        states = stands.states ∙ kept.states refl;
+      },
+    )

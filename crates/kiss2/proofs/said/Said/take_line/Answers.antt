@@ -2,7 +2,7 @@ use Rattle.std.proofs.Common.{◌≡◌, ◌++◌, [], ◌∷◌, true, false, S
 use Rattle.kiss2.specs.declared.line_kind.LineKind.TheVariants.{Blank, End, Unknown}
 use Rattle.kiss2.specs.Faults.{fault_in}
 use Rattle.kiss2.specs.Inner.Judging.{Stands}
-use Rattle.kiss2.specs.Words.{kind_of}
+use Rattle.kiss2.specs.Words.{line_kind_of}
 use Rattle.kiss2.proofs.Stood.{fault_bad, fault_form, stands_on}
 use Rattle.kiss2.proofs.said.Said.take_line.Goals as goal
 

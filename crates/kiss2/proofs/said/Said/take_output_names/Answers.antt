@@ -27,15 +27,17 @@ returns-clause-judged c before stands =
     let kept = stay before c.args.line.now OutputNames c.requires.kind in
     let line = c.args.line.now in
     let same : form_fault OutputNames before line ≡ names_fault c.args.self.now.outputs c.given-others.result.now c.operands_of.result.now =
-    rw (c.given-others.ensures, c.operands_of.ensures, stands.outputs, stands.input_names) refl in
-    (fault_form before line OutputNames c.requires.clean c.requires.kind fresh ∙ (same ∙ c.in_ok-names.ensures.judged.0), record {
-      inputs = stands.inputs ∙ kept.inputs refl;
-      outputs = stands.outputs ∙ kept.outputs refl;
-      row_word = stands.row_word ∙ kept.row_word refl;
-      state_word = stands.state_word ∙ kept.state_word refl;
-      reset = stands.reset ∙ kept.reset refl;
-      input_names = stands.input_names ∙ kept.input_names refl;
-      output_names = ap Some (c.in_ok-names.ensures.judged.1 ∙ c.operands_of.ensures) ∙ sym (ap (option_map operands) (own before line OutputNames c.requires.kind refl fresh));
-      rows = stands.rows ∙ kept.rows refl;
-      states = stands.states ∙ kept.states refl;
-    })
+    rw (c.given-others.ensures, c.operands_of.ensures, stands.outputs, stands.input_names) refl in (
+      fault_form before line OutputNames c.requires.clean c.requires.kind fresh ∙ (same ∙ c.in_ok-names.ensures.judged.0),
+      record {
+        inputs = stands.inputs ∙ kept.inputs refl;
+        outputs = stands.outputs ∙ kept.outputs refl;
+        row_word = stands.row_word ∙ kept.row_word refl;
+        state_word = stands.state_word ∙ kept.state_word refl;
+        reset = stands.reset ∙ kept.reset refl;
+        input_names = stands.input_names ∙ kept.input_names refl;
+        output_names = ap Some (c.in_ok-names.ensures.judged.1 ∙ c.operands_of.ensures) ∙ sym (ap (option_map operands) (own before line OutputNames c.requires.kind refl fresh));
+        rows = stands.rows ∙ kept.rows refl;
+        states = stands.states ∙ kept.states refl;
+      },
+    )

@@ -5,7 +5,7 @@ use Rattle.kiss2.specs.declared.fault.KissLimit.TheVariants.{Inputs, Outputs}
 use Rattle.kiss2.specs.declared.line_kind.LineKind.TheVariants.{Reset}
 use Rattle.kiss2.specs.Faults.{count_fault, number_fault, operand_of, reset_fault, stands_again}
 use Rattle.kiss2.specs.Standing.{has_stood}
-use Rattle.kiss2.specs.Words.{field_at, number_of}
+use Rattle.kiss2.specs.Words.{field_at, decimal_value}
 use Rattle.kiss2.specs.Inner.Judging.{reset_line}
 use Rattle.kiss2.proofs.Stood.{fault_again, fault_form, is_some-map, operand_field, own, stay}
 use Rattle.kiss2.proofs.said.Said.take_reset.Goals as goal
@@ -22,15 +22,17 @@ returns-in_err-name-clause-judged c before stands =
 pub returns-clause-judged : goal.returns-clause-judged
 returns-clause-judged c before stands =
     let fresh : has_stood Reset before ≡ false = (sym (is_some-map _ _) ∙ (ap is_some (sym stands.reset) ∙ (sym c.is_some.ensures ∙ c.if-is_some.false))) in
-    let kept = stay before c.args.line.now Reset c.requires.kind in
-    (fault_form before c.args.line.now Reset c.requires.clean c.requires.kind fresh ∙ (ap (reset_fault) (sym c.operands_of.ensures) ∙ c.in_ok-name.ensures.0), record {
-      inputs = stands.inputs ∙ kept.inputs refl;
-      outputs = stands.outputs ∙ kept.outputs refl;
-      row_word = stands.row_word ∙ kept.row_word refl;
-      state_word = stands.state_word ∙ kept.state_word refl;
-      reset = ap (λ name. Some (record { number = c.args.line.now.number; name = name })) (c.in_ok-new.ensures ∙ (c.in_ok-name.ensures.1 ∙ (ap operand_of c.operands_of.ensures ∙ operand_field c.args.line.now))) ∙ sym (ap (option_map reset_line) (own before c.args.line.now Reset c.requires.kind refl fresh));
-      input_names = stands.input_names ∙ kept.input_names refl;
-      output_names = stands.output_names ∙ kept.output_names refl;
-      rows = stands.rows ∙ kept.rows refl;
-      states = stands.states ∙ kept.states refl;
-    })
+    let kept = stay before c.args.line.now Reset c.requires.kind in (
+      fault_form before c.args.line.now Reset c.requires.clean c.requires.kind fresh ∙ (ap (reset_fault) (sym c.operands_of.ensures) ∙ c.in_ok-name.ensures.0),
+      record {
+        inputs = stands.inputs ∙ kept.inputs refl;
+        outputs = stands.outputs ∙ kept.outputs refl;
+        row_word = stands.row_word ∙ kept.row_word refl;
+        state_word = stands.state_word ∙ kept.state_word refl;
+        reset = ap (λ name. Some (record { number = c.args.line.now.number; name = name })) (c.in_ok-new.ensures ∙ (c.in_ok-name.ensures.1 ∙ (ap operand_of c.operands_of.ensures ∙ operand_field c.args.line.now))) ∙ sym (ap (option_map reset_line) (own before c.args.line.now Reset c.requires.kind refl fresh));
+        input_names = stands.input_names ∙ kept.input_names refl;
+        output_names = stands.output_names ∙ kept.output_names refl;
+        rows = stands.rows ∙ kept.rows refl;
+        states = stands.states ∙ kept.states refl;
+      },
+    )

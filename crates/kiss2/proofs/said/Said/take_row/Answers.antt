@@ -41,9 +41,10 @@ returns-clause-judged c before stands =
     let states = state_names (before ++ line ∷ []) in
     let first = c.in_ok-add_name.ensures ∙ ap (λ field. once_after c.args.self.now.states (filter is_name (field ∷ []))) c.field_of.ensures in
     let second = c.in_ok-add_name-2.ensures ∙ ap (λ field. once_after c.add_name.new.names (filter is_name (field ∷ []))) c.field_of-2.ensures in
-    let few = count_put c.args.self.now before line stands c.requires.clean c.requires.kind c.add_name.new.names c.add_name-2.new.names first second in
-    (row_form c.args.self.now before line stands c.requires.clean c.requires.kind
-     ∙ (c.in_ok-outputs.ensures.good states
-     ∙ good_row states (is_character_field c.in_ok-outputs.outputs (output_field line)) (omega arith)
-     (ap (is_character_field c.in_ok-outputs.outputs) (sym c.field_of-3.ensures) ∙ (sym c.has_characters.ensures ∙ c.if-not-has_characters.false))),
-     row_stands c.args.self.now before line stands c.requires.clean c.requires.kind c.add_name.new.names c.add_name-2.new.names first second)
+    let few = count_put c.args.self.now before line stands c.requires.clean c.requires.kind c.add_name.new.names c.add_name-2.new.names first second in (
+      row_form c.args.self.now before line stands c.requires.clean c.requires.kind
+          ∙ (c.in_ok-outputs.ensures.good states
+          ∙ good_row states (is_character_field c.in_ok-outputs.outputs (output_field line)) (omega arith)
+          (ap (is_character_field c.in_ok-outputs.outputs) (sym c.field_of-3.ensures) ∙ (sym c.has_characters.ensures ∙ c.if-not-has_characters.false))),
+      row_stands c.args.self.now before line stands c.requires.clean c.requires.kind c.add_name.new.names c.add_name-2.new.names first second,
+    )

@@ -5,7 +5,7 @@ use Rattle.kiss2.specs.declared.fault.KissLimit.TheVariants.{Inputs, Outputs}
 use Rattle.kiss2.specs.declared.line_kind.LineKind.TheVariants.{RowCount}
 use Rattle.kiss2.specs.Faults.{count_fault, number_fault, operand_of, reset_fault, stands_again}
 use Rattle.kiss2.specs.Standing.{has_stood}
-use Rattle.kiss2.specs.Words.{field_at, number_of}
+use Rattle.kiss2.specs.Words.{field_at, decimal_value}
 use Rattle.kiss2.proofs.Stood.{fault_again, fault_form, is_some-map, operand_field, own, stay}
 use Rattle.kiss2.proofs.said.Said.take_row_count.Goals as goal
 
@@ -21,15 +21,17 @@ returns-in_err-judge_number-clause-judged c before stands =
 pub returns-clause-judged : goal.returns-clause-judged
 returns-clause-judged c before stands =
     let fresh : has_stood RowCount before ≡ false = (sym stands.row_word ∙ c.if-self.false) in
-    let kept = stay before c.args.line.now RowCount c.requires.kind in
-    (fault_form before c.args.line.now RowCount c.requires.clean c.requires.kind fresh ∙ (ap (number_fault) (sym c.operands_of.ensures) ∙ c.in_ok-judge_number.ensures), record {
-      inputs = stands.inputs ∙ kept.inputs refl;
-      outputs = stands.outputs ∙ kept.outputs refl;
-      row_word = sym (ap is_some (own before c.args.line.now RowCount c.requires.kind refl fresh));
-      state_word = stands.state_word ∙ kept.state_word refl;
-      reset = stands.reset ∙ kept.reset refl;
-      input_names = stands.input_names ∙ kept.input_names refl;
-      output_names = stands.output_names ∙ kept.output_names refl;
-      rows = stands.rows ∙ kept.rows refl;
-      states = stands.states ∙ kept.states refl;
-    })
+    let kept = stay before c.args.line.now RowCount c.requires.kind in (
+      fault_form before c.args.line.now RowCount c.requires.clean c.requires.kind fresh ∙ (ap (number_fault) (sym c.operands_of.ensures) ∙ c.in_ok-judge_number.ensures),
+      record {
+        inputs = stands.inputs ∙ kept.inputs refl;
+        outputs = stands.outputs ∙ kept.outputs refl;
+        row_word = sym (ap is_some (own before c.args.line.now RowCount c.requires.kind refl fresh));
+        state_word = stands.state_word ∙ kept.state_word refl;
+        reset = stands.reset ∙ kept.reset refl;
+        input_names = stands.input_names ∙ kept.input_names refl;
+        output_names = stands.output_names ∙ kept.output_names refl;
+        rows = stands.rows ∙ kept.rows refl;
+        states = stands.states ∙ kept.states refl;
+      },
+    )

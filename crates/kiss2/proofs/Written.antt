@@ -1,0 +1,77 @@
+-- A text that is written, one piece after another.
+use Rattle.std.proofs.Common.{◌≡◌, ℕ, zero, suc, ◌+◌, ◌-◌, ◌<◌, ◌≤◌, ◌^◌, Bool, true, false, cond, eqb, ◌||◌, List, [], ◌∷◌, ◌++◌, length, map, take, get_or, Option, Some, None, ap, sym, ◌∙◌, refl, arith, append_assoc, append-nil}
+use Rattle.std.specs.Prelude.{count_by}
+use Rattle.std.specs.List.{cons_option, filter_map, list_any, range_with_len}
+use Rattle.std.proofs.lemmas.List.{map-append, same_lists, take_more}
+use Rattle.std.proofs.lemmas.List.Elements.{filter_map-append}
+use Rattle.std.proofs.lemmas.List.Folds.{fold-map, list_any-append}
+use Rattle.std.proofs.lemmas.List.FromFn.{get_or-range_with_len, length-range_with_len, length-map-range_with_len}
+use Rattle.std.proofs.lemmas.List.{get_or-map, get_or_default}
+use Rattle.std.proofs.lemmas.Nat.Bits.{bit_at_above}
+use Rattle.cubes.specs.Field.{byte_of, character, characters}
+use Rattle.cubes.specs.Symbol.{bit}
+use Rattle.kiss2.specs.declared.kiss_file.KissRow.{KissRow}
+
+-- one character more of a cube
+pub cube_more : (text new : List ℕ) (place care value b : ℕ) → 0 < place → new ≡ text ++ b ∷ [] → b ≡ byte_of (character care value (place - 1))
+    → new ++ map byte_of (characters (place - 1) care value) ≡ text ++ map byte_of (characters place care value)
+unfolding characters
+cube_more text new zero care value b some is byte = absurd (omega arith)
+cube_more text new (suc p) care value b some is byte =
+    let same : suc p - 1 ≡ p = omega arith in
+    ap (λ xs. xs ++ map byte_of (characters (suc p - 1) care value)) is
+    ∙ (append_assoc text (b ∷ []) (map byte_of (characters (suc p - 1) care value))
+    ∙ (ap (λ c. text ++ c ∷ map byte_of (characters (suc p - 1) care value)) byte
+    ∙ ap (λ n. text ++ byte_of (character care value n) ∷ map byte_of (characters n care value)) same))
+
+pub cube_done : (text old : List ℕ) (place care value : ℕ) → place ≤ 0 → text ++ map byte_of (characters place care value) ≡ old → text ≡ old
+unfolding characters
+cube_done text old zero care value le is = sym (append-nil text) ∙ is
+cube_done text old (suc p) care value le is = absurd (omega arith)
+
+-- one output more
+pub range_push : (a n : ℕ) → range_with_len a (suc n) ≡ range_with_len a n ++ (a + n) ∷ []
+range_push a zero = let same : a + 0 ≡ a = omega arith in ap (λ m. m ∷ []) (sym same)
+range_push a (suc n) = let same : (a + 1) + n ≡ a + suc n = omega arith in ap (λ xs. a ∷ xs) (range_push (a + 1) n ∙ ap (λ m. range_with_len (a + 1) n ++ m ∷ []) same)
+
+pub outputs_more : (f : ℕ → ℕ) (n : ℕ) → map f (range_with_len 0 (n + 1)) ≡ map f (range_with_len 0 n) ++ f n ∷ []
+outputs_more f n =
+    let next : n + 1 ≡ suc n = omega arith in
+    let same : 0 + n ≡ n = omega arith in
+    ap (λ m. map f (range_with_len 0 m)) next
+    ∙ (ap (map f) (range_push 0 n) ∙ (map-append f (range_with_len 0 n) ((0 + n) ∷ []) ∙ ap (λ m. map f (range_with_len 0 n) ++ f m ∷ []) same))
+
+-- past the last bit a character is a dash
+pub no_character : (care value place : ℕ) → care < 2 ^ 64 → 64 ≤ place → 45 ≡ byte_of (character care value place)
+no_character care value place fits past = sym (ap (λ b. byte_of (cond (eqb b 1) (Some (bit value place)) None)) (bit_at_above care 64 place fits past))
+
+or_assoc : (a b c : Bool) → ((a || b) || c) ≡ (a || (b || c))
+or_assoc true b c = refl
+or_assoc false b c = refl
+
+-- one row more whose next state is marked
+pub marked_more : (rows : List KissRow) (i s : ℕ) (row : KissRow) (old loop new : Bool) → i < length rows → row ≡ get_or rows i row
+    → loop ≡ (old || list_any (λ t. eqb t s) (filter_map (λ r. r.to) (take i rows))) → new ≡ (loop || list_any (λ t. eqb t s) (cons_option row.to []))
+    → new ≡ (old || list_any (λ t. eqb t s) (filter_map (λ r. r.to) (take (i + 1) rows)))
+marked_more rows i s row old loop new inside here so_far is =
+    let more : filter_map (λ r. r.to) (take (i + 1) rows) ≡ filter_map (λ r. r.to) (take i rows) ++ cons_option row.to [] =
+    ap (filter_map (λ r. r.to)) (take_more rows i row inside) ∙ (filter_map-append (λ r. r.to) (take i rows) (get_or rows i row ∷ []) ∙ ap (λ r. filter_map (λ q. q.to) (take i rows) ++ cons_option r.to []) (sym here)) in
+    is
+    ∙ (ap (λ b. b || list_any (λ t. eqb t s) (cons_option row.to [])) so_far
+    ∙ (or_assoc old (list_any (λ t. eqb t s) (filter_map (λ r. r.to) (take i rows))) (list_any (λ t. eqb t s) (cons_option row.to []))
+    ∙ ap (λ b. old || b) (sym (ap (list_any (λ t. eqb t s)) more ∙ list_any-append (λ t. eqb t s) (filter_map (λ r. r.to) (take i rows)) (cons_option row.to [])))))
+
+-- the marks are counted
+pub marks_count : (marks : List Bool) (n : ℕ) (f : ℕ → Bool) → length marks ≡ n → ((s : ℕ) → s < n → get_or marks s false ≡ f s) → count_by (λ b. b) marks ≡ count_by f (range_with_len 0 n)
+marks_count marks n f long each =
+    let same : marks ≡ map f (range_with_len 0 n) =
+    same_lists marks (map f (range_with_len 0 n)) (long ∙ sym (length-map-range_with_len f 0 n))
+    (λ k d lt.
+    let inside : k < n = omega arith in
+    let within : k < length (range_with_len 0 n) = omega (arith, length-range_with_len 0 n) in
+    let at : get_or (range_with_len 0 n) k 0 ≡ k = get_or-range_with_len 0 n k 0 inside ∙ omega arith in
+    get_or_default marks k d false lt ∙ (each k inside ∙ sym (get_or-map f (range_with_len 0 n) k 0 d within ∙ ap f at))) in
+    ap (count_by (λ b. b)) same ∙ fold-map (λ a b. a + cond b 1 0) f 0 (range_with_len 0 n)
+
+pub joined : (a b : Bool) (c d : Bool) → a ≡ (false || c) → b ≡ (a || d) → b ≡ (c || d)
+joined a b c d e f = f ∙ ap (λ t. t || d) e
