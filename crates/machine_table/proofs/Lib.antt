@@ -1,3 +1,4 @@
+pub mod AlikeRows
 pub mod Against
 pub mod Asking
 pub mod Conflicts
