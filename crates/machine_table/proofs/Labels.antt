@@ -1,12 +1,12 @@
 -- The labels of what a machine does at a symbol, and where those of two states differ.
-use Rattle.std.proofs.Common.{◌≡◌, ◌≢◌, ℕ, zero, suc, ◌<◌, ◌^◌, ◌⊎◌, Bool, true, false, not, List, [], ◌∷◌, Option, Some, None, IsSome, IsNone, IfSome, IfNone, Contains, inl, inr, sym, ◌∙◌, subst, refl, arith, is_some, bit_and}
+use Rattle.std.proofs.Common.{◌≡◌, ◌≢◌, ℕ, zero, suc, ◌<◌, ◌^◌, ◌⊎◌, Bool, true, false, not, List, [], ◌∷◌, Option, Some, None, IsSome, IsNone, IfSome, IfNone, Contains, inl, inr, sym, ◌∙◌, subst, refl, arith, is_some, bit_and, length}
 use Rattle.std.proofs.lemmas.Bool.{cases_Bool, cases_eq, true≢false}
 use Rattle.std.proofs.lemmas.List.Elements.{Contains-append_cases, Contains-append_right}
 use Rattle.cubes.specs.Cube.{HoldsNumber}
 use Rattle.cubes.proofs.Held.{held_from_mask, mask_from_held}
 use Rattle.kiss2.specs.declared.kiss_file.KissFile.{KissFile}
 use Rattle.kiss2.specs.declared.kiss_file.KissRow.{KissRow}
-use Rattle.machine_table.specs.Inner.Asked.{DifferAt, IsLabelAt, IsMetBy, IsOpenAt}
+use Rattle.machine_table.specs.Inner.Asked.{DifferAt, DifferOpen, NoneIsOpen, IsLabelAt, IsMetBy, IsOpenAt}
 use Rattle.machine_table.specs.Pairs.{AtEachSymbol, IsFirstWithout}
 use Rattle.machine_table.specs.Table.{IsTable}
 use Rattle.machine_table.proofs.Sought.{at_from_held, held_from_at}
@@ -35,7 +35,7 @@ module _ (P : KissRow → Type 0) (decide : (row : KissRow) → P row ⊎ (P row
       ]
 
 -- the value in an option that is some
-value_of_some : (o : Option ℕ) → is_some o ≡ true → (v : ℕ) × (o ≡ Some v)
+pub value_of_some : (o : Option ℕ) → is_some o ≡ true → (v : ℕ) × (o ≡ Some v)
 value_of_some None some = absurd (true≢false (sym some))
 value_of_some (Some v) some = (v, refl)
 
@@ -155,3 +155,10 @@ if_none_given P (Some x) gives = tt
 pub true_from_not : (b : Bool) → not b ≡ false → b ≡ true
 true_from_not true contrary = refl
 true_from_not false contrary = sym contrary
+
+-- where some row says a label at each symbol, no labels differ by what no row says
+pub never_open : (F : KissFile) (said : KissRow → Option ℕ) (unsaid : ℕ → ℕ) → NoneIsOpen said F → (s t : ℕ) → s < length F.states → t < length F.states
+    → (x : ℕ) → DifferOpen said unsaid F s t x → ⊥
+never_open F said unsaid none s t first second x (inl (v, says, two, silent)) = none t x second silent
+never_open F said unsaid none s t first second x (inr (inl (v, says, two, silent))) = none s x first silent
+never_open F said unsaid none s t first second x (inr (inr (both, two))) = none s x first both.0

@@ -1,3 +1,4 @@
+pub mod AlikeRows
 pub mod Against
 pub mod Asking
 pub mod Conflicts
@@ -11,6 +12,7 @@ pub mod OutputLabels
 pub mod OutputWords
 pub mod Outputs
 pub mod RowNumbers
+pub mod SettledCubes
 pub mod SharedCubes
 pub mod Sought
 pub mod Specified

@@ -1,13 +1,15 @@
 -- Next states by their labels.
-use Rattle.std.proofs.Common.{◌≡◌, ℕ, ◌<◌, ◌^◌, List, Option, Some, None, IsNone, IfSome, Bool, true, length, slice_index, inl, inr, sym, ◌∙◌, subst, refl, ap}
+use Rattle.std.proofs.Common.{◌≡◌, ℕ, ◌<◌, ◌^◌, List, Option, Some, None, IsNone, IfSome, Bool, true, length, slice_index, inl, inr, sym, ◌∙◌, subst, refl, ap, is_some}
+use Rattle.std.proofs.lemmas.Bool.{true≢false}
 use Rattle.std.specs.Option.{option_map}
 use Rattle.cubes.specs.Symbol.{symbol_of}
+use Rattle.cubes.proofs.Numbers.{length-symbol_of}
 use Rattle.kiss2.specs.declared.kiss_file.KissFile.{KissFile}
 use Rattle.kiss2.specs.declared.kiss_file.KissRow.{KissRow}
-use Rattle.kiss2.specs.Machine.{Conflicting, next}
+use Rattle.kiss2.specs.Machine.{Conflicting, Specified, next}
 use Rattle.kiss2.proofs.Machine.{next_not_said, next_said}
 use Rattle.partition.specs.Partition.{Together}
-use Rattle.machine_table.specs.Inner.Asked.{DifferAt, IsLabelAt, IsMetBy, IsOpenAt}
+use Rattle.machine_table.specs.Inner.Asked.{DifferAt, HaveOneLabel, NoneIsOpen, IsLabelAt, IsMetBy, IsOpenAt}
 use Rattle.machine_table.specs.Pairs.{AtEachSymbol, GoInto, IsFirstWithout}
 use Rattle.machine_table.specs.Table.{IsTable}
 use Rattle.machine_table.proofs.Asking.{lawful_row, number_of_row}
@@ -79,3 +81,17 @@ together_in F table no_conflict q s t first second states x same = (
   subst (λ (n : ℕ). next F t (symbol_of F.inputs x) < n) (sym states) (next_in_states F table no_conflict t x second),
   same,
 )
+
+some_mapped : (f : ℕ → ℕ) (o : Option ℕ) → is_some o ≡ true → is_some (option_map f o) ≡ true
+some_mapped f None some = some
+some_mapped f (Some u) some = refl
+
+-- rows of a state at one symbol name states of one label
+pub one_named : (F : KissFile) → (Conflicting F → ⊥) → (f : ℕ → ℕ) → HaveOneLabel (named f) F
+one_named F no_conflict f s x v w first second = sym (when_named F no_conflict f s x v first) ∙ when_named F no_conflict f s x w second
+
+-- where nothing is open some row names a state
+pub named_everywhere : (F : KissFile) (f : ℕ → ℕ) → Specified F → NoneIsOpen (named f) F
+named_everywhere F f specified s x within silent =
+    let there = (specified s (symbol_of F.inputs x) within (length-symbol_of F.inputs x)).next in
+    true≢false (sym (some_mapped f there.0.to there.2) ∙ silent there.0 there.1)

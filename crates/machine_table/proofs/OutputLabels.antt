@@ -1,13 +1,14 @@
 -- Outputs by their labels.
-use Rattle.std.proofs.Common.{◌≡◌, ℕ, ◌+◌, ◌<◌, ◌≤◌, ◌^◌, ◌⊎◌, Option, Some, None, IsNone, IfSome, IfNone, Bool, true, false, inl, inr, sym, ◌∙◌, subst, refl, arith, ap}
+use Rattle.std.proofs.Common.{◌≡◌, ℕ, ◌+◌, ◌<◌, ◌≤◌, ◌^◌, ◌⊎◌, Option, Some, None, IsNone, IfSome, IfNone, Bool, true, false, inl, inr, sym, ◌∙◌, subst, refl, arith, ap, is_some}
 use Rattle.std.proofs.lemmas.Bool.{cases_lt, false≢true, true≢false}
 use Rattle.std.specs.Option.{option_map}
 use Rattle.cubes.specs.Symbol.{symbol_of}
+use Rattle.cubes.proofs.Numbers.{length-symbol_of}
 use Rattle.kiss2.specs.declared.kiss_file.KissFile.{KissFile}
 use Rattle.kiss2.specs.declared.kiss_file.KissRow.{KissRow}
-use Rattle.kiss2.specs.Machine.{Conflicting, given_bit, output_bit}
+use Rattle.kiss2.specs.Machine.{Conflicting, Specified, given_bit, output_bit}
 use Rattle.kiss2.proofs.Machine.{output_bit_not_said, output_bit_said}
-use Rattle.machine_table.specs.Inner.Asked.{DifferAt, IsLabelAt, IsMetBy, IsOpenAt, digit, lesser_of}
+use Rattle.machine_table.specs.Inner.Asked.{DifferAt, HaveOneLabel, NoneIsOpen, IsLabelAt, IsMetBy, IsOpenAt, digit, lesser_of}
 use Rattle.machine_table.specs.Pairs.{AgreeAt, AgreeInBit, AtEachSymbol, IsFirstWithout}
 use Rattle.machine_table.specs.Table.{IsTable}
 use Rattle.machine_table.proofs.Labels.{all_from_none, first_from_least, first_without, if_some_each, none_from_all}
@@ -23,7 +24,7 @@ no_bit : (o : Option Bool) → IsNone (option_map digit o) → IsNone o
 no_bit None none = refl
 no_bit (Some bit) none = none
 
-bit_from_digit : (a b : Bool) → digit a ≡ digit b → a ≡ b
+pub bit_from_digit : (a b : Bool) → digit a ≡ digit b → a ≡ b
 bit_from_digit false false same = refl
 bit_from_digit true true same = refl
 bit_from_digit false true same = absurd (omega arith)
@@ -46,12 +47,12 @@ abbrev pub label_of_output : ℕ → KissFile → (s x : ℕ) → ℕ
 label_of_output b F s x = digit (output_bit F s (symbol_of F.inputs x) b)
 
 module _ (F : KissFile) (no_conflict : Conflicting F → ⊥) (b : ℕ) where
-  when_given : (s x v : ℕ) → IsLabelAt (given_label b) F s x v → label_of_output b F s x ≡ v
+  pub when_given : (s x v : ℕ) → IsLabelAt (given_label b) F s x v → label_of_output b F s x ≡ v
   when_given s x v (row, at, gives) =
       let bit = mapped_bit (given_bit b row) v gives in
       ap digit (output_bit_said F s (symbol_of F.inputs x) no_conflict row b bit.0 at bit.1) ∙ bit.2
 
-  when_not_given : (s x : ℕ) → IsOpenAt (given_label b) F s x → label_of_output b F s x ≡ no_label s
+  pub when_not_given : (s x : ℕ) → IsOpenAt (given_label b) F s x → label_of_output b F s x ≡ no_label s
   when_not_given s x silent = ap digit (output_bit_not_said F s (symbol_of F.inputs x) b (λ row at. no_bit (given_bit b row) (silent row at)))
 
 module _ (F : KissFile) (table : IsTable F) (no_conflict : Conflicting F → ⊥) (b s t : ℕ)
@@ -152,3 +153,17 @@ module _ (F : KissFile) (s t : ℕ) where
           | inl same ↦ same
           | inr two ↦ absurd (known.met b x inside within two)
         ]
+
+some_digit : (o : Option Bool) → is_some o ≡ true → is_some (option_map digit o) ≡ true
+some_digit None some = some
+some_digit (Some bit) some = refl
+
+-- rows of a state at one symbol give one bit
+pub one_given : (F : KissFile) → (Conflicting F → ⊥) → (b : ℕ) → HaveOneLabel (given_label b) F
+one_given F no_conflict b s x v w first second = sym (when_given F no_conflict b s x v first) ∙ when_given F no_conflict b s x w second
+
+-- where nothing is open some row gives a bit
+pub given_everywhere : (F : KissFile) (b : ℕ) → b < F.outputs → Specified F → NoneIsOpen (given_label b) F
+given_everywhere F b inside specified s x within silent =
+    let there = (specified s (symbol_of F.inputs x) within (length-symbol_of F.inputs x)).outputs b inside in
+    true≢false (sym (some_digit (given_bit b there.0) there.2) ∙ silent there.0 there.1)

@@ -2,3 +2,4 @@
 pub mod Places
 pub mod OpenSymbol
 pub mod Asked
+pub mod Settled

@@ -3,5 +3,6 @@ pub mod Said
 pub mod Conflict
 pub mod Cause
 pub mod Pairs
+pub mod Covering
 pub mod Walk
 pub mod Inner

@@ -55,7 +55,7 @@ impl Machine {
         match fill {
             Fill::Hold => Ok(machine),
             Fill::Refuse => match machine.first_open(alloc)? {
-                None => Ok(machine),
+                None => Ok(machine.completed()),
                 Some(entry) => Err(BuildFail::Unspecified {
                     state: entry.state,
                     symbol: entry.symbol,
@@ -82,6 +82,10 @@ impl Machine {
             });
         }
         let file = copied_file(alloc, file)?;
-        Ok(Machine { file, places })
+        Ok(Machine {
+            file,
+            places,
+            complete: false,
+        })
     }
 }

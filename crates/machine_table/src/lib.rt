@@ -12,6 +12,7 @@
 mod building;
 mod contradiction;
 mod copying;
+mod covering;
 mod laws;
 mod machine;
 mod missing;
@@ -25,6 +26,7 @@ mod tests;
 mod walking;
 
 pub use building::BuildFail;
+pub use covering::{Images, Piece, Pieces};
 pub use laws::lawful_is_a_table;
 pub use machine::Machine;
 pub use missing::Missing;

@@ -1,8 +1,8 @@
 //! What a machine keeps, and the questions about one state and one symbol.
-ghost use Rattle.std.specs.Prelude.{ℕ, ◌≡◌, ◌<◌, ◌≤◌, ◌^◌, All, Contains, Some, length, slice_get};
+ghost use Rattle.std.specs.Prelude.{ℕ, ◌≡◌, ◌<◌, ◌≤◌, ◌^◌, All, Contains, IsTrue, Some, length, slice_get};
 ghost use Rattle.cubes.specs.Symbol.{symbol_of};
 ghost use Rattle.kiss2.specs.Lawful.{IsLawfulRow};
-ghost use Rattle.kiss2.specs.Machine.{Conflicting, given_bit, next, output_bit};
+ghost use Rattle.kiss2.specs.Machine.{Conflicting, Specified, given_bit, next, output_bit};
 ghost use Rattle.kiss2.specs.declared.kiss_file.KissRow.{KissRow};
 ghost use Rattle.machine_table.specs.Inner.Places.{IsNumberOf};
 ghost use Rattle.machine_table.specs.Table.{IsTable};
@@ -19,12 +19,14 @@ pub struct Machine {
     pub(crate) file: KissFile,
     /// For each state the numbers of its rows, ascending.
     pub(crate) places: Vec<Items<usize>>,
+    /// Rows leave nothing open. Where it is not set, nothing is known of that.
+    pub(crate) complete: bool,
 }
 
 impl Model for Machine {
-    ghost use Rattle.std.specs.Prelude.{length};
+    ghost use Rattle.std.specs.Prelude.{IsTrue, length};
     ghost use Rattle.kiss2.specs.declared.kiss_file.KissFile.{KissFile};
-    ghost use Rattle.kiss2.specs.Machine.{Conflicting};
+    ghost use Rattle.kiss2.specs.Machine.{Conflicting, Specified};
     ghost use Rattle.machine_table.specs.Table.{IsTable};
     ghost use Rattle.machine_table.specs.Inner.Places.{ArePlaces};
 
@@ -33,7 +35,8 @@ impl Model for Machine {
     ghost view = { λ m. m.file };
 
     ghost invariant = { λ m. IsTable m.file × (Conflicting m.file → ⊥)
-        × ArePlaces m.file.rows (length m.file.states) (length m.file.rows) m.places.items };
+        × ArePlaces m.file.rows (length m.file.states) (length m.file.rows) m.places.items
+        × (IsTrue m.complete → Specified m.file) };
 }
 
 /// The bit that a row gives at an output, if it gives one.
@@ -120,6 +123,25 @@ impl Machine {
             }
         }
         false
+    }
+
+    /// The machine, of whose file it is known that it leaves nothing open.
+    pub(crate) fn completed(self) -> Machine
+        requires { Specified self }
+        ensures { result ≡ self }
+    {
+        Machine {
+            file: self.file,
+            places: self.places,
+            complete: true,
+        }
+    }
+
+    /// Whether it is known that the rows leave nothing open.
+    pub(crate) fn is_complete(&self) -> bool
+        ensures { IsTrue result → Specified self.now }
+    {
+        self.complete
     }
 
     /// The numbers of the rows of a state, ascending.

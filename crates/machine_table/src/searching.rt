@@ -2,11 +2,12 @@
 //!
 //! No symbol is gone through: what two rows that meet both hold has its least symbol, and the symbols of a
 //! cube at which rows leave the part open are found by halving the cube at a place at which such a row looks.
-ghost use Rattle.std.specs.Prelude.{ℕ, ◌≡◌, ◌<◌, ◌≤◌, ◌^◌, ◌↔◌, IfNone, IfSome, IsSome, IsTrue, length, false, true};
+ghost use Rattle.std.specs.Prelude.{ℕ, ◌≡◌, ◌<◌, ◌≤◌, ◌^◌, ◌↔◌, All, IfNone, IfSome, IsSome, IsTrue, length, false, true};
 ghost use Rattle.cubes.specs.Cube.{HoldsNumber, IsHalf, Meets};
 ghost use Rattle.cubes.specs.Symbol.{bit};
 ghost use Rattle.kiss2.specs.Lawful.{IsLawfulRow};
-ghost use Rattle.machine_table.specs.Inner.Asked.{AreApartAt, IsAloneAt, IsApartAt, AreOpenAt, SayApart, DifferAt, DifferBothOpen, DifferOpen, IsMetBy, IsOpenAt, SayTwo, SaysAlone, lesser_of};
+ghost use Rattle.kiss2.specs.Machine.{Specified};
+ghost use Rattle.machine_table.specs.Inner.Asked.{AlikeBelow, ApartBelow, AreAlike, HaveOneLabel, MeetsApart, NoneIsOpen, AreApartAt, IsAloneAt, IsApartAt, AreOpenAt, SayApart, DifferAt, DifferBothOpen, DifferOpen, IsMetBy, IsOpenAt, SayTwo, SaysAlone, lesser_of};
 
 use crate::Machine;
 use crate::question::Question;
@@ -33,7 +34,7 @@ fn is_settled(found: Option<u32>, least: bool) -> bool
 }
 
 /// The half of the cube that has a 1, or a 0, at the place of a dash.
-fn half(cube: Cube, place: u32, one: bool) -> Cube
+pub(crate) fn half(cube: Cube, place: u32, one: bool) -> Cube
     requires place { place < cube.width }
     requires dash { bit cube.care place ≡ false }
     ensures half { IsHalf cube result place one }
@@ -48,7 +49,7 @@ fn half(cube: Cube, place: u32, one: bool) -> Cube
 }
 
 /// The cube of all symbols.
-fn whole(width: u8) -> Cube
+pub(crate) fn whole(width: u8) -> Cube
     requires some { 0 < width }
     requires bound { width ≤ 32 }
     ensures width { result.width ≡ width }
@@ -62,7 +63,7 @@ fn whole(width: u8) -> Cube
 }
 
 /// The lowest place at which the other cube looks and the cube does not.
-fn free_place(cube: &Cube, other: &Cube) -> Option<u32>
+pub(crate) fn free_place(cube: &Cube, other: &Cube) -> Option<u32>
     requires width { cube.now.width ≡ other.now.width }
     requires meets { Meets cube.now other.now }
     ensures within { IfSome result (λ place. place < cube.now.width) }
@@ -128,6 +129,17 @@ fn says_in<Q: Question>(question: &Q, row: &KissRow, cube: &Cube) -> bool
     cube.meets(&row.cube) && question.said(row).is_some()
 }
 
+/// Whether the rows have one cube, and the second says the part.
+fn is_alike<Q: Question>(question: &Q, row: &KissRow, other: &KissRow) -> bool
+    requires { IfSome other.now.to (λ t. t < Q.states question.now) }
+    ensures { IsTrue result → AreAlike (Q.said question.now) row.now other.now }
+{
+    if row.cube.care != other.cube.care || row.cube.value != other.cube.value {
+        return false;
+    }
+    question.said(other).is_some()
+}
+
 impl Machine {
     /// A symbol at which what is asked differs; where the least is asked for, it is the least such.
     pub(crate) fn first_differing<Q: Question>(
@@ -140,6 +152,8 @@ impl Machine {
         requires s { s < length self.now.states }
         requires t { t < length self.now.states }
         requires known { length self.now.states ≤ Q.states question.now }
+        requires one { HaveOneLabel (Q.said question.now) self.now }
+        requires none_open { Specified self.now → NoneIsOpen (Q.said question.now) self.now }
         ensures some { IfSome result (DifferAt (Q.said question.now) (Q.unsaid question.now) self.now s t) }
         ensures within { IfSome result (λ x. x < 2 ^ self.now.inputs) }
         ensures met { (y : ℕ) → DifferAt (Q.said question.now) (Q.unsaid question.now) self.now s t y → IsMetBy result least y }
@@ -148,11 +162,88 @@ impl Machine {
         if is_settled(found, least) {
             return found;
         }
+        if self.is_complete() {
+            return found;
+        }
         lesser(found, self.first_open_differing(question, s, t, least))
     }
 
     /// The same among the symbols at which rows of both states say the part.
     fn first_said<Q: Question>(&self, question: &Q, s: usize, t: usize, least: bool) -> Option<u32>
+        requires s { s < length self.now.states }
+        requires t { t < length self.now.states }
+        requires known { length self.now.states ≤ Q.states question.now }
+        requires one { HaveOneLabel (Q.said question.now) self.now }
+        ensures some { IfSome result (SayTwo (Q.said question.now) self.now s t) }
+        ensures within { IfSome result (λ x. x < 2 ^ self.now.inputs) }
+        ensures met { (y : ℕ) → SayTwo (Q.said question.now) self.now s t y → IsMetBy result least y }
+    {
+        let first = self.numbers_of(s);
+        let second = self.numbers_of(t);
+        if self.are_alike(question, first, second) {
+            return self.first_by_rows(question, first, second, least);
+        }
+        self.first_by_pairs(question, s, t, least)
+    }
+
+    /// Whether the rows at these numbers have the same cubes in the same order, and each of the second ones
+    /// says the part.
+    fn are_alike<Q: Question>(&self, question: &Q, first: &[usize], second: &[usize]) -> bool
+        requires first { All (λ i. i < length self.now.rows) first.now }
+        requires second { All (λ i. i < length self.now.rows) second.now }
+        requires known { length self.now.states ≤ Q.states question.now }
+        ensures count { IsTrue result → length first.now ≡ length second.now }
+        ensures alike { IsTrue result → AlikeBelow (Q.said question.now) self.now.rows first.now second.now (length first.now) }
+    {
+        if first.len() != second.len() {
+            return false;
+        }
+        for i in 0..first.len() {
+            let row = self.row(first[i]);
+            let other = self.row(second[i]);
+            if !is_alike(question, row, other) {
+                return false;
+            }
+        }
+        true
+    }
+
+    /// The same, by the rows that stand at one place.
+    fn first_by_rows<Q: Question>(
+        &self,
+        question: &Q,
+        first: &[usize],
+        second: &[usize],
+        least: bool,
+    ) -> Option<u32>
+        requires first { All (λ i. i < length self.now.rows) first.now }
+        requires second { All (λ i. i < length self.now.rows) second.now }
+        requires count { length first.now ≡ length second.now }
+        requires known { length self.now.states ≤ Q.states question.now }
+        ensures some { IfSome result (ApartBelow (Q.said question.now) self.now.rows first.now second.now (length first.now)) }
+        ensures within { IfSome result (λ x. x < 2 ^ self.now.inputs) }
+        ensures met { MeetsApart (Q.said question.now) self.now.rows first.now second.now (length first.now) result least }
+    {
+        let mut found = None;
+        for i in 0..first.len() {
+            let row = self.row(first[i]);
+            let other = self.row(second[i]);
+            found = lesser(found, first_between(question, row, other));
+            if is_settled(found, least) {
+                return found;
+            }
+        }
+        found
+    }
+
+    /// The same, by all pairs of rows.
+    fn first_by_pairs<Q: Question>(
+        &self,
+        question: &Q,
+        s: usize,
+        t: usize,
+        least: bool,
+    ) -> Option<u32>
         requires s { s < length self.now.states }
         requires t { t < length self.now.states }
         requires known { length self.now.states ≤ Q.states question.now }

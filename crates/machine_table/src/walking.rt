@@ -24,7 +24,7 @@ impl Machine {
     }
 
     /// The outputs at a state and a symbol, output b at 2^b.
-    fn output_word(&self, s: usize, x: u32) -> u64
+    pub(crate) fn output_word(&self, s: usize, x: u32) -> u64
         requires s { s < length self.now.states }
         requires x { x < 2 ^ self.now.inputs }
         ensures below { result < 2 ^ self.now.outputs }

@@ -1,6 +1,6 @@
 -- What rows say of two states at one symbol, where a part has labels: a function gives the label of what a row says.
 -- Private functions need it; no public contract cites it.
-use Rattle.std.specs.Prelude.{ℕ, ◌≡◌, ◌≢◌, ◌<◌, ◌≤◌, ◌^◌, ◌⊎◌, min, Bool, false, true, Contains, IfSome, IsNone, IsTrue, List, Option, None, Some, slice_get, slice_index_or}
+use Rattle.std.specs.Prelude.{ℕ, ◌≡◌, ◌≢◌, ◌<◌, ◌≤◌, ◌^◌, ◌⊎◌, min, Bool, false, true, Contains, IfSome, IsNone, IsTrue, List, Option, None, Some, slice_get, slice_index_or, IsSome, length, slice_index}
 use Rattle.cubes.specs.Cube.{HoldsNumber}
 use Rattle.cubes.specs.Symbol.{symbol_of}
 use Rattle.kiss2.specs.declared.kiss_file.KissFile.{KissFile}
@@ -88,3 +88,35 @@ pub record IsSearched (F : KissFile) (numbers : List ℕ) (count : ℕ) (Wanted 
   pub some : IfSome found Found
   pub within : IfSome found (λ x. x < 2 ^ F.inputs)
   pub met : MeetsWanted F.rows numbers count Wanted found least
+
+-- rows of one state that hold one symbol say one label
+abbrev pub HaveOneLabel : (KissRow → Option ℕ) → KissFile → Type 0
+HaveOneLabel said F = (s x v w : ℕ) → IsLabelAt said F s x v → IsLabelAt said F s x w → v ≡ w
+
+-- at each symbol some row of each state says a label
+abbrev pub NoneIsOpen : (KissRow → Option ℕ) → KissFile → Type 0
+NoneIsOpen said F = (s x : ℕ) → s < length F.states → IsOpenAt said F s x → ⊥
+
+-- the rows hold the same symbols, and the second says a label
+pub record AreAlike (said : KissRow → Option ℕ) (row other : KissRow) : Type 0 where
+  pub care : row.cube.care ≡ other.cube.care
+  pub value : row.cube.value ≡ other.cube.value
+  pub says : IsSome (said other)
+
+-- the rows at the first places of two lists of numbers are so
+abbrev pub AlikeBelow : (KissRow → Option ℕ) → List KissRow → (first second : List ℕ) → (count : ℕ) → Type 0
+AlikeBelow said rows first second count =
+    (k d e : ℕ) (row other : KissRow) → k < count → slice_get rows (slice_index_or first k d) ≡ Some row → slice_get rows (slice_index_or second k e) ≡ Some other
+    → AreAlike said row other
+
+-- at one of these places the rows are apart at the symbol of that number
+abbrev pub ApartBelow : (KissRow → Option ℕ) → List KissRow → (first second : List ℕ) → (count : ℕ) → ℕ → Type 0
+ApartBelow said rows first second count x =
+    (k : ℕ) × (row : KissRow) × (other : KissRow) × (k < count) × (slice_get rows (slice_index first k) ≡ Some row) × (slice_get rows (slice_index second k) ≡ Some other)
+    × AreApartAt said row other x
+
+-- what a search over these places has met
+abbrev pub MeetsApart : (KissRow → Option ℕ) → List KissRow → (first second : List ℕ) → (count : ℕ) → Option ℕ → Bool → Type 0
+MeetsApart said rows first second count found least =
+    (k d e : ℕ) (row other : KissRow) → k < count → slice_get rows (slice_index_or first k d) ≡ Some row → slice_get rows (slice_index_or second k e) ≡ Some other
+    → (y : ℕ) → AreApartAt said row other y → IsMetBy found least y

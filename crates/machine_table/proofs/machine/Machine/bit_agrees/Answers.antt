@@ -1,10 +1,10 @@
-use Rattle.std.proofs.Common.{ℕ, ◌↔◌, ◌∙◌, IsTrue, ap, false, not, subst, sym}
+use Rattle.std.proofs.Common.{ℕ, ◌↔◌, ◌∙◌, IsTrue, ap, false, not, subst, sym, ◌<◌}
 use Rattle.kiss2.specs.declared.kiss_file.KissFile.{KissFile}
 use Rattle.kiss2.specs.Machine.{Conflicting}
 use Rattle.machine_table.specs.Pairs.{AgreeInBit, AtEachSymbol}
 use Rattle.machine_table.specs.Table.{IsTable}
 use Rattle.machine_table.proofs.Labels.{true_from_not}
-use Rattle.machine_table.proofs.OutputLabels.{agree_from_none, none_from_agree}
+use Rattle.machine_table.proofs.OutputLabels.{given_everywhere, one_given, agree_from_none, none_from_agree}
 use Rattle.machine_table.proofs.machine.Machine.bit_agrees.Goals as goal
 
 pub returns : goal.returns
@@ -20,3 +20,11 @@ returns c =
           ∙ none_from_agree F table no_conflict c.new.result.b c.args.s c.args.t found.result found.ensures.within found.ensures.some agree),
     ) in
     subst (λ (n : ℕ). IsTrue c.is_none.result ↔ AtEachSymbol F.inputs (AgreeInBit n F c.args.s c.args.t)) c.new.ensures both
+
+pub first_differing-requires-clause-one : goal.first_differing-requires-clause-one
+first_differing-requires-clause-one c =
+    one_given c.args.self.now (subst (λ (G : KissFile). Conflicting G → ⊥) c.self.view_is c.self.invariant.1) c.new.result.b
+
+pub first_differing-requires-clause-none_open : goal.first_differing-requires-clause-none_open
+first_differing-requires-clause-none_open c =
+    given_everywhere c.args.self.now c.new.result.b (subst (λ (n : ℕ). n < c.args.self.now.outputs) (sym c.new.ensures) c.requires.b)

@@ -7,7 +7,7 @@ use Rattle.kiss2.specs.Machine.{Conflicting, next}
 use Rattle.machine_table.specs.Pairs.{AtEachSymbol, GoInto, HaveOneBit}
 use Rattle.machine_table.specs.Table.{IsTable}
 use Rattle.machine_table.proofs.Labels.{true_from_not}
-use Rattle.machine_table.proofs.NextLabels.{go_from_none, label_of_next, none_from_go}
+use Rattle.machine_table.proofs.NextLabels.{named_everywhere, one_named, go_from_none, label_of_next, none_from_go}
 use Rattle.machine_table.proofs.machine.Machine.bit_goes.Goals as goal
 
 pub returns : goal.returns
@@ -33,3 +33,10 @@ returns c =
     ) in
     subst (λ (list : List ℕ). IsTrue c.is_none.result ↔ AtEachSymbol F.inputs (GoInto (HaveOneBit list c.args.at) F s t)) c.new.ensures.words
     (subst (λ (n : ℕ). IsTrue c.is_none.result ↔ AtEachSymbol F.inputs (GoInto (HaveOneBit words n) F s t)) c.new.ensures.at both)
+
+pub first_differing-requires-clause-one : goal.first_differing-requires-clause-one
+first_differing-requires-clause-one c =
+    one_named c.args.self.now (subst (λ (G : KissFile). Conflicting G → ⊥) c.self.view_is c.self.invariant.1) (λ (u : ℕ). bit_at (slice_index c.new.result.words.now u) c.new.result.at)
+
+pub first_differing-requires-clause-none_open : goal.first_differing-requires-clause-none_open
+first_differing-requires-clause-none_open c = named_everywhere c.args.self.now (λ (u : ℕ). bit_at (slice_index c.new.result.words.now u) c.new.result.at)

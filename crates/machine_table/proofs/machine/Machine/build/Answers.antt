@@ -25,3 +25,9 @@ returns-in-Some-clause-caused c =
       no_conflict = c.in_ok-machine.ensures.no_conflict;
       entry = subst (λ (F : KissFile). IsFirstOpen F c.in-Some.entry.state c.in-Some.entry.symbol c.in-Some.entry.part) c.in_ok-machine.ensures.machine first;
     }
+
+pub completed-requires : goal.completed-requires
+completed-requires c =
+    let said = subst (λ (found : Option Entry). IfNone found ((s number : ℕ) (part : Missing) → IsEntry c.in_ok-machine.machine s number part → IsSaid c.in_ok-machine.machine s number part))
+    c.in-None.is c.in_ok-first_open-in-Refuse.ensures.none in
+    specified c.in_ok-machine.machine said

@@ -5,7 +5,7 @@ use Rattle.partition.specs.Partition.{Together}
 use Rattle.machine_table.specs.Pairs.{AtEachSymbol, GoInto}
 use Rattle.machine_table.specs.Table.{IsTable}
 use Rattle.machine_table.proofs.Labels.{if_none_given}
-use Rattle.machine_table.proofs.NextLabels.{first_not_gone, go_from_none, label_of_next, together_in}
+use Rattle.machine_table.proofs.NextLabels.{named_everywhere, one_named, first_not_gone, go_from_none, label_of_next, together_in}
 use Rattle.machine_table.proofs.machine.Machine.first_apart.Goals as goal
 
 pub returns-clause-some : goal.returns-clause-some
@@ -30,3 +30,10 @@ returns-clause-none c =
     let equal = (λ (x : ℕ) (goes : GoInto (Together q) F c.args.s c.args.t x). goes.2) in
     if_none_given (AtEachSymbol F.inputs (GoInto (Together q) F c.args.s c.args.t)) c.first_differing.result
     (go_from_none F table no_conflict (slice_index q) c.args.s c.args.t (Together q) alike equal c.first_differing.result c.first_differing.ensures.within c.first_differing.ensures.some true c.first_differing.ensures.met)
+
+pub first_differing-requires-clause-one : goal.first_differing-requires-clause-one
+first_differing-requires-clause-one c =
+    one_named c.args.self.now (subst (λ (G : KissFile). Conflicting G → ⊥) c.self.view_is c.self.invariant.1) (slice_index c.args.q.now)
+
+pub first_differing-requires-clause-none_open : goal.first_differing-requires-clause-none_open
+first_differing-requires-clause-none_open c = named_everywhere c.args.self.now (slice_index c.args.q.now)

@@ -1,10 +1,10 @@
-use Rattle.std.proofs.Common.{ℕ, IfSome, IfNone, true, subst}
+use Rattle.std.proofs.Common.{ℕ, IfSome, IfNone, true, subst, ◌<◌, sym}
 use Rattle.kiss2.specs.declared.kiss_file.KissFile.{KissFile}
 use Rattle.kiss2.specs.Machine.{Conflicting}
 use Rattle.machine_table.specs.Pairs.{AgreeInBit, AtEachSymbol, IsFirstWithout}
 use Rattle.machine_table.specs.Table.{IsTable}
 use Rattle.machine_table.proofs.Labels.{if_none_given}
-use Rattle.machine_table.proofs.OutputLabels.{agree_from_none, first_in_bit}
+use Rattle.machine_table.proofs.OutputLabels.{given_everywhere, one_given, agree_from_none, first_in_bit}
 use Rattle.machine_table.proofs.machine.Machine.first_bit_apart.Goals as goal
 
 pub returns-clause-some : goal.returns-clause-some
@@ -25,3 +25,11 @@ returns-clause-none c =
     subst (λ (n : ℕ). IfNone found.result (AtEachSymbol F.inputs (AgreeInBit n F c.args.s c.args.t))) c.new.ensures
     (if_none_given (AtEachSymbol F.inputs (AgreeInBit c.new.result.b F c.args.s c.args.t)) found.result
     (agree_from_none F table no_conflict c.new.result.b c.args.s c.args.t found.result found.ensures.within found.ensures.some true found.ensures.met))
+
+pub first_differing-requires-clause-one : goal.first_differing-requires-clause-one
+first_differing-requires-clause-one c =
+    one_given c.args.self.now (subst (λ (G : KissFile). Conflicting G → ⊥) c.self.view_is c.self.invariant.1) c.new.result.b
+
+pub first_differing-requires-clause-none_open : goal.first_differing-requires-clause-none_open
+first_differing-requires-clause-none_open c =
+    given_everywhere c.args.self.now c.new.result.b (subst (λ (n : ℕ). n < c.args.self.now.outputs) (sym c.new.ensures) c.requires.b)

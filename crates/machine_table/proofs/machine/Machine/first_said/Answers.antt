@@ -1,39 +1,26 @@
-use Rattle.std.proofs.Common.{◌+◌, get_or}
-use Rattle.std.proofs.lemmas.List.Elements.{Contains-get_or}
-use Rattle.machine_table.specs.Inner.Asked.{IsApartAt, IsSearched, SayTwo}
-use Rattle.machine_table.proofs.Sought.{apart_wanted, if_some_map, meets_all, row_of, searched_more, two_of_row}
-use Rattle.machine_table.proofs.machine.Machine.first_said.Goals.{After-lesser-found}
-use Rattle.machine_table.proofs.machine.Machine.first_said.Given as given
+use Rattle.std.proofs.Common.{ℕ, length}
+use Rattle.machine_table.specs.Inner.Asked.{ApartBelow, SayTwo}
+use Rattle.machine_table.proofs.AlikeRows.{met_by_places, two_from_places}
+use Rattle.machine_table.proofs.Sought.{if_some_map}
 use Rattle.machine_table.proofs.machine.Machine.first_said.Goals as goal
 
-searched : (g : given.Over) (c : After-lesser-found g) → IsSearched c.args.self.now c.numbers_of-number-items.result.now (c.loop-number.number-index + 1)
-    (IsApartAt (g.Q.Question.said c.args.question.now) c.args.self.now c.args.t) (SayTwo (g.Q.Question.said c.args.question.now) c.args.self.now c.args.s c.args.t) c.lesser-found.result c.args.least
-searched g c =
+pub returns-then-are_alike-clause-some : goal.returns-then-are_alike-clause-some
+returns-then-are_alike-clause-some g c =
     let F = c.args.self.now in
-    let asked = c.numbers_of-number-items in
-    let i = get_or asked.result.now c.loop-number.number-index 0 in
-    let row = c.row.result.now in
-    let own = asked.ensures.own i (Contains-get_or asked.result.now c.loop-number.number-index 0 c.loop-number-test.true) in
-    searched_more F asked.result.now c.loop-number.number-index (IsApartAt (g.Q.Question.said c.args.question.now) c.args.self.now c.args.t) (SayTwo (g.Q.Question.said c.args.question.now) c.args.self.now c.args.s c.args.t)
-    c.loop-number.found c.first_apart_from.result c.lesser-found.result c.args.least row
-    c.loop-number.invariant c.lesser-found.ensures c.loop-number-test.true c.row.ensures.row
-    (if_some_map (IsApartAt (g.Q.Question.said c.args.question.now) c.args.self.now c.args.t row) (SayTwo (g.Q.Question.said c.args.question.now) c.args.self.now c.args.s c.args.t) c.first_apart_from.result
-    (two_of_row F asked.ensures.table (g.Q.Question.said c.args.question.now) c.args.s c.args.t row (row_of F c.args.s i row own c.row.ensures.row)) c.first_apart_from.ensures.some)
-    c.first_apart_from.ensures.within c.first_apart_from.ensures.met
-
-pub loop-number-preserved : goal.loop-number-preserved
-loop-number-preserved g c = searched g (goal.at.loop-number-preserved g c).After-lesser-found
-
-pub returns-then-is_settled-clause-some : goal.returns-then-is_settled-clause-some
-returns-then-is_settled-clause-some g c = (searched g (goal.at.returns-then-is_settled-clause-some g c).After-lesser-found).some
-
-pub returns-then-is_settled-clause-within : goal.returns-then-is_settled-clause-within
-returns-then-is_settled-clause-within g c = (searched g (goal.at.returns-then-is_settled-clause-within g c).After-lesser-found).within
-
-pub returns-clause-met : goal.returns-clause-met
-returns-clause-met g c y wants =
-    let asked = c.numbers_of-number-items in
     let said = g.Q.Question.said c.args.question.now in
-    let there = apart_wanted c.args.self.now asked.ensures.table said c.args.s c.args.t y wants in
-    meets_all c.args.self.now c.args.s asked.result.now c.loop-number.number-index (IsApartAt (g.Q.Question.said c.args.question.now) c.args.self.now c.args.t)
-    c.loop-number.found c.args.least asked.ensures.each c.loop-number.invariant.met c.loop-number-test.false there.0 there.1 y there.2
+    let s = c.args.s in
+    let t = c.args.t in
+    let asked = c.numbers_of-first in
+    let also = c.numbers_of-second in
+    if_some_map (ApartBelow said F.rows asked.result.now also.result.now (length asked.result.now)) (SayTwo said F s t) c.first_by_rows.result
+    (two_from_places F asked.ensures.table said c.requires.one s t asked.result.now also.result.now asked.ensures.own also.ensures.own asked.ensures.each (c.are_alike.ensures.count c.if-are_alike.true) (c.are_alike.ensures.alike c.if-are_alike.true)) c.first_by_rows.ensures.some
+
+pub returns-then-are_alike-clause-met : goal.returns-then-are_alike-clause-met
+returns-then-are_alike-clause-met g c =
+    let F = c.args.self.now in
+    let said = g.Q.Question.said c.args.question.now in
+    let s = c.args.s in
+    let t = c.args.t in
+    let asked = c.numbers_of-first in
+    let also = c.numbers_of-second in
+    met_by_places F asked.ensures.table said c.requires.one s t asked.result.now also.result.now asked.ensures.own also.ensures.own asked.ensures.each (c.are_alike.ensures.count c.if-are_alike.true) (c.are_alike.ensures.alike c.if-are_alike.true) c.first_by_rows.result c.args.least c.first_by_rows.ensures.met

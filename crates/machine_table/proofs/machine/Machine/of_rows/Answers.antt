@@ -1,7 +1,8 @@
-use Rattle.std.proofs.Common.{ℕ, ◌<◌, List, length, sym, subst, arith}
+use Rattle.std.proofs.Common.{ℕ, ◌<◌, List, IsTrue, false, length, sym, subst, arith}
+use Rattle.std.proofs.lemmas.Bool.{false≢true}
 use Rattle.kiss2.specs.declared.kiss_file.KissFile.{KissFile}
 use Rattle.kiss2.specs.declared.kiss_file.KissRow.{KissRow}
-use Rattle.kiss2.specs.Machine.{Conflicting}
+use Rattle.kiss2.specs.Machine.{Conflicting, Specified}
 use Rattle.machine_table.specs.Conflict.{ContradictAt}
 use Rattle.machine_table.specs.Table.{IsTable}
 use Rattle.machine_table.specs.Inner.Places.{ArePlaces}
@@ -36,8 +37,8 @@ invariant_of-result c =
     let stand : ArePlaces F.rows (length F.states) (length F.rows) c.in_ok-places.places.items =
     subst (λ (n : ℕ). ArePlaces F.rows n (length F.rows) c.in_ok-places.places.items) c.count.ensures.count
     (subst (λ (list : List KissRow). ArePlaces list c.count.result (length list) c.in_ok-places.places.items) c.as_slice-rows.ensures c.in_ok-places.ensures) in
-    subst (λ (G : KissFile). IsTable G × (Conflicting G → ⊥) × ArePlaces G.rows (length G.states) (length G.rows) c.in_ok-places.places.items)
-    (sym c.in_ok-file.ensures) (c.requires.table, none, stand)
+    subst (λ (G : KissFile). IsTable G × (Conflicting G → ⊥) × ArePlaces G.rows (length G.states) (length G.rows) c.in_ok-places.places.items × (IsTrue false → Specified G))
+    (sym c.in_ok-file.ensures) (c.requires.table, none, stand, λ complete. absurd (false≢true complete))
 
 pub returns-clause-no_conflict : goal.returns-clause-no_conflict
 returns-clause-no_conflict c =

@@ -5,7 +5,7 @@ use Rattle.partition.specs.Partition.{Together}
 use Rattle.machine_table.specs.Pairs.{GoInto}
 use Rattle.machine_table.specs.Table.{IsTable}
 use Rattle.machine_table.proofs.Labels.{true_from_not}
-use Rattle.machine_table.proofs.NextLabels.{go_from_none, label_of_next, none_from_go, together_in}
+use Rattle.machine_table.proofs.NextLabels.{named_everywhere, one_named, go_from_none, label_of_next, none_from_go, together_in}
 use Rattle.machine_table.proofs.machine.Machine.pair_goes.Goals as goal
 
 pub returns : goal.returns
@@ -20,3 +20,10 @@ returns c =
       λ none. go_from_none F table no_conflict (slice_index q) c.args.s c.args.t (Together q) alike equal c.first_differing.result c.first_differing.ensures.within c.first_differing.ensures.some false c.first_differing.ensures.met (c.is_none.ensures ∙ ap not none),
       λ go. true_from_not c.is_none.result (sym c.is_none.ensures ∙ none_from_go F table no_conflict (slice_index q) c.args.s c.args.t (Together q) alike equal c.first_differing.result c.first_differing.ensures.within c.first_differing.ensures.some go),
     )
+
+pub first_differing-requires-clause-one : goal.first_differing-requires-clause-one
+first_differing-requires-clause-one c =
+    one_named c.args.self.now (subst (λ (G : KissFile). Conflicting G → ⊥) c.self.view_is c.self.invariant.1) (slice_index c.args.q.now)
+
+pub first_differing-requires-clause-none_open : goal.first_differing-requires-clause-none_open
+first_differing-requires-clause-none_open c = named_everywhere c.args.self.now (slice_index c.args.q.now)

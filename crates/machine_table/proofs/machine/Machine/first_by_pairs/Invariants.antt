@@ -1,5 +1,5 @@
 use Rattle.machine_table.specs.Inner.Asked.{IsApartAt, IsSearched, SayTwo}
-use Rattle.machine_table.proofs.machine.Machine.first_said.Given as goal
+use Rattle.machine_table.proofs.machine.Machine.first_by_pairs.Given as goal
 
 abbrev pub invariant-loop-number : goal.invariant-loop-number
 invariant-loop-number g l =

@@ -1,0 +1,10 @@
+use Rattle.std.proofs.Common.{ℕ, ◌<◌, ◌^◌, IfSome, length}
+use Rattle.machine_table.specs.Inner.Asked.{ApartBelow, MeetsApart}
+use Rattle.machine_table.proofs.machine.Machine.first_by_rows.Given as goal
+
+abbrev pub invariant-loop-i : goal.invariant-loop-i
+invariant-loop-i g l = record {
+  some : IfSome l.found (ApartBelow (g.Q.Question.said l.question) l.self.rows l.first l.second (length l.first));
+  within : IfSome l.found (λ x. x < 2 ^ l.self.inputs);
+  met : MeetsApart (g.Q.Question.said l.question) l.self.rows l.first l.second l.i l.found l.least;
+}
