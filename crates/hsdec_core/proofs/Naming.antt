@@ -1,9 +1,8 @@
 -- No name is that of two signals, so the network of codes is flat, and it has the names that its file asks for.
-use Rattle.std.proofs.Common.{◌≡◌, ℕ, zero, suc, ◌+◌, ◌^◌, ◌<◌, ◌≤◌, inl, inr, Bool, true, false, Option, Some, None, List, [], ◌∷◌, ◌++◌, length, map, drop, get_or, All, Contains, ap, sym, ◌∙◌, refl, subst, arith}
+use Rattle.std.proofs.Common.{◌≡◌, ℕ, zero, suc, ◌+◌, ◌^◌, ◌<◌, ◌≤◌, Bool, true, false, Option, Some, None, List, [], ◌∷◌, ◌++◌, length, map, drop, get_or, All, Contains, ap, sym, ◌∙◌, refl, subst, arith}
 use Rattle.std.specs.List.{AllByRecursion, AllZip, range_with_len}
 use Rattle.std.specs.Option.{unwrap_or}
 use Rattle.std.specs.Str.{bytes_eq}
-use Rattle.std.proofs.lemmas.Bool.{false≢true}
 use Rattle.std.proofs.lemmas.Fmt.{decimal_injective}
 use Rattle.std.specs.Fmt.{decimal}
 use Rattle.std.proofs.lemmas.List.{append_cancel_left, ext_get_or, get_or-map, get_or_default, length-map, map-append}
@@ -126,7 +125,7 @@ pub record HasNumerals (F : KissFile) (codes : Codes) : Type 0 where
 -- no name is an own name twice
 own_names_once : (F : KissFile) (codes : Codes) (count : ℕ) (name : List ℕ) → HasNumerals F codes
     → times name (own_names count input_letter F.inputs) + times name (own_names count state_letter codes.bits)
-      + times name (own_names count next_letter codes.bits) + times name (own_names count output_letter F.outputs) ≤ 1
+    + times name (own_names count next_letter codes.bits) + times name (own_names count output_letter F.outputs) ≤ 1
 own_names_once F codes count name small =
     grind (
       arith,
@@ -183,15 +182,15 @@ names_once F codes name lawful small =
     let used_ins : List (List ℕ) = unless_given F.input_names (own_names count input_letter F.inputs) in
     let used_outs : List (List ℕ) = unless_given F.output_names (own_names count output_letter F.outputs) in
     let used : times name (used_names F codes.bits count) ≡ times name used_ins + times name used_outs + times name nexts + times name states =
-        times-append name (used_ins ++ used_outs ++ nexts) states
-        ∙ ap (λ n. n + times name states) (times-append name (used_ins ++ used_outs) nexts ∙ ap (λ n. n + times name nexts) (times-append name used_ins used_outs)) in
+    times-append name (used_ins ++ used_outs ++ nexts) states
+    ∙ ap (λ n. n + times name states) (times-append name (used_ins ++ used_outs) nexts ∙ ap (λ n. n + times name nexts) (times-append name used_ins used_outs)) in
     let given : times name (given_names F) ≡ times name given_ins + times name given_outs = times-append name given_ins given_outs in
     let own = own_names_once F codes count name small in
     let few : times name (used_names F codes.bits count) ≤ 1 =
-        omega (arith, used, own, times_used F.input_names (own_names count input_letter F.inputs) name, times_used F.output_names (own_names count output_letter F.outputs) name) in
+    omega (arith, used, own, times_used F.input_names (own_names count input_letter F.inputs) name, times_used F.output_names (own_names count output_letter F.outputs) name) in
     let both : times name (used_names F codes.bits count) + times name (given_names F) ≤ 1 =
-        one_of_two (times name (used_names F codes.bits count)) (times name (given_names F)) few (times_distinct name (given_names F) lawful.given_distinct)
-        (λ some also. (prefix_counted F codes.bits lawful).free name (from_times name (used_names F codes.bits count) some) (from_times name (given_names F) also)) in
+    one_of_two (times name (used_names F codes.bits count)) (times name (given_names F)) few (times_distinct name (given_names F) lawful.given_distinct)
+    (λ some also. (prefix_counted F codes.bits lawful).free name (from_times name (used_names F codes.bits count) some) (from_times name (given_names F) also)) in
     omega (
       arith,
       both,

@@ -1,7 +1,6 @@
 -- The rows of a gate, before and after they are sorted.
-use Rattle.std.proofs.Common.{◌≡◌, ℕ, suc, ◌+◌, ◌<◌, inl, inr, Bool, true, false, cond, ◌&&◌, Option, Some, None, IsSome, is_some, All, List, [], ◌∷◌, ◌++◌, filter, length, map, slice_index, get_or, take, Contains, IsPermutation, sym, ap, ◌∙◌, refl, subst, arith}
+use Rattle.std.proofs.Common.{◌≡◌, ℕ, ◌+◌, ◌<◌, inl, inr, Bool, true, false, cond, Option, Some, None, IsSome, is_some, List, [], ◌∷◌, ◌++◌, filter, length, map, slice_index, get_or, take, Contains, IsPermutation, sym, ap, ◌∙◌, refl, subst, arith}
 use Rattle.std.specs.Cmp.Lexicographic.{slice_cmp}
-use Rattle.std.specs.List.{list_any}
 use Rattle.std.specs.List.Sorted.{IsSorted, IsSortedBy}
 use Rattle.std.specs.Option.{option_map_or}
 use Rattle.std.specs.Ordering.{is_lt, nat_cmp}
@@ -15,7 +14,7 @@ use Rattle.cubes.specs.Symbol.{bit}
 use Rattle.kiss2.specs.declared.kiss_file.KissFile.{KissFile}
 use Rattle.kiss2.specs.declared.kiss_file.KissRow.{KissRow}
 use Rattle.kiss2.specs.Lawful.{IsLawfulRow}
-use Rattle.kiss2.specs.Machine.{IsRowAt, Specified, given_bit, holds, next, output_bit}
+use Rattle.kiss2.specs.Machine.{IsRowAt, Specified, given_bit, next, output_bit}
 use Rattle.kiss2.proofs.Machine.{held_from_test, next_said, output_bit_said, test_from_held}
 use Rattle.net_core.specs.Step.{row_holds}
 use Rattle.net_core.proofs.Members.{Contains-cons, Contains-here, Contains-none, Contains-there}
@@ -28,7 +27,6 @@ use Rattle.hsdec_core.proofs.Planes.{from_plane, plane_holds, plane_is_plane}
 
 -- ---- rows of a list that pass a test, each as a text
 module _ {X A : Type 0} (f : X → A) (test : X → Bool) where
-
   in_planes : (xs : List X) (x : X) → Contains xs x → test x ≡ true → Contains (map f (filter test xs)) (f x)
   in_planes [] x among passes = absurd (Contains-none x among)
   in_planes (y ∷ xs) x among passes =
@@ -38,10 +36,10 @@ module _ {X A : Type 0} (f : X → A) (test : X → Bool) where
             (subst (λ (a : A). Contains (f y ∷ map f (filter test xs)) a) (ap f first) (Contains-here (f y) (map f (filter test xs))))
         | inr later ↦ skipped (test y) y xs (f x) (in_planes xs x later passes)
       ]
-      where
-    skipped : (b : Bool) (y : X) (xs : List X) (a : A) → Contains (map f (filter test xs)) a → Contains (map f (cond b (y ∷ filter test xs) (filter test xs))) a
-    skipped true y xs a h = Contains-there (f y) a (map f (filter test xs)) h
-    skipped false y xs a h = h
+    where
+      skipped : (b : Bool) (y : X) (xs : List X) (a : A) → Contains (map f (filter test xs)) a → Contains (map f (cond b (y ∷ filter test xs) (filter test xs))) a
+      skipped true y xs a h = Contains-there (f y) a (map f (filter test xs)) h
+      skipped false y xs a h = h
 
   from_planes : (xs : List X) (a : A) → Contains (map f (filter test xs)) a → (x : X) × Contains xs x × (test x ≡ true) × (a ≡ f x)
   from_planes [] a among = absurd (Contains-none a among)
@@ -54,9 +52,9 @@ module _ {X A : Type 0} (f : X → A) (test : X → Bool) where
             ]
         | inr fails ↦ behind y xs a (from_planes xs a (subst (λ (b : Bool). Contains (map f (cond b (y ∷ filter test xs) (filter test xs))) a) fails among))
       ]
-      where
-    behind : (y : X) (xs : List X) (a : A) → (x : X) × Contains xs x × (test x ≡ true) × (a ≡ f x) → (x : X) × Contains (y ∷ xs) x × (test x ≡ true) × (a ≡ f x)
-    behind y xs a (x, among, passes, is) = (x, Contains-there y x xs among, passes, is)
+    where
+      behind : (y : X) (xs : List X) (a : A) → (x : X) × Contains xs x × (test x ≡ true) × (a ≡ f x) → (x : X) × Contains (y ∷ xs) x × (test x ≡ true) × (a ≡ f x)
+      behind y xs a (x, among, passes, is) = (x, Contains-there y x xs among, passes, is)
 
 -- ---- the rows of a signal
 -- there is a code for each state
@@ -121,9 +119,11 @@ module _ (F : KissFile) (codes : Codes) (signal : Signal) (source : IsSource F) 
       → (plane : List ℕ) × Contains (planes_of codes signal F.rows) plane × (row_holds plane (read_bits codes s x) ≡ true)
   each_listed s x in_states long one =
       let found = said_there s x in_states long one in
-      let row = found.0 in
-      (plane_of codes row, in_planes (plane_of codes) (gives_one codes.words signal) F.rows row found.1.among found.2,
-      plane_holds codes row s x (long ∙ sym ((lawful_row row found.1.among).width)) (sym found.1.from) (test_from_held row.cube x found.1.held))
+      let row = found.0 in (
+        plane_of codes row,
+        in_planes (plane_of codes) (gives_one codes.words signal) F.rows row found.1.among found.2,
+        plane_holds codes row s x (long ∙ sym ((lawful_row row found.1.among).width)) (sym found.1.from) (test_from_held row.cube x found.1.held),
+      )
 
   -- what one of them holds is read at a state at which the signal is 1
   from_listed : (s : ℕ) (x : List Bool) → length x ≡ F.inputs → (plane : List ℕ) → Contains (planes_of codes signal F.rows) plane
@@ -133,9 +133,12 @@ module _ (F : KissFile) (codes : Codes) (signal : Signal) (source : IsSource F) 
       let found = from_planes (plane_of codes) (gives_one codes.words signal) F.rows plane among in
       let row = found.0 in
       let lawful = lawful_row row found.1 in
-      let parts = from_plane codes row s x (long ∙ sym lawful.width) (ap (λ (p : List ℕ). row_holds p (read_bits codes s x)) (sym found.3) ∙ held) in
-      (row.from, lawful.from, ap (λ (code : List Bool). x ++ code) (sym parts.1),
-      gives_there row.from x row (record { among = found.1; from = refl; held = held_from_test row.cube x parts.0 }) found.2)
+      let parts = from_plane codes row s x (long ∙ sym lawful.width) (ap (λ (p : List ℕ). row_holds p (read_bits codes s x)) (sym found.3) ∙ held) in (
+        row.from,
+        lawful.from,
+        ap (λ (code : List Bool). x ++ code) (sym parts.1),
+        gives_there row.from x row (record { among = found.1; from = refl; held = held_from_test row.cube x parts.0 }) found.2,
+      )
 
   pub on_set_of : (rows names : List (List ℕ)) → rows ≡ planes_of codes signal F.rows → IsPermutation rows names → IsOnSet F codes signal names
   on_set_of rows names is moved =
@@ -152,7 +155,7 @@ module _ (F : KissFile) (codes : Codes) (signal : Signal) (source : IsSource F) 
             from_listed s x long held.1 (Contains-permutation names (planes_of codes signal F.rows) held.1 back (held.0, held.2, held.3)) held.4;
         planes = λ k d inside.
             let found = from_planes (plane_of codes) (gives_one codes.words signal) F.rows (get_or names k d)
-                (Contains-permutation names (planes_of codes signal F.rows) (get_or names k d) back (Contains-get_or names k d inside)) in
+            (Contains-permutation names (planes_of codes signal F.rows) (get_or names k d) back (Contains-get_or names k d inside)) in
             subst (IsPlane (F.inputs + codes.bits)) (sym found.3) (plane_is_plane codes found.0 F.inputs ((lawful_row found.0 found.1).width));
       }
 

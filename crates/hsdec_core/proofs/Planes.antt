@@ -1,13 +1,13 @@
 -- What the row of a gate for a row of the file holds: the symbols of its cube, at the code of its state.
-use Rattle.std.proofs.Common.{◌≡◌, ℕ, zero, suc, ◌+◌, ◌<◌, ◌&&◌, Bool, true, false, Option, Some, None, IsTrue, List, [], ◌∷◌, ◌++◌, length, map, slice_index, get_or, refl, sym, ap, subst, ◌∙◌, arith, length-append}
-use Rattle.std.specs.List.{AllByRecursion, range_with_len}
-use Rattle.std.proofs.lemmas.Bool.{and_from, and_parts, cases_Bool, false≢true}
-use Rattle.std.proofs.lemmas.List.{length-map, map-append}
+use Rattle.std.proofs.Common.{◌≡◌, ℕ, ◌+◌, ◌&&◌, Bool, true, false, Option, Some, None, IsTrue, List, [], ◌∷◌, ◌++◌, length, map, slice_index, refl, sym, ap, subst, ◌∙◌, arith, length-append}
+use Rattle.std.specs.List.{AllByRecursion}
+use Rattle.std.proofs.lemmas.Bool.{and_from, and_parts, false≢true}
+use Rattle.std.proofs.lemmas.List.{length-map}
 use Rattle.std.proofs.lemmas.List.FromFn.{length-map-range_with_len}
 use Rattle.blif_out.specs.Writable.{IsPlane}
 use Rattle.cubes.specs.declared.cube.Cube.{Cube}
-use Rattle.cubes.specs.Cube.{Holds, field_of, text_of}
-use Rattle.cubes.specs.Field.{byte_of, characters}
+use Rattle.cubes.specs.Cube.{field_of, text_of}
+use Rattle.cubes.specs.Field.{byte_of}
 use Rattle.cubes.specs.Symbol.{bit}
 use Rattle.cubes.proofs.Places.{length-characters}
 use Rattle.kiss2.specs.declared.kiss_file.KissRow.{KissRow}
@@ -80,7 +80,6 @@ text_length : (cube : Cube) → length (text_of cube) ≡ cube.width
 text_length cube = length-map (field_of cube) byte_of ∙ length-characters cube.width cube.care cube.value
 
 module _ (codes : Codes) (row : KissRow) (s : ℕ) (x : List Bool) (long : length x ≡ row.cube.width) where
-
   halves : row_holds (plane_of codes row) (read_bits codes s x)
       ≡ (row_holds (text_of row.cube) x && row_holds (map digit (code_bits codes.bits (slice_index codes.words row.from))) (code_bits codes.bits (slice_index codes.words s)))
   halves =
@@ -92,18 +91,19 @@ module _ (codes : Codes) (row : KissRow) (s : ℕ) (x : List Bool) (long : lengt
   plane_holds same held =
       halves
       ∙ and_from (row_holds (text_of row.cube) x) (row_holds (map digit (code_bits codes.bits (slice_index codes.words row.from))) (code_bits codes.bits (slice_index codes.words s)))
-        (field_holds (field_of row.cube) x ∙ held)
-        (subst (λ (t : ℕ). row_holds (map digit (code_bits codes.bits (slice_index codes.words row.from))) (code_bits codes.bits (slice_index codes.words t)) ≡ true)
-        (sym same) (digits_hold (code_bits codes.bits (slice_index codes.words row.from))))
+      (field_holds (field_of row.cube) x ∙ held)
+      (subst (λ (t : ℕ). row_holds (map digit (code_bits codes.bits (slice_index codes.words row.from))) (code_bits codes.bits (slice_index codes.words t)) ≡ true)
+      (sym same) (digits_hold (code_bits codes.bits (slice_index codes.words row.from))))
 
   -- and what it holds is a symbol of the cube at the code of the row's state
   pub from_plane : row_holds (plane_of codes row) (read_bits codes s x) ≡ true
       → (holds row.cube x ≡ true) × (code_bits codes.bits (slice_index codes.words s) ≡ code_bits codes.bits (slice_index codes.words row.from))
   from_plane h =
       let both = and_parts (row_holds (text_of row.cube) x) (row_holds (map digit (code_bits codes.bits (slice_index codes.words row.from))) (code_bits codes.bits (slice_index codes.words s)))
-          (sym halves ∙ h) in
-      (sym (field_holds (field_of row.cube) x) ∙ both.0,
-      bits_from_digits (code_bits codes.bits (slice_index codes.words row.from)) (code_bits codes.bits (slice_index codes.words s)) both.1)
+      (sym halves ∙ h) in (
+        sym (field_holds (field_of row.cube) x) ∙ both.0,
+        bits_from_digits (code_bits codes.bits (slice_index codes.words row.from)) (code_bits codes.bits (slice_index codes.words s)) both.1,
+      )
 
 -- its bytes are characters of rows
 byte_character : (c : Option Bool) → IsTrue (is_plane_character (byte_of c))
@@ -130,6 +130,12 @@ plane_is_plane codes row inputs wide =
     let code : List Bool = code_bits codes.bits word in
     record {
       characters = all_mapped byte_of byte_character (field_of row.cube) (map digit code) (all_digits code);
-      width = omega (arith, length-append (text_of row.cube) (map digit code), text_length row.cube, wide, length-map code digit,
-          length-map-range_with_len (bit word) 0 codes.bits);
+      width = omega (
+        arith,
+        length-append (text_of row.cube) (map digit code),
+        text_length row.cube,
+        wide,
+        length-map code digit,
+        length-map-range_with_len (bit word) 0 codes.bits,
+      );
     }

@@ -2,10 +2,9 @@
 use Rattle.std.proofs.Common.{◌≡◌, ℕ, ◌<◌, Bool, true, false, cond, not, if◌then◌else◌, Option, List, [], ◌∷◌, ◌++◌, Some, length, map, slice_index, refl, sym, ap, subst, ◌∙◌}
 use Rattle.std.specs.List.{AllByRecursion, AllZip, list_any, range_with_len}
 use Rattle.std.proofs.Math.Path.{fun_ext}
-use Rattle.std.proofs.lemmas.Bool.{and_from, and_parts, false≢true}
+use Rattle.std.proofs.lemmas.Bool.{false≢true}
 use Rattle.std.proofs.lemmas.List.{length-map, map-append}
 use Rattle.std.proofs.lemmas.List.Elements.{recursion_from_All}
-use Rattle.std.proofs.lemmas.List.Folds.{Any-from_list_any, list_any_at}
 use Rattle.std.proofs.lemmas.List.FromFn.{length-map-range_with_len}
 use Rattle.std.proofs.lemmas.Simd.{map-map}
 use Rattle.blif_out.specs.declared.header.Header.{Header}
@@ -17,12 +16,11 @@ use Rattle.net_core.specs.declared.Latch.{Latch}
 use Rattle.net_core.specs.declared.Network.{Network}
 use Rattle.net_core.specs.declared.Start.TheVariants.{Zero, One}
 use Rattle.net_core.specs.Sound.{Sound}
-use Rattle.net_core.specs.Step.{AreStarts, Gives, IsValuation, Step, bit_of_start, character_holds, gate_value, row_holds}
+use Rattle.net_core.specs.Step.{AreStarts, Gives, IsValuation, Step, bit_of_start, gate_value, row_holds}
 use Rattle.net_core.proofs.Flat.{given_step}
 use Rattle.net_core.proofs.Valuations.{FitsGate, parts_of_append}
 use Rattle.state_codes.specs.declared.Codes.{Codes}
 use Rattle.hsdec_core.specs.Carries.{Carries, code_bits, printed_code}
-use Rattle.hsdec_core.specs.Digits.{digit}
 use Rattle.hsdec_core.specs.Inner.CodeNetwork.{IsCodeGate, IsCodeNetwork, code_latch, next_signals, output_signals, signal_bit, signal_name}
 use Rattle.hsdec_core.specs.Inner.CodeNames.{input_name, names_of_inputs, names_of_nexts, names_of_outputs, names_of_states, next_name, output_name, state_name}
 use Rattle.hsdec_core.specs.declared.signals.Signal.{Signal}

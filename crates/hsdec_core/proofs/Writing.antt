@@ -9,7 +9,7 @@ use Rattle.std.proofs.Math.Nat.{mod-lt}
 use Rattle.std.proofs.lemmas.Bool.{cases_Bool}
 use Rattle.std.proofs.lemmas.Bool.Decides.{nat_tests}
 use Rattle.std.proofs.lemmas.List.{get_or_past}
-use Rattle.std.proofs.lemmas.List.Elements.{All-append, All-from_recursion, All-same, All-weaker, Contains-get_or, recursion_from_All}
+use Rattle.std.proofs.lemmas.List.Elements.{All-append, All-from_recursion, All-same, All-weaker, recursion_from_All}
 use Rattle.std.proofs.lemmas.List.FromFn.{length-map-range_with_len}
 use Rattle.blif_out.specs.Order.{HasKnownStarts, HasRowsInOrder}
 use Rattle.blif_out.specs.Writable.{IsPlane, IsSignalName, IsWritable, IsWritableGate, IsWritableLatch}
@@ -24,14 +24,11 @@ use Rattle.net_core.specs.declared.Gate.{Gate}
 use Rattle.net_core.specs.declared.Latch.{Latch}
 use Rattle.net_core.specs.declared.Network.{Network}
 use Rattle.net_core.specs.declared.Start.TheVariants.{Zero, One}
-use Rattle.net_core.specs.Statements.{is_plane_character}
 use Rattle.state_codes.specs.declared.Codes.{Codes}
 use Rattle.hsdec_core.specs.declared.signals.Signal.{Signal}
 use Rattle.hsdec_core.specs.declared.signals.Signal.TheVariants.{Next, Output}
-use Rattle.hsdec_core.specs.Carries.{code_bits}
-use Rattle.hsdec_core.specs.Digits.{digit}
 use Rattle.hsdec_core.specs.Inner.CodeNetwork.{IsCodeGate, IsCodeNetwork, code_latch, signal_name}
-use Rattle.hsdec_core.specs.Inner.CodeNames.{input_name, name_at, names_of_inputs, names_of_outputs, names_of_states, next_name, output_name, prefix_count, state_name}
+use Rattle.hsdec_core.specs.Inner.CodeNames.{input_name, name_at, names_of_inputs, names_of_states, next_name, output_name, prefix_count, state_name}
 use Rattle.hsdec_core.specs.Named.{input_letter, next_letter, output_letter, own_name, prefix, state_letter}
 use Rattle.hsdec_core.proofs.Naming.{IsSignalGate, each_gate}
 

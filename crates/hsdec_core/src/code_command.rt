@@ -14,9 +14,9 @@ ghost use Rattle.hsdec_core.specs.Inner.Source.{IsSource};
 ghost use Rattle.hsdec_core.specs.Inner.CodeHeader.{code_parts, IsCodeHeader};
 ghost use Rattle.hsdec_core.specs.Decomposition.{IsWritten};
 
+use crate::Outcome;
 use crate::header_of_code::build_notes;
 use crate::network_of_code::build_network;
-use crate::Outcome;
 use blif_out::Header;
 use job_words::Job;
 use kiss2::{KissFile, StateNames};

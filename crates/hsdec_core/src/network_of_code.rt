@@ -48,7 +48,14 @@ fn input_names(
     ensures { IfOk result (λ names. names ≡ names_of_inputs file.now codes.now) }
 {
     let mut names = Names::new(alloc);
-    push_names_or_own(alloc, &mut names, &file.input_names, count, b'x', usize::from(file.inputs))?;
+    push_names_or_own(
+        alloc,
+        &mut names,
+        &file.input_names,
+        count,
+        b'x',
+        usize::from(file.inputs),
+    )?;
     Ok(names)
 }
 
@@ -64,7 +71,14 @@ fn output_names(
     ensures { IfOk result (λ names. names ≡ names_of_outputs file.now codes.now) }
 {
     let mut names = Names::new(alloc);
-    push_names_or_own(alloc, &mut names, &file.output_names, count, b'z', usize::from(file.outputs))?;
+    push_names_or_own(
+        alloc,
+        &mut names,
+        &file.output_names,
+        count,
+        b'z',
+        usize::from(file.outputs),
+    )?;
     Ok(names)
 }
 
@@ -236,7 +250,11 @@ fn build_row(alloc: Global, codes: &Codes, row: &KissRow) -> Result<Vec<u8>, All
 {
     let mut text = Vec::new(alloc);
     append_cube(&mut text, &row.cube)?;
-    append_code(&mut text, codes.bits, codes.words.as_slice()[usize::from(row.from)])?;
+    append_code(
+        &mut text,
+        codes.bits,
+        codes.words.as_slice()[usize::from(row.from)],
+    )?;
     Ok(text)
 }
 

@@ -29,7 +29,12 @@ pub fn prefix_count(alloc: Global, file: &KissFile, latches: usize) -> Result<us
 }
 
 /// Whether no own name that is used is a given one.
-fn are_free(alloc: Global, file: &KissFile, latches: usize, count: usize) -> Result<bool, AllocError>
+fn are_free(
+    alloc: Global,
+    file: &KissFile,
+    latches: usize,
+    count: usize,
+) -> Result<bool, AllocError>
     ensures { IfOk result (λ free. free ≡ code.are_free file.now latches count) }
 {
     let used = used_names(alloc, file, latches, count)?;
@@ -46,8 +51,22 @@ fn used_names(
     ensures { IfOk result (λ names. names ≡ named.used_names file.now latches count) }
 {
     let mut names = Names::new(alloc);
-    push_unless(alloc, &mut names, &file.input_names, count, b'x', usize::from(file.inputs))?;
-    push_unless(alloc, &mut names, &file.output_names, count, b'z', usize::from(file.outputs))?;
+    push_unless(
+        alloc,
+        &mut names,
+        &file.input_names,
+        count,
+        b'x',
+        usize::from(file.inputs),
+    )?;
+    push_unless(
+        alloc,
+        &mut names,
+        &file.output_names,
+        count,
+        b'z',
+        usize::from(file.outputs),
+    )?;
     push_names(alloc, &mut names, count, b'd', latches)?;
     push_names(alloc, &mut names, count, b'q', latches)?;
     Ok(names)
@@ -95,12 +114,7 @@ fn is_among(given: &Option<Names>, name: &[u8]) -> bool
 }
 
 /// The own name of a letter and a number behind so many prefixes.
-pub fn name_of(
-    alloc: Global,
-    count: usize,
-    letter: u8,
-    number: usize,
-) -> Result<Name, AllocError>
+pub fn name_of(alloc: Global, count: usize, letter: u8, number: usize) -> Result<Name, AllocError>
     ensures { IfOk result (λ name. name ≡ own_name count letter number) }
 {
     let digits = number.to_string(alloc)?;

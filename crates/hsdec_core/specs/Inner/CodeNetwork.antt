@@ -1,5 +1,5 @@
 -- The network in which each gate lists every input and every state bit, for any codes of the states.
-use Rattle.std.specs.Prelude.{◌≡◌, ℕ, ◌+◌, ◌<◌, Bool, true, false, ◌&&◌, All, if◌then◌else◌, List, [], ◌∷◌, ◌++◌, filter, length, map, slice_index}
+use Rattle.std.specs.Prelude.{◌≡◌, ℕ, ◌+◌, ◌<◌, Bool, true, false, ◌&&◌, All, if◌then◌else◌, List, ◌++◌, filter, length, map, slice_index}
 use Rattle.std.specs.Cmp.Lexicographic.{slice_cmp}
 use Rattle.std.specs.List.{AllZip, list_any, range_with_len}
 use Rattle.std.specs.Option.{option_map_or}

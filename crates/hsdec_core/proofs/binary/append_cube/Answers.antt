@@ -1,4 +1,3 @@
-use Rattle.std.proofs.Common.{ap, ◌∙◌}
 use Rattle.hsdec_core.proofs.Bits.{field_more, field_done}
 use Rattle.hsdec_core.proofs.binary.append_cube.Goals as goal
 
