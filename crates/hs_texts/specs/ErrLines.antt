@@ -38,7 +38,3 @@ cannot_write_line = as_line (codes "hsdec: cannot write")
 -- the line of want of memory
 abbrev pub no_memory_line : List ℕ
 no_memory_line = as_line (codes "hsdec: no memory")
-
--- the line of a machine that the command does not take so far
-abbrev pub not_yet_line : List ℕ
-not_yet_line = as_line (codes "hsdec: not yet")

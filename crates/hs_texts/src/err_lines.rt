@@ -1,7 +1,7 @@
 //! The lines that go to err.
 
 ghost use Rattle.std.specs.Prelude.{◌≡◌, ◌++◌, IfOk, codes};
-ghost use Rattle.hs_texts.specs.ErrLines.{as_line, usage_line, cannot_read_line, too_long_line, kiss_line, conflict_line, unspecified_line, not_yet_line};
+ghost use Rattle.hs_texts.specs.ErrLines.{as_line, usage_line, cannot_read_line, too_long_line, kiss_line, conflict_line, unspecified_line};
 
 use std::alloc::{AllocError, Global};
 
@@ -10,13 +10,6 @@ pub const NO_MEMORY: &[u8] = b"hsdec: no memory\n";
 
 /// The line of a failed put.
 pub const CANNOT_WRITE: &[u8] = b"hsdec: cannot write\n";
-
-/// The line of a machine that the command does not take so far.
-pub fn not_yet(alloc: Global) -> Result<Vec<u8>, AllocError>
-    ensures { IfOk result (λ line. line.items ≡ not_yet_line) }
-{
-    line_of(alloc, b"hsdec: not yet", b"")
-}
 
 /// The line of refused words.
 pub fn usage(alloc: Global, word: u32) -> Result<Vec<u8>, AllocError>

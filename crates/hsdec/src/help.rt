@@ -20,7 +20,6 @@ Exit status:
   13  a file is longer than 4,194,304 bytes
   14  the text could not be written whole
   15  memory was wanting
-  16  the machine is one that the command does not take so far
 ";
 
 /// The page that the words ask for, where they are `--help` or `--version` alone.

@@ -63,7 +63,7 @@ const NETWORK: &[u8] = b"# hsdec code
 
 const HELP: &[u8] = b"Commands:
   hsdec check FILE [--fill hold]
-  hsdec code FILE [--fill hold]
+  hsdec code FILE
 
 Exit status:
   0   the text was written whole
@@ -75,7 +75,6 @@ Exit status:
   13  a file is longer than 4,194,304 bytes
   14  the text could not be written whole
   15  memory was wanting
-  16  the machine is one that the command does not take so far
 ";
 
 /// A name of 300 bytes, and the line that names it.

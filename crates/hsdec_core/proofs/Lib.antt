@@ -2,6 +2,7 @@ pub mod Bits
 pub mod BitLabels
 pub mod Built
 pub mod Carrying
+pub mod Free
 pub mod KissLaws
 pub mod LawfulHeader
 pub mod Lines
@@ -9,6 +10,7 @@ pub mod Naming
 pub mod NaturalCodes
 pub mod OnSets
 pub mod Pairs
+pub mod Planes
 pub mod Ranges
 pub mod Right
 pub mod Runs

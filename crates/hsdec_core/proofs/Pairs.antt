@@ -29,7 +29,7 @@ use Rattle.state_codes.specs.Split.{IsPart, lone_part}
 use Rattle.hsdec_core.specs.Inner.CodeHeader.{IsCodeHeader, IsCodeNote, code_parts}
 use Rattle.hsdec_core.specs.Inner.CodeNetwork.{IsCodeGate, IsCodeNetwork, code_latch, next_signals, output_signals}
 use Rattle.hsdec_core.specs.Kind.{HasParts, IsBitOf, IsPartOf, IsWithinKind}
-use Rattle.hsdec_core.specs.Named.{input_letter, own_name, own_names, state_letter}
+use Rattle.hsdec_core.specs.Inner.CodeNames.{names_of_inputs, names_of_states, state_name}
 use Rattle.hsdec_core.specs.OwnPairs.{HasOwnPair, IsReadPartition, OwnPairs, Reads}
 use Rattle.hsdec_core.specs.Pair.{Pair}
 use Rattle.hsdec_core.specs.Permits.{AgreeOn}
@@ -93,7 +93,7 @@ pair_from_zero F q lawful is s t x held width =
 -- ---- the network and the header
 -- each gate lists the inputs and the bits
 gate_inputs : (F : KissFile) (codes : Codes) (N : Network) → IsCodeNetwork F codes N → (k : ℕ) (gate : Gate) → slice_get N.gates k ≡ Some gate
-    → gate.inputs ≡ own_names 0 input_letter F.inputs ++ own_names 0 state_letter codes.bits
+    → gate.inputs ≡ names_of_inputs F codes ++ names_of_states F codes
 gate_inputs F codes N net k gate stands =
     (beside_right (IsCodeGate F codes) (next_signals codes.bits ++ output_signals F.outputs) N.gates net.gates k gate stands).2.inputs
 
@@ -101,10 +101,10 @@ gate_inputs F codes N net k gate stands =
 reads_each : (F : KissFile) (codes : Codes) (N : Network) → IsCodeNetwork F codes N → (k : ℕ) (gate : Gate) → slice_get N.gates k ≡ Some gate
     → (c : ℕ) → c < codes.bits → Reads N gate c
 reads_each F codes N net k gate stands c below =
-    let name : List ℕ = own_name 0 state_letter c in
-    let ins : List (List ℕ) = own_names 0 input_letter F.inputs in
-    let outs : List (List ℕ) = own_names 0 state_letter codes.bits in
-    let among : Contains outs name = (c, omega (arith, length-map-range_with_len (own_name 0 state_letter) 0 codes.bits), get_or-map-range_with_len (own_name 0 state_letter) 0 codes.bits c c name below (omega arith)) in (
+    let name : List ℕ = state_name F codes c in
+    let ins : List (List ℕ) = names_of_inputs F codes in
+    let outs : List (List ℕ) = names_of_states F codes in
+    let among : Contains outs name = (c, omega (arith, length-map-range_with_len (state_name F codes) 0 codes.bits), get_or-map-range_with_len (state_name F codes) 0 codes.bits c c name below (omega arith)) in (
       code_latch F codes c,
       ap (λ (latches : List Latch). slice_get latches c) net.latches ∙ map-range_at (code_latch F codes) codes.bits c below,
       subst (λ (names : List (List ℕ)). Contains names name) (sym (gate_inputs F codes N net k gate stands)) (Contains-append_right ins outs name among),

@@ -1,7 +1,6 @@
 -- One step of a loop over a range that adds an item, or some, at the end of a list.
 use Rattle.std.proofs.Common.{◌≡◌, ℕ, zero, suc, ◌+◌, List, [], ◌∷◌, ◌++◌, map, sym, ap, ◌∙◌, subst, arith, append_assoc}
-use Rattle.std.specs.List.{AllZip, flat_map, range_with_len}
-use Rattle.std.proofs.lemmas.List.{flat_map_more}
+use Rattle.std.specs.List.{AllZip, range_with_len}
 use Rattle.std.proofs.lemmas.List.FromFn.{map-range_with_len_more}
 
 -- one item more
@@ -25,14 +24,6 @@ range-more n =
     let e : n + 1 ≡ suc n = omega arith in
     let f : 0 + n ≡ n = omega arith in
     ap (range_with_len 0) e ∙ range-suc 0 n ∙ ap (λ (k : ℕ). range_with_len 0 n ++ k ∷ []) f
-
--- some items more
-pub flat_map-range-push : {X : Type 0} (f : ℕ → List X) (start list new : List X) (i : ℕ) → list ≡ start ++ flat_map f (range_with_len 0 i) → new ≡ list ++ f i → new ≡ start ++ flat_map f (range_with_len 0 (i + 1))
-flat_map-range-push {X} f start list new i before pushed =
-    pushed
-    ∙ ap (λ (xs : List X). xs ++ f i) before
-    ∙ flat_map_more f start (range_with_len 0 i) i
-    ∙ ap (λ (numbers : List ℕ). start ++ flat_map f numbers) (sym (range-more i))
 
 -- two lists that fit item by item, with one more each
 pub zip_push : {A B : Type 0} (R : A → B → Type 0) (xs : List A) (ys : List B) (x : A) (y : B) → AllZip R xs ys → R x y → AllZip R (xs ++ x ∷ []) (ys ++ y ∷ [])

@@ -7,13 +7,13 @@ use Rattle.job_words.specs.declared.command.Command.{Command}
 use Rattle.job_words.specs.declared.command.Command.TheVariants as commands
 use Rattle.job_words.specs.declared.jobs.Job.{Job}
 use Rattle.hsdec_core.specs.declared.answers.Answer.{Answer}
-use Rattle.hsdec_core.specs.declared.answers.Answer.TheVariants.{Done, Usage, KissRefused, Conflict, Unspecified, ReadFault, TooLong, WriteFault, NoMemory, NotYet}
+use Rattle.hsdec_core.specs.declared.answers.Answer.TheVariants.{Done, Usage, KissRefused, Conflict, Unspecified, ReadFault, TooLong, WriteFault, NoMemory}
 use Rattle.hsdec_core.specs.declared.outcomes.Outcome.{Outcome}
 use Rattle.hsdec_core.specs.Answer.{ExactlyWhere, ExactlyWhereRead}
 use Rattle.kiss2.specs.declared.fill.Fill.TheVariants.{Refuse, Hold}
 use Rattle.kiss2.specs.declared.kiss_file.KissFile.{KissFile}
 use Rattle.kiss2.specs.Machine.{Accepted, Conflicting}
-use Rattle.hsdec_core.specs.Cause.{CallsFor, CanServe, CommandCallsFor, FileCallsFor, IsNoMachine, IsOpen, IsUnrefused, LeavesOut, SaysMachine}
+use Rattle.hsdec_core.specs.Cause.{CallsFor, CommandCallsFor, FileCallsFor, IsNoMachine, IsOpen, IsUnrefused, SaysMachine}
 use Rattle.hsdec_core.specs.Fill.{fill_of}
 use Rattle.hsdec_core.specs.Inner.Made.{answer_of, made_text, line_at, TextPut}
 use Rattle.hsdec_core.specs.Inner.RightFor.{IsRightFor}
@@ -23,19 +23,10 @@ use Rattle.hsdec_core.specs.Promise.{HoldsMachine, IsAsked, IsDecompositionOf, I
 use Rattle.hsdec_core.proofs.KissLaws.{one_file}
 use Rattle.hsdec_core.proofs.Lines.{line_at-made}
 
--- a command takes a machine or leaves it out
-served_or_left : (c : Command) (F : KissFile) → CanServe c F → LeavesOut c F → ⊥
-served_or_left commands.Code F served left = left served
-served_or_left _ F served left = left
-
 -- a machine calls for one answer of a command
 command_calls_for_one : (c : Command) (F : KissFile) (a b : Answer) → CommandCallsFor a c F → CommandCallsFor b c F → a ≡ b
 command_calls_for_one c F Done Done h k = refl
-command_calls_for_one c F Done NotYet h k = absurd (served_or_left c F h k)
 command_calls_for_one c F Done _ h k = absurd k
-command_calls_for_one c F NotYet Done h k = absurd (served_or_left c F k h)
-command_calls_for_one c F NotYet NotYet h k = refl
-command_calls_for_one c F NotYet _ h k = absurd k
 command_calls_for_one c F _ b h k = absurd h
 
 -- a machine is accepted, conflicts or leaves something open, and never two of these

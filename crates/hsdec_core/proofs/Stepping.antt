@@ -2,10 +2,9 @@
 use Rattle.std.proofs.Common.{◌≡◌, ℕ, ◌<◌, Bool, true, false, cond, not, if◌then◌else◌, Option, List, [], ◌∷◌, ◌++◌, Some, length, map, slice_index, refl, sym, ap, subst, ◌∙◌}
 use Rattle.std.specs.List.{AllByRecursion, AllZip, list_any, range_with_len}
 use Rattle.std.proofs.Math.Path.{fun_ext}
-use Rattle.std.proofs.lemmas.Bool.{and_from, and_parts, false≢true}
+use Rattle.std.proofs.lemmas.Bool.{false≢true}
 use Rattle.std.proofs.lemmas.List.{length-map, map-append}
 use Rattle.std.proofs.lemmas.List.Elements.{recursion_from_All}
-use Rattle.std.proofs.lemmas.List.Folds.{Any-from_list_any, list_any_at}
 use Rattle.std.proofs.lemmas.List.FromFn.{length-map-range_with_len}
 use Rattle.std.proofs.lemmas.Simd.{map-map}
 use Rattle.blif_out.specs.declared.header.Header.{Header}
@@ -17,43 +16,15 @@ use Rattle.net_core.specs.declared.Latch.{Latch}
 use Rattle.net_core.specs.declared.Network.{Network}
 use Rattle.net_core.specs.declared.Start.TheVariants.{Zero, One}
 use Rattle.net_core.specs.Sound.{Sound}
-use Rattle.net_core.specs.Step.{AreStarts, Gives, IsValuation, Step, bit_of_start, character_holds, gate_value, row_holds}
+use Rattle.net_core.specs.Step.{AreStarts, Gives, IsValuation, Step, bit_of_start, gate_value, row_holds}
 use Rattle.net_core.proofs.Flat.{given_step}
 use Rattle.net_core.proofs.Valuations.{FitsGate, parts_of_append}
 use Rattle.state_codes.specs.declared.Codes.{Codes}
 use Rattle.hsdec_core.specs.Carries.{Carries, code_bits, printed_code}
-use Rattle.hsdec_core.specs.Digits.{digit}
-use Rattle.hsdec_core.specs.Inner.CodeNetwork.{IsCodeGate, IsCodeNetwork, code_latch, minterm, next_signals, output_signals, signal_bit, signal_name}
-use Rattle.hsdec_core.specs.Named.{input_letter, next_letter, output_letter, own_name, own_names, state_letter}
+use Rattle.hsdec_core.specs.Inner.CodeNetwork.{IsCodeGate, IsCodeNetwork, code_latch, next_signals, output_signals, signal_bit, signal_name}
+use Rattle.hsdec_core.specs.Inner.CodeNames.{input_name, names_of_inputs, names_of_nexts, names_of_outputs, names_of_states, next_name, output_name, state_name}
 use Rattle.hsdec_core.specs.declared.signals.Signal.{Signal}
 use Rattle.hsdec_core.specs.declared.signals.Signal.TheVariants.{Next, Output}
-
--- ---- rows of digits
--- a digit holds its own bit
-digit_holds : (b : Bool) → character_holds (digit b) b ≡ true
-digit_holds true = refl
-digit_holds false = refl
-
--- and no other
-bit_from_digit : (b other : Bool) → character_holds (digit b) other ≡ true → other ≡ b
-bit_from_digit true true h = refl
-bit_from_digit true false h = absurd (false≢true h)
-bit_from_digit false true h = absurd (false≢true h)
-bit_from_digit false false h = refl
-
--- a row of digits holds its own bits
-pub digits_hold : (bits : List Bool) → row_holds (map digit bits) bits ≡ true
-digits_hold [] = refl
-digits_hold (b ∷ bits) = and_from (character_holds (digit b) b) (row_holds (map digit bits) bits) (digit_holds b) (digits_hold bits)
-
--- and no others
-pub bits_from_digits : (bits others : List Bool) → row_holds (map digit bits) others ≡ true → others ≡ bits
-bits_from_digits [] [] h = refl
-bits_from_digits [] (other ∷ others) h = absurd (false≢true h)
-bits_from_digits (b ∷ bits) [] h = absurd (false≢true h)
-bits_from_digits (b ∷ bits) (other ∷ others) h =
-    let both = and_parts (character_holds (digit b) other) (row_holds (map digit bits) others) h in
-    ap (λ c. c ∷ others) (bit_from_digit b other both.0) ∙ ap (λ cs. b ∷ cs) (bits_from_digits bits others both.1)
 
 -- ---- the value of a gate
 -- the code of a state, bit 0 first
@@ -86,43 +57,30 @@ module _ (F : KissFile) (codes : Codes) (apart : CodesTell F codes) (s : ℕ) (w
     abbrev is_held : Bool
     is_held = list_any (λ row. row_holds row read_bits) gate.rows
 
-    -- where the signal is 1 there, its row does
-    held_from_signal : signal_bit F codes.words signal s x ≡ true → is_held ≡ true
-    held_from_signal one =
-        let listed = is.rows.each s x within long one in
-        list_any_at (λ row. row_holds row read_bits) gate.rows listed.0 (minterm codes s x) listed.1
-        (ap (λ row. row_holds row read_bits) listed.2 ∙ digits_hold read_bits)
-
-    -- and where some row does, the signal is 1
+    -- where some row does, the signal is 1
     signal_from_held : is_held ≡ true → signal_bit F codes.words signal s x ≡ true
     signal_from_held h =
-        let held = Any-from_list_any (λ row. row_holds row read_bits) gate.rows h in
-        let listed = is.rows.none_else held.1 (held.0, held.2, held.3) in
-        let t : ℕ = listed.0 in
-        let y : List Bool = listed.1 in
-        let same : read_bits ≡ y ++ state_bits codes t =
-        bits_from_digits (y ++ state_bits codes t) read_bits (ap (λ row. row_holds row read_bits) (sym listed.5) ∙ held.4) in
-        let parts = parts_of_append x (state_bits codes s) y (state_bits codes t) same (long ∙ sym listed.3) in
-        let state : t ≡ s = apart t s listed.2 within (sym parts.1) in
-        subst (λ z. signal_bit F codes.words signal s z ≡ true) (sym parts.0) (subst (λ u. signal_bit F codes.words signal u y ≡ true) state listed.4)
+        let listed = is.rows.none_else s x within long h in
+        let same = parts_of_append x (state_bits codes listed.0) x (state_bits codes s) listed.2 refl in
+        subst (λ u. signal_bit F codes.words signal u x ≡ true) (apart listed.0 s listed.1 within same.1) listed.3
 
     -- so the gate has the value of its signal
     pub signal_value : gate_value gate read_bits ≡ signal_bit F codes.words signal s x
     signal_value =
-        on_value is_held gate.on is.on ∙ same_tests is_held (signal_bit F codes.words signal s x) signal_from_held held_from_signal
+        on_value is_held gate.on is.on ∙ same_tests is_held (signal_bit F codes.words signal s x) signal_from_held (is.rows.each s x within long)
 
 -- ---- the bits of each signal
 module _ (F : KissFile) (codes : Codes) (apart : CodesTell F codes) (s : ℕ) (within : s < length F.states) (x : List Bool) (long : length x ≡ F.inputs) (value : List ℕ → Bool) where
   -- the names that each gate reads have the bits of the symbol and of the code
   abbrev HasBits : Type 0
-  HasBits = map value (own_names 0 input_letter F.inputs ++ own_names 0 state_letter codes.bits) ≡ x ++ state_bits codes s
+  HasBits = map value (names_of_inputs F codes ++ names_of_states F codes) ≡ x ++ state_bits codes s
 
   -- what a signal has at the state and the symbol
   abbrev bit_here : Signal → Bool
   bit_here signal = signal_bit F codes.words signal s x
 
   -- the output of a gate has the bit of its signal
-  output_value : (signal : Signal) (gate : Gate) → HasBits → IsCodeGate F codes signal gate → FitsGate value gate → value (signal_name signal) ≡ bit_here signal
+  output_value : (signal : Signal) (gate : Gate) → HasBits → IsCodeGate F codes signal gate → FitsGate value gate → value (signal_name F codes signal) ≡ bit_here signal
   output_value signal gate read is fits =
       ap value (sym is.output)
       ∙ (fits
@@ -132,33 +90,33 @@ module _ (F : KissFile) (codes : Codes) (apart : CodesTell F codes) (s : ℕ) (w
 
   -- and so it is gate by gate
   output_values : (signals : List Signal) (gates : List Gate) → HasBits → AllZip (IsCodeGate F codes) signals gates → AllByRecursion (FitsGate value) gates
-      → map (λ signal. value (signal_name signal)) signals ≡ map bit_here signals
+      → map (λ signal. value (signal_name F codes signal)) signals ≡ map bit_here signals
   output_values [] [] read are fit = refl
   output_values [] (gate ∷ gates) read are fit = elim are [ ]
   output_values (signal ∷ signals) [] read are fit = elim are [ ]
   output_values (signal ∷ signals) (gate ∷ gates) read (is, are) (fits, fit) =
-      ap (λ b. b ∷ map (λ other. value (signal_name other)) signals) (output_value signal gate read is fits)
+      ap (λ b. b ∷ map (λ other. value (signal_name F codes other)) signals) (output_value signal gate read is fits)
       ∙ ap (λ bits. bit_here signal ∷ bits) (output_values signals gates read are fit)
 
   -- the bits of the next code, and the outputs
   record HasNext : Type 0 where
-    next_bits : map value (own_names 0 next_letter codes.bits) ≡ state_bits codes (next F s x)
-    outputs : map value (own_names 0 output_letter F.outputs) ≡ out F s x
+    next_bits : map value (names_of_nexts F codes) ≡ state_bits codes (next F s x)
+    outputs : map value (names_of_outputs F codes) ≡ out F s x
 
   -- the gates of the network give both
   has_next : (gates : List Gate) → HasBits → AllZip (IsCodeGate F codes) (next_signals codes.bits ++ output_signals F.outputs) gates → AllByRecursion (FitsGate value) gates → HasNext
   has_next gates read are fit =
-      let named : Signal → Bool = λ signal. value (signal_name signal) in
+      let named : Signal → Bool = λ signal. value (signal_name F codes signal) in
       let nexts : List Signal = next_signals codes.bits in
       let outs : List Signal = output_signals F.outputs in
       let whole : map named nexts ++ map named outs ≡ map bit_here nexts ++ map bit_here outs =
       sym (map-append named nexts outs) ∙ (output_values (nexts ++ outs) gates read are fit ∙ map-append bit_here nexts outs) in
       let parts = parts_of_append (map named nexts) (map named outs) (map bit_here nexts) (map bit_here outs) whole (length-map nexts named ∙ sym (length-map nexts bit_here)) in
       record {
-        next_bits = map-map value (own_name 0 next_letter) (range_with_len 0 codes.bits)
+        next_bits = map-map value (next_name F codes) (range_with_len 0 codes.bits)
             ∙ (sym (map-map named Next (range_with_len 0 codes.bits))
             ∙ (parts.0 ∙ map-map bit_here Next (range_with_len 0 codes.bits)));
-        outputs = map-map value (own_name 0 output_letter) (range_with_len 0 F.outputs)
+        outputs = map-map value (output_name F codes) (range_with_len 0 F.outputs)
             ∙ (sym (map-map named Output (range_with_len 0 F.outputs))
             ∙ (parts.1 ∙ map-map bit_here Output (range_with_len 0 F.outputs)));
       }
@@ -184,10 +142,10 @@ module _ (F : KissFile) (codes : Codes) (N : Network) (H : Header) (latches : le
 
   -- as many inputs and outputs as the file has
   input_count : length N.inputs ≡ F.inputs
-  input_count = ap length net.inputs ∙ length-map-range_with_len (own_name 0 input_letter) 0 F.inputs
+  input_count = ap length net.inputs ∙ length-map-range_with_len (input_name F codes) 0 F.inputs
 
   output_count : length N.outputs ≡ F.outputs
-  output_count = ap length net.outputs ∙ length-map-range_with_len (own_name 0 output_letter) 0 F.outputs
+  output_count = ap length net.outputs ∙ length-map-range_with_len (output_name F codes) 0 F.outputs
 
   -- the starts are the code of the reset state
   starts_at_reset : AreStarts N.latches (printed_code H F.reset)
@@ -200,13 +158,13 @@ module _ (F : KissFile) (codes : Codes) (N : Network) (H : Header) (latches : le
 
   -- what a valuation has for the inputs and the latch outputs
   has_bits : (s : ℕ) (x : List Bool) (value : List ℕ → Bool) → IsValuation N (printed_code H s) x value
-      → map value (own_names 0 input_letter F.inputs ++ own_names 0 state_letter codes.bits) ≡ x ++ state_bits codes s
+      → map value (names_of_inputs F codes ++ names_of_states F codes) ≡ x ++ state_bits codes s
   has_bits s x value is =
-      let ins : List (List ℕ) = own_names 0 input_letter F.inputs in
-      let states : List (List ℕ) = own_names 0 state_letter codes.bits in
+      let ins : List (List ℕ) = names_of_inputs F codes in
+      let states : List (List ℕ) = names_of_states F codes in
       let of_inputs : map value ins ≡ x = ap (map value) (sym net.inputs) ∙ is.inputs in
       let of_states : map value states ≡ state_bits codes s =
-      map-map value (own_name 0 state_letter) (range_with_len 0 codes.bits)
+      map-map value (state_name F codes) (range_with_len 0 codes.bits)
       ∙ (sym (latch_map (λ latch. value latch.output)) ∙ (is.latches ∙ same_code s)) in
       map-append value ins states ∙ (ap (λ front. front ++ map value states) of_inputs ∙ ap (λ back. x ++ back) of_states)
 
@@ -218,7 +176,7 @@ module _ (F : KissFile) (codes : Codes) (N : Network) (H : Header) (latches : le
       record {
         outputs = ap (map value) net.outputs ∙ has.outputs;
         latch_inputs = latch_map (λ latch. value latch.input)
-            ∙ (sym (map-map value (own_name 0 next_letter) (range_with_len 0 codes.bits))
+            ∙ (sym (map-map value (next_name F codes) (range_with_len 0 codes.bits))
             ∙ (has.next_bits ∙ sym (same_code (next F s x))));
       }
 

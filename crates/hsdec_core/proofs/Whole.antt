@@ -19,7 +19,7 @@ use Rattle.hsdec_core.specs.Carries.{Carries}
 use Rattle.hsdec_core.specs.Inner.CodeHeader.{IsCodeHeader, code_parts}
 use Rattle.hsdec_core.specs.Inner.CodeNetwork.{IsCodeNetwork}
 use Rattle.hsdec_core.specs.Decomposition.{IsWritten}
-use Rattle.hsdec_core.specs.Named.{output_letter, own_names}
+use Rattle.hsdec_core.specs.Inner.CodeNames.{names_of_outputs}
 use Rattle.hsdec_core.proofs.Carrying.{carried_answers}
 use Rattle.hsdec_core.proofs.LawfulHeader.{code_header_lawful}
 use Rattle.hsdec_core.proofs.Naming.{code_flat, code_named, gates_driven, latch_inputs_of, notes_counted, source_numerals}
@@ -36,7 +36,7 @@ states_counted F source = (omega (arith, source.lawful.reset), source.lawful.sta
 driven_in_order : (F : KissFile) (codes : Codes) (N : Network) → IsCodeNetwork F codes N → driven_by N.gates ≡ map (λ latch. latch.input) N.latches ++ N.outputs
 driven_in_order F codes N net =
     gates_driven F codes N net
-    ∙ (ap (λ (names : List (List ℕ)). names ++ own_names 0 output_letter F.outputs) (sym (latch_inputs_of F codes N net))
+    ∙ (ap (λ (names : List (List ℕ)). names ++ names_of_outputs F codes) (sym (latch_inputs_of F codes N net))
     ∙ ap (λ (names : List (List ℕ)). map (λ latch. latch.input) N.latches ++ names) (sym net.outputs))
 
 -- what the record of a file, its codes, the network and the header have to be
@@ -55,7 +55,7 @@ made_of F codes N H states source counted code short net header =
 
 -- no gate reads a gate
 flat_of : (F : KissFile) (codes : Codes) (N : Network) (H : Header) → IsMadeOf F codes N H → IsFlat N
-flat_of F codes N H made = code_flat F codes N (source_numerals F codes made.source made.short) made.net
+flat_of F codes N H made = code_flat F codes N made.source.lawful (source_numerals F codes made.source made.short) made.net
 
 -- the network carries each step
 carries_of : (F : KissFile) (codes : Codes) (N : Network) (H : Header) → IsMadeOf F codes N H → Carries F N H

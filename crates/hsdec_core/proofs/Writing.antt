@@ -1,14 +1,15 @@
 -- The network of codes can be written: its names are letters with numerals, its rows are digits and its starts are known.
-use Rattle.std.proofs.Common.{◌≡◌, ℕ, zero, suc, ◌+◌, ◌<◌, ◌/◌, ◌%◌, ◌⊎◌, inl, inr, Bool, true, false, cond, eqb, ltb, IsTrue, List, [], ◌∷◌, ◌++◌, length, map, get_or, All, ap, sym, refl, subst, arith, length-append}
+use Rattle.std.proofs.Common.{◌≡◌, ◌≢◌, ℕ, zero, suc, ◌+◌, ◌<◌, ◌≤◌, ◌/◌, ◌%◌, ◌⊎◌, inl, inr, Bool, true, false, cond, eqb, ltb, Option, Some, None, List, [], ◌∷◌, ◌++◌, length, map, get_or, All, ap, sym, refl, subst, arith, length-append}
 use Rattle.std.specs.Cmp.Lexicographic.{slice_cmp}
 use Rattle.std.specs.Fmt.{decimal, digit_glyph, digits, digits_onto}
 use Rattle.std.specs.List.{AllByRecursion, range_with_len}
 use Rattle.std.specs.List.Sorted.{IsSorted}
 use Rattle.std.specs.Ordering.{nat_cmp}
 use Rattle.std.proofs.Math.Nat.{mod-lt}
+use Rattle.std.proofs.lemmas.Bool.{cases_Bool}
 use Rattle.std.proofs.lemmas.Bool.Decides.{nat_tests}
-use Rattle.std.proofs.lemmas.List.{length-map}
-use Rattle.std.proofs.lemmas.List.Elements.{All-append, All-from_recursion, All-same, All-weaker, Contains-get_or, recursion_from_All}
+use Rattle.std.proofs.lemmas.List.{get_or_past}
+use Rattle.std.proofs.lemmas.List.Elements.{All-append, All-from_recursion, All-same, All-weaker, recursion_from_All}
 use Rattle.std.proofs.lemmas.List.FromFn.{length-map-range_with_len}
 use Rattle.blif_out.specs.Order.{HasKnownStarts, HasRowsInOrder}
 use Rattle.blif_out.specs.Writable.{IsPlane, IsSignalName, IsWritable, IsWritableGate, IsWritableLatch}
@@ -17,19 +18,18 @@ use Rattle.cubes.specs.Symbol.{bit}
 use Rattle.hs_io.specs.Spelling.{ArePlainFields, IsFieldByte, IsPlainField}
 use Rattle.kiss2.specs.declared.kiss_file.KissFile.{KissFile}
 use Rattle.hsdec_core.specs.Inner.Source.{IsSource}
+use Rattle.kiss2.specs.Lawful.{AreGiven, IsGivenName, IsLawful}
 use Rattle.kiss2.specs.Names.{IsNameByte, IsPlainName}
 use Rattle.net_core.specs.declared.Gate.{Gate}
 use Rattle.net_core.specs.declared.Latch.{Latch}
 use Rattle.net_core.specs.declared.Network.{Network}
 use Rattle.net_core.specs.declared.Start.TheVariants.{Zero, One}
-use Rattle.net_core.specs.Statements.{is_plane_character}
 use Rattle.state_codes.specs.declared.Codes.{Codes}
 use Rattle.hsdec_core.specs.declared.signals.Signal.{Signal}
 use Rattle.hsdec_core.specs.declared.signals.Signal.TheVariants.{Next, Output}
-use Rattle.hsdec_core.specs.Carries.{code_bits}
-use Rattle.hsdec_core.specs.Digits.{digit}
-use Rattle.hsdec_core.specs.Inner.CodeNetwork.{IsCodeGate, IsCodeNetwork, code_latch, minterm, signal_name}
-use Rattle.hsdec_core.specs.Named.{input_letter, next_letter, output_letter, own_name, own_names, state_letter}
+use Rattle.hsdec_core.specs.Inner.CodeNetwork.{IsCodeGate, IsCodeNetwork, code_latch, signal_name}
+use Rattle.hsdec_core.specs.Inner.CodeNames.{input_name, name_at, names_of_inputs, names_of_states, next_name, output_name, prefix_count, state_name}
+use Rattle.hsdec_core.specs.Named.{input_letter, next_letter, output_letter, own_name, prefix, state_letter}
 use Rattle.hsdec_core.proofs.Naming.{IsSignalGate, each_gate}
 
 -- ---- own names
@@ -63,100 +63,122 @@ numeral_bytes : (number : ℕ) → AreNameBytes (decimal number)
 unfolding digits
 numeral_bytes number = digits_bytes 64 number [] tt
 
--- a letter with a numeral is a name
-own_is_name : (letter : ℕ) → is_name_byte letter ≡ true → (number : ℕ) → IsSignalName (own_name 0 letter number)
-own_is_name letter is number = name_from_bytes (own_name 0 letter number) (omega arith) (is, numeral_bytes number)
+-- a prefix before such bytes
+prefix_bytes : (count : ℕ) (bytes : List ℕ) → AreNameBytes bytes → AreNameBytes (prefix count ++ bytes)
+prefix_bytes zero bytes are = are
+prefix_bytes (suc count) bytes are = (refl, (refl, (refl, prefix_bytes count bytes are)))
+
+-- a prefix, a letter and a numeral are a name
+own_is_name : (count letter : ℕ) → is_name_byte letter ≡ true → (number : ℕ) → IsSignalName (own_name count letter number)
+own_is_name count letter is number =
+    name_from_bytes (own_name count letter number) (omega (arith, length-append (prefix count) (letter ∷ decimal number)))
+    (prefix_bytes count (letter ∷ decimal number) (is, numeral_bytes number))
+
+-- a byte of a given name is such a byte
+given_byte : (b : ℕ) → IsNameByte b → (b ≡ 92 → ⊥) → is_name_byte b ≡ true
+given_byte b is other =
+    let low : 33 ≤ b = is.low in
+    let high : b ≤ 126 = is.high in
+    let plain : b ≡ 35 → ⊥ = is.no_comment in
+    grind (arith, nat_tests)
+
+given_bytes : (bytes : List ℕ) → AllByRecursion IsNameByte bytes → AllByRecursion (λ b. b ≢ 92) bytes → AreNameBytes bytes
+given_bytes [] visible other = tt
+given_bytes (b ∷ bytes) (one, visible) (plain, other) = (given_byte b one plain, given_bytes bytes visible other)
+
+-- so a given name is a name
+given_is_name : (name : List ℕ) → IsGivenName name → IsSignalName name
+given_is_name name is =
+    name_from_bytes name is.some
+    (given_bytes name (recursion_from_All IsNameByte name is.visible) (recursion_from_All (λ b. b ≢ 92) name is.no_backslash))
+
+-- a number is within a count or past it
+within_or_past : (number count : ℕ) → (number < count) ⊎ (count ≤ number)
+within_or_past number count =
+    elim (cases_Bool (ltb number count)) [
+      | inl less ↦ inl (grind (arith, nat_tests))
+      | inr other ↦ inr (grind (arith, nat_tests))
+    ]
+
+-- and so is the name at a place
+at_is_name : (given : Option (List (List ℕ))) (own : ℕ → List ℕ) (many : ℕ) → AreGiven many given → ((number : ℕ) → IsSignalName (own number)) → (number : ℕ) → IsSignalName (name_at given own number)
+at_is_name None own many are each number = each number
+at_is_name (Some names) own many are each number =
+    elim (within_or_past number (length names)) [
+      | inl within ↦ given_is_name (get_or names number (own number)) (are.1 number (own number) within)
+      | inr past ↦ subst IsSignalName (sym (get_or_past names number (own number) past)) (each number)
+    ]
 
 -- what each number of a range gives
 all_of_range : {X : Type 0} (P : X → Type 0) (f : ℕ → X) → ((number : ℕ) → P (f number)) → (first many : ℕ) → AllByRecursion P (map f (range_with_len first many))
 all_of_range P f each first zero = tt
 all_of_range P f each first (suc many) = (each first, all_of_range P f each (first + 1) many)
 
--- own names are names
-own_are_names : (letter many : ℕ) → is_name_byte letter ≡ true → AllByRecursion IsSignalName (own_names 0 letter many)
-own_are_names letter many is = all_of_range IsSignalName (own_name 0 letter) (own_is_name letter is) 0 many
+-- the names of inputs, outputs, latch inputs and latch outputs are names
+input_is_name : (F : KissFile) (codes : Codes) → IsLawful F → (i : ℕ) → IsSignalName (input_name F codes i)
+input_is_name F codes lawful = at_is_name F.input_names (own_name (prefix_count F codes.bits) input_letter) F.inputs lawful.input_names (own_is_name (prefix_count F codes.bits) input_letter refl)
+
+output_is_name : (F : KissFile) (codes : Codes) → IsLawful F → (b : ℕ) → IsSignalName (output_name F codes b)
+output_is_name F codes lawful = at_is_name F.output_names (own_name (prefix_count F codes.bits) output_letter) F.outputs lawful.output_names (own_is_name (prefix_count F codes.bits) output_letter refl)
+
+next_is_name : (F : KissFile) (codes : Codes) (i : ℕ) → IsSignalName (next_name F codes i)
+next_is_name F codes i = own_is_name (prefix_count F codes.bits) next_letter refl i
+
+state_is_name : (F : KissFile) (codes : Codes) (i : ℕ) → IsSignalName (state_name F codes i)
+state_is_name F codes i = own_is_name (prefix_count F codes.bits) state_letter refl i
 
 -- ---- rows
--- a digit of a bit is a character of a row
-bit_character : (b : Bool) → IsTrue (is_plane_character (digit b))
-bit_character true = refl
-bit_character false = refl
-
--- and so are those of bits
-bit_characters : (bits : List Bool) → AllByRecursion (λ c. IsTrue (is_plane_character c)) (map digit bits)
-bit_characters [] = tt
-bit_characters (b ∷ bits) = (bit_character b, bit_characters bits)
-
--- the row of a symbol and a code has a digit for each of their bits
-minterm_length : (F : KissFile) (codes : Codes) (s : ℕ) (x : List Bool) → length x ≡ F.inputs → length (minterm codes s x) ≡ F.inputs + codes.bits
-minterm_length F codes s x long =
-    let word : ℕ = get_or codes.words s 0 in
-    let code : List Bool = code_bits codes.bits word in
-    omega (arith, long, length-map (x ++ code) digit, length-append x code, length-map-range_with_len (bit word) 0 codes.bits)
-
--- it is a row over as many inputs
-minterm_plane : (F : KissFile) (codes : Codes) (s : ℕ) (x : List Bool) → length x ≡ F.inputs → IsPlane (F.inputs + codes.bits) (minterm codes s x)
-minterm_plane F codes s x long = record {
-  characters = bit_characters (x ++ code_bits codes.bits (get_or codes.words s 0));
-  width = minterm_length F codes s x long;
-}
-
 -- each gate has so many inputs
 gate_width : (F : KissFile) (codes : Codes) (signal : Signal) (gate : Gate) → IsCodeGate F codes signal gate → length gate.inputs ≡ F.inputs + codes.bits
 gate_width F codes signal gate is =
-    let inputs : List (List ℕ) = own_names 0 input_letter F.inputs in
-    let states : List (List ℕ) = own_names 0 state_letter codes.bits in
+    let inputs : List (List ℕ) = names_of_inputs F codes in
+    let states : List (List ℕ) = names_of_states F codes in
     omega (
       arith,
       ap (λ (names : List (List ℕ)). length names) is.inputs,
       length-append inputs states,
-      length-map-range_with_len (own_name 0 input_letter) 0 F.inputs,
-      length-map-range_with_len (own_name 0 state_letter) 0 codes.bits,
+      length-map-range_with_len (input_name F codes) 0 F.inputs,
+      length-map-range_with_len (state_name F codes) 0 codes.bits,
     )
-
--- its rows are rows over them
-gate_rows : (F : KissFile) (codes : Codes) (signal : Signal) (gate : Gate) → IsCodeGate F codes signal gate → All (IsPlane (F.inputs + codes.bits)) gate.rows
-gate_rows F codes signal gate is k d lt =
-    let from = is.rows.none_else (get_or gate.rows k d) (Contains-get_or gate.rows k d lt) in
-    subst (IsPlane (F.inputs + codes.bits)) (sym from.5) (minterm_plane F codes from.0 from.1 from.3)
 
 -- ---- the network
 -- the output of a gate is a name
-signal_is_name : (signal : Signal) → IsSignalName (signal_name signal)
-signal_is_name (Next i) = own_is_name next_letter refl i
-signal_is_name (Output b) = own_is_name output_letter refl b
+signal_is_name : (F : KissFile) (codes : Codes) → IsLawful F → (signal : Signal) → IsSignalName (signal_name F codes signal)
+signal_is_name F codes lawful (Next i) = next_is_name F codes i
+signal_is_name F codes lawful (Output b) = output_is_name F codes lawful b
 
 -- the inputs of a gate are names
-gate_names : (F : KissFile) (codes : Codes) (signal : Signal) (gate : Gate) → IsCodeGate F codes signal gate → All IsSignalName gate.inputs
-gate_names F codes signal gate is =
-    let inputs : List (List ℕ) = own_names 0 input_letter F.inputs in
-    let states : List (List ℕ) = own_names 0 state_letter codes.bits in
+gate_names : (F : KissFile) (codes : Codes) → IsLawful F → (signal : Signal) (gate : Gate) → IsCodeGate F codes signal gate → All IsSignalName gate.inputs
+gate_names F codes lawful signal gate is =
+    let inputs : List (List ℕ) = names_of_inputs F codes in
+    let states : List (List ℕ) = names_of_states F codes in
     All-same IsSignalName gate.inputs (inputs ++ states) is.inputs
-    (All-append IsSignalName inputs states (All-from_recursion IsSignalName inputs (own_are_names input_letter F.inputs refl)) (All-from_recursion IsSignalName states (own_are_names state_letter codes.bits refl)))
+    (All-append IsSignalName inputs states (All-from_recursion IsSignalName inputs (all_of_range IsSignalName (input_name F codes) (input_is_name F codes lawful) 0 F.inputs))
+    (All-from_recursion IsSignalName states (all_of_range IsSignalName (state_name F codes) (state_is_name F codes) 0 codes.bits)))
 
 -- gates and latches can be written
-gate_writable : (F : KissFile) (codes : Codes) (gate : Gate) → IsSignalGate F codes gate → IsWritableGate gate
-gate_writable F codes gate (signal, is) = record {
-  inputs = recursion_from_All IsSignalName gate.inputs (gate_names F codes signal gate is);
-  output = subst IsSignalName (sym is.output) (signal_is_name signal);
+gate_writable : (F : KissFile) (codes : Codes) → IsLawful F → (gate : Gate) → IsSignalGate F codes gate → IsWritableGate gate
+gate_writable F codes lawful gate (signal, is) = record {
+  inputs = recursion_from_All IsSignalName gate.inputs (gate_names F codes lawful signal gate is);
+  output = subst IsSignalName (sym is.output) (signal_is_name F codes lawful signal);
   rows =
       subst (λ (width : ℕ). AllByRecursion (IsPlane width) gate.rows) (sym (gate_width F codes signal gate is))
-      (recursion_from_All (IsPlane (F.inputs + codes.bits)) gate.rows (gate_rows F codes signal gate is));
+      (recursion_from_All (IsPlane (F.inputs + codes.bits)) gate.rows is.rows.planes);
   on = is.on;
 }
 
 latch_writable : (F : KissFile) (codes : Codes) (i : ℕ) → IsWritableLatch (code_latch F codes i)
-latch_writable F codes i = record { input = own_is_name next_letter refl i; output = own_is_name state_letter refl i }
+latch_writable F codes i = record { input = next_is_name F codes i; output = state_is_name F codes i }
 
 -- the network can be written
-pub code_writable : (F : KissFile) (codes : Codes) (N : Network) → IsCodeNetwork F codes N → IsWritable N
-code_writable F codes N net = record {
-  inputs = subst (λ (names : List (List ℕ)). AllByRecursion IsSignalName names) (sym net.inputs) (own_are_names input_letter F.inputs refl);
-  outputs = subst (λ (names : List (List ℕ)). AllByRecursion IsSignalName names) (sym net.outputs) (own_are_names output_letter F.outputs refl);
+pub code_writable : (F : KissFile) (codes : Codes) (N : Network) → IsLawful F → IsCodeNetwork F codes N → IsWritable N
+code_writable F codes N lawful net = record {
+  inputs = subst (λ (names : List (List ℕ)). AllByRecursion IsSignalName names) (sym net.inputs) (all_of_range IsSignalName (input_name F codes) (input_is_name F codes lawful) 0 F.inputs);
+  outputs = subst (λ (names : List (List ℕ)). AllByRecursion IsSignalName names) (sym net.outputs) (all_of_range IsSignalName (output_name F codes) (output_is_name F codes lawful) 0 F.outputs);
   latches =
       subst (λ (latches : List Latch). AllByRecursion IsWritableLatch latches) (sym net.latches)
       (all_of_range IsWritableLatch (code_latch F codes) (latch_writable F codes) 0 codes.bits);
-  gates = recursion_from_All IsWritableGate N.gates (All-weaker (IsSignalGate F codes) IsWritableGate (gate_writable F codes) N.gates (each_gate F codes N net));
+  gates = recursion_from_All IsWritableGate N.gates (All-weaker (IsSignalGate F codes) IsWritableGate (gate_writable F codes lawful) N.gates (each_gate F codes N net));
 }
 
 -- a start at 0 or at 1

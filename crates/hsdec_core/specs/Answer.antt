@@ -1,7 +1,7 @@
 -- The answers of the program, their numbers, and what it is to come exactly where a condition holds.
 use Rattle.std.specs.Prelude.{◌≡◌, ℕ, ◌⊎◌}
 use Rattle.hsdec_core.specs.declared.answers.Answer.{Answer}
-use Rattle.hsdec_core.specs.declared.answers.Answer.TheVariants.{Done, NoSplit, Usage, KissRefused, Conflict, Unspecified, More, PartRefused, CodeTooLong, NetRefused, SymbolRefused, ReadFault, TooLong, WriteFault, NoMemory, NotYet, StateCount, CoverRefused, NotDefinite, NotReached, TooManyInputs, TooManyOutputs}
+use Rattle.hsdec_core.specs.declared.answers.Answer.TheVariants.{Done, NoSplit, Usage, KissRefused, Conflict, Unspecified, More, PartRefused, CodeTooLong, NetRefused, SymbolRefused, ReadFault, TooLong, WriteFault, NoMemory, StateCount, CoverRefused, NotDefinite, NotReached, TooManyInputs, TooManyOutputs}
 
 -- the exit status of an answer
 abbrev pub answer_code : Answer → ℕ
@@ -20,7 +20,6 @@ answer_code ReadFault = 12
 answer_code TooLong = 13
 answer_code WriteFault = 14
 answer_code NoMemory = 15
-answer_code NotYet = 16
 answer_code StateCount = 17
 answer_code CoverRefused = 18
 answer_code NotDefinite = 19

@@ -9,26 +9,19 @@ use Rattle.kiss2.specs.declared.kiss_file.KissFile.{KissFile}
 use Rattle.kiss2.specs.Kiss.{Kiss}
 use Rattle.kiss2.specs.Machine.{Accepted, Conflicting, Specified}
 use Rattle.hsdec_core.specs.declared.answers.Answer.{Answer}
-use Rattle.hsdec_core.specs.declared.answers.Answer.TheVariants.{Done, KissRefused, Conflict, Unspecified, TooLong, NotYet}
+use Rattle.hsdec_core.specs.declared.answers.Answer.TheVariants.{Done, KissRefused, Conflict, Unspecified, TooLong}
 use Rattle.hsdec_core.specs.Fill.{fill_of}
 use Rattle.hsdec_core.specs.Loading.{IsTooLong, IsWithin}
-use Rattle.hsdec_core.specs.Walkable.{IsWalkable}
 
 -- a command can do its work on a machine; one that is not built can do none
 abbrev pub CanServe : Command → KissFile → Type 0
 CanServe commands.Check F = ⊤
-CanServe commands.Code F = IsWalkable F
+CanServe commands.Code F = ⊤
 CanServe _ F = ⊥
-
--- the machine is one that a command does not take so far
-abbrev pub LeavesOut : Command → KissFile → Type 0
-LeavesOut commands.Code F = IsWalkable F → ⊥
-LeavesOut _ F = ⊥
 
 -- the machine that a command is asked of calls for an answer of the command's own
 abbrev pub CommandCallsFor : Answer → Command → KissFile → Type 0
 CommandCallsFor Done command F = CanServe command F
-CommandCallsFor NotYet command F = LeavesOut command F
 CommandCallsFor _ command F = ⊥
 
 -- the file leaves something open, which the fill of the job refuses

@@ -16,4 +16,3 @@ pub mod Pair
 pub mod Permits
 pub mod Promise
 pub mod Put
-pub mod Walkable

@@ -2,7 +2,7 @@
 use Rattle.std.specs.Prelude.{◌≡◌, ℕ, ◌++◌, List, Option, Some, Result, Ok, Err, codes, map, slice_get}
 use Rattle.std.specs.Fmt.{decimal}
 use Rattle.cubes.specs.Symbol.{symbol_of}
-use Rattle.hs_texts.specs.ErrLines.{cannot_read_line, cannot_write_line, conflict_line, kiss_line, no_memory_line, not_yet_line, too_long_line, unspecified_line, usage_line}
+use Rattle.hs_texts.specs.ErrLines.{cannot_read_line, cannot_write_line, conflict_line, kiss_line, no_memory_line, too_long_line, unspecified_line, usage_line}
 use Rattle.job_words.specs.declared.jobs.Job.{Job}
 use Rattle.kiss2.specs.declared.fault.KissKind.{KissKind}
 use Rattle.kiss2.specs.declared.kiss_file.KissFile.{KissFile}
@@ -12,7 +12,7 @@ use Rattle.machine_table.specs.declared.missing.Missing.TheVariants.{Next, Outpu
 use Rattle.machine_table.specs.Conflict.{IsFirstConflict}
 use Rattle.machine_table.specs.Said.{IsFirstOpen}
 use Rattle.hsdec_core.specs.declared.answers.Answer.{Answer}
-use Rattle.hsdec_core.specs.declared.answers.Answer.TheVariants.{Usage, KissRefused, Conflict, Unspecified, ReadFault, TooLong, WriteFault, NoMemory, NotYet}
+use Rattle.hsdec_core.specs.declared.answers.Answer.TheVariants.{Usage, KissRefused, Conflict, Unspecified, ReadFault, TooLong, WriteFault, NoMemory}
 use Rattle.hsdec_core.specs.Digits.{digit}
 use Rattle.hsdec_core.specs.KissTexts.{kind_text}
 use Rattle.hsdec_core.specs.Loading.{IsText}
@@ -31,7 +31,6 @@ IsOpenLine F s x part line =
 abbrev pub IsFileLine : KissFile → Answer → List ℕ → Type 0
 IsFileLine F Conflict line = (row other : ℕ) × IsFirstConflict F row other × (line ≡ conflict_line row other)
 IsFileLine F Unspecified line = (s x : ℕ) × (part : Missing) × IsFirstOpen F s x part × IsOpenLine F s x part line
-IsFileLine F NotYet line = line ≡ not_yet_line
 IsFileLine F _ line = ⊥
 
 -- the line of an answer to the bytes of a file: it names the first fault of bytes that say no machine

@@ -36,8 +36,6 @@ pub enum Answer {
     WriteFault,
     /// Memory was wanting.
     NoMemory,
-    /// The machine is one that the command does not take so far.
-    NotYet,
     /// The machine has too few or too many states.
     StateCount,
     /// The blocks of a cover are refused.
@@ -73,7 +71,6 @@ impl Answer {
             Answer::TooLong => 13,
             Answer::WriteFault => 14,
             Answer::NoMemory => 15,
-            Answer::NotYet => 16,
             Answer::StateCount => 17,
             Answer::CoverRefused => 18,
             Answer::NotDefinite => 19,

@@ -1,6 +1,6 @@
 //! The command `code`.
 
-ghost use Rattle.std.specs.Prelude.{◌≡◌, ◌≤◌, ◌↔◌, IsTrue, IfOk, length};
+ghost use Rattle.std.specs.Prelude.{◌≡◌, ◌≤◌, false, IfOk, length};
 ghost use Rattle.kiss2.specs.Lawful.{IsLawful};
 ghost use Rattle.kiss2.specs.Machine.{Accepted};
 ghost use Rattle.partition.specs.Partition.{IsStateCount};
@@ -11,60 +11,40 @@ ghost use Rattle.job_words.specs.declared.command.Command.TheVariants as command
 ghost use Rattle.hsdec_core.specs.Fill.{fill_of};
 ghost use Rattle.hsdec_core.specs.Inner.RightFor.{IsRightOf};
 ghost use Rattle.hsdec_core.specs.Inner.Source.{IsSource};
-ghost use Rattle.hsdec_core.specs.Walkable.{IsWalkable};
 ghost use Rattle.hsdec_core.specs.Inner.CodeHeader.{code_parts, IsCodeHeader};
 ghost use Rattle.hsdec_core.specs.Decomposition.{IsWritten};
 
+use crate::Outcome;
 use crate::header_of_code::build_notes;
 use crate::network_of_code::build_network;
-use crate::{Answer, Outcome};
 use blif_out::Header;
-use hs_texts::err_lines;
 use job_words::Job;
 use kiss2::{KissFile, StateNames};
-use machine_table::Machine;
 use state_codes::{CodeFail, Codes, Split, encode, one_part};
 use std::alloc::{AllocError, Global};
 
 /// The command `code`, on the machine of its file.
-pub fn code(
-    alloc: Global,
-    job: &Job,
-    file: KissFile,
-    machine: &Machine,
-) -> Result<Outcome, AllocError>
+pub fn code(alloc: Global, job: &Job, file: KissFile) -> Result<Outcome, AllocError>
     requires command { job.now.command ≡ commands.Code }
-    requires machine { machine.now ≡ file }
+    requires unheld { job.now.hold ≡ false }
     requires lawful { IsLawful file }
     requires accepted { Accepted file (fill_of job.now) }
     ensures { IfOk result (IsRightOf job.now file) }
 {
-    if !is_walkable(&file) {
-        let line = err_lines::not_yet(alloc)?;
-        return Ok(Outcome::refused(alloc, Answer::NotYet, line));
-    }
-    let text = write_code(alloc, file.states, machine)?;
+    let text = write_code(alloc, file)?;
     Ok(Outcome::done(alloc, text))
 }
 
-/// Whether the symbols can be gone through one by one, and no names are given.
-fn is_walkable(file: &KissFile) -> bool
-    ensures { IsTrue result ↔ IsWalkable file.now }
+/// The text of the natural code for the machine of a file.
+fn write_code(alloc: Global, file: KissFile) -> Result<Vec<u8>, AllocError>
+    requires { IsSource file }
+    ensures { IfOk result (λ text. IsWritten file Code text.items) }
 {
-    file.inputs <= 16 && file.input_names.is_none() && file.output_names.is_none()
-}
-
-/// The text of the natural code for a machine and the names of its states.
-fn write_code(alloc: Global, states: StateNames, machine: &Machine) -> Result<Vec<u8>, AllocError>
-    requires source { IsSource machine.now }
-    requires states { states ≡ machine.now.states }
-    ensures { IfOk result (λ text. IsWritten machine.now Code text.items) }
-{
-    let count = machine.states();
+    let count = file.states.count();
     let split = one_part(alloc, count)?;
     let codes = natural_codes(alloc, &split, count)?;
-    let net = build_network(alloc, machine, &codes)?;
-    let header = build_header(alloc, states, split, codes)?;
+    let net = build_network(alloc, &file, &codes)?;
+    let header = build_header(alloc, file.states, split, codes)?;
     blif_out::text(alloc, &net, &header)
 }
 

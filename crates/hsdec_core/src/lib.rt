@@ -17,11 +17,15 @@
 //! outcome, and what is promised of the puts is proved there once: memory is taken before, an empty text is
 //! not put, and what becomes of the line changes no answer.
 //!
-//! Why the network of `code` answers every word: each gate lists every input and every state bit, and its
-//! rows are the minterms at which it has to give 1. States have different codes, so at a state's code and a
-//! symbol exactly the rows of that state and symbol hold (`proofs/Stepping`). So each step of the
-//! machine is one of the network between the codes, and by induction on the word the answers are the same,
+//! Why the network of `code` answers every word: each gate lists every input and every state bit, and has a
+//! row for each row of the file that says that it gives 1: the characters of its cube, and the code of its
+//! current state (`proofs/Planes`, `proofs/OnSets`). States have different codes, so what is held at a state's
+//! code and a symbol are the rows of that state whose cubes hold the symbol (`proofs/Stepping`). So each step of
+//! the machine is one of the network between the codes, and by induction on the word the answers are the same,
 //! which the function [`carried_answers`] states for any network that carries each step.
+//!
+//! Names that the text gives are used as they are, and every other name is an own one behind so many prefixes
+//! that it differs from all given ones (`src/own_names`, `proofs/Free`).
 #![tactic(auto)]
 
 mod answers;

@@ -6,44 +6,98 @@ ghost use Rattle.std.specs.Cmp.Lexicographic.{slice_cmp};
 ghost use Rattle.std.specs.List.{AllZip, range_with_len};
 ghost use Rattle.std.specs.List.Sorted.{IsSorted};
 ghost use Rattle.std.specs.Ordering.{nat_cmp};
-ghost use Rattle.cubes.specs.Symbol.{symbol_of};
 ghost use Rattle.hsdec_core.specs.Inner.Source.{IsSource};
-ghost use Rattle.hsdec_core.specs.Inner.CodeNetwork.{IsWithin, minterm, row_at, minterms_at, signal_name, code_latch, next_signals, output_signals, IsOnSet, IsCodeGate, IsCodeNetwork};
+ghost use Rattle.hsdec_core.specs.Inner.CodeNames as names;
+ghost use Rattle.hsdec_core.specs.Inner.CodeNames.{names_of_inputs, names_of_outputs};
+ghost use Rattle.hsdec_core.specs.Inner.CodeNetwork.{IsWithin, plane_of, signal_name, code_latch, next_signals, output_signals, IsOnSet, IsCodeGate, IsCodeNetwork};
 
-use crate::binary::{append_code, append_symbol, bit};
-use crate::own_names::{name_of, names_of, push_names};
+use crate::binary::{append_code, append_cube, bit};
+use crate::own_names::{name_of, name_or_own, prefix_count, push_names, push_names_or_own};
 use crate::signals::{Signal, gives_one};
 use hs_io::{Name, Names};
-use machine_table::Machine;
+use kiss2::{KissFile, KissRow};
 use net_core::{Gate, Gates, Latch, Latches, Network, Start};
 use state_codes::Codes;
 use std::alloc::{AllocError, Global};
 
 /// The network of these codes for the machine of a file.
-pub fn build_network(alloc: Global, machine: &Machine, codes: &Codes) -> Result<Network, AllocError>
-    requires source { IsSource machine.now }
-    requires words { length codes.now.words ≡ length machine.now.states }
+pub fn build_network(alloc: Global, file: &KissFile, codes: &Codes) -> Result<Network, AllocError>
+    requires source { IsSource file.now }
+    requires words { length codes.now.words ≡ length file.now.states }
     requires short { codes.now.bits ≤ 64 }
-    ensures { IfOk result (IsCodeNetwork machine.now codes.now) }
+    ensures { IfOk result (IsCodeNetwork file.now codes.now) }
 {
+    let count = prefix_count(alloc, file, codes.bits)?;
     Ok(Network {
-        inputs: names_of(alloc, b'x', usize::from(machine.inputs()))?,
-        outputs: names_of(alloc, b'z', usize::from(machine.outputs()))?,
-        latches: build_latches(alloc, machine, codes)?,
-        gates: build_gates(alloc, machine, codes)?,
+        inputs: input_names(alloc, file, codes, count)?,
+        outputs: output_names(alloc, file, codes, count)?,
+        latches: build_latches(alloc, file, codes, count)?,
+        gates: build_gates(alloc, file, codes, count)?,
     })
 }
 
+/// The names of the inputs.
+fn input_names(
+    alloc: Global,
+    file: &KissFile,
+    codes: &Codes,
+    count: usize,
+) -> Result<Names, AllocError>
+    requires source { IsSource file.now }
+    requires count { count ≡ names.prefix_count file.now codes.now.bits }
+    ensures { IfOk result (λ names. names ≡ names_of_inputs file.now codes.now) }
+{
+    let mut names = Names::new(alloc);
+    push_names_or_own(
+        alloc,
+        &mut names,
+        &file.input_names,
+        count,
+        b'x',
+        usize::from(file.inputs),
+    )?;
+    Ok(names)
+}
+
+/// The names of the outputs.
+fn output_names(
+    alloc: Global,
+    file: &KissFile,
+    codes: &Codes,
+    count: usize,
+) -> Result<Names, AllocError>
+    requires source { IsSource file.now }
+    requires count { count ≡ names.prefix_count file.now codes.now.bits }
+    ensures { IfOk result (λ names. names ≡ names_of_outputs file.now codes.now) }
+{
+    let mut names = Names::new(alloc);
+    push_names_or_own(
+        alloc,
+        &mut names,
+        &file.output_names,
+        count,
+        b'z',
+        usize::from(file.outputs),
+    )?;
+    Ok(names)
+}
+
 /// The latches, one for each state bit.
-fn build_latches(alloc: Global, machine: &Machine, codes: &Codes) -> Result<Latches, AllocError>
-    requires reset { machine.now.reset < length codes.now.words }
+fn build_latches(
+    alloc: Global,
+    file: &KissFile,
+    codes: &Codes,
+    count: usize,
+) -> Result<Latches, AllocError>
+    requires reset { file.now.reset < length codes.now.words }
     requires short { codes.now.bits ≤ 64 }
+    requires count { count ≡ names.prefix_count file.now codes.now.bits }
     ensures { IfOk result (λ latches.
-        latches ≡ map (code_latch machine.now codes.now) (range_with_len 0 codes.now.bits)) }
+        latches ≡ map (code_latch file.now codes.now) (range_with_len 0 codes.now.bits)) }
 {
     let mut latches = Latches::new(alloc);
     for i in 0..codes.bits {
-        latches.push(build_latch(alloc, machine, codes, i)?)?;
+        latches.push(build_latch(alloc, file, codes, count, i)?)?;
     }
     Ok(latches)
 }
@@ -51,18 +105,20 @@ fn build_latches(alloc: Global, machine: &Machine, codes: &Codes) -> Result<Latc
 /// The latch of a state bit.
 fn build_latch(
     alloc: Global,
-    machine: &Machine,
+    file: &KissFile,
     codes: &Codes,
+    count: usize,
     i: usize,
 ) -> Result<Latch, AllocError>
-    requires reset { machine.now.reset < length codes.now.words }
+    requires reset { file.now.reset < length codes.now.words }
     requires bit { i < 64 }
-    ensures { IfOk result (λ latch. latch ≡ code_latch machine.now codes.now i) }
+    requires count { count ≡ names.prefix_count file.now codes.now.bits }
+    ensures { IfOk result (λ latch. latch ≡ code_latch file.now codes.now i) }
 {
-    let reset = codes.words.as_slice()[machine.reset()];
+    let reset = codes.words.as_slice()[usize::from(file.reset)];
     Ok(Latch {
-        input: name_of(alloc, b'd', i)?,
-        output: name_of(alloc, b'q', i)?,
+        input: name_of(alloc, count, b'd', i)?,
+        output: name_of(alloc, count, b'q', i)?,
         start: start_of(bit(reset, i)),
     })
 }
@@ -75,37 +131,45 @@ fn start_of(bit: bool) -> Start
 }
 
 /// The gates: one for each latch input, and then one for each output.
-fn build_gates(alloc: Global, machine: &Machine, codes: &Codes) -> Result<Gates, AllocError>
-    requires source { IsSource machine.now }
-    requires words { length codes.now.words ≡ length machine.now.states }
+fn build_gates(
+    alloc: Global,
+    file: &KissFile,
+    codes: &Codes,
+    count: usize,
+) -> Result<Gates, AllocError>
+    requires source { IsSource file.now }
+    requires words { length codes.now.words ≡ length file.now.states }
     requires short { codes.now.bits ≤ 64 }
-    ensures { IfOk result (AllZip (IsCodeGate machine.now codes.now)
-        (next_signals codes.now.bits ++ output_signals machine.now.outputs)) }
+    requires count { count ≡ names.prefix_count file.now codes.now.bits }
+    ensures { IfOk result (AllZip (IsCodeGate file.now codes.now)
+        (next_signals codes.now.bits ++ output_signals file.now.outputs)) }
 {
     let mut gates = Gates::new(alloc);
     for i in 0..codes.bits {
-        gates.push(build_gate(alloc, machine, codes, Signal::Next(i))?)?;
+        gates.push(build_gate(alloc, file, codes, count, Signal::Next(i))?)?;
     }
-    push_output_gates(alloc, machine, codes, &mut gates)?;
+    push_output_gates(alloc, file, codes, count, &mut gates)?;
     Ok(gates)
 }
 
 /// Adds the gates of the outputs.
 fn push_output_gates(
     alloc: Global,
-    machine: &Machine,
+    file: &KissFile,
     codes: &Codes,
+    count: usize,
     gates: &mut Gates,
 ) -> Result<(), AllocError>
-    requires source { IsSource machine.now }
-    requires words { length codes.now.words ≡ length machine.now.states }
+    requires source { IsSource file.now }
+    requires words { length codes.now.words ≡ length file.now.states }
     requires short { codes.now.bits ≤ 64 }
-    requires before { AllZip (IsCodeGate machine.now codes.now) (next_signals codes.now.bits) gates.old }
-    ensures { IfOk result (λ _. AllZip (IsCodeGate machine.now codes.now)
-        (next_signals codes.now.bits ++ output_signals machine.now.outputs) gates.new) }
+    requires count { count ≡ names.prefix_count file.now codes.now.bits }
+    requires before { AllZip (IsCodeGate file.now codes.now) (next_signals codes.now.bits) gates.old }
+    ensures { IfOk result (λ _. AllZip (IsCodeGate file.now codes.now)
+        (next_signals codes.now.bits ++ output_signals file.now.outputs) gates.new) }
 {
-    for b in 0..usize::from(machine.outputs()) {
-        gates.push(build_gate(alloc, machine, codes, Signal::Output(b))?)?;
+    for b in 0..usize::from(file.outputs) {
+        gates.push(build_gate(alloc, file, codes, count, Signal::Output(b))?)?;
     }
     Ok(())
 }
@@ -113,124 +177,85 @@ fn push_output_gates(
 /// The gate of a signal.
 fn build_gate(
     alloc: Global,
-    machine: &Machine,
+    file: &KissFile,
     codes: &Codes,
+    count: usize,
     signal: Signal,
 ) -> Result<Gate, AllocError>
-    requires source { IsSource machine.now }
-    requires words { length codes.now.words ≡ length machine.now.states }
+    requires source { IsSource file.now }
+    requires words { length codes.now.words ≡ length file.now.states }
     requires short { codes.now.bits ≤ 64 }
-    requires within { IsWithin codes.now.bits machine.now.outputs signal }
-    ensures { IfOk result (IsCodeGate machine.now codes.now signal) }
+    requires count { count ≡ names.prefix_count file.now codes.now.bits }
+    requires within { IsWithin codes.now.bits file.now.outputs signal }
+    ensures { IfOk result (IsCodeGate file.now codes.now signal) }
 {
-    let mut inputs = names_of(alloc, b'x', usize::from(machine.inputs()))?;
-    push_names(alloc, &mut inputs, b'q', codes.bits)?;
+    let mut inputs = input_names(alloc, file, codes, count)?;
+    push_names(alloc, &mut inputs, count, b'q', codes.bits)?;
     Ok(Gate {
         inputs,
-        output: output_name(alloc, signal)?,
-        rows: build_rows(alloc, machine, codes, signal)?,
+        output: gate_name(alloc, file, codes, count, signal)?,
+        rows: build_rows(alloc, file, codes, signal)?,
         on: true,
     })
 }
 
 /// The name of a gate's output.
-fn output_name(alloc: Global, signal: Signal) -> Result<Name, AllocError>
-    ensures { IfOk result (λ name. name ≡ signal_name signal) }
+fn gate_name(
+    alloc: Global,
+    file: &KissFile,
+    codes: &Codes,
+    count: usize,
+    signal: Signal,
+) -> Result<Name, AllocError>
+    requires source { IsSource file.now }
+    requires within { IsWithin codes.now.bits file.now.outputs signal }
+    requires count { count ≡ names.prefix_count file.now codes.now.bits }
+    ensures { IfOk result (λ name. name ≡ signal_name file.now codes.now signal) }
 {
     match signal {
-        Signal::Next(i) => name_of(alloc, b'd', i),
-        Signal::Output(b) => name_of(alloc, b'z', b),
+        Signal::Next(i) => name_of(alloc, count, b'd', i),
+        Signal::Output(b) => name_or_own(alloc, &file.output_names, count, b'z', b),
     }
 }
 
-/// The rows of a gate, in ascending order of their bytes: the states and symbols at which it gives 1.
+/// The rows of a gate, in ascending order of their bytes: those of the file that say that it gives 1.
 fn build_rows(
     alloc: Global,
-    machine: &Machine,
+    file: &KissFile,
     codes: &Codes,
     signal: Signal,
 ) -> Result<Names, AllocError>
-    requires source { IsSource machine.now }
-    requires words { length codes.now.words ≡ length machine.now.states }
+    requires source { IsSource file.now }
+    requires words { length codes.now.words ≡ length file.now.states }
     requires short { codes.now.bits ≤ 64 }
-    requires within { IsWithin codes.now.bits machine.now.outputs signal }
-    ensures on_set { IfOk result (IsOnSet machine.now codes.now signal) }
+    requires within { IsWithin codes.now.bits file.now.outputs signal }
+    ensures on_set { IfOk result (IsOnSet file.now codes.now signal) }
     ensures in_order { IfOk result (IsSorted (slice_cmp nat_cmp)) }
 {
     let mut rows = Vec::new(alloc);
-    for symbol in 0..1 << machine.inputs() {
-        push_rows(alloc, machine, codes, signal, symbol, &mut rows)?;
+    for row in file.rows.as_slice() {
+        if gives_one(row, codes.words.as_slice(), signal) {
+            rows.push(build_row(alloc, codes, row)?)?;
+        }
     }
     rows.sort()?;
     names_from(alloc, rows.as_slice())
 }
 
-/// Adds the rows of a symbol.
-fn push_rows(
-    alloc: Global,
-    machine: &Machine,
-    codes: &Codes,
-    signal: Signal,
-    symbol: usize,
-    rows: &mut Vec<Vec<u8>>,
-) -> Result<(), AllocError>
-    requires source { IsSource machine.now }
-    requires words { length codes.now.words ≡ length machine.now.states }
+/// The row of a gate for a row of the file: the characters of its cube, and the code of its state.
+fn build_row(alloc: Global, codes: &Codes, row: &KissRow) -> Result<Vec<u8>, AllocError>
     requires short { codes.now.bits ≤ 64 }
-    requires within { IsWithin codes.now.bits machine.now.outputs signal }
-    requires symbol { symbol < 2 ^ machine.now.inputs }
-    ensures { OnOk result (map (λ text. text.items) rows.new.items
-        ≡ map (λ text. text.items) rows.old.items ++ minterms_at machine.now codes.now signal symbol) }
+    requires state { row.now.from < length codes.now.words }
+    ensures { IfOk result (λ text. text.items ≡ plane_of codes.now row.now) }
 {
-    for state in 0..machine.states() {
-        push_row(alloc, machine, codes, signal, symbol, state, rows)?;
-    }
-    Ok(())
-}
-
-/// Adds the row of a state and a symbol, where a gate gives 1 there.
-fn push_row(
-    alloc: Global,
-    machine: &Machine,
-    codes: &Codes,
-    signal: Signal,
-    symbol: usize,
-    state: usize,
-    rows: &mut Vec<Vec<u8>>,
-) -> Result<(), AllocError>
-    requires source { IsSource machine.now }
-    requires words { length codes.now.words ≡ length machine.now.states }
-    requires short { codes.now.bits ≤ 64 }
-    requires within { IsWithin codes.now.bits machine.now.outputs signal }
-    requires symbol { symbol < 2 ^ machine.now.inputs }
-    requires state { state < length machine.now.states }
-    ensures { OnOk result (map (λ text. text.items) rows.new.items
-        ≡ map (λ text. text.items) rows.old.items ++ row_at machine.now codes.now signal symbol state) }
-{
-    if gives_one(machine, codes, signal, state, symbol) {
-        rows.push(build_row(alloc, machine, codes, state, symbol)?)?;
-    }
-    Ok(())
-}
-
-/// The row of a state and a symbol.
-fn build_row(
-    alloc: Global,
-    machine: &Machine,
-    codes: &Codes,
-    state: usize,
-    symbol: usize,
-) -> Result<Vec<u8>, AllocError>
-    requires inputs { machine.now.inputs ≤ 16 }
-    requires short { codes.now.bits ≤ 64 }
-    requires state { state < length codes.now.words }
-    ensures { IfOk result (λ row.
-        row.items ≡ minterm codes.now state (symbol_of machine.now.inputs symbol)) }
-{
-    let mut row = Vec::new(alloc);
-    append_symbol(&mut row, machine.inputs(), symbol)?;
-    append_code(&mut row, codes.bits, codes.words.as_slice()[state])?;
-    Ok(row)
+    let mut text = Vec::new(alloc);
+    append_cube(&mut text, &row.cube)?;
+    append_code(
+        &mut text,
+        codes.bits,
+        codes.words.as_slice()[usize::from(row.from)],
+    )?;
+    Ok(text)
 }
 
 /// The texts as names.

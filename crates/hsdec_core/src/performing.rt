@@ -1,7 +1,8 @@
 //! From words to what is made in memory.
 
-ghost use Rattle.std.specs.Prelude.{◌≡◌, ◌-◌, ◌^◌, ◌<◌, ◌≤◌, ◌↔◌, ℕ, List, IfOk, IsErr, length};
+ghost use Rattle.std.specs.Prelude.{◌≡◌, ◌-◌, ◌^◌, ◌<◌, ◌≤◌, ◌↔◌, ℕ, false, List, IfOk, IsErr, length};
 ghost use Rattle.hs_io.specs.Counts.{Rose};
+ghost use Rattle.job_words.specs.declared.command.Command.TheVariants as commands;
 ghost use Rattle.job_words.specs.Job.{JobOf};
 ghost use Rattle.job_words.specs.Table.{IsBuilt};
 ghost use Rattle.kiss2.specs.Lawful.{IsLawful};
@@ -50,6 +51,7 @@ pub fn perform<F: Shelf>(alloc: Global, words: &Words, shelf: &mut F) -> Result<
 /// Makes what a job asks for of the text of its file.
 fn perform_on(alloc: Global, job: &Job, text: &[u8]) -> Result<Outcome, AllocError>
     requires built { IsBuilt job.now.command }
+    requires unheld { job.now.command ≡ commands.Code → job.now.hold ≡ false }
     requires within { IsWithin text.now }
     ensures { IfOk result (IsRightOn job.now text.now) }
 {
@@ -63,11 +65,12 @@ fn perform_on(alloc: Global, job: &Job, text: &[u8]) -> Result<Outcome, AllocErr
 /// Makes what a job asks for of the record of its file.
 fn perform_of(alloc: Global, job: &Job, file: KissFile) -> Result<Outcome, AllocError>
     requires built { IsBuilt job.now.command }
+    requires unheld { job.now.command ≡ commands.Code → job.now.hold ≡ false }
     requires lawful { IsLawful file }
     ensures { IfOk result (IsRightOf job.now file) }
 {
     match Machine::build(alloc, &file, fill(job)) {
-        Ok(machine) => command(alloc, job, file, &machine),
+        Ok(_) => command(alloc, job, file),
         Err(BuildFail::Conflict { row_a, row_b }) => conflict(alloc, row_a, row_b),
         Err(
             BuildFail::Unspecified {
@@ -81,21 +84,16 @@ fn perform_of(alloc: Global, job: &Job, file: KissFile) -> Result<Outcome, Alloc
 }
 
 /// The command of a job, on the machine of its file.
-fn command(
-    alloc: Global,
-    job: &Job,
-    file: KissFile,
-    machine: &Machine,
-) -> Result<Outcome, AllocError>
+fn command(alloc: Global, job: &Job, file: KissFile) -> Result<Outcome, AllocError>
     requires built { IsBuilt job.now.command }
-    requires machine { machine.now ≡ file }
+    requires unheld { job.now.command ≡ commands.Code → job.now.hold ≡ false }
     requires lawful { IsLawful file }
     requires accepted { Accepted file (fill_of job.now) }
     ensures { IfOk result (IsRightOf job.now file) }
 {
     match job.command {
         Command::Check => check(alloc, job, &file),
-        Command::Code => code(alloc, job, file, machine),
+        Command::Code => code(alloc, job, file),
         _ => unreachable!(),
     }
 }

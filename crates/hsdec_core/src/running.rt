@@ -6,7 +6,7 @@ ghost use Rattle.hs_io.specs.Pieces.{Appends, AppendsFront};
 ghost use Rattle.job_words.specs.Job.{JobOf};
 ghost use Rattle.kiss2.specs.Machine.{Conflicting};
 ghost use Rattle.hsdec_core.specs.Answer.{ExactlyWhere, ExactlyWhereRead};
-ghost use Rattle.hsdec_core.specs.Cause.{CallsFor, IfTold, IsNoMachine, IsOpen, IsUnrefused, SaysMachine};
+ghost use Rattle.hsdec_core.specs.Cause.{IfTold, IsNoMachine, IsOpen, IsUnrefused, SaysMachine};
 ghost use Rattle.hsdec_core.specs.Line.{IsLineFor};
 ghost use Rattle.hsdec_core.specs.Loading.{IsTooLong};
 ghost use Rattle.hsdec_core.specs.Promise.{IsAsked, IsDecompositionOf, kind_of};
@@ -42,8 +42,6 @@ pub fn run<F: Shelf, O: Sink, E: Sink>(
         ExactlyWhereRead result Answer.Conflict (SaysMachine bytes Conflicting)) }
     ensures unspecified { IfTold words.now (F.holds shelf.old) (λ job bytes.
         ExactlyWhereRead result Answer.Unspecified (SaysMachine bytes (IsOpen job))) }
-    ensures not_yet { IfTold words.now (F.holds shelf.old) (λ job bytes.
-        ExactlyWhereRead result Answer.NotYet (CallsFor job bytes Answer.NotYet)) }
     ensures write_fault { result ≡ Answer.WriteFault → Rose (O.faults out.old) (O.faults out.new) }
 
     // Where nothing calls for a refusal and no count rises, the job is done or memory is wanting.

@@ -83,7 +83,6 @@ fn numbers_answers(rt: HostRuntime) {
         (Answer::TooLong, 13),
         (Answer::WriteFault, 14),
         (Answer::NoMemory, 15),
-        (Answer::NotYet, 16),
         (Answer::StateCount, 17),
         (Answer::CoverRefused, 18),
         (Answer::NotDefinite, 19),
@@ -104,6 +103,7 @@ fn refuses_words(rt: HostRuntime) -> Result<(), Fail> {
         ("code", "hsdec: usage word 2\n"),
         ("code f g", "hsdec: usage word 3\n"),
         ("code f --limit 5", "hsdec: usage word 3\n"),
+        ("code f --fill hold", "hsdec: usage word 3\n"),
     ];
     for (line, refusal) in lines {
         let mut shelf = MemShelf::new(rt.alloc());

@@ -50,11 +50,11 @@ ended : (row : Row) (before : List Item) (number : ℕ) (job : Job) (missing : B
 ended row before number job true e = cc
 ended row before number job false e = let same : job_of row before ≡ job = cc in ap (λ (j : Job). j.command) (sym same) ∙ job_of-command row before
 
-not_refused : (number : ℕ) (place : Option ℕ) (rest : Result Job ℕ) (job : Job) → refused_or number place rest ≡ Ok job → rest ≡ Ok job
+pub not_refused : (number : ℕ) (place : Option ℕ) (rest : Result Job ℕ) (job : Job) → refused_or number place rest ≡ Ok job → rest ≡ Ok job
 not_refused number None rest job e = e
 not_refused number (Some place) rest job e = cc
 
-judged-command : (row : Row) (before : List Item) (number : ℕ) (items : List Item) (job : Job) → judged row before number items ≡ Ok job → job.command ≡ row.command
+pub judged-command : (row : Row) (before : List Item) (number : ℕ) (items : List Item) (job : Job) → judged row before number items ≡ Ok job → job.command ≡ row.command
 judged-command row before number [] job e = ended row before number job _ e
 judged-command row before number (item ∷ items) job e =
     judged-command row (item ∷ before) (number + width_of item) items job (not_refused number (refusal row before item) _ job e)
@@ -66,10 +66,10 @@ here first rows row e = (0, omega arith, ap (λ (r : Row). r.command) e)
 there : (first : Row) (rows : List Row) (command : Command) → Contains (commands_of rows) command → Contains (commands_of (first ∷ rows)) command
 there first rows command (k, within, is) = (suc k, omega arith, is)
 
-found_first : (p : Row → Bool) (first : Row) (rows : List Row) (row : Row) → p first ≡ true → find p (first ∷ rows) ≡ Some row → first ≡ row
+pub found_first : (p : Row → Bool) (first : Row) (rows : List Row) (row : Row) → p first ≡ true → find p (first ∷ rows) ≡ Some row → first ≡ row
 found_first p first rows row is e = let same : find p (first ∷ rows) ≡ Some first = rw is refl in cc
 
-found_later : (p : Row → Bool) (first : Row) (rows : List Row) (row : Row) → p first ≡ false → find p (first ∷ rows) ≡ Some row → find p rows ≡ Some row
+pub found_later : (p : Row → Bool) (first : Row) (rows : List Row) (row : Row) → p first ≡ false → find p (first ∷ rows) ≡ Some row → find p rows ≡ Some row
 found_later p first rows row other e = let same : find p (first ∷ rows) ≡ find p rows = rw other refl in sym same ∙ e
 
 found : (p : Row → Bool) (rows : List Row) (row : Row) → find p rows ≡ Some row → Contains (commands_of rows) row.command

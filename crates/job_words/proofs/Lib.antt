@@ -2,3 +2,4 @@ pub mod Commands
 pub mod Digits
 pub mod ItemsAt
 pub mod Reading
+pub mod Unfilled

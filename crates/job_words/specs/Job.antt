@@ -1,8 +1,9 @@
 -- The job of a list of words, or the number of the refused word, by a table of commands.
-use Rattle.std.specs.Prelude.{ℕ, ◌+◌, ◌*◌, ◌==◌, Bool, true, false, not, ◌&&◌, ◌||◌, nat_le, nat_lt, if◌then◌else◌, List, [], ◌∷◌, length, count_by, slice_get, Option, Some, None, Result, Ok, Err, codes}
+use Rattle.std.specs.Prelude.{◌≡◌, ℕ, ◌+◌, ◌*◌, ◌==◌, Bool, true, false, not, ◌&&◌, ◌||◌, nat_le, nat_lt, if◌then◌else◌, List, [], ◌∷◌, length, count_by, slice_get, Option, Some, None, Result, Ok, Err, codes}
 use Rattle.std.specs.List.{find, list_any}
 use Rattle.std.specs.Str.{bytes_eq}
 use Rattle.job_words.specs.declared.command.Command.{Command}
+use Rattle.job_words.specs.declared.command.Command.TheVariants as commands
 use Rattle.job_words.specs.declared.jobs.Job.{Job}
 use Rattle.job_words.specs.declared.table.CommandOption.{CommandOption}
 use Rattle.job_words.specs.declared.table.CommandOption.TheVariants.{Limit, Reduce, Start, Fill}
@@ -140,3 +141,7 @@ judgement rows (word ∷ words) = judged_as (row_named rows word) words
 -- the same by the commands that are built
 abbrev pub JobOf : List (List ℕ) → Result Job ℕ
 JobOf words = judgement built words
+
+-- the words of `code` leave no open entry to be filled
+abbrev pub CodeHoldsNothing : Type 0
+CodeHoldsNothing = (words : List (List ℕ)) (job : Job) → JobOf words ≡ Ok job → job.command ≡ commands.Code → job.hold ≡ false

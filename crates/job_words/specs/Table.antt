@@ -24,7 +24,7 @@ row command operands options = record { command = command; operands = operands; 
 abbrev pub built : List Row
 built =
     row commands.Check (File ∷ []) (Fill ∷ [])
-    ∷ row commands.Code (File ∷ []) (Fill ∷ [])
+    ∷ row commands.Code (File ∷ []) []
     ∷ []
 
 -- the commands of rows

@@ -1,10 +1,16 @@
-//! Worked examples of the definitions, each the contract of a function that does nothing.
+//! Worked examples of the definitions and a law of jobs, each the contract of a function that does nothing.
 
 ghost use Rattle.job_words.specs.Examples.{ReadsNumbers, RefusesWords, TakesOptions};
+ghost use Rattle.job_words.specs.Job.{CodeHoldsNothing};
 
 /// What the judgement over a table says of some lines.
 pub fn judged_lines()
     ensures words { RefusesWords }
     ensures options { TakesOptions }
     ensures numbers { ReadsNumbers }
+{}
+
+/// The words of `code` leave no open entry to be filled.
+pub fn code_holds_nothing()
+    ensures { CodeHoldsNothing }
 {}

@@ -61,7 +61,7 @@ const BUILT: [Form; 2] = [
     Form {
         command: Command::Code,
         operands: &[OperandKind::File],
-        options: &[CommandOption::Fill],
+        options: &[],
     },
 ];
 

@@ -70,6 +70,8 @@ const HALF: &[u8] = b".i 1\n.o 1\n0 a b -\n1 b - 1\n.e\n";
 
 const RESET: &[u8] = b".i 1\n.o 1\n.r b\n0 a a 0\n1 a b 1\n0 b b 1\n1 b a 0\n.e\n";
 
+const NAMED: &[u8] = b".i 1\n.o 1\n.ilb q0\n0 a a 0\n1 a b 1\n0 b b 1\n1 b a 0\n.e\n";
+
 const CARRIAGES: &[u8] =
     b".i 1\r\n.o 1\r\n0 a a 0 # stays\r\n1 a b 1\t# goes\r\n0 b b 1\r\n1 b a 0\r\n.e\r\n";
 
@@ -141,7 +143,7 @@ fn counts_machines(rt: HostRuntime) -> Result<(), Fail> {
 
 #[test]
 fn refuses_machines(rt: HostRuntime) -> Result<(), Fail> {
-    let cases: [(&str, &[u8], Answer, &[u8]); 10] = [
+    let cases: [(&str, &[u8], Answer, &[u8]); 8] = [
         (
             "check f",
             b"\0",
@@ -190,8 +192,6 @@ fn refuses_machines(rt: HostRuntime) -> Result<(), Fail> {
             Answer::Unspecified,
             b"hsdec: unspecified state b symbol 10000000000000000000000000000000 next\n",
         ),
-        ("code f", COUNTER, Answer::NotYet, b"hsdec: not yet\n"),
-        ("code f", WIDE, Answer::NotYet, b"hsdec: not yet\n"),
     ];
     for (line, text, expected, refusal) in cases {
         let mut out = MemSink::new(rt.alloc(), 4096)?;
@@ -241,10 +241,11 @@ fn judges_cut_texts(rt: HostRuntime) -> Result<(), Fail> {
     Ok(())
 }
 
-/// The reset state is the one that is named, and open entries stay where they are.
+/// The reset state is the one that is named, a given name stands as it is and keeps own names behind a prefix, and a row of
+/// the file is one of a gate.
 #[test]
 fn writes_other_machines(rt: HostRuntime) -> Result<(), Fail> {
-    let cases: [(&str, &[u8], &[u8]); 3] = [
+    let cases: [(&str, &[u8], &[u8]); 4] = [
         (
             "code f",
             RESET,
@@ -288,23 +289,44 @@ fn writes_other_machines(rt: HostRuntime) -> Result<(), Fail> {
 ",
         ),
         (
-            "code f --fill hold",
-            HALF,
+            "code f",
+            NAMED,
             b"# hsdec code
 # part 0 0,1 carrier 0,1 reads -
 # code a 0
 # code b 1
 # latch 0 part 0 from 0,1 to 0,1
 .model hsdec
-.inputs x0
+.inputs q0
+.outputs hs_z0
+.latch hs_d0 hs_q0 0
+.names q0 hs_q0 hs_d0
+01 1
+10 1
+.names q0 hs_q0 hs_z0
+01 1
+10 1
+.end
+",
+        ),
+        (
+            "code f",
+            WIDE,
+            b"# hsdec code
+# part 0 0,1 carrier 0,1 reads -
+# code a 0
+# code b 1
+# latch 0 part 0 from 0,1 to 0,1
+.model hsdec
+.inputs x0 x1 x2 x3 x4 x5 x6 x7 x8 x9 x10 x11 x12 x13 x14 x15 x16 x17 x18 x19 x20 x21 x22 x23 x24 x25 x26 x27 x28 x29 x30 x31
 .outputs z0
 .latch d0 q0 0
-.names x0 q0 d0
-00 1
-01 1
-11 1
-.names x0 q0 z0
-11 1
+.names x0 x1 x2 x3 x4 x5 x6 x7 x8 x9 x10 x11 x12 x13 x14 x15 x16 x17 x18 x19 x20 x21 x22 x23 x24 x25 x26 x27 x28 x29 x30 x31 q0 d0
+0-------------------------------1 1
+1-------------------------------0 1
+.names x0 x1 x2 x3 x4 x5 x6 x7 x8 x9 x10 x11 x12 x13 x14 x15 x16 x17 x18 x19 x20 x21 x22 x23 x24 x25 x26 x27 x28 x29 x30 x31 q0 z0
+0-------------------------------1 1
+1-------------------------------0 1
 .end
 ",
         ),
@@ -318,5 +340,21 @@ fn writes_other_machines(rt: HostRuntime) -> Result<(), Fail> {
         );
         assert_eq!(rt; out.bytes(), network);
     }
+    Ok(())
+}
+
+/// A counter with names for its inputs and outputs is written.
+#[test]
+fn writes_the_counter(rt: HostRuntime) -> Result<(), Fail> {
+    let mut out = MemSink::new(rt.alloc(), 4096)?;
+    let mut err = MemSink::new(rt.alloc(), 4096)?;
+    assert_eq!(rt;
+        answer_to(rt.alloc(), "code f", COUNTER, &mut out, &mut err)?,
+        Answer::Done
+    );
+    let front: &[u8] =
+        b"# hsdec code\n# part 0 0,1,2,3,4,5,6,7 carrier 0,1,2,3,4,5,6,7 reads -\n# code c0 000\n";
+    assert!(rt; out.bytes().starts_with(front));
+    assert_eq!(rt; err.bytes().len(), 0);
     Ok(())
 }

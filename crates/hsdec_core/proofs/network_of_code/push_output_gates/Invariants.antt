@@ -5,4 +5,4 @@ use Rattle.hsdec_core.specs.Inner.CodeNetwork.{IsCodeGate, next_signals, output_
 use Rattle.hsdec_core.proofs.network_of_code.push_output_gates.Given as goal
 
 abbrev pub invariant-loop-b : goal.invariant-loop-b
-invariant-loop-b l = AllZip (IsCodeGate l.machine l.codes) (next_signals l.codes.bits ++ output_signals l.b) l.gates
+invariant-loop-b l = AllZip (IsCodeGate l.file l.codes) (next_signals l.codes.bits ++ output_signals l.b) l.gates

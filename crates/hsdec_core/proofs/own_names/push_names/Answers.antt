@@ -4,4 +4,4 @@ use Rattle.hsdec_core.proofs.own_names.push_names.Goals as goal
 
 pub loop-number-preserved : goal.loop-number-preserved
 loop-number-preserved c =
-    map-range-push (own_name 0 c.args.letter) _ _ _ _ _ c.loop-number.invariant c.in_ok-push.ensures.ok c.in_ok-name_of.ensures
+    map-range-push (own_name c.args.count c.args.letter) _ _ _ _ _ c.loop-number.invariant c.in_ok-push.ensures.ok c.in_ok-name_of.ensures

@@ -1,4 +1,4 @@
-use Rattle.hsdec_core.specs.declared.answers.Answer.TheVariants.{Conflict, KissRefused, NotYet, TooLong, Unspecified}
+use Rattle.hsdec_core.specs.declared.answers.Answer.TheVariants.{Conflict, KissRefused, TooLong, Unspecified}
 use Rattle.hsdec_core.proofs.Runs.{IsAnswered, answered, complete_of, exact_of, front_of, headline_of, line_is, made_in_memory, no_text_of, put_fault_of, read_fault_of, text_of_done, usage_of}
 use Rattle.job_words.specs.Job.{JobOf}
 use Rattle.hsdec_core.proofs.running.run.Goals as goal
@@ -32,11 +32,6 @@ pub returns-clause-unspecified : goal.returns-clause-unspecified
 returns-clause-unspecified g c =
     let a : IsAnswered c.perform-made.result c.deliver.result = answered _ _ _ _ _ _ c.deliver.ensures.text c.deliver.ensures.no_text in
     exact_of (JobOf c.args.words.now) _ _ c.perform-made.result _ Unspecified c.perform-made.ensures.right a (λ e. cc) (λ e. cc) (λ e. cc) (λ e. cc)
-
-pub returns-clause-not_yet : goal.returns-clause-not_yet
-returns-clause-not_yet g c =
-    let a : IsAnswered c.perform-made.result c.deliver.result = answered _ _ _ _ _ _ c.deliver.ensures.text c.deliver.ensures.no_text in
-    exact_of (JobOf c.args.words.now) _ _ c.perform-made.result _ NotYet c.perform-made.ensures.right a (λ e. cc) (λ e. cc) (λ e. cc) (λ e. cc)
 
 pub returns-clause-write_fault : goal.returns-clause-write_fault
 returns-clause-write_fault g c =
