@@ -6,7 +6,8 @@
 //! them. There is no table over symbols: an answer comes from the rows of the states that are asked about.
 //!
 //! `specs/Conflict` says which two rows a refusal names, `specs/Said` which open entry, and `specs/Cause`
-//! when each refusal comes.
+//! when each refusal comes. `specs/Walk` says what a word is answered, `specs/Pairs` where the next states
+//! of two states stand, and `specs/Covering` what the images and pieces list.
 #![tactic(auto)]
 
 mod building;
@@ -21,8 +22,6 @@ mod pairs;
 mod places;
 mod question;
 mod searching;
-#[cfg(test)]
-mod tests;
 mod walking;
 
 pub use building::BuildFail;
