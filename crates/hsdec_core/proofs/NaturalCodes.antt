@@ -1,5 +1,6 @@
 -- The codes of `code`, whose one part tells all states apart.
-use Rattle.std.proofs.Common.{◌≡◌, ◌≢◌, ◌⊎◌, ℕ, ◌+◌, ◌<◌, ◌≤◌, inl, inr, Bool, true, List, [], ◌∷◌, length, get_or, refl, sym, ap, ◌∙◌, subst, arith}
+use Rattle.std.proofs.Common.{◌≡◌, ◌≢◌, ◌⊎◌, ℕ, zero, suc, ◌+◌, ◌<◌, ◌≤◌, inl, inr, Bool, true, eqb, List, [], ◌∷◌, length, get_or, refl, sym, ap, ◌∙◌, subst, arith}
+use Rattle.std.proofs.lemmas.Bool.{false≢true}
 use Rattle.std.proofs.lemmas.List.{append-nil}
 use Rattle.std.proofs.lemmas.List.Elements.{All-nil, All-cons, All-head}
 use Rattle.std.proofs.lemmas.List.FromFn.{get_or-map-range_with_len}
@@ -7,7 +8,6 @@ use Rattle.std.proofs.lemmas.Nat.Bits.{bit_at-lt}
 use Rattle.std.specs.Int.{bit_at}
 use Rattle.std.specs.List.{All, slice_index}
 use Rattle.cubes.specs.Symbol.{bit}
-use Rattle.kiss2.proofs.Found.{digit_same}
 use Rattle.partition.specs.Partition.{blocks_of, IsPartition, IsStateCount, Together, zero_of}
 use Rattle.partition.specs.Laws.Extremes.{zero_of_is_partition, zero_of_is_zero}
 use Rattle.partition.specs.Laws.Labels.{blocks_of-le}
@@ -41,6 +41,16 @@ pub codes_apart : (n : ℕ) (codes : Codes) → IsStateCount n → IsCode n (cod
 codes_apart n codes count code s t in_s in_t agree =
     zero_of_is_zero n s t
     ((part_bits_tell n (code_parts n) codes (code_part_lawful n count) code 0 (lone_part (zero_of n)) refl s t in_s in_t).0 (λ i below owned. agree i below))
+
+-- two digits with one test are one
+digit_same : (a b : ℕ) → a < 2 → b < 2 → eqb a 1 ≡ eqb b 1 → a ≡ b
+digit_same zero zero la lb e = refl
+digit_same zero (suc zero) la lb e = absurd (false≢true e)
+digit_same (suc zero) zero la lb e = absurd (false≢true (sym e))
+digit_same (suc zero) (suc zero) la lb e = refl
+digit_same (suc (suc a)) b la lb e = absurd (omega arith)
+digit_same zero (suc (suc b)) la lb e = absurd (omega arith)
+digit_same (suc zero) (suc (suc b)) la lb e = absurd (omega arith)
 
 -- words with the same first bits agree at each of them
 pub same_code_bits : (bits a b : ℕ) → code_bits bits a ≡ code_bits bits b → (i : ℕ) → i < bits → bit_at a i ≡ bit_at b i
