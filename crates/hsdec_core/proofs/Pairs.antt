@@ -1,5 +1,5 @@
 -- The network of `code` within its pairs and its kind: each gate reads every bit, and all bits tell all states apart.
-use Rattle.std.proofs.Common.{◌≡◌, ℕ, ◌<◌, ◌↔◌, inl, List, [], ◌∷◌, ◌++◌, Contains, get_or, length, map, Some, refl, sym, ap, ◌∙◌, subst, arith}
+use Rattle.std.proofs.Common.{◌≡◌, ℕ, ◌<◌, ◌↔◌, inl, List, [], ◌∷◌, ◌++◌, Contains, get_or, length, map, Option, Some, None, refl, sym, ap, ◌∙◌, subst, arith}
 use Rattle.std.specs.Int.{bit_at}
 use Rattle.std.specs.List.{AllZip, range_with_len, slice_get, slice_index}
 use Rattle.std.specs.Option.{IsSomeAnd}
