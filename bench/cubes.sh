@@ -35,7 +35,18 @@ echo "all minterms of a width"
 for width in 12 13 14 15 16; do beside_scan minterms "$width" 20 200; done
 echo "so many cubes of width 32 that leave one gap"
 for count in 500 1000 2000 4000; do beside_scan random "$count" 5 2000; done
+beside_scan random 65536 3 100
 echo "two cubes of width 32 that look at the last bit alone"
 beside_scan lastbit 2 20000 20000
+echo "so many cubes of width 32 that leave one gap and look at the last bits first"
+for count in 500 1000 2000 4000; do beside_scan mirrored "$count" 5 2000; done
+beside_scan mirrored 65536 3 100
+echo "a chain of so many places from the last on, that leaves no gap"
+for length in 8 16 24 32; do beside_scan chain "$length" 5000 20000; done
+echo "the same with a place of the first half beside each"
+for length in 4 8 12 16; do beside_scan pairs "$length" 2000 20000; done
+echo "so many cubes of width 32 with bits at five and at seven random places each"
+for count in 400 600 800; do beside_scan five "$count" 5 2000; done
+for count in 1400 2100 2800; do beside_scan seven "$count" 1 2000; done
 echo "all minterms of a width, beside the symbols one by one"
 for width in 10 12 14; do beside_plain "$width" 20 2; done

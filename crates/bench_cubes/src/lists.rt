@@ -17,7 +17,12 @@ const DASHES: Field = [b'-'; 32];
 pub(super) fn list_of(alloc: Global, kind: &str, size: usize) -> Result<(Vec<Cube>, u8), Error> {
     match (kind, size) {
         ("minterms", 1..=16) => Ok((minterms(alloc, size as u8)?, size as u8)),
-        ("random", 32..) => Ok((random(alloc, size)?, 32)),
+        ("random", 32..) => Ok((random(alloc, size, false)?, 32)),
+        ("mirrored", 32..) => Ok((random(alloc, size, true)?, 32)),
+        ("chain", 1..=32) => Ok((chain(alloc, size)?, 32)),
+        ("pairs", 1..=16) => Ok((pairs(alloc, size)?, 32)),
+        ("five", _) => Ok((scattered(alloc, size, 5)?, 32)),
+        ("seven", _) => Ok((scattered(alloc, size, 7)?, 32)),
         ("lastbit", _) => Ok((last_bit(alloc)?, 32)),
         _ => bail!("no list of this kind and size"),
     }
@@ -64,6 +69,38 @@ fn last_bit(alloc: Global) -> Result<Vec<Cube>, Error> {
     Ok(cubes)
 }
 
+/// Cubes that leave no gap: one with a 1 at the last place, one with 0 there and 1 at the place before it,
+/// and so on, and one with 0 at all of these places.
+fn chain(alloc: Global, length: usize) -> Result<Vec<Cube>, Error> {
+    let mut cubes = Vec::new(alloc);
+    let mut field = DASHES;
+    for place in 0..length.min(32) {
+        field[31 - place] = b'1';
+        add(&mut cubes, &field, 32)?;
+        field[31 - place] = b'0';
+    }
+    add(&mut cubes, &field, 32)?;
+    Ok(cubes)
+}
+
+/// The same, where in place of each cube with a 1 stand two, of which one has a 0 and one a 1 at a place of
+/// its own in the first half.
+fn pairs(alloc: Global, length: usize) -> Result<Vec<Cube>, Error> {
+    let mut cubes = Vec::new(alloc);
+    let mut field = DASHES;
+    for place in 0..length.min(16) {
+        field[31 - place] = b'1';
+        for bit in [false, true] {
+            let mut one = field;
+            one[place] = bit_character(bit);
+            add(&mut cubes, &one, 32)?;
+        }
+        field[31 - place] = b'0';
+    }
+    add(&mut cubes, &field, 32)?;
+    Ok(cubes)
+}
+
 fn bit_character(bit: bool) -> u8 {
     if bit { b'1' } else { b'0' }
 }
@@ -78,20 +115,27 @@ struct Leaf {
 
 /// A number of cubes that leave one gap. About half of them are the leaves of a tree that cuts the symbols
 /// at random by one bit or another, never by an earlier one below a later one. One leaf is cut down to a
-/// single symbol, which is the gap. The others have bits at random places, and miss the gap.
-fn random(alloc: Global, count: usize) -> Result<Vec<Cube>, Error> {
+/// single symbol, which is the gap. The others have bits at random places, and miss the gap. Mirrored, the
+/// tree cuts by the last bits first.
+fn random(alloc: Global, count: usize, mirrored: bool) -> Result<Vec<Cube>, Error> {
     let mut words = Pcg32::new(42, 54);
-    let mut cubes = Vec::new(alloc);
+    let mut fields = Vec::new(alloc);
     let leaves = cut_symbols(alloc, &mut words, (count / 2).saturating_sub(32))?;
     let Some((last, others)) = leaves.split_first() else {
         bail!("there is no leaf");
     };
     for leaf in others {
-        add(&mut cubes, &leaf.field, 32)?;
+        fields.push(leaf.field)?;
     }
-    let gap = cut_to_symbol(&mut cubes, &mut words, &last.field)?;
-    for _ in cubes.len()..count {
-        let field = field_without(&mut words, &gap);
+    let gap = cut_to_symbol(&mut fields, &mut words, &last.field)?;
+    for _ in fields.len()..count {
+        fields.push(field_without(&mut words, &gap))?;
+    }
+    let mut cubes = Vec::new(alloc);
+    for mut field in fields {
+        if mirrored {
+            field.reverse();
+        }
         add(&mut cubes, &field, 32)?;
     }
     Ok(cubes)
@@ -126,18 +170,37 @@ fn cut_symbols(alloc: Global, words: &mut Pcg32, count: usize) -> Result<Vec<Lea
     Ok(leaves)
 }
 
-/// Adds cubes that hold all of a field but one symbol, and gives that symbol.
-fn cut_to_symbol(cubes: &mut Vec<Cube>, words: &mut Pcg32, field: &Field) -> Result<Field, Error> {
+/// Adds fields that hold all of a field but one symbol, and gives that symbol.
+fn cut_to_symbol(
+    fields: &mut Vec<Field>,
+    words: &mut Pcg32,
+    field: &Field,
+) -> Result<Field, Error> {
     let mut rest = *field;
     for place in 0..32 {
         if rest[place] == b'-' {
             let bit = words.next_word() % 2 == 1;
             rest[place] = bit_character(!bit);
-            add(cubes, &rest, 32)?;
+            fields.push(rest)?;
             rest[place] = bit_character(bit);
         }
     }
     Ok(rest)
+}
+
+/// So many cubes with bits at so many random places, or fewer where one place comes twice.
+fn scattered(alloc: Global, count: usize, bits: usize) -> Result<Vec<Cube>, Error> {
+    let mut words = Pcg32::new(42, 54);
+    let mut cubes = Vec::new(alloc);
+    for _ in 0..count {
+        let mut field = DASHES;
+        for _ in 0..bits {
+            let place = words.next_word() as usize % 32;
+            field[place] = bit_character(words.next_word() % 2 == 1);
+        }
+        add(&mut cubes, &field, 32)?;
+    }
+    Ok(cubes)
 }
 
 /// A field with bits at about a quarter of its places, which differs from the symbol at one of them.

@@ -5,6 +5,9 @@
 //!   or 1 in turn, and `plain` tries the symbols one by one up to the first that no cube holds.
 //! - `minterms` are all symbols of a width, `random` so many cubes of width 32 that leave one gap, and
 //!   `lastbit` the two cubes of width 32 that look at the last bit alone.
+//! - `mirrored`, `chain` and `pairs` are lists whose cubes look at the last places first: `random` with the
+//!   places in the other order, and cubes over so many places that leave no gap.
+//! - `five` and `seven` are so many cubes with bits at that many random places each.
 //!
 //! Nothing here is timed: a script does so from outside.
 #![tactic(auto)]

@@ -6,9 +6,11 @@ pub mod Numbers
 pub mod Meeting
 pub mod Reading
 pub mod Lists
-pub mod Tails
-pub mod Halves
-pub mod Cares
 pub mod Ends
 pub mod Parts
 pub mod Deciding
+pub mod Choosing
+pub mod Regions
+pub mod Narrowing
+pub mod Wanting
+pub mod Least

@@ -6,9 +6,10 @@ use Rattle.std.specs.Int.{bit_at}
 use Rattle.cubes.specs.declared.cube.Cube.{Cube}
 use Rattle.cubes.specs.Symbol.{bit}
 use Rattle.cubes.specs.Cube.{HoldsNumber, IsBoth, IsHalf, Meets}
+use Rattle.cubes.specs.Inner.Region.{clash_of}
 use Rattle.cubes.proofs.Bits.{one_from_bit, zero_from_bit, bit_from_one, bit_from_zero, same_bits}
 use Rattle.cubes.proofs.Held.{agrees_from_held, held_from_agrees}
-use Rattle.cubes.proofs.Meeting.{clash_of, clash_from_meets, first_holds_both, kept_digit, second_holds_both}
+use Rattle.cubes.proofs.Meeting.{clash_from_meets, first_holds_both, kept_digit, second_holds_both}
 
 -- ---- the bits of a half
 module _ (c half : Cube) (place : ℕ) (b : Bool) (is : IsHalf c half place b) where

@@ -1,3 +1,3 @@
 -- Definitions that private functions and proofs need; no public contract cites them.
 pub mod Character
-pub mod Tail
+pub mod Region

@@ -1,12 +1,16 @@
 //! The first symbol that a list of cubes leaves out.
 //!
-//! The symbols are halved by one bit at a time, from the highest on. Only the cubes that touch the half in
-//! hand are looked at, each at its lowest places: so a half that one cube holds whole is known by a cube
-//! without care there, and its cubes are fewer and their places lower at each step. A bit at which no cube
-//! in hand looks is not split by, since the first gap has 0 there.
-ghost use Rattle.std.specs.Prelude.{ℕ, ◌≡◌, ◌+◌, ◌%◌, ◌^◌, ◌<◌, ◌≤◌, ◌↔◌, All, Any, Bool, IfNone, IfOk, IfSome, IsTrue, filter};
-ghost use Rattle.cubes.specs.Gap.{HoldsEach, HoldsOfEach, IsFirstGap, IsLeastWithout};
-ghost use Rattle.cubes.specs.Inner.Tail.{HasDashes, IsHeldTail, allows_at};
+//! A region is a cube whose symbols are searched for a gap, a symbol that no cube of the list holds. Only
+//! the cubes that touch the region are looked at, and only where the region has a dash. A cube that does not
+//! look there holds the whole region. Where all cubes that look at a place want one bit, those with the other
+//! bit there are held by fewer cubes, so they alone are searched. Else the region is halved at a place at
+//! which cubes look that hold most of it. The least gap is found from some gap: where it has a 1, the half
+//! with a 0 is searched, from the highest place on.
+ghost use Rattle.std.specs.Prelude.{ℕ, ◌≡◌, ◌<◌, ◌≤◌, ◌^◌, ◌↔◌, All, Any, Bool, IfNone, IfOk, IfSome, IsTrue, filter, true};
+ghost use Rattle.cubes.specs.Cube.{HoldsNumber};
+ghost use Rattle.cubes.specs.Gap.{HoldsEach, IsFirstGap, IsHeld};
+ghost use Rattle.cubes.specs.Symbol.{bit};
+ghost use Rattle.cubes.specs.Inner.Region.{AreWanted, HasDashesBelow, HoldsRegion, IsGapIn, IsHalfOf, IsLeastGapIn, IsNarrowed, IsOpen, looked_at, touches};
 
 use crate::cube::Cube;
 use std::alloc::{AllocError, Global};
@@ -19,91 +23,210 @@ pub fn first_gap(alloc: Global, list: &[Cube], width: u8) -> Result<Option<u32>,
     ensures some { IfOk result (λ gap. IfSome gap (IsFirstGap list.now width)) }
     ensures none { IfOk result (λ gap. IfNone gap (HoldsEach list.now width)) }
 {
-    first_gap_below(alloc, list, u32::from(width))
-}
-
-/// The least number of the lowest places that no cube of the list holds there.
-fn first_gap_below(alloc: Global, list: &[Cube], places: u32) -> Result<Option<u32>, AllocError>
-    requires { places ≤ 32 }
-    ensures some { IfOk result (λ gap. IfSome gap (IsLeastWithout (IsHeldTail list.now places) (2 ^ places))) }
-    ensures none { IfOk result (λ gap. IfNone gap (HoldsOfEach (IsHeldTail list.now places) (2 ^ places))) }
-{
-    if holds_whole(list, places) {
-        return Ok(None);
-    }
-    let Some(place) = highest_care(list, places) else {
-        return Ok(Some(0));
+    let whole = Cube {
+        care: 0,
+        value: 0,
+        width,
     };
-    let low = touching(alloc, list, place, false)?;
-    if let Some(gap) = first_gap_below(alloc, &low, place)? {
-        return Ok(Some(gap));
-    }
-    let high = touching(alloc, list, place, true)?;
-    match first_gap_below(alloc, &high, place)? {
-        Some(gap) => Ok(Some((1 << place) + gap)),
+    match some_gap(alloc, list, &whole)? {
+        Some(gap) => Ok(Some(least_gap(alloc, list, &whole, u32::from(width), gap)?)),
         None => Ok(None),
     }
 }
 
-/// The lowest places of a number.
-fn lowest(number: u32, places: u32) -> u32
-    requires { places ≤ 32 }
-    ensures { result ≡ number % 2 ^ places }
+/// The least gap of a region with bits at all places but the lowest, of which some gap is known.
+fn least_gap(
+    alloc: Global,
+    list: &[Cube],
+    region: &Cube,
+    places: u32,
+    gap: u32,
+) -> Result<u32, AllocError>
+    requires widths { All (λ c. c.width ≡ region.now.width) list.now }
+    requires within { places ≤ region.now.width }
+    requires shape { HasDashesBelow region.now places }
+    requires gap { IsGapIn list.now region.now gap }
+    ensures { IfOk result (IsLeastGapIn list.now region.now) }
 {
-    if places < 32 {
-        number % (1 << places)
-    } else {
-        number
+    if places == 0 {
+        return Ok(gap);
+    }
+    let place = places - 1;
+    let low = half(region, place, false);
+    match gap_in_half(alloc, list, &low, gap)? {
+        Some(lower) => least_gap(alloc, list, &low, place, lower),
+        None => least_gap(alloc, list, &half(region, place, true), place, gap),
     }
 }
 
-/// Whether some cube has dashes alone at the lowest places.
-fn holds_whole(list: &[Cube], places: u32) -> bool
-    requires { places ≤ 32 }
-    ensures { IsTrue result ↔ Any (λ c. c.care % 2 ^ places ≡ 0) list.now }
+/// Some gap of the region: the known one, where it is one of the region's.
+fn gap_in_half(
+    alloc: Global,
+    list: &[Cube],
+    region: &Cube,
+    known: u32,
+) -> Result<Option<u32>, AllocError>
+    requires widths { All (λ c. c.width ≡ region.now.width) list.now }
+    requires within { known < 2 ^ region.now.width }
+    requires without { ¬ IsHeld list.now known }
+    ensures some { IfOk result (λ gap. IfSome gap (IsGapIn list.now region.now)) }
+    ensures none { IfOk result (λ gap. IfNone gap (HoldsRegion list.now region.now)) }
 {
-    for cube in list {
-        if lowest(cube.care, places) == 0 {
+    if region.holds(known) {
+        Ok(Some(known))
+    } else {
+        some_gap(alloc, list, region)
+    }
+}
+
+/// A symbol of the region that no cube of the list holds, if there is one.
+fn some_gap(alloc: Global, list: &[Cube], region: &Cube) -> Result<Option<u32>, AllocError>
+    requires { All (λ c. c.width ≡ region.now.width) list.now }
+    ensures some { IfOk result (λ gap. IfSome gap (IsGapIn list.now region.now)) }
+    ensures none { IfOk result (λ gap. IfNone gap (HoldsRegion list.now region.now)) }
+{
+    let cubes = touching(alloc, list, region)?;
+    if holds_whole(&cubes, region) {
+        return Ok(None);
+    }
+    let Wanted { ones, zeros } = wanted_bits(&cubes, region);
+    let one_sided = ones ^ zeros;
+    if one_sided != 0 {
+        let against = narrowed(region, one_sided, zeros & one_sided);
+        return some_gap(alloc, &cubes, &against);
+    }
+    if ones == 0 {
+        return Ok(Some(region.value));
+    }
+    let place = most_looked_at(ones, &shares_of(&cubes, region));
+    if let Some(gap) = some_gap(alloc, &cubes, &half(region, place, false))? {
+        return Ok(Some(gap));
+    }
+    some_gap(alloc, &cubes, &half(region, place, true))
+}
+
+/// The cubes that share a symbol with the region.
+fn touching(alloc: Global, list: &[Cube], region: &Cube) -> Result<Vec<Cube>, AllocError>
+    ensures { IfOk result (λ cubes. cubes.items ≡ filter (touches region.now) list.now) }
+{
+    list.iter()
+        .copied()
+        .filter(|cube| is_touching(region, cube))
+        .collect(alloc)
+}
+
+/// Whether the two differ at no place at which both look.
+fn is_touching(region: &Cube, cube: &Cube) -> bool
+    ensures { result ≡ touches region.now cube.now }
+{
+    (cube.value ^ region.value) & cube.care & region.care == 0
+}
+
+/// The places at which the cube looks and the region has a dash.
+fn looks(region: &Cube, cube: &Cube) -> u32
+    ensures { result ≡ looked_at region.now cube.now }
+{
+    cube.care & (cube.care ^ region.care)
+}
+
+/// Whether some cube looks at no dash of the region.
+fn holds_whole(cubes: &[Cube], region: &Cube) -> bool
+    ensures { IsTrue result ↔ Any (λ c. looked_at region.now c ≡ 0) cubes.now }
+{
+    for cube in cubes {
+        if looks(region, cube) == 0 {
             return true;
         }
     }
     false
 }
 
-/// The highest of the lowest places at which some cube has no dash.
-fn highest_care(list: &[Cube], places: u32) -> Option<u32>
-    requires { places ≤ 32 }
-    ensures within { IfSome result (λ place. place < places) }
-    ensures above { IfSome result (λ place. All (λ c. HasDashes c.care (place + 1) places) list.now) }
-    ensures none { IfNone result (All (λ c. HasDashes c.care 0 places) list.now) }
+/// The dashes of a region at which some cube wants a 1, and those at which some cube wants a 0.
+#[derive(Clone, Copy)]
+struct Wanted {
+    ones: u32,
+    zeros: u32,
+}
+
+/// What the cubes want at the dashes of the region.
+fn wanted_bits(cubes: &[Cube], region: &Cube) -> Wanted
+    requires { All (λ c. c.width ≡ region.now.width) cubes.now }
+    ensures { AreWanted cubes.now region.now result.ones result.zeros }
 {
-    let mut cares = 0u32;
-    for cube in list {
-        cares |= cube.care;
+    let mut ones = 0u32;
+    let mut zeros = 0u32;
+    for cube in cubes {
+        let looks = looks(region, cube);
+        ones |= looks & cube.value;
+        zeros |= looks & (looks ^ cube.value);
     }
-    let cares = lowest(cares, places);
-    if cares == 0 {
-        None
-    } else {
-        Some(cares.ilog2())
+    Wanted { ones, zeros }
+}
+
+/// One of the places: one at which cubes look that hold most of the region.
+fn most_looked_at(places: u32, shares: &[u64; 32]) -> u32
+    requires { 0 < places }
+    ensures { bit places result ≡ true }
+{
+    let mut best = places.ilog2();
+    let mut most = 0;
+    for place in 0..32 {
+        let share = shares[place as usize];
+        if has_bit(places, place) && most < share {
+            best = place;
+            most = share;
+        }
+    }
+    best
+}
+
+/// At each place, how much of the region the cubes hold that look there, all of it being 2^32.
+fn shares_of(cubes: &[Cube], region: &Cube) -> [u64; 32] {
+    let mut shares = [0u64; 32];
+    for cube in cubes {
+        add_share(&mut shares, looks(region, cube));
+    }
+    shares
+}
+
+/// Adds what a cube holds at the places at which it looks: half for each of them.
+fn add_share(shares: &mut [u64; 32], looks: u32) {
+    let share = (1u64 << 32) >> looks.count_ones();
+    let mut rest = looks;
+    while rest != 0 {
+        if let Some(sum) = shares.get_mut(rest.trailing_zeros() as usize) {
+            *sum = sum.saturating_add(share);
+        }
+        rest &= rest - 1;
     }
 }
 
-/// The cubes whose character at the place allows the bit.
-fn touching(alloc: Global, list: &[Cube], place: u32, bit: bool) -> Result<Vec<Cube>, AllocError>
+/// Whether the number has a 1 at the place.
+fn has_bit(number: u32, place: u32) -> bool
     requires { place < 32 }
-    ensures { IfOk result (λ cubes. cubes.items ≡ filter (λ c. allows_at c place bit) list.now) }
+    ensures { result ≡ bit number place }
 {
-    list.iter()
-        .copied()
-        .filter(|cube| allows(cube, place, bit))
-        .collect(alloc)
+    (number >> place) & 1 == 1
 }
 
-/// Whether the character of the cube at the place allows the bit.
-fn allows(cube: &Cube, place: u32, bit: bool) -> bool
-    requires { place < 32 }
-    ensures { result ≡ allows_at cube.now place bit }
+/// The symbols of the region that have these bits at these of its dashes.
+fn narrowed(region: &Cube, places: u32, bits: u32) -> Cube
+    requires dashes { (k : ℕ) → bit places k ≡ true → IsOpen region.now k }
+    requires bits { (k : ℕ) → bit bits k ≡ true → bit places k ≡ true }
+    ensures { IsNarrowed region.now result places bits }
 {
-    (cube.care >> place) & 1 == 0 || ((cube.value >> place) & 1 == 1) == bit
+    Cube {
+        care: region.care | places,
+        value: region.value | bits,
+        width: region.width,
+    }
+}
+
+/// The symbols of the region that have the bit at the place of a dash.
+fn half(region: &Cube, place: u32, bit: bool) -> Cube
+    requires { IsOpen region.now place }
+    ensures { IsHalfOf region.now result place bit }
+{
+    let places = 1 << place;
+    narrowed(region, places, if bit { places } else { 0 })
 }

@@ -81,21 +81,34 @@ fn first_gaps(rt: HostRuntime) -> Result<(), Fail> {
     Ok(())
 }
 
-/// Thirty-two cubes, of which each holds what has its first 0 at one place, leave the last symbol.
+/// The field of the symbols that have their first 0 at this place, or their last 0 there counted from the end.
+fn first_zero_field(ones: usize, mirrored: bool) -> [u8; 32]
+    requires { ones < 32 }
+{
+    let mut text = [b'-'; 32];
+    for character in &mut text[..ones] {
+        *character = b'1';
+    }
+    text[ones] = b'0';
+    if mirrored {
+        text.reverse();
+    }
+    text
+}
+
+/// Thirty-two cubes, of which each holds what has its first 0 at one place, leave the last symbol. So do
+/// those of the last 0, which look at the last places first.
 #[test]
 fn the_last_symbol_is_a_gap(rt: HostRuntime) -> Result<(), Fail> {
     let alloc = rt.alloc();
-    let mut cubes = Vec::new(alloc);
-    for ones in 0..32 {
-        let mut text = [b'-'; 32];
-        for character in &mut text[..ones] {
-            *character = b'1';
+    for mirrored in [false, true] {
+        let mut cubes = Vec::new(alloc);
+        for ones in 0..32 {
+            cubes.push(Cube::parse(&first_zero_field(ones, mirrored), 32)?)?;
         }
-        text[ones] = b'0';
-        cubes.push(Cube::parse(&text, 32)?)?;
+        assert!(rt; cubes.iter().all(|cube| cube.width == 32));
+        assert_eq!(rt; first_gap(alloc, &cubes, 32)?, Some(u32::MAX));
     }
-    assert!(rt; cubes.iter().all(|cube| cube.width == 32));
-    assert_eq!(rt; first_gap(alloc, &cubes, 32)?, Some(u32::MAX));
     Ok(())
 }
 
