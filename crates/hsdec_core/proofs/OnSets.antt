@@ -11,11 +11,12 @@ use Rattle.std.proofs.lemmas.List.Folds.{Any-from_list_any, list_any_at}
 use Rattle.std.proofs.lemmas.List.Sorted.{Contains-permutation, IsPermutation-map, IsPermutation-sym}
 use Rattle.blif_out.specs.Writable.{IsPlane}
 use Rattle.cubes.specs.Symbol.{bit}
+use Rattle.cubes.proofs.Deciding.{held_from_test, test_from_held}
 use Rattle.kiss2.specs.declared.kiss_file.KissFile.{KissFile}
 use Rattle.kiss2.specs.declared.kiss_file.KissRow.{KissRow}
 use Rattle.kiss2.specs.Lawful.{IsLawfulRow}
 use Rattle.kiss2.specs.Machine.{IsRowAt, Specified, given_bit, next, output_bit}
-use Rattle.kiss2.proofs.Machine.{held_from_test, next_said, output_bit_said, test_from_held}
+use Rattle.kiss2.proofs.Machine.{next_said, output_bit_said}
 use Rattle.net_core.specs.Step.{row_holds}
 use Rattle.net_core.proofs.Members.{Contains-cons, Contains-here, Contains-none, Contains-there}
 use Rattle.state_codes.specs.declared.Codes.{Codes}

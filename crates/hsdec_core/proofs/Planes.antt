@@ -6,12 +6,11 @@ use Rattle.std.proofs.lemmas.List.{length-map}
 use Rattle.std.proofs.lemmas.List.FromFn.{length-map-range_with_len}
 use Rattle.blif_out.specs.Writable.{IsPlane}
 use Rattle.cubes.specs.declared.cube.Cube.{Cube}
-use Rattle.cubes.specs.Cube.{field_of, text_of}
-use Rattle.cubes.specs.Field.{byte_of}
+use Rattle.cubes.specs.Cube.{field_of, holds, text_of}
+use Rattle.cubes.specs.Field.{allows, byte_of, characters_hold}
 use Rattle.cubes.specs.Symbol.{bit}
 use Rattle.cubes.proofs.Places.{length-characters}
 use Rattle.kiss2.specs.declared.kiss_file.KissRow.{KissRow}
-use Rattle.kiss2.specs.Machine.{allows, characters_hold, holds}
 use Rattle.net_core.specs.Statements.{is_plane_character}
 use Rattle.net_core.specs.Step.{character_holds, row_holds}
 use Rattle.state_codes.specs.declared.Codes.{Codes}

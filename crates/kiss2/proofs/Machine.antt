@@ -1,62 +1,17 @@
 -- The machine of a file: what its rows say, and that it never leaves its states.
 use Rattle.std.proofs.Common.{◌≡◌, ℕ, zero, suc, ◌<◌, ◌⊎◌, ◌&&◌, inl, inr, Bool, true, false, cond, eqb, Option, Some, None, is_some, List, [], ◌∷◌, filter, length, get_or, slice_get, Contains, IfSome, ap, sym, ◌∙◌, refl, subst, arith}
-use Rattle.std.specs.List.{AllZip, filter_map, cons_option}
+use Rattle.std.specs.List.{filter_map, cons_option}
 use Rattle.std.specs.Option.{IsNone}
 use Rattle.std.proofs.lemmas.Bool.{cases_Bool, cases_eq, eqb-true, eq-eqb, false≢true, and_parts, and_from}
 use Rattle.std.proofs.lemmas.List.Elements.{All-contains, Contains-append_cases, Contains-append_right}
 use Rattle.std.proofs.lemmas.List.FromFn.{get_or-map-range_with_len, length-map-range_with_len}
 use Rattle.std.proofs.lemmas.Option.{same_Some, slice_get-get_or}
-use Rattle.cubes.specs.declared.cube.Cube.{Cube}
-use Rattle.cubes.specs.Cube.{field_of, Holds}
-use Rattle.cubes.specs.Field.{Allows}
+use Rattle.cubes.specs.Cube.{holds}
+use Rattle.cubes.proofs.Deciding.{held_from_test, test_from_held}
 use Rattle.kiss2.specs.declared.kiss_file.KissFile.{KissFile}
 use Rattle.kiss2.specs.declared.kiss_file.KissRow.{KissRow}
 use Rattle.kiss2.specs.Lawful.{IsLawfulRow}
-use Rattle.kiss2.specs.Machine.{allows, characters_hold, holds, given_bit, next, output_bit, out, IsRowAt, Conflicting, NextIsAState, RowsDecide}
-
--- ---- what a cube holds, as a test
--- a character that passes the test allows the bit
-allows_from_test : (c : Option Bool) (b : Bool) → allows c b ≡ true → Allows c b
-allows_from_test (Some true) true h = refl
-allows_from_test (Some true) false h = absurd (false≢true h)
-allows_from_test (Some false) true h = absurd (false≢true h)
-allows_from_test (Some false) false h = refl
-allows_from_test None b h = tt
-
--- and one that allows it passes
-test_from_allows : (c : Option Bool) (b : Bool) → Allows c b → allows c b ≡ true
-test_from_allows (Some true) true h = refl
-test_from_allows (Some true) false h = h
-test_from_allows (Some false) true h = absurd (false≢true (sym h))
-test_from_allows (Some false) false h = refl
-test_from_allows None b h = refl
-
--- characters that pass the test hold the symbol
-characters_from_test : (field : List (Option Bool)) (symbol : List Bool) → characters_hold field symbol ≡ true → AllZip Allows field symbol
-characters_from_test [] [] h = tt
-characters_from_test [] (b ∷ bits) h = absurd (false≢true h)
-characters_from_test (c ∷ field) [] h = absurd (false≢true h)
-characters_from_test (c ∷ field) (b ∷ bits) h =
-    let both = and_parts (allows c b) (characters_hold field bits) h in
-    (allows_from_test c b both.0, characters_from_test field bits both.1)
-
--- and those that hold it pass
-test_from_characters : (field : List (Option Bool)) (symbol : List Bool) → AllZip Allows field symbol → characters_hold field symbol ≡ true
-test_from_characters [] [] h = refl
-test_from_characters [] (b ∷ bits) h = elim h [ ]
-test_from_characters (c ∷ field) [] h = elim h [ ]
-test_from_characters (c ∷ field) (b ∷ bits) h =
-    and_from (allows c b) (characters_hold field bits) (test_from_allows c b h.0) (test_from_characters field bits h.1)
-
--- a cube that passes the test holds the symbol
-pub held_from_test : (cube : Cube) (symbol : List Bool) → holds cube symbol ≡ true → Holds cube symbol
-unfolding Holds
-held_from_test cube symbol h = characters_from_test (field_of cube) symbol h
-
--- and one that holds it passes
-pub test_from_held : (cube : Cube) (symbol : List Bool) → Holds cube symbol → holds cube symbol ≡ true
-unfolding Holds
-test_from_held cube symbol h = test_from_characters (field_of cube) symbol h
+use Rattle.kiss2.specs.Machine.{given_bit, next, output_bit, out, IsRowAt, Conflicting, NextIsAState, RowsDecide}
 
 -- ---- the first value that some item gives
 -- what is in a list of one is that one

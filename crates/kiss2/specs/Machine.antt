@@ -1,30 +1,14 @@
 -- The machine of a file (source: Hartmanis and Stearns, the machine of Mealy). A symbol is a list of bits, one for each
 -- input.
-use Rattle.std.specs.Prelude.{◌≡◌, ◌≢◌, ℕ, ◌<◌, ◌==◌, ◌⊎◌, Bool, true, false, not, ◌&&◌, if◌then◌else◌, Contains, IsNone, IsSome, List, [], ◌∷◌, Option, Some, None, filter, length, map, slice_get, slice_index_or}
+use Rattle.std.specs.Prelude.{◌≡◌, ◌≢◌, ℕ, ◌<◌, ◌==◌, ◌⊎◌, Bool, true, false, ◌&&◌, Contains, IsNone, IsSome, List, [], ◌∷◌, Option, Some, None, filter, length, map, slice_get, slice_index_or}
 use Rattle.std.specs.List.{filter_map, range_with_len}
-use Rattle.cubes.specs.declared.cube.Cube.{Cube}
-use Rattle.cubes.specs.Cube.{field_of, Holds, Meets}
+use Rattle.cubes.specs.Cube.{holds, Holds, Meets}
 use Rattle.cubes.specs.Field.{character}
 use Rattle.kiss2.specs.declared.fill.Fill.{Fill}
 use Rattle.kiss2.specs.declared.fill.Fill.TheVariants.{Hold}
 use Rattle.kiss2.specs.declared.kiss_file.KissFile.{KissFile}
 use Rattle.kiss2.specs.declared.kiss_file.KissRow.{KissRow}
 use Rattle.kiss2.specs.Lawful.{IsLawful}
-
--- a character allows a bit: a dash both, and else its own
-abbrev pub allows : Option Bool → Bool → Bool
-allows (Some wanted) b = if wanted then b else not b
-allows None b = true
-
--- characters hold a symbol where each allows the bit at its place
-abbrev pub characters_hold : List (Option Bool) → List Bool → Bool
-characters_hold [] [] = true
-characters_hold (c ∷ cs) (b ∷ bs) = allows c b && characters_hold cs bs
-characters_hold _ _ = false
-
--- whether a cube holds a symbol
-abbrev pub holds : Cube → List Bool → Bool
-holds cube x = characters_hold (field_of cube) x
 
 -- the rows of a state that hold a symbol, in order
 abbrev pub rows_at : KissFile → ℕ → List Bool → List KissRow
