@@ -1,9 +1,9 @@
 -- A text has one fault at most, none where it is that of a partition, and it is the text of one partition.
-use Rattle.std.proofs.Common.{◌≡◌, ℕ, ◌+◌, ◌^◌, ◌<◌, ◌≤◌, ◌⊎◌, List, [], ◌∷◌, Some, Result, Ok, Err, MatchResult, length, get_or, take, map, sym, ap, ◌∙◌, subst, inl, inr, arith}
+use Rattle.std.proofs.Common.{◌≡◌, ℕ, suc, ◌+◌, ◌*◌, ◌^◌, ◌<◌, ◌≤◌, ◌⊎◌, List, [], ◌∷◌, Some, Result, Ok, Err, MatchResult, length, get_or, take, map, sym, ap, ◌∙◌, subst, inl, inr, arith}
 use Rattle.std.proofs.lemmas.Bool.{cases_order}
 use Rattle.std.proofs.lemmas.List.{length-append, length-map, get_or-map, take_all, get_or-take, length-take-le, ext_get_or}
 use Rattle.std.proofs.lemmas.Option.{slice_get-get_or, slice_get_within, same_Some}
-use Rattle.std.proofs.lemmas.Fmt.{decimal_injective}
+use Rattle.std.proofs.lemmas.Fmt.{decimal_injective, length-decimal-le}
 use Rattle.std.specs.List.{slice_get}
 use Rattle.std.specs.Fmt.{decimal}
 use Rattle.partition.specs.declared.PartFail.{PartFail}
@@ -74,6 +74,20 @@ no_fault n text p (WrongLength found) short lawful is fault =
     let other = other_spelled n text found short fault in
     fault.other (omega (arith, spelled.size, other.size, fault.size, lawful.length))
 no_fault n text p NoMemory short lawful is fault = fault
+
+-- the text of a partition is one that a slice can have
+small_text : (labels : List ℕ) → ((place : ℕ) → place < length labels → get_or labels place 0 < 1000) → length (labels_text labels) ≤ 4 * length labels
+small_text [] small = omega arith
+small_text (label ∷ []) small = omega (arith, length-decimal-le 3 label (omega arith) (small 0 (omega arith)) (omega (arith, small 0 (omega arith))))
+small_text (label ∷ next ∷ labels) small =
+    omega (arith, length-append (decimal label) (44 ∷ labels_text (next ∷ labels)), length-decimal-le 3 label (omega arith) (small 0 (omega arith)) (omega (arith, small 0 (omega arith))), small_text (next ∷ labels) (λ place within. small (suc place) (omega arith)))
+
+partition_short : (n : ℕ) (text p : List ℕ) → IsPartition n p → text ≡ labels_text p → IsShort text
+partition_short n text p lawful is =
+    omega (arith, ap length is, lawful.length, lawful.count.1, small_text p (λ place within. omega (arith, label-le p lawful.numbered place within, lawful.length, lawful.count.1)))
+
+pub no_fault_of_partition : (n : ℕ) (text p : List ℕ) (fail : PartFail) → IsPartition n p → text ≡ labels_text p → TextFault n text fail → ⊥
+no_fault_of_partition n text p fail lawful is fault = no_fault n text p fail (partition_short n text p lawful is) lawful is fault
 
 bad_once : (text : List ℕ) (one two : ℕ) → IsShort text → FirstBadPiece text one → FirstBadPiece text two → one ≡ two
 bad_once text one two short here there =

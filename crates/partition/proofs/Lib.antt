@@ -16,3 +16,4 @@ pub mod RowLabels
 pub mod Counting
 pub mod Reaching
 pub mod FlatRows
+pub mod Relabelling

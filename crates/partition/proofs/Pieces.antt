@@ -1,7 +1,7 @@
 -- Texts and their pieces between commas.
-use Rattle.std.proofs.Common.{◌≡◌, ◌≢◌, ℕ, suc, ◌+◌, ◌-◌, ◌^◌, ◌<◌, ◌≤◌, ◌==◌, Bool, false, List, [], ◌∷◌, ◌++◌, length, get_or, take, drop, map, refl, sym, ap, ◌∙◌, arith}
+use Rattle.std.proofs.Common.{◌≡◌, ◌≢◌, ℕ, suc, ◌+◌, ◌^◌, ◌<◌, ◌≤◌, ◌==◌, Bool, false, List, [], ◌∷◌, ◌++◌, length, get_or, take, map, refl, sym, ap, ◌∙◌, arith}
 use Rattle.std.proofs.lemmas.Bool.{ne_eqb}
-use Rattle.std.proofs.lemmas.List.{take-append-drop, drop_more, take_rest, append_assoc, take_more, length-take-le, get_or-take}
+use Rattle.std.proofs.lemmas.List.{append_assoc, take_more, length-take-le}
 use Rattle.std.proofs.lemmas.List.Sums.{count_by-le-length}
 use Rattle.std.proofs.lemmas.List.Elements.{All-from_get_or}
 use Rattle.std.proofs.lemmas.List.Splits.{slice_split_none, slice_split_at, length-slice_split, join_with_byte-slice_split}
@@ -23,15 +23,6 @@ pieces_none text none = slice_split_none comma text (lacks text none)
 -- a comma ends the first piece
 pub pieces_at : (front rest : List ℕ) → ((k : ℕ) → k < length front → get_or front k 0 ≢ 44) → pieces_of (front ++ 44 ∷ rest) ≡ front ∷ pieces_of rest
 pieces_at front rest none = slice_split_at comma front 44 rest (lacks front none) refl
-
-pub pieces_cut : (text : List ℕ) (i : ℕ) → i < length text → ((k : ℕ) → k < i → get_or text k 0 ≢ 44) → get_or text i 0 ≡ 44 → pieces_of text ≡ take i text ∷ pieces_of (take (length text - (i + 1)) (drop (i + 1) text))
-pieces_cut text i within none here =
-    let front : List ℕ = take i text in
-    let rest : List ℕ = drop (i + 1) text in
-    let size : length front ≡ i = length-take-le i text (omega arith) in
-    let parts : text ≡ front ++ 44 ∷ rest = sym (take-append-drop i text) ∙ ap (λ (end : List ℕ). front ++ end) (drop_more text i 0 within ∙ ap (λ (byte : ℕ). byte ∷ rest) here) in
-    let cut : pieces_of (front ++ 44 ∷ rest) ≡ front ∷ pieces_of rest = pieces_at front rest (λ k inside comma. none k (omega arith) (sym (get_or-take i text k 0 (omega arith)) ∙ comma)) in
-    ap pieces_of parts ∙ cut ∙ ap (λ (end : List ℕ). front ∷ pieces_of end) (sym (take_rest text (i + 1)))
 
 -- there are at most as many pieces as bytes and one more, and there is a piece
 pub length-pieces_of-le : (text : List ℕ) → length (pieces_of text) ≤ length text + 1

@@ -2,3 +2,4 @@
 pub mod Rows
 pub mod Pieces
 pub mod Ties
+pub mod Relabelled

@@ -5,3 +5,4 @@ pub mod Chains
 pub mod Joins
 pub mod Precedence
 pub mod World
+pub mod Merging

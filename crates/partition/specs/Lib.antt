@@ -1,5 +1,6 @@
 pub mod Partition
 pub mod MeetAndJoin
+pub mod Merging
 pub mod Before
 pub mod Refusal
 pub mod Text

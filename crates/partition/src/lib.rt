@@ -12,6 +12,7 @@ ghost use Rattle.std.specs.Prelude.{◌≡◌, ◌<◌, ◌↔◌, length, slice
 ghost use Rattle.partition.specs.Partition.{IsPartition, IsStateCount, IsZero, IsOne, IsHold, Together, blocks_of, zero_of};
 
 mod bits;
+mod blocks;
 mod bounds;
 mod inside;
 mod numbering;

@@ -3,10 +3,9 @@
 ghost use Rattle.std.specs.Prelude.{◌≡◌, ◌≢◌, ℕ, ◌<◌, ◌≤◌, ◌↔◌, ◌++◌, length, slice_index, IfOk, MatchResult, OnOk, OnErr};
 ghost use Rattle.partition.specs.Partition.{IsPartition, IsStateCount, blocks_of};
 ghost use Rattle.std.specs.Prelude.{◌∷◌, ◌⊎◌, List, IfSome, IfNone, IsTrue};
-ghost use Rattle.std.specs.Option.{option_copied};
 ghost use Rattle.std.specs.Fmt.{decimal};
-ghost use Rattle.partition.specs.Text.{labels_text, pieces_of, TextFault};
-ghost use Rattle.partition.specs.Inner.Pieces.{pieces_after, IsPlain};
+ghost use Rattle.partition.specs.Text.{labels_text, TextFault};
+ghost use Rattle.partition.specs.Inner.Pieces.{IsPlain};
 ghost use Rattle.partition.specs.Refusal.{LabelFault, FirstUnlawful, AllLawful, IsLawfulLabel};
 ghost use Rattle.partition.specs.declared.PartFail.{PartFail};
 
@@ -97,9 +96,7 @@ fn read_labels(alloc: Global, text: &[u8], n: usize) -> Result<Partition, PartFa
 {
     let mut labels = Vec::with_capacity(alloc, n)?;
     let (mut found, mut blocks) = (0, 0);
-    let mut left = Some(text);
-    while let Some(rest) = left {
-        let (piece, after) = first_piece(rest);
+    for piece in text.split(|byte| *byte == b',') {
         let Some(label) = label_of(piece, blocks) else {
             return Err(PartFail::BadText { place: found });
         };
@@ -108,25 +105,11 @@ fn read_labels(alloc: Global, text: &[u8], n: usize) -> Result<Partition, PartFa
             labels.push(label as u16)?;
         }
         found += 1;
-        left = after;
     }
     if found != n {
         return Err(PartFail::WrongLength { found });
     }
     Ok(Partition { labels, blocks })
-}
-
-/// The first piece of a text, and what stands after its comma, if it has one.
-fn first_piece(text: &[u8]) -> (&[u8], Option<&[u8]>)
-    ensures pieces { pieces_of text.now ≡ result.0.now ∷ pieces_after (option_copied result.1) }
-    ensures shorter { IfSome result.1 (λ rest. length rest.now < length text.now) }
-{
-    for (i, byte) in text.iter().enumerate() {
-        if *byte == b',' {
-            return (&text[..i], Some(&text[i + 1..]));
-        }
-    }
-    (text, None)
 }
 
 /// The label that a piece spells, if it is at most `most`.

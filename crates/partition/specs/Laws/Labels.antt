@@ -17,7 +17,7 @@ label-lt-blocks_of xs s within =
 pub blocks_of-take-more : (xs : List ℕ) (s : ℕ) → s < length xs → blocks_of (take (s + 1) xs) ≡ max (blocks_of (take s xs)) (get_or xs s 0 + 1)
 blocks_of-take-more xs s within = ap blocks_of (take_more xs s 0 within) ∙ blocks_of-push (take s xs) (get_or xs s 0)
 
-blocks_of-take-suc : (xs : List ℕ) (s : ℕ) → s < length xs → blocks_of (take (suc s) xs) ≡ max (blocks_of (take s xs)) (get_or xs s 0 + 1)
+pub blocks_of-take-suc : (xs : List ℕ) (s : ℕ) → s < length xs → blocks_of (take (suc s) xs) ≡ max (blocks_of (take s xs)) (get_or xs s 0 + 1)
 blocks_of-take-suc xs s within =
     subst (λ (k : ℕ). blocks_of (take k xs) ≡ max (blocks_of (take s xs)) (get_or xs s 0 + 1)) (add-one s) (blocks_of-take-more xs s within)
 

@@ -57,6 +57,32 @@ fn holds_and_complements(rt: HostRuntime) -> Result<(), Fail> {
     Ok(())
 }
 
+/// The text of the partition with the blocks of two states put together.
+fn merged(alloc: Global, text: &str, s: usize, t: usize) -> Result<Vec<u8>, PartFail> {
+    let mut p = Partition::parse(alloc, text.as_bytes(), 4)?;
+    if s < p.len() && t < p.len() {
+        p.merge(s, t);
+    }
+    Ok(labels_text(alloc, &p)?)
+}
+
+#[test]
+fn two_blocks_become_one(rt: HostRuntime) {
+    let alloc = rt.alloc();
+    let cases = [
+        ("0,1,2,3", 0, 2, "0,1,0,2"),
+        ("0,1,2,3", 3, 1, "0,1,2,1"),
+        ("0,1,0,2", 1, 3, "0,1,0,1"),
+        ("0,1,2,1", 2, 0, "0,1,0,1"),
+        ("0,1,0,1", 0, 2, "0,1,0,1"),
+    ];
+    for (text, s, t, put_together) in cases {
+        let same = merged(alloc, text, s, t).is_ok_and(|found| found.as_slice()
+            == put_together.as_bytes());
+        assert!(rt; same);
+    }
+}
+
 #[test]
 fn blocks_inside_blocks(rt: HostRuntime) -> Result<(), Fail> {
     let alloc = rt.alloc();

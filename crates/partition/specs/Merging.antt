@@ -1,0 +1,9 @@
+-- Two blocks of a partition put together.
+use Rattle.std.specs.Prelude.{ℕ, ◌⊎◌, ◌↔◌, List, length}
+use Rattle.partition.specs.Partition.{IsPartition, Together}
+
+-- r has the block of s and the block of t in one, and each other block as p has it
+pub record IsMerged (p : List ℕ) (s t : ℕ) (r : List ℕ) : Type 0 where
+  pub lawful : IsPartition (length p) r
+  pub together : (u v : ℕ) → Together r u v
+      ↔ (Together p u v ⊎ ((Together p u s × Together p t v) ⊎ (Together p u t × Together p s v)))
