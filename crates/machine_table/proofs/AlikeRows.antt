@@ -1,13 +1,12 @@
 -- Rows of two states that stand at the same places, with the same cubes.
-use Rattle.std.proofs.Common.{◌≡◌, ◌≢◌, ℕ, ◌+◌, ◌<◌, ◌≤◌, ◌^◌, Bool, List, length, get_or, Option, Some, IsSome, IfSome, Contains, slice_get, inl, inr, sym, ◌∙◌, subst, refl, arith, ap, bit_and}
+use Rattle.std.proofs.Common.{◌≡◌, ℕ, ◌+◌, ◌<◌, Bool, List, length, get_or, Option, Some, Contains, slice_get, inl, inr, sym, ◌∙◌, subst, arith, ap, bit_and}
 use Rattle.std.proofs.lemmas.Bool.{cases_lt}
 use Rattle.std.proofs.lemmas.List.{get_or_default}
 use Rattle.std.proofs.lemmas.List.Elements.{Contains-get_or}
-use Rattle.cubes.specs.Cube.{HoldsNumber}
 use Rattle.cubes.proofs.Held.{held_from_mask, mask_from_held}
 use Rattle.kiss2.specs.declared.kiss_file.KissFile.{KissFile}
 use Rattle.kiss2.specs.declared.kiss_file.KissRow.{KissRow}
-use Rattle.machine_table.specs.Inner.Asked.{AlikeBelow, ApartBelow, AreAlike, AreApartAt, HaveOneLabel, IsMetBy, MeetsApart, SayTwo}
+use Rattle.machine_table.specs.Inner.Asked.{AlikeBelow, ApartBelow, HaveOneLabel, IsMetBy, MeetsApart, SayTwo}
 use Rattle.machine_table.specs.Inner.Places.{IsNumberOf}
 use Rattle.machine_table.specs.Table.{IsTable}
 use Rattle.machine_table.proofs.Asking.{number_of_row}

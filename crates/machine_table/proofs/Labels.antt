@@ -156,6 +156,27 @@ pub true_from_not : (b : Bool) → not b ≡ false → b ≡ true
 true_from_not true contrary = refl
 true_from_not false contrary = sym contrary
 
+-- what a label is at a symbol: the one that a row says, and else that of the state
+pub record AreLabels (F : KissFile) (said : KissRow → Option ℕ) (unsaid : ℕ → ℕ) (value : ℕ → ℕ → ℕ) : Type 0 where
+  pub when_said : (s x v : ℕ) → IsLabelAt said F s x v → value s x ≡ v
+  pub when_open : (s x : ℕ) → IsOpenAt said F s x → value s x ≡ unsaid s
+
+-- what a search for labels that differ tells of a relation that holds where they are equal
+module _ (F : KissFile) (table : IsTable F) (said : KissRow → Option ℕ) (unsaid : ℕ → ℕ) (value : ℕ → ℕ → ℕ) (labels : AreLabels F said unsaid value) (s t : ℕ)
+    (R : ℕ → Type 0) (alike : (x : ℕ) → value s x ≡ value t x → R x) (equal : (x : ℕ) → R x → value s x ≡ value t x)
+    (found : Option ℕ) (within : IfSome found (λ x. x < 2 ^ F.inputs)) (some : IfSome found (DifferAt said unsaid F s t)) where
+  pub each_from_none : (least : Bool) → ((y : ℕ) → DifferAt said unsaid F s t y → IsMetBy found least y) → IsNone found → AtEachSymbol F.inputs R
+  each_from_none least met none x inside = alike x (all_from_none F table said unsaid value labels.when_said labels.when_open s t found least none met x)
+
+  pub none_from_each : AtEachSymbol F.inputs R → IsNone found
+  none_from_each each = none_from_all F table said unsaid value labels.when_said labels.when_open s t found some within (λ x inside. equal x (each x inside))
+
+  pub first_not_so : ((y : ℕ) → DifferAt said unsaid F s t y → IsMetBy found true y) → IfSome found (IsFirstWithout F.inputs R)
+  first_not_so met =
+      if_some_each (IsFirstWithout F.inputs (λ x. value s x ≡ value t x)) (IsFirstWithout F.inputs R) found
+      (λ x first. first_without (λ y. value s y ≡ value t y) R F.inputs x alike equal first)
+      (first_from_least F table said unsaid value labels.when_said labels.when_open s t found some within met)
+
 -- where some row says a label at each symbol, no labels differ by what no row says
 pub never_open : (F : KissFile) (said : KissRow → Option ℕ) (unsaid : ℕ → ℕ) → NoneIsOpen said F → (s t : ℕ) → s < length F.states → t < length F.states
     → (x : ℕ) → DifferOpen said unsaid F s t x → ⊥

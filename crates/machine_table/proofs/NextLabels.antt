@@ -1,5 +1,5 @@
 -- Next states by their labels.
-use Rattle.std.proofs.Common.{◌≡◌, ℕ, ◌<◌, ◌^◌, List, Option, Some, None, IsNone, IfSome, Bool, true, length, slice_index, inl, inr, sym, ◌∙◌, subst, refl, ap, is_some}
+use Rattle.std.proofs.Common.{◌≡◌, ℕ, ◌<◌, List, Option, Some, None, IsNone, IfSome, true, length, slice_index, inl, inr, sym, ◌∙◌, subst, refl, ap, is_some}
 use Rattle.std.proofs.lemmas.Bool.{true≢false}
 use Rattle.std.specs.Option.{option_map}
 use Rattle.cubes.specs.Symbol.{symbol_of}
@@ -9,11 +9,11 @@ use Rattle.kiss2.specs.declared.kiss_file.KissRow.{KissRow}
 use Rattle.kiss2.specs.Machine.{Conflicting, Specified, next}
 use Rattle.kiss2.proofs.Machine.{next_not_said, next_said}
 use Rattle.partition.specs.Partition.{Together}
-use Rattle.machine_table.specs.Inner.Asked.{DifferAt, HaveOneLabel, NoneIsOpen, IsLabelAt, IsMetBy, IsOpenAt}
-use Rattle.machine_table.specs.Pairs.{AtEachSymbol, GoInto, IsFirstWithout}
+use Rattle.machine_table.specs.Inner.Asked.{HaveOneLabel, NoneIsOpen, IsLabelAt, IsOpenAt}
+use Rattle.machine_table.specs.Pairs.{GoInto}
 use Rattle.machine_table.specs.Table.{IsTable}
 use Rattle.machine_table.proofs.Asking.{lawful_row, number_of_row}
-use Rattle.machine_table.proofs.Labels.{all_from_none, first_from_least, first_without, if_some_each, label_or_open, none_from_all}
+use Rattle.machine_table.proofs.Labels.{AreLabels, label_or_open}
 
 -- the value behind a label
 mapped : (f : ℕ → ℕ) (o : Option ℕ) (v : ℕ) → option_map f o ≡ Some v → (u : ℕ) × (o ≡ Some u) × (f u ≡ v)
@@ -55,23 +55,9 @@ module _ (F : KissFile) (no_conflict : Conflicting F → ⊥) (f : ℕ → ℕ) 
   when_silent : (s x : ℕ) → IsOpenAt (named f) F s x → label_of_next f F s x ≡ f s
   when_silent s x silent = ap f (next_not_said F s (symbol_of F.inputs x) (λ row at. not_mapped f row.to (silent row at)))
 
--- what a search for labels of next states that differ tells of a relation that holds where they are equal
-module _ (F : KissFile) (table : IsTable F) (no_conflict : Conflicting F → ⊥) (f : ℕ → ℕ) (s t : ℕ) (R : ℕ → ℕ → Type 0)
-    (alike : (x : ℕ) → label_of_next f F s x ≡ label_of_next f F t x → GoInto R F s t x) (equal : (x : ℕ) → GoInto R F s t x → label_of_next f F s x ≡ label_of_next f F t x)
-    (found : Option ℕ) (within : IfSome found (λ x. x < 2 ^ F.inputs)) (some : IfSome found (DifferAt (named f) f F s t)) where
-  pub go_from_none : (least : Bool) → ((y : ℕ) → DifferAt (named f) f F s t y → IsMetBy found least y) → IsNone found → AtEachSymbol F.inputs (GoInto R F s t)
-  go_from_none least met none x inside =
-      alike x (all_from_none F table (named f) f (label_of_next f F) (when_named F no_conflict f) (when_silent F no_conflict f) s t found least none met x)
-
-  pub none_from_go : AtEachSymbol F.inputs (GoInto R F s t) → IsNone found
-  none_from_go go =
-      none_from_all F table (named f) f (label_of_next f F) (when_named F no_conflict f) (when_silent F no_conflict f) s t found some within (λ x inside. equal x (go x inside))
-
-  pub first_not_gone : ((y : ℕ) → DifferAt (named f) f F s t y → IsMetBy found true y) → IfSome found (IsFirstWithout F.inputs (GoInto R F s t))
-  first_not_gone met =
-      if_some_each (IsFirstWithout F.inputs (λ x. label_of_next f F s x ≡ label_of_next f F t x)) (IsFirstWithout F.inputs (GoInto R F s t)) found
-      (λ x first. first_without (λ y. label_of_next f F s y ≡ label_of_next f F t y) (GoInto R F s t) F.inputs x alike equal first)
-      (first_from_least F table (named f) f (label_of_next f F) (when_named F no_conflict f) (when_silent F no_conflict f) s t found some within met)
+-- labels of next states
+pub next_labels : (F : KissFile) → (Conflicting F → ⊥) → (f : ℕ → ℕ) → AreLabels F (named f) f (label_of_next f F)
+next_labels F no_conflict f = record { when_said = when_named F no_conflict f; when_open = when_silent F no_conflict f }
 
 -- equal labels of a partition are states that are together
 pub together_in : (F : KissFile) → IsTable F → (Conflicting F → ⊥) → (q : List ℕ) (s t : ℕ) → s < length F.states → t < length F.states → length q ≡ length F.states

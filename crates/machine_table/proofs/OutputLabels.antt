@@ -8,10 +8,9 @@ use Rattle.kiss2.specs.declared.kiss_file.KissFile.{KissFile}
 use Rattle.kiss2.specs.declared.kiss_file.KissRow.{KissRow}
 use Rattle.kiss2.specs.Machine.{Conflicting, Specified, given_bit, output_bit}
 use Rattle.kiss2.proofs.Machine.{output_bit_not_said, output_bit_said}
-use Rattle.machine_table.specs.Inner.Asked.{DifferAt, HaveOneLabel, NoneIsOpen, IsLabelAt, IsMetBy, IsOpenAt, digit, lesser_of}
+use Rattle.machine_table.specs.Inner.Asked.{HaveOneLabel, NoneIsOpen, IsLabelAt, IsMetBy, IsOpenAt, digit, lesser_of}
 use Rattle.machine_table.specs.Pairs.{AgreeAt, AgreeInBit, AtEachSymbol, IsFirstWithout}
-use Rattle.machine_table.specs.Table.{IsTable}
-use Rattle.machine_table.proofs.Labels.{all_from_none, first_from_least, first_without, if_some_each, none_from_all}
+use Rattle.machine_table.proofs.Labels.{AreLabels, if_some_each}
 use Rattle.machine_table.proofs.OutputWords.{same_map, same_values}
 use Rattle.machine_table.proofs.Sought.{lesser_has, met_left, met_right}
 
@@ -55,27 +54,16 @@ module _ (F : KissFile) (no_conflict : Conflicting F → ⊥) (b : ℕ) where
   pub when_not_given : (s x : ℕ) → IsOpenAt (given_label b) F s x → label_of_output b F s x ≡ no_label s
   when_not_given s x silent = ap digit (output_bit_not_said F s (symbol_of F.inputs x) b (λ row at. no_bit (given_bit b row) (silent row at)))
 
-module _ (F : KissFile) (table : IsTable F) (no_conflict : Conflicting F → ⊥) (b s t : ℕ)
-    (found : Option ℕ) (within : IfSome found (λ x. x < 2 ^ F.inputs)) (some : IfSome found (DifferAt (given_label b) no_label F s t)) where
-  alike : (x : ℕ) → label_of_output b F s x ≡ label_of_output b F t x → AgreeInBit b F s t x
-  alike x same = bit_from_digit (output_bit F s (symbol_of F.inputs x) b) (output_bit F t (symbol_of F.inputs x) b) same
+-- labels of one output
+pub output_labels : (F : KissFile) → (Conflicting F → ⊥) → (b : ℕ) → AreLabels F (given_label b) no_label (label_of_output b F)
+output_labels F no_conflict b = record { when_said = when_given F no_conflict b; when_open = when_not_given F no_conflict b }
 
-  equal : (x : ℕ) → AgreeInBit b F s t x → label_of_output b F s x ≡ label_of_output b F t x
-  equal x agree = ap digit agree
+module _ (F : KissFile) (b s t x : ℕ) where
+  pub bits_alike : label_of_output b F s x ≡ label_of_output b F t x → AgreeInBit b F s t x
+  bits_alike same = bit_from_digit (output_bit F s (symbol_of F.inputs x) b) (output_bit F t (symbol_of F.inputs x) b) same
 
-  pub agree_from_none : (least : Bool) → ((y : ℕ) → DifferAt (given_label b) no_label F s t y → IsMetBy found least y) → IsNone found → AtEachSymbol F.inputs (AgreeInBit b F s t)
-  agree_from_none least met none x inside =
-      alike x (all_from_none F table (given_label b) no_label (label_of_output b F) (when_given F no_conflict b) (when_not_given F no_conflict b) s t found least none met x)
-
-  pub none_from_agree : AtEachSymbol F.inputs (AgreeInBit b F s t) → IsNone found
-  none_from_agree agree =
-      none_from_all F table (given_label b) no_label (label_of_output b F) (when_given F no_conflict b) (when_not_given F no_conflict b) s t found some within (λ x inside. equal x (agree x inside))
-
-  pub first_in_bit : ((y : ℕ) → DifferAt (given_label b) no_label F s t y → IsMetBy found true y) → IfSome found (IsFirstWithout F.inputs (AgreeInBit b F s t))
-  first_in_bit met =
-      if_some_each (IsFirstWithout F.inputs (λ x. label_of_output b F s x ≡ label_of_output b F t x)) (IsFirstWithout F.inputs (AgreeInBit b F s t)) found
-      (λ x first. first_without (λ y. label_of_output b F s y ≡ label_of_output b F t y) (AgreeInBit b F s t) F.inputs x alike equal first)
-      (first_from_least F table (given_label b) no_label (label_of_output b F) (when_given F no_conflict b) (when_not_given F no_conflict b) s t found some within met)
+  pub bits_equal : AgreeInBit b F s t x → label_of_output b F s x ≡ label_of_output b F t x
+  bits_equal agree = ap digit agree
 
 -- ---- all outputs
 -- some output differs there

@@ -1,6 +1,6 @@
 -- Where two rows give 0 and 1 at one output.
-use Rattle.std.proofs.Common.{◌≡◌, ◌≢◌, ℕ, ◌+◌, ◌-◌, ◌%◌, ◌^◌, ◌<◌, ◌⊎◌, min, Bool, true, false, Some, None, IsSome, Option, subst, ap, sym, ◌∙◌, arith, bit_and, eqb, not, inl, inr, w64, refl}
-use Rattle.std.proofs.lemmas.Bool.{cases_Bool}
+use Rattle.std.proofs.Common.{◌≡◌, ◌≢◌, ℕ, ◌+◌, ◌-◌, ◌%◌, ◌^◌, ◌<◌, ◌⊎◌, min, Bool, true, false, Some, None, IsSome, Option, subst, ap, sym, ◌∙◌, arith, bit_and, eqb, not, inl, inr, is_some, w64, refl}
+use Rattle.std.proofs.lemmas.Bool.{cases_Bool, true≢false}
 use Rattle.std.proofs.lemmas.Bool.Decides.{nat_tests}
 use Rattle.std.proofs.lemmas.Nat.Bits.{bit_at_and, bit_at_xor, bit_at-lt, bit_at-zero, bit_at_ones, bit_at-trailing_zeros}
 use Rattle.std.specs.Int.{bit_at, trailing_zeros}
@@ -89,3 +89,13 @@ given_in_all row outputs b all within =
     let cares : bit row.care b ≡ true = bit_from_one row.care b (ap (λ n. bit_at n b) all ∙ bit_at_ones outputs b within) in
     let given : given_bit b row ≡ Some (bit row.value b) = given_at row b (bit row.value b) (one_from_bit row.care b cares) refl in
     subst (λ (o : Option Bool). IsSome o) (sym given) refl
+
+-- what a row gives is the bit of its value
+pub given_value : (row : KissRow) (b : ℕ) → IsSome (given_bit b row) → given_bit b row ≡ Some (bit row.value b)
+given_value row b some =
+    elim (cases_Bool (bit row.care b)) [
+      | inl cares ↦ given_at row b (bit row.value b) (one_from_bit row.care b cares) refl
+      | inr not_there ↦
+          let gone : given_bit b row ≡ None = rw not_there refl in
+          absurd (true≢false (sym some ∙ ap is_some gone))
+    ]

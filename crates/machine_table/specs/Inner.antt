@@ -3,3 +3,4 @@ pub mod Places
 pub mod OpenSymbol
 pub mod Asked
 pub mod Settled
+pub mod AddedPairs

@@ -6,3 +6,4 @@ pub mod Pairs
 pub mod Covering
 pub mod Walk
 pub mod Inner
+pub mod Staying

@@ -1,24 +1,22 @@
-//! What a machine does over cubes: the pairs of next states, and pieces on which it does one thing.
+//! The pieces on which a machine does one thing.
 //!
-//! The cube of all symbols is halved at places at which rows look, until each row holds all symbols of a
-//! cube or none.
-ghost use Rattle.std.specs.Prelude.{ℕ, ◌≡◌, ◌<◌, ◌↔◌, ◌⊎◌, ◌^◌, All, Contains, IfNone, IfOk, IfSome, OnOk, false, length};
+//! They are the rows of the state, where each says all and no symbol is without a row. Else the cube of all
+//! symbols is halved at places at which rows look, until each row holds all symbols of a cube or none.
+ghost use Rattle.std.specs.Prelude.{ℕ, ◌≡◌, ◌<◌, ◌^◌, All, IfNone, IfOk, IfSome, IsSome, OnOk, Some, false, length};
 ghost use Rattle.cubes.specs.Symbol.{bit, symbol_of};
 ghost use Rattle.cubes.specs.Cube.{HoldsNumber};
-ghost use Rattle.kiss2.specs.Machine.{next, out};
+ghost use Rattle.kiss2.specs.Machine.{Specified, next, out};
 ghost use Rattle.machine_table.specs.Walk.{outputs_of};
 ghost use Rattle.machine_table.specs.declared.covering.Piece.{Piece};
-ghost use Rattle.machine_table.specs.Covering.{IsImage, IsPiece, IsHeldByPiece};
-ghost use Rattle.machine_table.specs.Inner.Settled.{AddsImages, AddsPieces, IsAllOrNone, IsSettledIn};
+ghost use Rattle.machine_table.specs.Covering.{IsPiece, IsHeldByPiece};
+ghost use Rattle.machine_table.specs.Inner.OpenSymbol.{SaysAll};
+ghost use Rattle.machine_table.specs.Inner.Settled.{AddsPieces, IsAllOrNone, IsSettledIn};
 
 use crate::Machine;
 use crate::searching::{free_place, half, whole};
 use cubes::Cube;
-use hs_list::Items;
+use kiss2::KissRow;
 use std::alloc::{AllocError, Global};
-
-/// Pairs of states.
-pub type Images = Items<(u16, u16)>;
 
 /// Symbols of one state at which the machine does the same.
 #[derive(Clone, Copy, Debug, PartialEq, Eq)]
@@ -30,9 +28,6 @@ pub struct Piece {
     /// The outputs at each of them, output b at 2^b.
     pub outputs: u64,
 }
-
-/// Pieces of one state.
-pub type Pieces = Items<Piece>;
 
 /// A place at which to halve the cube, where the other holds some of its symbols, but not all.
 fn halving_place(cube: &Cube, other: &Cube) -> Option<u32>
@@ -56,51 +51,49 @@ fn least_symbol(cube: &Cube) -> u32
     cube.value
 }
 
+/// The row as a piece, where it names a next state and gives each output.
+fn piece_of_row(row: &KissRow) -> Piece
+    requires { IsSome row.now.to }
+    ensures cube { result.cube ≡ row.now.cube }
+    ensures next { row.now.to ≡ Some result.next }
+    ensures outputs { result.outputs ≡ row.now.value }
+{
+    Piece {
+        cube: row.cube,
+        next: row.to.unwrap_or(0),
+        outputs: row.value,
+    }
+}
+
 impl Machine {
-    /// The pairs of next states of the two states. A pair that several symbols give may stand several times.
-    pub fn images(&self, alloc: Global, s: usize, t: usize) -> Result<Images, AllocError>
-        requires s { s < length self.now.states }
-        requires t { t < length self.now.states }
-        ensures { IfOk result (λ images. (u v : ℕ) → Contains images (u, v) ↔ IsImage self.now s t u v) }
-    {
-        let mut images = Vec::new(alloc);
-        self.add_images(s, t, whole(self.inputs()), &mut images)?;
-        Ok(Items::from(images))
-    }
-
-    /// Adds the pairs of next states at the symbols of the cube.
-    fn add_images(
-        &self,
-        s: usize,
-        t: usize,
-        cube: Cube,
-        images: &mut Vec<(u16, u16)>,
-    ) -> Result<(), AllocError>
-        requires s { s < length self.now.states }
-        requires t { t < length self.now.states }
-        requires width { cube.width ≡ self.now.inputs }
-        ensures { OnOk result (AddsImages self.now s t cube images.old.items images.new.items) }
-    {
-        let Some(place) = self.unsettled_place(s, t, &cube) else {
-            let first = self.one_next(s, &cube);
-            let second = self.one_next(t, &cube);
-            images.push((first, second))?;
-            return Ok(());
-        };
-        self.add_images(s, t, half(cube, place, false), images)?;
-        self.add_images(s, t, half(cube, place, true), images)?;
-        Ok(())
-    }
-
     /// Pieces of the state that hold all symbols.
-    pub fn pieces(&self, alloc: Global, s: usize) -> Result<Pieces, AllocError>
+    pub fn pieces(&self, alloc: Global, s: usize) -> Result<Vec<Piece>, AllocError>
         requires { s < length self.now.states }
-        ensures each { IfOk result (λ pieces. (x : ℕ) → x < 2 ^ self.now.inputs → IsHeldByPiece pieces x) }
-        ensures right { IfOk result (All (IsPiece self.now s)) }
+        ensures each { IfOk result (λ pieces. (x : ℕ) → x < 2 ^ self.now.inputs → IsHeldByPiece pieces.items x) }
+        ensures right { IfOk result (λ pieces. All (IsPiece self.now s) pieces.items) }
     {
+        if self.is_complete() && self.says_all(s) {
+            return self.pieces_of_rows(alloc, s);
+        }
         let mut pieces = Vec::new(alloc);
         self.add_pieces(s, whole(self.inputs()), &mut pieces)?;
-        Ok(Items::from(pieces))
+        Ok(pieces)
+    }
+
+    /// The rows of the state as pieces, where each says all and no symbol is without a row.
+    fn pieces_of_rows(&self, alloc: Global, s: usize) -> Result<Vec<Piece>, AllocError>
+        requires state { s < length self.now.states }
+        requires specified { Specified self.now }
+        requires all { SaysAll self.now s }
+        ensures each { IfOk result (λ pieces. (x : ℕ) → x < 2 ^ self.now.inputs → IsHeldByPiece pieces.items x) }
+        ensures right { IfOk result (λ pieces. All (IsPiece self.now s) pieces.items) }
+    {
+        let numbers = self.numbers_of(s);
+        let mut pieces = Vec::with_capacity(alloc, numbers.len())?;
+        for number in numbers {
+            pieces.push(piece_of_row(self.row(*number)))?;
+        }
+        Ok(pieces)
     }
 
     /// Adds pieces that hold the symbols of the cube.
@@ -109,7 +102,7 @@ impl Machine {
         requires width { cube.width ≡ self.now.inputs }
         ensures { OnOk result (AddsPieces self.now s cube pieces.old.items pieces.new.items) }
     {
-        let Some(place) = self.unsettled_place(s, s, &cube) else {
+        let Some(place) = self.unsettled_place(s, &cube) else {
             let next = self.one_next(s, &cube);
             let outputs = self.one_word(s, &cube);
             pieces.push(Piece {
@@ -131,6 +124,7 @@ impl Machine {
         requires settled { IsSettledIn self.now s cube.now }
         ensures { (y : ℕ) → HoldsNumber cube.now y → next self.now s (symbol_of self.now.inputs y) ≡ result }
     {
+        // The check knows what every machine keeps only where a function names a field; so it is below.
         let _ = &self.file;
         self.next(s, least_symbol(cube)) as u16
     }
@@ -147,24 +141,8 @@ impl Machine {
         self.output_word(s, least_symbol(cube))
     }
 
-    /// A place at which to halve the cube, where some row of the states holds some of its symbols, but not all.
-    fn unsettled_place(&self, s: usize, t: usize, cube: &Cube) -> Option<u32>
-        requires s { s < length self.now.states }
-        requires t { t < length self.now.states }
-        requires width { cube.now.width ≡ self.now.inputs }
-        ensures within { IfSome result (λ place. place < cube.now.width) }
-        ensures dash { IfSome result (λ place. bit cube.now.care place ≡ false) }
-        ensures first { IfNone result (IsSettledIn self.now s cube.now) }
-        ensures second { IfNone result (IsSettledIn self.now t cube.now) }
-    {
-        match self.unsettled_by(s, cube) {
-            Some(place) => Some(place),
-            None => self.unsettled_by(t, cube),
-        }
-    }
-
     /// A place at which to halve the cube, where some row of the state holds some of its symbols, but not all.
-    fn unsettled_by(&self, s: usize, cube: &Cube) -> Option<u32>
+    fn unsettled_place(&self, s: usize, cube: &Cube) -> Option<u32>
         requires s { s < length self.now.states }
         requires width { cube.now.width ≡ self.now.inputs }
         ensures within { IfSome result (λ place. place < cube.now.width) }

@@ -6,14 +6,16 @@
 //! them. There is no table over symbols: an answer comes from the rows of the states that are asked about.
 //!
 //! `specs/Conflict` says which two rows a refusal names, `specs/Said` which open entry, and `specs/Cause`
-//! when each refusal comes. `specs/Walk` says what a word is answered, `specs/Pairs` where the next states
-//! of two states stand, and `specs/Covering` what the images and pieces list.
+//! when each refusal comes. `specs/Staying` says that a machine never leaves its states, `specs/Walk` what a
+//! word is answered, `specs/Pairs` where the next states of two states stand, and `specs/Covering` what the
+//! images and pieces list.
 #![tactic(auto)]
 
 mod building;
 mod contradiction;
 mod copying;
 mod covering;
+mod images;
 mod laws;
 mod machine;
 mod missing;
@@ -22,10 +24,12 @@ mod pairs;
 mod places;
 mod question;
 mod searching;
+#[cfg(test)]
+mod tests;
 mod walking;
 
 pub use building::BuildFail;
-pub use covering::{Images, Piece, Pieces};
+pub use covering::Piece;
 pub use laws::lawful_is_a_table;
 pub use machine::Machine;
 pub use missing::Missing;

@@ -3,8 +3,10 @@ ghost use Rattle.std.specs.Prelude.{ℕ, ◌≡◌, ◌<◌, ◌≤◌, ◌^◌,
 ghost use Rattle.cubes.specs.Symbol.{symbol_of};
 ghost use Rattle.kiss2.specs.Lawful.{IsLawfulRow};
 ghost use Rattle.kiss2.specs.Machine.{Conflicting, Specified, given_bit, next, output_bit};
+ghost use Rattle.kiss2.specs.Names.{AreDistinct};
 ghost use Rattle.kiss2.specs.declared.kiss_file.KissRow.{KissRow};
 ghost use Rattle.machine_table.specs.Inner.Places.{IsNumberOf};
+ghost use Rattle.machine_table.specs.Staying.{NeverLeaves};
 ghost use Rattle.machine_table.specs.Table.{IsTable};
 
 use hs_list::Items;
@@ -57,6 +59,7 @@ impl Machine {
         ensures count { result ≡ length self.now.states }
         ensures some { 0 < result }
         ensures limit { result ≤ 256 }
+        ensures inside { NeverLeaves self.now }
     {
         self.file.states.count()
     }
@@ -139,7 +142,9 @@ impl Machine {
 
     /// Whether it is known that the rows leave nothing open.
     pub(crate) fn is_complete(&self) -> bool
-        ensures { IsTrue result → Specified self.now }
+        ensures specified { IsTrue result → Specified self.now }
+        ensures table { IsTable self.now }
+        ensures no_conflict { Conflicting self.now → ⊥ }
     {
         self.complete
     }
@@ -163,5 +168,15 @@ impl Machine {
         ensures lawful { IsLawfulRow self.now.inputs self.now.outputs (length self.now.states) result.now }
     {
         &self.file.rows.as_slice()[number]
+    }
+
+    /// What is so of the file of every machine. It does nothing.
+    pub fn keeps_its_states(&self)
+        ensures table { IsTable self.now }
+        ensures no_conflict { Conflicting self.now → ⊥ }
+        ensures names { AreDistinct self.now.states }
+        ensures next { NeverLeaves self.now }
+    {
+        let _ = self.file.states.count();
     }
 }

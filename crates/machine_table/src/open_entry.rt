@@ -94,7 +94,7 @@ impl Machine {
     }
 
     /// Whether each row of the state names a next state and gives each output.
-    fn says_all(&self, s: usize) -> bool
+    pub(crate) fn says_all(&self, s: usize) -> bool
         requires { s < length self.now.states }
         ensures { IsTrue result → SaysAll self.now s }
     {

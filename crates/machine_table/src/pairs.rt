@@ -16,6 +16,7 @@ impl Machine {
         requires states { length q.now ≡ length self.now.states }
         ensures { IsTrue result ↔ AtEachSymbol self.now.inputs (GoInto (Together q.now) self.now s t) }
     {
+        // The check knows what every machine keeps only where a function names a field; so it is below.
         let _ = &self.file;
         self.first_differing(q, s, t, false).is_none()
     }

@@ -1,5 +1,5 @@
 //! What may be asked of two states: one part of what rows say, and which of its values are alike.
-ghost use Rattle.std.specs.Prelude.{ℕ, ◌≡◌, ◌<◌, IfSome, Option, length, slice_index};
+ghost use Rattle.std.specs.Prelude.{ℕ, ◌≡◌, ◌<◌, ◌≤◌, IfSome, Option, length, slice_index};
 ghost use Rattle.std.specs.Int.{bit_at};
 ghost use Rattle.kiss2.specs.declared.kiss_file.KissRow.{KissRow};
 
@@ -138,5 +138,39 @@ impl Question for OutputBit {
 
     fn unsaid(&self, _s: usize) -> u16 {
         0
+    }
+}
+
+/// The next state of a machine of so many states.
+#[derive(Clone, Copy)]
+pub(crate) struct NextState {
+    states: usize,
+    pub ghost few: { states ≤ 256 },
+}
+
+impl NextState {
+    pub fn new(states: usize) -> NextState
+        requires { states ≤ 256 }
+        ensures { result.states ≡ states }
+    {
+        NextState { states }
+    }
+}
+
+/// A state alone is like itself.
+impl Question for NextState {
+    ghost states = { λ q. q.states };
+
+    ghost said = { λ _ row. row.to };
+
+    ghost unsaid = { λ _ s. s };
+
+    fn said(&self, row: &KissRow) -> Option<u16> {
+        row.to
+    }
+
+    fn unsaid(&self, s: usize) -> u16 {
+        let _ = self.states;
+        s as u16
     }
 }

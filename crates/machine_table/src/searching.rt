@@ -106,7 +106,7 @@ fn first_between<Q: Question>(question: &Q, row: &KissRow, other: &KissRow) -> O
 }
 
 /// The least symbol that both cubes hold.
-fn least_of_both(cube: &Cube, other: &Cube) -> Option<u32>
+pub(crate) fn least_of_both(cube: &Cube, other: &Cube) -> Option<u32>
     requires { cube.now.width ≡ other.now.width }
     ensures first { IfSome result (HoldsNumber cube.now) }
     ensures second { IfSome result (HoldsNumber other.now) }
@@ -188,7 +188,12 @@ impl Machine {
 
     /// Whether the rows at these numbers have the same cubes in the same order, and each of the second ones
     /// says the part.
-    fn are_alike<Q: Question>(&self, question: &Q, first: &[usize], second: &[usize]) -> bool
+    pub(crate) fn are_alike<Q: Question>(
+        &self,
+        question: &Q,
+        first: &[usize],
+        second: &[usize],
+    ) -> bool
         requires first { All (λ i. i < length self.now.rows) first.now }
         requires second { All (λ i. i < length self.now.rows) second.now }
         requires known { length self.now.states ≤ Q.states question.now }
@@ -384,7 +389,7 @@ impl Machine {
 
     /// A symbol of the cube at which no row of either state says the part; where the least is asked for, it
     /// is the least such.
-    fn first_open_in<Q: Question>(
+    pub(crate) fn first_open_in<Q: Question>(
         &self,
         question: &Q,
         s: usize,

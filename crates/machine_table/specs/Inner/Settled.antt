@@ -1,11 +1,9 @@
 -- Cubes at whose symbols each row of a state holds all or none. Private functions need it; no public contract cites it.
-use Rattle.std.specs.Prelude.{ℕ, ◌≡◌, ◌<◌, ◌^◌, ◌↔◌, ◌⊎◌, All, Contains, List}
+use Rattle.std.specs.Prelude.{ℕ, All, List}
 use Rattle.cubes.specs.declared.cube.Cube.{Cube}
 use Rattle.cubes.specs.Cube.{HoldsNumber}
-use Rattle.cubes.specs.Symbol.{symbol_of}
 use Rattle.kiss2.specs.declared.kiss_file.KissFile.{KissFile}
 use Rattle.kiss2.specs.declared.kiss_file.KissRow.{KissRow}
-use Rattle.kiss2.specs.Machine.{next}
 use Rattle.machine_table.specs.declared.covering.Piece.{Piece}
 use Rattle.machine_table.specs.Covering.{IsHeldByPiece, IsPiece}
 use Rattle.machine_table.specs.Inner.Asked.{IsRowOf}
@@ -17,14 +15,6 @@ IsAllOrNone cube other = (y z : ℕ) → HoldsNumber cube y → HoldsNumber cube
 -- each row of the state does
 abbrev pub IsSettledIn : KissFile → ℕ → Cube → Type 0
 IsSettledIn F s cube = (row : KissRow) → IsRowOf F s row → IsAllOrNone cube row.cube
-
--- some symbol of the cube leads the two states to these
-abbrev pub IsImageIn : KissFile → (s t : ℕ) → Cube → (u v : ℕ) → Type 0
-IsImageIn F s t cube u v = (x : ℕ) × (x < 2 ^ F.inputs) × HoldsNumber cube x × (next F s (symbol_of F.inputs x) ≡ u) × (next F t (symbol_of F.inputs x) ≡ v)
-
--- a list with the pairs of the cube beside its own
-abbrev pub AddsImages : KissFile → (s t : ℕ) → Cube → List (ℕ × ℕ) → List (ℕ × ℕ) → Type 0
-AddsImages F s t cube old more = (u v : ℕ) → Contains more (u, v) ↔ (Contains old (u, v) ⊎ IsImageIn F s t cube u v)
 
 -- a list with pieces for the cube beside its own
 pub record AddsPieces (F : KissFile) (s : ℕ) (cube : Cube) (old more : List Piece) : Type 0 where

@@ -1,4 +1,4 @@
-use Rattle.std.proofs.Common.{ℕ, ◌≡◌, List, [], ◌∷◌, ◌++◌, false, true, subst, sym}
+use Rattle.std.proofs.Common.{◌≡◌, List, [], ◌∷◌, ◌++◌, subst, sym}
 use Rattle.machine_table.specs.declared.covering.Piece.{Piece}
 use Rattle.machine_table.specs.Inner.Settled.{AddsPieces}
 use Rattle.machine_table.proofs.SettledCubes.{one_piece, pieces_of_halves}
@@ -19,5 +19,5 @@ returns-in_default t c =
 
 pub returns : goal.returns
 returns t c =
-    pieces_of_halves c.args.self.now c.args.s c.args.s c.args.cube c.half.result c.half-2.result c.in-Some.place c.half.ensures.half c.half-2.ensures.half
+    pieces_of_halves c.args.self.now c.args.s c.args.cube c.half.result c.half-2.result c.in-Some.place c.half.ensures.half c.half-2.ensures.half
     c.args.pieces.now.items c.add_pieces.new.pieces.items c.add_pieces-2.new.pieces.items c.in_ok-add_pieces.ensures c.in_ok-add_pieces-2.ensures

@@ -1,4 +1,4 @@
-use Rattle.std.proofs.Common.{ℕ, ◌≡◌, ◌<◌, ◌≤◌, length, arith}
+use Rattle.std.proofs.Common.{◌<◌, length, arith}
 use Rattle.machine_table.specs.Inner.Asked.{AreAlike}
 use Rattle.machine_table.proofs.AlikeRows.{pair_more}
 use Rattle.machine_table.proofs.machine.Machine.are_alike.Goals as goal

@@ -3,8 +3,8 @@ use Rattle.kiss2.specs.declared.kiss_file.KissFile.{KissFile}
 use Rattle.kiss2.specs.Machine.{Conflicting}
 use Rattle.machine_table.specs.Pairs.{AgreeInBit, AtEachSymbol}
 use Rattle.machine_table.specs.Table.{IsTable}
-use Rattle.machine_table.proofs.Labels.{true_from_not}
-use Rattle.machine_table.proofs.OutputLabels.{given_everywhere, one_given, agree_from_none, none_from_agree}
+use Rattle.machine_table.proofs.Labels.{each_from_none, none_from_each, true_from_not}
+use Rattle.machine_table.proofs.OutputLabels.{bits_alike, bits_equal, given_everywhere, given_label, label_of_output, no_label, one_given, output_labels}
 use Rattle.machine_table.proofs.machine.Machine.bit_agrees.Goals as goal
 
 pub returns : goal.returns
@@ -12,12 +12,13 @@ returns c =
     let F = c.args.self.now in
     let table = subst IsTable c.self.view_is c.self.invariant.0 in
     let no_conflict = subst (λ (G : KissFile). Conflicting G → ⊥) c.self.view_is c.self.invariant.1 in
+    let b = c.new.result.b in
     let found = c.first_differing in
     let both : IsTrue c.is_none.result ↔ AtEachSymbol F.inputs (AgreeInBit c.new.result.b F c.args.s c.args.t) = (
-      λ none. agree_from_none F table no_conflict c.new.result.b c.args.s c.args.t found.result found.ensures.within found.ensures.some false found.ensures.met
+      λ none. each_from_none F table (given_label b) no_label (label_of_output b F) (output_labels F no_conflict b) c.args.s c.args.t (AgreeInBit b F c.args.s c.args.t) (bits_alike F b c.args.s c.args.t) (bits_equal F b c.args.s c.args.t) found.result found.ensures.within found.ensures.some false found.ensures.met
           (c.is_none.ensures ∙ ap not none),
       λ agree. true_from_not c.is_none.result (sym c.is_none.ensures
-          ∙ none_from_agree F table no_conflict c.new.result.b c.args.s c.args.t found.result found.ensures.within found.ensures.some agree),
+          ∙ none_from_each F table (given_label b) no_label (label_of_output b F) (output_labels F no_conflict b) c.args.s c.args.t (AgreeInBit b F c.args.s c.args.t) (bits_alike F b c.args.s c.args.t) (bits_equal F b c.args.s c.args.t) found.result found.ensures.within found.ensures.some agree),
     ) in
     subst (λ (n : ℕ). IsTrue c.is_none.result ↔ AtEachSymbol F.inputs (AgreeInBit n F c.args.s c.args.t)) c.new.ensures both
 

@@ -6,8 +6,8 @@ use Rattle.kiss2.specs.declared.kiss_file.KissFile.{KissFile}
 use Rattle.kiss2.specs.Machine.{Conflicting, next}
 use Rattle.machine_table.specs.Pairs.{AtEachSymbol, GoInto, HaveOneBit}
 use Rattle.machine_table.specs.Table.{IsTable}
-use Rattle.machine_table.proofs.Labels.{true_from_not}
-use Rattle.machine_table.proofs.NextLabels.{named_everywhere, one_named, go_from_none, label_of_next, none_from_go}
+use Rattle.machine_table.proofs.Labels.{each_from_none, none_from_each, true_from_not}
+use Rattle.machine_table.proofs.NextLabels.{label_of_next, named, named_everywhere, next_labels, one_named}
 use Rattle.machine_table.proofs.machine.Machine.bit_goes.Goals as goal
 
 pub returns : goal.returns
@@ -26,10 +26,10 @@ returns c =
     same_digits (slice_index words (next F s (symbol_of F.inputs x))) (slice_index words (next F t (symbol_of F.inputs x))) at at goes) in
     let found = c.first_differing in
     let both : IsTrue c.is_none.result ↔ AtEachSymbol F.inputs (GoInto (HaveOneBit words at) F s t) = (
-      λ none. go_from_none F table no_conflict bit_of s t (HaveOneBit words at) alike equal found.result found.ensures.within found.ensures.some false found.ensures.met
+      λ none. each_from_none F table (named bit_of) bit_of (label_of_next bit_of F) (next_labels F no_conflict bit_of) s t (GoInto (HaveOneBit words at) F s t) alike equal found.result found.ensures.within found.ensures.some false found.ensures.met
           (c.is_none.ensures ∙ ap not none),
       λ go. true_from_not c.is_none.result (sym c.is_none.ensures
-          ∙ none_from_go F table no_conflict bit_of s t (HaveOneBit words at) alike equal found.result found.ensures.within found.ensures.some go),
+          ∙ none_from_each F table (named bit_of) bit_of (label_of_next bit_of F) (next_labels F no_conflict bit_of) s t (GoInto (HaveOneBit words at) F s t) alike equal found.result found.ensures.within found.ensures.some go),
     ) in
     subst (λ (list : List ℕ). IsTrue c.is_none.result ↔ AtEachSymbol F.inputs (GoInto (HaveOneBit list c.args.at) F s t)) c.new.ensures.words
     (subst (λ (n : ℕ). IsTrue c.is_none.result ↔ AtEachSymbol F.inputs (GoInto (HaveOneBit words n) F s t)) c.new.ensures.at both)

@@ -4,8 +4,8 @@ use Rattle.kiss2.specs.Machine.{Conflicting}
 use Rattle.partition.specs.Partition.{Together}
 use Rattle.machine_table.specs.Pairs.{AtEachSymbol, GoInto}
 use Rattle.machine_table.specs.Table.{IsTable}
-use Rattle.machine_table.proofs.Labels.{if_none_given}
-use Rattle.machine_table.proofs.NextLabels.{named_everywhere, one_named, first_not_gone, go_from_none, label_of_next, together_in}
+use Rattle.machine_table.proofs.Labels.{each_from_none, first_not_so, if_none_given}
+use Rattle.machine_table.proofs.NextLabels.{label_of_next, named, named_everywhere, next_labels, one_named, together_in}
 use Rattle.machine_table.proofs.machine.Machine.first_apart.Goals as goal
 
 pub returns-clause-some : goal.returns-clause-some
@@ -17,7 +17,7 @@ returns-clause-some c =
     let alike = (λ (x : ℕ) (same : label_of_next (slice_index q) F c.args.s x ≡ label_of_next (slice_index q) F c.args.t x).
     together_in F table no_conflict q c.args.s c.args.t c.requires.s c.requires.t c.requires.states x same) in
     let equal = (λ (x : ℕ) (goes : GoInto (Together q) F c.args.s c.args.t x). goes.2) in
-    first_not_gone F table no_conflict (slice_index q) c.args.s c.args.t (Together q) alike equal c.first_differing.result c.first_differing.ensures.within c.first_differing.ensures.some c.first_differing.ensures.met
+    first_not_so F table (named (slice_index q)) (slice_index q) (label_of_next (slice_index q) F) (next_labels F no_conflict (slice_index q)) c.args.s c.args.t (GoInto (Together q) F c.args.s c.args.t) alike equal c.first_differing.result c.first_differing.ensures.within c.first_differing.ensures.some c.first_differing.ensures.met
 
 pub returns-clause-none : goal.returns-clause-none
 returns-clause-none c =
@@ -29,7 +29,7 @@ returns-clause-none c =
     together_in F table no_conflict q c.args.s c.args.t c.requires.s c.requires.t c.requires.states x same) in
     let equal = (λ (x : ℕ) (goes : GoInto (Together q) F c.args.s c.args.t x). goes.2) in
     if_none_given (AtEachSymbol F.inputs (GoInto (Together q) F c.args.s c.args.t)) c.first_differing.result
-    (go_from_none F table no_conflict (slice_index q) c.args.s c.args.t (Together q) alike equal c.first_differing.result c.first_differing.ensures.within c.first_differing.ensures.some true c.first_differing.ensures.met)
+    (each_from_none F table (named (slice_index q)) (slice_index q) (label_of_next (slice_index q) F) (next_labels F no_conflict (slice_index q)) c.args.s c.args.t (GoInto (Together q) F c.args.s c.args.t) alike equal c.first_differing.result c.first_differing.ensures.within c.first_differing.ensures.some true c.first_differing.ensures.met)
 
 pub first_differing-requires-clause-one : goal.first_differing-requires-clause-one
 first_differing-requires-clause-one c =

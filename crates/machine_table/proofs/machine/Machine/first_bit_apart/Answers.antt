@@ -3,8 +3,8 @@ use Rattle.kiss2.specs.declared.kiss_file.KissFile.{KissFile}
 use Rattle.kiss2.specs.Machine.{Conflicting}
 use Rattle.machine_table.specs.Pairs.{AgreeInBit, AtEachSymbol, IsFirstWithout}
 use Rattle.machine_table.specs.Table.{IsTable}
-use Rattle.machine_table.proofs.Labels.{if_none_given}
-use Rattle.machine_table.proofs.OutputLabels.{given_everywhere, one_given, agree_from_none, first_in_bit}
+use Rattle.machine_table.proofs.Labels.{each_from_none, first_not_so, if_none_given}
+use Rattle.machine_table.proofs.OutputLabels.{bits_alike, bits_equal, given_everywhere, given_label, label_of_output, no_label, one_given, output_labels}
 use Rattle.machine_table.proofs.machine.Machine.first_bit_apart.Goals as goal
 
 pub returns-clause-some : goal.returns-clause-some
@@ -12,19 +12,21 @@ returns-clause-some c =
     let F = c.args.self.now in
     let table = subst IsTable c.self.view_is c.self.invariant.0 in
     let no_conflict = subst (λ (G : KissFile). Conflicting G → ⊥) c.self.view_is c.self.invariant.1 in
+    let b = c.new.result.b in
     let found = c.first_differing in
     subst (λ (n : ℕ). IfSome found.result (IsFirstWithout F.inputs (AgreeInBit n F c.args.s c.args.t))) c.new.ensures
-    (first_in_bit F table no_conflict c.new.result.b c.args.s c.args.t found.result found.ensures.within found.ensures.some found.ensures.met)
+    (first_not_so F table (given_label b) no_label (label_of_output b F) (output_labels F no_conflict b) c.args.s c.args.t (AgreeInBit b F c.args.s c.args.t) (bits_alike F b c.args.s c.args.t) (bits_equal F b c.args.s c.args.t) found.result found.ensures.within found.ensures.some found.ensures.met)
 
 pub returns-clause-none : goal.returns-clause-none
 returns-clause-none c =
     let F = c.args.self.now in
     let table = subst IsTable c.self.view_is c.self.invariant.0 in
     let no_conflict = subst (λ (G : KissFile). Conflicting G → ⊥) c.self.view_is c.self.invariant.1 in
+    let b = c.new.result.b in
     let found = c.first_differing in
     subst (λ (n : ℕ). IfNone found.result (AtEachSymbol F.inputs (AgreeInBit n F c.args.s c.args.t))) c.new.ensures
     (if_none_given (AtEachSymbol F.inputs (AgreeInBit c.new.result.b F c.args.s c.args.t)) found.result
-    (agree_from_none F table no_conflict c.new.result.b c.args.s c.args.t found.result found.ensures.within found.ensures.some true found.ensures.met))
+    (each_from_none F table (given_label b) no_label (label_of_output b F) (output_labels F no_conflict b) c.args.s c.args.t (AgreeInBit b F c.args.s c.args.t) (bits_alike F b c.args.s c.args.t) (bits_equal F b c.args.s c.args.t) found.result found.ensures.within found.ensures.some true found.ensures.met))
 
 pub first_differing-requires-clause-one : goal.first_differing-requires-clause-one
 first_differing-requires-clause-one c =

@@ -1,4 +1,4 @@
-use Rattle.std.proofs.Common.{ℕ, ◌≡◌, ◌<◌, ◌≤◌, ◌+◌, ◌^◌, IfSome, Option, length, subst, sym, arith}
+use Rattle.std.proofs.Common.{ℕ, ◌<◌, ◌+◌, ◌^◌, IfSome, Option, length, subst, sym, arith}
 use Rattle.kiss2.specs.declared.kiss_file.KissRow.{KissRow}
 use Rattle.machine_table.specs.Inner.Asked.{ApartBelow, AreApartAt, IsMetBy, MeetsApart, lesser_of}
 use Rattle.machine_table.proofs.AlikeRows.{pair_more}

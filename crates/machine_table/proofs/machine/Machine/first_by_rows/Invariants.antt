@@ -1,4 +1,4 @@
-use Rattle.std.proofs.Common.{ℕ, ◌<◌, ◌^◌, IfSome, length}
+use Rattle.std.proofs.Common.{◌<◌, ◌^◌, IfSome, length}
 use Rattle.machine_table.specs.Inner.Asked.{ApartBelow, MeetsApart}
 use Rattle.machine_table.proofs.machine.Machine.first_by_rows.Given as goal
 

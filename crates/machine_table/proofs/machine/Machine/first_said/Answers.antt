@@ -1,4 +1,4 @@
-use Rattle.std.proofs.Common.{ℕ, length}
+use Rattle.std.proofs.Common.{length}
 use Rattle.machine_table.specs.Inner.Asked.{ApartBelow, SayTwo}
 use Rattle.machine_table.proofs.AlikeRows.{met_by_places, two_from_places}
 use Rattle.machine_table.proofs.Sought.{if_some_map}

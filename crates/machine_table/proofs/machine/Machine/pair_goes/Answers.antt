@@ -4,8 +4,8 @@ use Rattle.kiss2.specs.Machine.{Conflicting}
 use Rattle.partition.specs.Partition.{Together}
 use Rattle.machine_table.specs.Pairs.{GoInto}
 use Rattle.machine_table.specs.Table.{IsTable}
-use Rattle.machine_table.proofs.Labels.{true_from_not}
-use Rattle.machine_table.proofs.NextLabels.{named_everywhere, one_named, go_from_none, label_of_next, none_from_go, together_in}
+use Rattle.machine_table.proofs.Labels.{each_from_none, none_from_each, true_from_not}
+use Rattle.machine_table.proofs.NextLabels.{label_of_next, named, named_everywhere, next_labels, one_named, together_in}
 use Rattle.machine_table.proofs.machine.Machine.pair_goes.Goals as goal
 
 pub returns : goal.returns
@@ -17,8 +17,8 @@ returns c =
     let alike = (λ (x : ℕ) (same : label_of_next (slice_index q) F c.args.s x ≡ label_of_next (slice_index q) F c.args.t x).
     together_in F table no_conflict q c.args.s c.args.t c.requires.s c.requires.t c.requires.states x same) in
     let equal = (λ (x : ℕ) (goes : GoInto (Together q) F c.args.s c.args.t x). goes.2) in (
-      λ none. go_from_none F table no_conflict (slice_index q) c.args.s c.args.t (Together q) alike equal c.first_differing.result c.first_differing.ensures.within c.first_differing.ensures.some false c.first_differing.ensures.met (c.is_none.ensures ∙ ap not none),
-      λ go. true_from_not c.is_none.result (sym c.is_none.ensures ∙ none_from_go F table no_conflict (slice_index q) c.args.s c.args.t (Together q) alike equal c.first_differing.result c.first_differing.ensures.within c.first_differing.ensures.some go),
+      λ none. each_from_none F table (named (slice_index q)) (slice_index q) (label_of_next (slice_index q) F) (next_labels F no_conflict (slice_index q)) c.args.s c.args.t (GoInto (Together q) F c.args.s c.args.t) alike equal c.first_differing.result c.first_differing.ensures.within c.first_differing.ensures.some false c.first_differing.ensures.met (c.is_none.ensures ∙ ap not none),
+      λ go. true_from_not c.is_none.result (sym c.is_none.ensures ∙ none_from_each F table (named (slice_index q)) (slice_index q) (label_of_next (slice_index q) F) (next_labels F no_conflict (slice_index q)) c.args.s c.args.t (GoInto (Together q) F c.args.s c.args.t) alike equal c.first_differing.result c.first_differing.ensures.within c.first_differing.ensures.some go),
     )
 
 pub first_differing-requires-clause-one : goal.first_differing-requires-clause-one

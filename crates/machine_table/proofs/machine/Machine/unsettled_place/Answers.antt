@@ -1,8 +1,8 @@
-use Rattle.std.proofs.Common.{ℕ, ◌≡◌, ◌<◌, get_or, slice_get, length, Some, subst, sym, arith}
+use Rattle.std.proofs.Common.{ℕ, ◌≡◌, slice_get, Some, subst, sym, arith}
 use Rattle.kiss2.specs.declared.kiss_file.KissRow.{KissRow}
 use Rattle.machine_table.specs.Inner.Settled.{IsAllOrNone}
 use Rattle.machine_table.proofs.Asking.{looked_at, number_of_row}
-use Rattle.machine_table.proofs.machine.Machine.unsettled_by.Goals as goal
+use Rattle.machine_table.proofs.machine.Machine.unsettled_place.Goals as goal
 
 pub loop-number-preserved : goal.loop-number-preserved
 loop-number-preserved c =

@@ -1,7 +1,7 @@
 use Rattle.std.proofs.Common.{ℕ, ◌≡◌, ◌<◌, Some, get_or, slice_get}
 use Rattle.kiss2.specs.declared.kiss_file.KissRow.{KissRow}
 use Rattle.machine_table.specs.Inner.Settled.{IsAllOrNone}
-use Rattle.machine_table.proofs.machine.Machine.unsettled_by.Given as goal
+use Rattle.machine_table.proofs.machine.Machine.unsettled_place.Given as goal
 
 abbrev pub invariant-loop-number : goal.invariant-loop-number
 invariant-loop-number l =

@@ -1,0 +1,129 @@
+-- Lists to which pairs are added, one kind after another.
+use Rattle.std.proofs.Common.{◌≡◌, ℕ, ◌+◌, ◌↔◌, ◌⊎◌, List, [], ◌∷◌, ◌++◌, length, get_or, Some, Ok, Err, OnOk, Result, Contains, slice_get, inl, inr, sym, ◌∙◌, subst, refl, arith, ap, zero, suc}
+use Rattle.std.proofs.lemmas.Bool.{cases_lt}
+use Rattle.std.proofs.lemmas.List.{get_or_default}
+use Rattle.std.proofs.lemmas.List.Elements.{Contains-append_cases, Contains-append_left, Contains-append_right, Contains-get_or}
+use Rattle.kiss2.specs.declared.kiss_file.KissFile.{KissFile}
+use Rattle.kiss2.specs.declared.kiss_file.KissRow.{KissRow}
+use Rattle.machine_table.specs.Inner.AddedPairs.{AddsPairs, AreNamedBy, AtBothPlaces, AtPlace, BelowCount, IsFound, OfSomeRow}
+use Rattle.machine_table.specs.Inner.Places.{IsNumberOf}
+use Rattle.machine_table.proofs.Asking.{number_of_row}
+use Rattle.machine_table.proofs.Sought.{row_of}
+
+-- what an Ok brings, told in another way
+pub on_ok : {T E : Type 0} (r : Result T E) (P Q : Type 0) → (P → Q) → OnOk r P → OnOk r Q
+on_ok (Ok x) P Q there has = there has
+on_ok (Err e) P Q there has = tt
+
+-- the same pairs, told in another way
+pub adds_as : (P Q : ℕ → ℕ → Type 0) (old more : List (ℕ × ℕ)) → ((u v : ℕ) → P u v ↔ Q u v) → AddsPairs P old more → AddsPairs Q old more
+adds_as P Q old more same adds u v = (there, back) where
+  there : Contains more (u, v) → Contains old (u, v) ⊎ Q u v
+  there among =
+      elim ((adds u v).0 among) [
+        | inl before ↦ inl before
+        | inr new ↦ inr ((same u v).0 new)
+      ]
+
+  back : Contains old (u, v) ⊎ Q u v → Contains more (u, v)
+  back (inl before) = (adds u v).1 (inl before)
+  back (inr new) = (adds u v).1 (inr ((same u v).1 new))
+
+-- pairs of one kind, and then those of another
+pub adds_then : (P Q : ℕ → ℕ → Type 0) (old some more : List (ℕ × ℕ)) → AddsPairs P old some → AddsPairs Q some more → AddsPairs (λ u v. P u v ⊎ Q u v) old more
+adds_then P Q old some more first second u v = (there, back) where
+  there : Contains more (u, v) → Contains old (u, v) ⊎ (P u v ⊎ Q u v)
+  there among =
+      elim ((second u v).0 among) [
+        | inr new ↦ inr (inr new)
+        | inl before ↦
+            elim ((first u v).0 before) [
+              | inl earlier ↦ inl earlier
+              | inr new ↦ inr (inl new)
+            ]
+      ]
+
+  back : Contains old (u, v) ⊎ (P u v ⊎ Q u v) → Contains more (u, v)
+  back (inl before) = (second u v).1 (inl ((first u v).1 (inl before)))
+  back (inr (inl new)) = (second u v).1 (inl ((first u v).1 (inr new)))
+  back (inr (inr new)) = (second u v).1 (inr new)
+
+-- of a kind of which there are none
+pub adds_none : (P : ℕ → ℕ → Type 0) (old : List (ℕ × ℕ)) → ((u v : ℕ) → P u v → ⊥) → AddsPairs P old old
+adds_none P old none u v = ((λ among. inl among), back) where
+  back : Contains old (u, v) ⊎ P u v → Contains old (u, v)
+  back (inl before) = before
+  back (inr new) = absurd (none u v new)
+
+only : (x y : ℕ × ℕ) → Contains (x ∷ []) y → x ≡ y
+only x y (zero, lt, is) = is
+only x y (suc k, lt, is) = absurd (omega arith)
+
+-- the one that was found is put behind the others
+pub adds_found : (pair : ℕ × ℕ) (old : List (ℕ × ℕ)) → AddsPairs (IsFound (Some pair)) old (old ++ pair ∷ [])
+adds_found pair old u v = (there, back) where
+  there : Contains (old ++ pair ∷ []) (u, v) → Contains old (u, v) ⊎ IsFound (Some pair) u v
+  there among =
+      elim (Contains-append_cases old (pair ∷ []) (u, v) among) [
+        | inl before ↦ inl before
+        | inr here ↦ inr (ap (λ (p : ℕ × ℕ). Some p) (only pair (u, v) here))
+      ]
+
+  back : Contains old (u, v) ⊎ IsFound (Some pair) u v → Contains (old ++ pair ∷ []) (u, v)
+  back (inl before) = Contains-append_left old (pair ∷ []) (u, v) before
+  back (inr is) =
+      let same : pair ≡ (u, v) = cc in
+      subst (λ (p : ℕ × ℕ). Contains (old ++ pair ∷ []) p) same (Contains-append_right old (pair ∷ []) pair (0, omega arith, refl))
+
+-- ---- what is told of numbers below a count
+pub adds_below_none : (R : ℕ → ℕ → ℕ → Type 0) (old : List (ℕ × ℕ)) → AddsPairs (BelowCount R 0) old old
+adds_below_none R old = adds_none (BelowCount R 0) old (λ u v below. absurd (omega (arith, below.1)))
+
+pub adds_more : (R : ℕ → ℕ → ℕ → Type 0) (i : ℕ) (P : ℕ → ℕ → Type 0) (old some more : List (ℕ × ℕ)) → ((u v : ℕ) → P u v ↔ R i u v)
+    → AddsPairs (BelowCount R i) old some → AddsPairs P some more → AddsPairs (BelowCount R (i + 1)) old more
+adds_more R i P old some more same first second =
+    adds_as (λ u v. BelowCount R i u v ⊎ P u v) (BelowCount R (i + 1)) old more (λ u v. (there u v, back u v)) (adds_then (BelowCount R i) P old some more first second)
+  where
+    there : (u v : ℕ) → BelowCount R i u v ⊎ P u v → BelowCount R (i + 1) u v
+    there u v (inl (k, below, has)) = (k, omega arith, has)
+    there u v (inr new) = (i, omega arith, (same u v).0 new)
+
+    back : (u v : ℕ) → BelowCount R (i + 1) u v → BelowCount R i u v ⊎ P u v
+    back u v (k, below, has) =
+        elim (cases_lt k i) [
+          | inl lower ↦ inl (k, lower, has)
+          | inr here ↦ let at : k ≡ i = omega arith in inr ((same u v).1 (subst (λ (n : ℕ). R n u v) at has))
+        ]
+
+-- one row stands at a number
+one_row : (rows : List KissRow) (i : ℕ) (row other : KissRow) → slice_get rows i ≡ Some row → slice_get rows i ≡ Some other → row ≡ other
+one_row rows i row other first second = let same : Some row ≡ Some other = sym first ∙ second in cc
+
+pub at_this_place : (rows : List KissRow) (numbers : List ℕ) (P : KissRow → ℕ → ℕ → Type 0) (i : ℕ) (row : KissRow) → slice_get rows (get_or numbers i 0) ≡ Some row
+    → (u v : ℕ) → P row u v ↔ AtPlace rows numbers P i u v
+at_this_place rows numbers P i row at_row u v = ((λ has. (row, at_row, has)), back) where
+  back : AtPlace rows numbers P i u v → P row u v
+  back (other, at_other, has) = subst (λ (r : KissRow). P r u v) (one_row rows (get_or numbers i 0) other row at_other at_row) has
+
+pub at_these_places : (rows : List KissRow) (first second : List ℕ) (i : ℕ) (row other : KissRow) → slice_get rows (get_or first i 0) ≡ Some row
+    → slice_get rows (get_or second i 0) ≡ Some other → (u v : ℕ) → AreNamedBy row other u v ↔ AtBothPlaces rows first second i u v
+at_these_places rows first second i row other at_row at_other u v = ((λ has. (row, other, at_row, at_other, has)), back) where
+  back : AtBothPlaces rows first second i u v → AreNamedBy row other u v
+  back (a, b, at_a, at_b, has) =
+      subst (λ (r : KissRow). AreNamedBy r other u v) (one_row rows (get_or first i 0) a row at_a at_row)
+      (subst (λ (r : KissRow). AreNamedBy a r u v) (one_row rows (get_or second i 0) b other at_b at_other) has)
+
+-- all numbers of a state are those of its rows
+pub at_some_row : (F : KissFile) (s : ℕ) (numbers : List ℕ) (P : KissRow → ℕ → ℕ → Type 0) → ((i : ℕ) → Contains numbers i → IsNumberOf F s i)
+    → ((i : ℕ) (row : KissRow) → slice_get F.rows i ≡ Some row → row.from ≡ s → Contains numbers i)
+    → (u v : ℕ) → BelowCount (AtPlace F.rows numbers P) (length numbers) u v ↔ OfSomeRow F s P u v
+at_some_row F s numbers P own each u v = (there, back) where
+  there : BelowCount (AtPlace F.rows numbers P) (length numbers) u v → OfSomeRow F s P u v
+  there (k, below, (row, at_row, has)) = (row, row_of F s (get_or numbers k 0) row (own (get_or numbers k 0) (Contains-get_or numbers k 0 below)) at_row, has)
+
+  back : OfSomeRow F s P u v → BelowCount (AtPlace F.rows numbers P) (length numbers) u v
+  back (row, (among, from), has) =
+      let at_number = number_of_row F row among in
+      let place = each among.0 row at_number from in
+      let same : among.0 ≡ get_or numbers place.0 0 = sym place.2 ∙ get_or_default numbers place.0 among.0 0 place.1 in
+      (place.0, place.1, (row, subst (λ (n : ℕ). slice_get F.rows n ≡ Some row) same at_number, has))

@@ -1,0 +1,9 @@
+use Rattle.std.proofs.Common.{subst}
+use Rattle.kiss2.specs.declared.kiss_file.KissFile.{KissFile}
+use Rattle.machine_table.specs.Staying.{NeverLeaves}
+use Rattle.machine_table.proofs.Staying.{never_leaves}
+use Rattle.machine_table.proofs.machine.Machine.states.Goals as goal
+
+pub returns-clause-inside : goal.returns-clause-inside
+returns-clause-inside c =
+    subst (λ (F : KissFile). NeverLeaves F) c.self.view_is (never_leaves c.self.inside.file c.self.invariant.0 c.self.invariant.1)

@@ -1,0 +1,71 @@
+-- Lists to which pairs of next states are added. Private functions need it; no public contract cites it.
+use Rattle.std.specs.Prelude.{ℕ, ◌≡◌, ◌<◌, ◌^◌, ◌↔◌, ◌⊎◌, Bool, true, false, Contains, List, Option, Some, length, slice_get, slice_index}
+use Rattle.cubes.specs.Cube.{HoldsNumber}
+use Rattle.kiss2.specs.declared.kiss_file.KissFile.{KissFile}
+use Rattle.kiss2.specs.declared.kiss_file.KissRow.{KissRow}
+use Rattle.machine_table.specs.Inner.Asked.{AreOpenAt, IsLabelAt, IsOpenAt, IsRowOf}
+
+-- a list with the pairs of a kind beside its own
+abbrev pub AddsPairs : (ℕ → ℕ → Type 0) → List (ℕ × ℕ) → List (ℕ × ℕ) → Type 0
+AddsPairs P old more = (u v : ℕ) → Contains more (u, v) ↔ (Contains old (u, v) ⊎ P u v)
+
+-- it is the pair that was found
+abbrev pub IsFound : Option (ℕ × ℕ) → ℕ → ℕ → Type 0
+IsFound found u v = found ≡ Some (u, v)
+
+-- the pair, or where it is turned the pair of the second and the first
+abbrev pub pair_of : Bool → ℕ → ℕ → ℕ × ℕ
+pair_of false u v = (u, v)
+pair_of true u v = (v, u)
+
+-- the next state that a row names
+abbrev pub to_of : KissRow → Option ℕ
+to_of row = row.to
+
+-- both rows hold some symbol, and name these
+pub record AreNamedBy (row other : KissRow) (u v : ℕ) : Type 0 where
+  pub shared : (x : ℕ) × (x < 2 ^ row.cube.width) × HoldsNumber row.cube x × HoldsNumber other.cube x
+  pub first : row.to ≡ Some u
+  pub second : other.to ≡ Some v
+
+-- some row of the state does what is told of a row
+abbrev pub OfSomeRow : KissFile → ℕ → (KissRow → ℕ → ℕ → Type 0) → ℕ → ℕ → Type 0
+OfSomeRow F s P u v = (row : KissRow) × IsRowOf F s row × P row u v
+
+-- the row and some row of the state name these at some symbol
+abbrev pub IsNamedBeside : KissFile → ℕ → KissRow → ℕ → ℕ → Type 0
+IsNamedBeside F t row = OfSomeRow F t (AreNamedBy row)
+
+-- rows of both states name these at some symbol
+abbrev pub AreNamed : KissFile → (s t u v : ℕ) → Type 0
+AreNamed F s t u v = (x : ℕ) × (x < 2 ^ F.inputs) × IsLabelAt to_of F s x u × IsLabelAt to_of F t x v
+
+-- what is told of a number holds of one below the count
+abbrev pub BelowCount : (ℕ → ℕ → ℕ → Type 0) → ℕ → ℕ → ℕ → Type 0
+BelowCount P count u v = (k : ℕ) × (k < count) × P k u v
+
+-- the row at a place of a list of numbers does what is told of a row
+abbrev pub AtPlace : List KissRow → List ℕ → (KissRow → ℕ → ℕ → Type 0) → ℕ → ℕ → ℕ → Type 0
+AtPlace rows numbers P k u v = (row : KissRow) × (slice_get rows (slice_index numbers k) ≡ Some row) × P row u v
+
+-- the rows at one place of two lists name these at some symbol
+abbrev pub AtBothPlaces : List KissRow → (first second : List ℕ) → ℕ → ℕ → ℕ → Type 0
+AtBothPlaces rows first second k u v =
+    (row : KissRow) × (other : KissRow) × (slice_get rows (slice_index first k) ≡ Some row) × (slice_get rows (slice_index second k) ≡ Some other) × AreNamedBy row other u v
+
+abbrev pub AreNamedAtPlaces : List KissRow → (first second : List ℕ) → ℕ → ℕ → Type 0
+AreNamedAtPlaces rows first second = BelowCount (AtBothPlaces rows first second) (length first)
+
+-- the row names one at a symbol at which no row of the state names any, and the other is that state
+abbrev pub NamesAlone : KissFile → ℕ → Bool → KissRow → ℕ → ℕ → Type 0
+NamesAlone F t turned row u v =
+    (x w : ℕ) × (x < 2 ^ F.inputs) × HoldsNumber row.cube x × IsOpenAt to_of F t x × (row.to ≡ Some w) × ((u, v) ≡ pair_of turned w t)
+
+-- they are the states, and at some symbol no row of either names any
+abbrev pub AreBothOpen : KissFile → (s t u v : ℕ) → Type 0
+AreBothOpen F s t u v = (x : ℕ) × (x < 2 ^ F.inputs) × AreOpenAt to_of F s t x × (u ≡ s) × (v ≡ t)
+
+-- so it is at a symbol at which no row of one of the states names any
+abbrev pub IsOpenImage : KissFile → (s t u v : ℕ) → Type 0
+IsOpenImage F s t u v =
+    OfSomeRow F s (NamesAlone F t false) u v ⊎ (OfSomeRow F t (NamesAlone F s true) u v ⊎ AreBothOpen F s t u v)

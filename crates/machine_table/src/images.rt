@@ -1,0 +1,198 @@
+//! The pairs of next states of two states.
+//!
+//! Rows of both states that share a symbol name a pair. Where rows may leave a next state open, the pairs at
+//! such symbols are added: the symbols are sought as those at which labels differ.
+ghost use Rattle.std.specs.Prelude.{ℕ, ◌≡◌, ◌≢◌, ◌<◌, ◌↔◌, All, AllPairs, Contains, IfOk, OnOk, length};
+ghost use Rattle.machine_table.specs.Covering.{IsImage};
+ghost use Rattle.machine_table.specs.Inner.AddedPairs.{AddsPairs, AreBothOpen, AreNamed, AreNamedAtPlaces, AreNamedBy, IsFound, IsNamedBeside, IsOpenImage, NamesAlone, OfSomeRow, pair_of};
+
+use crate::Machine;
+use crate::question::NextState;
+use crate::searching::{least_of_both, whole};
+use kiss2::KissRow;
+use std::alloc::{AllocError, Global};
+
+/// Puts the pairs into ascending order and leaves each once.
+fn keep_one_of_each(pairs: &mut Vec<(u16, u16)>)
+    ensures same { (pair : ℕ × ℕ) → Contains pairs.new.items pair ↔ Contains pairs.old.items pair }
+    ensures once { AllPairs (λ a b. a ≢ b) pairs.new.items }
+{
+    pairs.sort_unstable();
+    pairs.dedup();
+}
+
+/// Adds the pair that was found, if one was.
+fn add_found(found: Option<(u16, u16)>, pairs: &mut Vec<(u16, u16)>) -> Result<(), AllocError>
+    ensures { OnOk result (AddsPairs (IsFound found) pairs.old.items pairs.new.items) }
+{
+    if let Some(pair) = found {
+        pairs.push(pair)?;
+    }
+    Ok(())
+}
+
+/// The pair, or where it is turned the pair of the second and the first.
+fn in_order(first: u16, second: u16, turned: bool) -> (u16, u16)
+    ensures { result ≡ pair_of turned first second }
+{
+    if turned {
+        (second, first)
+    } else {
+        (first, second)
+    }
+}
+
+/// The pair that two rows name, where they share a symbol.
+fn named_pair(row: &KissRow, other: &KissRow) -> Option<(u16, u16)>
+    requires { row.now.cube.width ≡ other.now.cube.width }
+    ensures { (u v : ℕ) → IsFound result u v ↔ AreNamedBy row.now other.now u v }
+{
+    least_of_both(&row.cube, &other.cube)?;
+    Some((row.to?, other.to?))
+}
+
+impl Machine {
+    /// The pairs of next states of the two states, in ascending order.
+    pub fn images(&self, alloc: Global, s: usize, t: usize) -> Result<Vec<(u16, u16)>, AllocError>
+        requires s { s < length self.now.states }
+        requires t { t < length self.now.states }
+        ensures listed { IfOk result (λ images. (u v : ℕ) → Contains images.items (u, v) ↔ IsImage self.now s t u v) }
+        ensures once { IfOk result (λ images. AllPairs (λ a b. a ≢ b) images.items) }
+    {
+        let mut images = Vec::new(alloc);
+        self.add_images(s, t, &mut images)?;
+        keep_one_of_each(&mut images);
+        Ok(images)
+    }
+
+    /// Adds the pairs of next states of the two states.
+    fn add_images(&self, s: usize, t: usize, pairs: &mut Vec<(u16, u16)>) -> Result<(), AllocError>
+        requires s { s < length self.now.states }
+        requires t { t < length self.now.states }
+        ensures { OnOk result (AddsPairs (IsImage self.now s t) pairs.old.items pairs.new.items) }
+    {
+        let complete = self.is_complete();
+        self.add_named(s, t, pairs)?;
+        if complete {
+            return Ok(());
+        }
+        self.add_open(s, t, pairs)
+    }
+
+    /// Adds the pairs that rows of both states name.
+    fn add_named(&self, s: usize, t: usize, pairs: &mut Vec<(u16, u16)>) -> Result<(), AllocError>
+        requires s { s < length self.now.states }
+        requires t { t < length self.now.states }
+        ensures { OnOk result (AddsPairs (AreNamed self.now s t) pairs.old.items pairs.new.items) }
+    {
+        let first = self.numbers_of(s);
+        let second = self.numbers_of(t);
+        if self.are_alike(&NextState::new(self.states()), first, second) {
+            return self.add_by_places(first, second, pairs);
+        }
+        self.add_by_rows(s, t, pairs)
+    }
+
+    /// Adds the pairs that rows at one place of both lists name.
+    fn add_by_places(
+        &self,
+        first: &[usize],
+        second: &[usize],
+        pairs: &mut Vec<(u16, u16)>,
+    ) -> Result<(), AllocError>
+        requires first { All (λ i. i < length self.now.rows) first.now }
+        requires second { All (λ i. i < length self.now.rows) second.now }
+        requires count { length first.now ≡ length second.now }
+        ensures { OnOk result (AddsPairs (AreNamedAtPlaces self.now.rows first.now second.now) pairs.old.items pairs.new.items) }
+    {
+        for i in 0..first.len() {
+            let row = self.row(first[i]);
+            let other = self.row(second[i]);
+            add_found(named_pair(row, other), pairs)?;
+        }
+        Ok(())
+    }
+
+    /// Adds the pairs that some row of the first state and some row of the second name.
+    fn add_by_rows(&self, s: usize, t: usize, pairs: &mut Vec<(u16, u16)>) -> Result<(), AllocError>
+        requires s { s < length self.now.states }
+        requires t { t < length self.now.states }
+        ensures { OnOk result (AddsPairs (OfSomeRow self.now s (IsNamedBeside self.now t)) pairs.old.items pairs.new.items) }
+    {
+        for number in self.numbers_of(s) {
+            self.add_beside(self.row(*number), t, pairs)?;
+        }
+        Ok(())
+    }
+
+    /// Adds the pairs that the row and some row of the state name.
+    fn add_beside(
+        &self,
+        row: &KissRow,
+        t: usize,
+        pairs: &mut Vec<(u16, u16)>,
+    ) -> Result<(), AllocError>
+        requires t { t < length self.now.states }
+        requires width { row.now.cube.width ≡ self.now.inputs }
+        ensures { OnOk result (AddsPairs (IsNamedBeside self.now t row.now) pairs.old.items pairs.new.items) }
+    {
+        for number in self.numbers_of(t) {
+            add_found(named_pair(row, self.row(*number)), pairs)?;
+        }
+        Ok(())
+    }
+
+    /// Adds the pairs at symbols at which no row of one of the states names a next state.
+    fn add_open(&self, s: usize, t: usize, pairs: &mut Vec<(u16, u16)>) -> Result<(), AllocError>
+        requires s { s < length self.now.states }
+        requires t { t < length self.now.states }
+        ensures { OnOk result (AddsPairs (IsOpenImage self.now s t) pairs.old.items pairs.new.items) }
+    {
+        self.add_alone(s, t, false, pairs)?;
+        self.add_alone(t, s, true, pairs)?;
+        add_found(self.open_pair(s, t), pairs)
+    }
+
+    /// The pair of the states, where at some symbol no row of either names a next state.
+    fn open_pair(&self, s: usize, t: usize) -> Option<(u16, u16)>
+        requires s { s < length self.now.states }
+        requires t { t < length self.now.states }
+        ensures { (u v : ℕ) → IsFound result u v ↔ AreBothOpen self.now s t u v }
+    {
+        let question = NextState::new(self.states());
+        self.first_open_in(&question, s, t, whole(self.inputs()), false)?;
+        Some((s as u16, t as u16))
+    }
+
+    /// Adds the pairs of a next state that a row of the first state names and of the second state, where no
+    /// row of the second names one; turned, if that is asked for.
+    fn add_alone(
+        &self,
+        s: usize,
+        t: usize,
+        turned: bool,
+        pairs: &mut Vec<(u16, u16)>,
+    ) -> Result<(), AllocError>
+        requires s { s < length self.now.states }
+        requires t { t < length self.now.states }
+        ensures { OnOk result (AddsPairs (OfSomeRow self.now s (NamesAlone self.now t turned)) pairs.old.items pairs.new.items) }
+    {
+        for number in self.numbers_of(s) {
+            add_found(self.alone_pair(self.row(*number), t, turned), pairs)?;
+        }
+        Ok(())
+    }
+
+    /// The pair of the next state that the row names and of the state, where at some symbol of the row no
+    /// row of the state names one.
+    fn alone_pair(&self, row: &KissRow, t: usize, turned: bool) -> Option<(u16, u16)>
+        requires t { t < length self.now.states }
+        requires width { row.now.cube.width ≡ self.now.inputs }
+        ensures { (u v : ℕ) → IsFound result u v ↔ NamesAlone self.now t turned row.now u v }
+    {
+        let next = row.to?;
+        let question = NextState::new(self.states());
+        self.first_open_in(&question, t, t, row.cube, false)?;
+        Some(in_order(next, t as u16, turned))
+    }
+}
