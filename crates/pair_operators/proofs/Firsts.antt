@@ -1,0 +1,41 @@
+-- A pair by the least states of blocks.
+use Rattle.std.proofs.Common.{◌≡◌, ◌≢◌, ◌∙◌, ℕ, ◌+◌, ◌<◌, List, length, get_or, eqb, sym, subst, refl, inl, inr, arith}
+use Rattle.std.proofs.lemmas.Bool.{cases_eq, eqb-true}
+use Rattle.std.proofs.lemmas.List.Sums.{passes_at_first}
+use Rattle.kiss2.specs.declared.kiss_file.KissFile.{KissFile}
+use Rattle.partition.specs.Partition.{Together}
+use Rattle.partition.specs.Inside.{least_of}
+use Rattle.partition.proofs.Nesting.{least_of-first, least_of-le, least_of-same}
+use Rattle.pair_operators.specs.Pair.{Pair}
+use Rattle.pair_operators.specs.Inner.Going.{Goes}
+use Rattle.pair_operators.proofs.Going.{goes_each, goes_in_pair, goes_turned, goes_on}
+
+pub least_of-together : (p : List ℕ) (s : ℕ) → s < length p → Together p (least_of p s) s
+least_of-together p s within =
+    let low : least_of p s < length p = omega (arith, least_of-le p s s refl) in
+    (low, within, eqb-true _ _ (passes_at_first (λ label. eqb label (get_or p s 0)) p 0 low))
+
+-- each state goes with the least state of its block
+abbrev pub FirstsGo : KissFile → List ℕ → List ℕ → ℕ → Type 0
+FirstsGo F p q count = (s : ℕ) → s < count → Goes F q (least_of p s) s
+
+pub firsts_more : (F : KissFile) (p q : List ℕ) (count : ℕ) → FirstsGo F p q count → Goes F q (least_of p count) count → FirstsGo F p q (count + 1)
+firsts_more F p q count before here s within =
+    elim (cases_eq s count) [
+      | inl at ↦ subst (λ (u : ℕ). Goes F q (least_of p u) u) (sym at) here
+      | inr other ↦ before s (omega arith)
+    ]
+
+pub pair_from_firsts : (F : KissFile) (p q : List ℕ) → FirstsGo F p q (length p) → Pair F p q
+pair_from_firsts F p q firsts s t x held size =
+    let one : Goes F q (least_of p s) s = firsts s held.0 in
+    let two : Goes F q (least_of p s) t = subst (λ (u : ℕ). Goes F q u t) (sym (least_of-same p s t held.2)) (firsts t held.1) in
+    goes_each F q s t (goes_on F q s (least_of p s) t (goes_turned F q (least_of p s) s one) two) x size
+
+pub firsts_from_pair : (F : KissFile) (p q : List ℕ) → Pair F p q → (s : ℕ) → s < length p → Goes F q (least_of p s) s
+firsts_from_pair F p q pair s within = goes_in_pair F p q (least_of p s) s pair (least_of-together p s within)
+
+-- a state that is together with s, and no earlier one is
+pub least_found : (p : List ℕ) (s t : ℕ) → Together p t s → ((u : ℕ) → u < t → get_or p u 0 ≢ get_or p s 0) → t ≡ least_of p s
+least_found p s t held none =
+    sym (least_of-first p t held.0 (λ u below same. none u below (same ∙ held.2))) ∙ least_of-same p t s held.2

@@ -1,0 +1,4 @@
+pub mod Going
+pub mod Firsts
+pub mod Holding
+pub mod Classes

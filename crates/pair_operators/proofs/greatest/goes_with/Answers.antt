@@ -1,0 +1,20 @@
+use Rattle.std.proofs.Common.{◌+◌, ℕ, List, sym, subst, ◌∙◌, arith}
+use Rattle.std.proofs.lemmas.Bool.{true≢false}
+use Rattle.kiss2.specs.declared.kiss_file.KissFile.{KissFile}
+use Rattle.pair_operators.proofs.Classes.{IsSearched, searched_first, searched_later}
+use Rattle.pair_operators.proofs.greatest.goes_with.Goals as goal
+use Rattle.pair_operators.proofs.greatest.goes_with.Goals.{then-from-blocks+else-pair_goes, else-from-blocks}
+
+pub loop-t-preserved : goal.loop-t-preserved
+loop-t-preserved c =
+    let F : KissFile = c.args.m.now in
+    let p : List ℕ = c.args.p.now in
+    let q : List ℕ = c.args.q.now in
+    let s : ℕ = c.args.s in
+    let t : ℕ = c.loop-t.t in
+    elim c.if-from-blocks.branch [
+      | then-from-blocks+else-pair_goes w ↦
+          subst (λ (n : ℕ). IsSearched F p q s (t + 1) n) (sym w.blocks-is) (searched_first F p q s t c.loop-t.blocks (omega (arith, c.requires.left.length)) (sym c.label.ensures ∙ sym c.from.ensures ∙ w.if-from-blocks.true) (λ goes. true≢false (sym (w.pair_goes.ensures.1 goes) ∙ w.if-pair_goes.false)) c.loop-t.invariant)
+      | else-from-blocks w ↦
+          subst (λ (n : ℕ). IsSearched F p q s (t + 1) n) (sym w.blocks-is) (searched_later F p q s t c.loop-t.blocks c.requires.left c.requires.together (omega (arith, c.requires.left.length)) (λ same. w.if-from-blocks.false (c.from.ensures ∙ c.label.ensures ∙ same)) c.loop-t.invariant)
+    ]

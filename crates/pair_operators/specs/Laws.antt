@@ -1,0 +1,3 @@
+-- What follows of the definitions alone.
+pub mod Pairs
+pub mod Extremes

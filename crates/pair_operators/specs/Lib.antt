@@ -1,0 +1,5 @@
+pub mod Pair
+pub mod Extremes
+pub mod Consistent
+pub mod Inner
+pub mod Laws

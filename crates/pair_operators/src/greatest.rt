@@ -1,0 +1,49 @@
+//! The greatest partition of a pair.
+ghost use Rattle.std.specs.Prelude.{ℕ, ◌≡◌, ◌<◌, IfNone, IfOk, IfSome, length};
+ghost use Rattle.pair_operators.specs.Extremes.{IsHigh};
+ghost use Rattle.partition.specs.Partition.{IsPartition};
+ghost use Rattle.pair_operators.specs.Inner.Going.{AllGo, Goes};
+
+use machine_table::Machine;
+use partition::Partition;
+use std::alloc::{AllocError, Global};
+
+/// M(q): the greatest partition p for which (p, q) is a pair.
+///
+/// Two states are together in it exactly where they go together. A state is compared with the least states
+/// of the blocks so far, and joins the first that it goes with.
+pub fn high(alloc: Global, m: &Machine, q: &Partition) -> Result<Partition, AllocError>
+    requires { length q.now ≡ length m.now.states }
+    ensures { IfOk result (IsHigh m.now q.now) }
+{
+    let mut p = Partition::zero(alloc, m.states())?;
+    for s in 0..m.states() {
+        if let Some(first) = goes_with(m, &p, q, s) {
+            p.merge(first, s);
+        }
+    }
+    Ok(p)
+}
+
+/// The first state below s that is the least of its block in p and goes, for each symbol, where s goes.
+fn goes_with(m: &Machine, p: &Partition, q: &Partition, s: usize) -> Option<usize>
+    requires s { s < length m.now.states }
+    requires left { IsPartition (length m.now.states) p.now }
+    requires right { length q.now ≡ length m.now.states }
+    requires together { AllGo m.now p.now q.now }
+    ensures below { IfSome result (λ first. first < s) }
+    ensures goes { IfSome result (λ first. Goes m.now q.now first s) }
+    ensures none { IfNone result ((t : ℕ) → t < s → ¬ Goes m.now q.now t s) }
+{
+    // Of the states so far: a state with this number for a label is the first with it.
+    let mut blocks = 0;
+    for t in 0..s {
+        if usize::from(p.label(t)) == blocks {
+            if m.pair_goes(t, s, q) {
+                return Some(t);
+            }
+            blocks += 1;
+        }
+    }
+    None
+}

@@ -1,0 +1,26 @@
+//! Partition pairs of a machine, and the operators m and M of Hartmanis and Stearns.
+//!
+//! (p, q) is a pair where states that are together in p go, for each symbol, to states that are together in
+//! q. [`is_pair`] decides it, [`low`] gives the least q for a p, and [`high`] the greatest p for a q, each
+//! among all partitions of the machine's states. None of them goes over the symbols one by one: they ask the
+//! machine about two states at a time.
+//!
+//! The definitions stand in `specs/`: `Pair` has pairs and closed partitions, `Extremes` the least and the
+//! greatest, and `Consistent` what the outputs of a machine ask of a partition. What follows of them, for the
+//! crates above, stands in `specs/Laws` and is promised by the functions of `laws`.
+#![tactic(auto)]
+
+mod greatest;
+mod laws;
+mod least;
+mod pairs;
+#[cfg(test)]
+mod tests;
+
+pub use greatest::high;
+pub use laws::{
+    chains_of_operators, least_and_greatest, mm_pairs, operators_grow, pairs_of_bounds,
+    pairs_of_sides,
+};
+pub use least::low;
+pub use pairs::is_pair;
