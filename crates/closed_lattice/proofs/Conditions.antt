@@ -1,0 +1,37 @@
+-- The conditions of growths: each holds of every smaller partition too, and zero meets them.
+use Rattle.std.proofs.Common.{◌≡◌, ℕ, ◌<◌, List, length, subst, arith}
+use Rattle.partition.specs.Partition.{IsPartition, IsZero, Together, Le, zero_of}
+use Rattle.partition.specs.MeetAndJoin.{IsMeet}
+use Rattle.partition.specs.Laws.Extremes.{zero_once, zero_of_is_zero}
+use Rattle.closed_lattice.specs.Limits.{HoldsApart, IsStrictlyBelow, MeetInZero}
+use Rattle.closed_lattice.proofs.Growing.{together_itself}
+
+pub strictly_below_down : (top p q : List ℕ) → Le q p → IsStrictlyBelow top p → IsStrictlyBelow top q
+strictly_below_down top p q le (below, strict) = ((λ s t held. below s t (le s t held)), (λ above. strict (λ s t held. le s t (above s t held))))
+
+pub zero_strictly_below : (n : ℕ) (top : List ℕ) → length top ≡ n → IsPartition n (zero_of n) → (IsZero top → ⊥) → IsStrictlyBelow top (zero_of n)
+zero_strictly_below n top size lawful other = (
+  (λ s t held. subst (λ (u : ℕ). Together top s u) (zero_of_is_zero n s t held) (together_itself top s (omega (arith, held.0, lawful.length)))),
+  (λ above. other (λ s t held. zero_of_is_zero n s t (above s t held))),
+)
+
+-- nothing is strictly below zero
+pub never_below_zero : (n : ℕ) (top : List ℕ) → length top ≡ n → IsZero top → (p : List ℕ) → IsPartition n p → IsStrictlyBelow top p → ⊥
+never_below_zero n top size zero p lawful (below, strict) =
+    strict (λ s t held. subst (λ (u : ℕ). Together p s u) (zero s t held) (together_itself p s (omega (arith, held.0, size, lawful.length))))
+
+pub meet_in_zero_down : (other p q : List ℕ) → Le q p → MeetInZero other p → MeetInZero other q
+meet_in_zero_down other p q le meets s t held = meets s t (le s t held)
+
+-- two partitions meet in zero where their meet is zero
+pub meet_is_zero : (p other r zero' : List ℕ) → IsMeet p other r → IsPartition (length p) zero' → IsZero zero' → (r ≡ zero' → MeetInZero other p) × (MeetInZero other p → r ≡ zero')
+meet_is_zero p other r zero' is lawful zero = (
+  (λ same s t here there. zero s t (subst (λ (x : List ℕ). Together x s t) same ((is.together s t).1 (here, there)))),
+  (λ meets. zero_once (length p) r zero' is.lawful lawful (λ s t held. let both = (is.together s t).0 held in meets s t both.0 both.1) zero),
+)
+
+pub apart_down : (s t : ℕ) (p q : List ℕ) → Le q p → HoldsApart s t p → HoldsApart s t q
+apart_down s t p q le apart held = apart (le s t held)
+
+pub zero_apart : (n s t : ℕ) → s < t → HoldsApart s t (zero_of n)
+zero_apart n s t order held = omega (arith, zero_of_is_zero n s t held)

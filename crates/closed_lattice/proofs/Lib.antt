@@ -1,0 +1,10 @@
+pub mod Waiting
+pub mod Growing
+pub mod Blocks
+pub mod Generating
+pub mod Principals
+pub mod Listed
+pub mod Grown
+pub mod Conditions
+pub mod Steps
+pub mod Sifting

@@ -1,0 +1,98 @@
+-- The least closed partitions other than zero, sifted from those that hold two states together.
+use Rattle.std.proofs.Common.{◌≡◌, ℕ, ◌+◌, ◌<◌, ◌≤◌, inl, inr, All, AllPairs, Contains, List, [], ◌∷◌, ◌++◌, length, get_or, sym, ap, ◌∙◌, subst, arith}
+use Rattle.std.proofs.lemmas.Bool.{cases_lt}
+use Rattle.std.proofs.lemmas.List.{get_or_append_left, get_or_push, get_or_default, length_push}
+use Rattle.std.proofs.lemmas.List.Elements.{All-contains, All-push, Contains-append_left, Contains-push}
+use Rattle.std.proofs.lemmas.List.Quantifiers.{all_pairs_push}
+use Rattle.hs_lattice.specs.Listing.{Lists}
+use Rattle.kiss2.specs.declared.kiss_file.KissFile.{KissFile}
+use Rattle.partition.specs.Partition.{Le}
+use Rattle.partition.specs.Before.{Before}
+use Rattle.partition.specs.Laws.Labels.{same_labels}
+use Rattle.closed_lattice.specs.Closed.{HoldsSome, IsAtom, IsClosedPartition}
+use Rattle.closed_lattice.specs.Inner.Generators.{AreClosed, HavePrincipals, IsLeastAmong}
+
+-- What is known after the first i of the found ones.
+pub record IsSifting (F : KissFile) (found list : List (List ℕ)) (i : ℕ) : Type 0 where
+  pub atoms : All (IsAtom F) list
+  pub ascending : AllPairs Before list
+  pub earlier : (k : ℕ) (d : List ℕ) → k < length list → (j : ℕ) × (j < i) × (get_or list k d ≡ get_or found j d)
+  pub kept : (k : ℕ) (d : List ℕ) → k < i → IsLeastAmong found (get_or found k d) → Contains list (get_or found k d)
+
+pub sifting_none : (F : KissFile) (found : List (List ℕ)) → IsSifting F found [] 0
+sifting_none F found = record {
+  atoms = λ k d within. absurd (omega arith);
+  ascending = λ i j d order within. absurd (omega arith);
+  earlier = λ k d within. absurd (omega arith);
+  kept = λ k d below least. absurd (omega arith);
+}
+
+module _ (F : KissFile) (found : List (List ℕ)) (closed : AreClosed F found) (have : HavePrincipals F (length F.states) found) where
+  -- what no found one is strictly below, no closed one is strictly below
+  atom_of : (p : List ℕ) → IsClosedPartition F p → HoldsSome p → IsLeastAmong found p → IsAtom F p
+  atom_of p is some least = record {
+    closed = is;
+    some = some;
+    least = λ q q_is (s, t, order, held) below.
+        let has = have s t order (omega (arith, held.1, q_is.0.length)) in
+        let under : Le has.0 q = has.2.least q q_is held in
+        let above : Le p has.0 = All-contains (λ x. Le x p → Le p x) found has.0 least has.1 (λ u v both. below u v (under u v both)) in
+        λ u v both. under u v (above u v both);
+  }
+
+  -- each atom was found
+  atom_found : (p : List ℕ) → IsAtom F p → Contains found p × IsLeastAmong found p
+  atom_found p atom =
+      let s = atom.some.0 in
+      let t = atom.some.1 in
+      let held = atom.some.3 in
+      let has = have s t atom.some.2 (omega (arith, held.1, atom.closed.0.length)) in
+      let under : Le has.0 p = has.2.least p atom.closed held in
+      let above : Le p has.0 = atom.least has.0 (has.2.lawful, has.2.closed) (s, t, atom.some.2, has.2.together) under in
+      let same : has.0 ≡ p = same_labels has.0 p has.2.lawful.numbered atom.closed.0.numbered (has.2.lawful.length ∙ sym atom.closed.0.length) (λ u v. (under u v, above u v)) in
+      (subst (Contains found) same has.1, (λ k d within. atom.least (get_or found k d) (closed.closed k d within) (closed.some k d within)))
+
+  pub sifting_taken : (list : List (List ℕ)) (i : ℕ) (p : List ℕ) → IsSifting F found list i → i < length found → p ≡ get_or found i p → IsLeastAmong found p → IsSifting F found (list ++ p ∷ []) (i + 1)
+  sifting_taken list i p so_far within read least = record {
+    atoms = All-push (IsAtom F) list p so_far.atoms (atom_of p (subst (IsClosedPartition F) (sym read) (closed.closed i p within)) (subst HoldsSome (sym read) (closed.some i p within)) least);
+    ascending = all_pairs_push Before list p so_far.ascending (λ k d inside.
+        let before = so_far.earlier k d inside in
+        subst (λ (x : List ℕ). Before x p) (sym before.2) (subst (λ (x : List ℕ). Before (get_or found before.0 d) x) (sym (here d)) (closed.ascending before.0 i d before.1 within)));
+    earlier = λ k d inside. elim (cases_lt k (length list)) [
+      | inl old ↦ let before = so_far.earlier k d old in (before.0, omega (arith, before.1), get_or_append_left list (p ∷ []) d k old ∙ before.2)
+      | inr new ↦ let at : length list ≡ k = omega (arith, length_push list p) in (i, omega arith, get_or_push list p d k at ∙ here d)
+    ];
+    kept = λ k d below k_least. elim (cases_lt k i) [
+      | inl old ↦ Contains-append_left list (p ∷ []) (get_or found k d) (so_far.kept k d old k_least)
+      | inr new ↦
+          let at : i ≡ k = omega arith in
+          subst (Contains (list ++ p ∷ [])) (here d ∙ ap (λ (n : ℕ). get_or found n d) at) (Contains-push list p)
+    ];
+  }
+    where
+      here : (d : List ℕ) → p ≡ get_or found i d
+      here d = read ∙ get_or_default found i p d within
+
+  pub sifting_left : (list : List (List ℕ)) (i : ℕ) (p : List ℕ) → IsSifting F found list i → i < length found → p ≡ get_or found i p → (IsLeastAmong found p → ⊥) → IsSifting F found list (i + 1)
+  sifting_left list i p so_far within read other = record {
+    atoms = so_far.atoms;
+    ascending = so_far.ascending;
+    earlier = λ k d inside. let before = so_far.earlier k d inside in (before.0, omega (arith, before.1), before.2);
+    kept = λ k d below least. elim (cases_lt k i) [
+      | inl old ↦ so_far.kept k d old least
+      | inr new ↦
+          let at : k ≡ i = omega arith in
+          absurd (other (subst (IsLeastAmong found) (ap (λ (n : ℕ). get_or found n d) at ∙ sym (read ∙ get_or_default found i p d within)) least))
+    ];
+  }
+
+  pub sifted : (list : List (List ℕ)) (i : ℕ) → IsSifting F found list i → length found ≤ i → Lists Before (IsAtom F) list
+  sifted list i all end = record {
+    ascending = all.ascending;
+    members = all.atoms;
+    complete = λ z atom.
+        let both = atom_found z atom in
+        let k = both.0.0 in
+        let read : get_or found k z ≡ z = both.0.2 in
+        subst (Contains list) read (all.kept k z (omega (arith, both.0.1)) (subst (IsLeastAmong found) (sym read) both.1));
+  }

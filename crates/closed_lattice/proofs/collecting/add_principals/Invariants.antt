@@ -1,0 +1,5 @@
+use Rattle.closed_lattice.proofs.Principals.{IsCollecting}
+use Rattle.closed_lattice.proofs.collecting.add_principals.Given as goal
+
+abbrev pub invariant-loop-s : goal.invariant-loop-s
+invariant-loop-s l = IsCollecting l.m l.t l.s l.found.items

@@ -1,0 +1,31 @@
+-- Growth: joins with one partition for each two states, one after another, as far as a condition lets them. This is told as
+-- steps, since it decides which of several right partitions is given (source: this project).
+use Rattle.std.specs.Prelude.{◌≡◌, ℕ, ◌+◌, ◌-◌, ◌⊎◌, List, [], ◌∷◌, map}
+use Rattle.std.specs.List.{flat_map, range_with_len}
+use Rattle.partition.specs.MeetAndJoin.{IsJoin}
+
+-- the pairs of a state and a greater one, of n states
+abbrev pub pairs_from : ℕ → ℕ → List (ℕ × ℕ)
+pairs_from n s = map (λ t. (s, t)) (range_with_len (s + 1) (n - (s + 1)))
+
+-- the pairs s < t of n states, in order of s and then of t
+abbrev pub pairs_of : ℕ → List (ℕ × ℕ)
+pairs_of n = flat_map (pairs_from n) (range_with_len 0 n)
+
+-- the partition g of the pair is joined to p, if the condition is met by that join, and else p stays
+pub record TakesPair (IsGenerator : ℕ → ℕ → List ℕ → Type 0) (Meets : List ℕ → Type 0) (p : List ℕ) (s t : ℕ) (next : List ℕ) : Type 0 where
+  pub generator : List ℕ
+  pub generates : IsGenerator s t generator
+  pub joined : List ℕ
+  pub joins : IsJoin p generator joined
+  pub taken : (Meets joined × (next ≡ joined)) ⊎ ((Meets joined → ⊥) × (next ≡ p))
+
+-- so one goes through a list of pairs
+abbrev pub GrowsOver : (ℕ → ℕ → List ℕ → Type 0) → (List ℕ → Type 0) → List ℕ → List (ℕ × ℕ) → List ℕ → Type 0
+GrowsOver IsGenerator Meets p [] last = p ≡ last
+GrowsOver IsGenerator Meets p ((s, t) ∷ pairs) last =
+    (next : List ℕ) × TakesPair IsGenerator Meets p s t next × GrowsOver IsGenerator Meets next pairs last
+
+-- the growth of start over all pairs of n states
+abbrev pub IsGrowth : (ℕ → ℕ → List ℕ → Type 0) → (List ℕ → Type 0) → ℕ → List ℕ → List ℕ → Type 0
+IsGrowth IsGenerator Meets n start last = GrowsOver IsGenerator Meets start (pairs_of n) last

@@ -1,0 +1,4 @@
+pub mod Closed
+pub mod Growth
+pub mod Limits
+pub mod Inner

@@ -1,0 +1,29 @@
+//! The closed partitions of a machine's states, after Hartmanis and Stearns.
+//!
+//! A partition is closed where states that are together go, for each symbol, to states that are together.
+//! [`principal`] gives the least closed partition that holds two states together. [`all`] lists the closed
+//! partitions in order, as the joins of these least ones, and [`atoms`] the least of them other than zero.
+//! [`below`], [`apart`] and [`separating`] join the least ones of pairs of states, one pair after another, as
+//! far as a condition lets them; one pass is enough, since each condition that a partition meets, each
+//! smaller one meets too.
+//!
+//! That joins of closed partitions are closed, and that each closed partition is such a join, are the clauses
+//! of [`closed_are_joins`].
+//!
+//! `specs/Closed` says what a closed partition is and which one is the least that holds two states together,
+//! `specs/Growth` what a growth is, step by step, and `specs/Limits` what it is for: no closed partition
+//! strictly above it meets the condition. What stands in `specs/Inner` serves private functions alone.
+#![tactic(auto)]
+
+mod closing;
+mod collecting;
+mod growth;
+mod laws;
+mod listing;
+#[cfg(test)]
+mod tests;
+
+pub use closing::principal;
+pub use growth::{apart, below, separating};
+pub use laws::{closed_are_joins, one_is_principal};
+pub use listing::{all, atoms};

@@ -1,0 +1,75 @@
+//! All closed partitions, and the least of them other than zero, in order.
+//!
+//! Joins of closed partitions are closed, and each closed partition is the join of the least closed
+//! partitions of its pairs of states. So the joins of these least ones are all of them. Each closed
+//! partition other than zero is above one of them too, so the least of these are the least of all.
+
+ghost use Rattle.std.specs.Prelude.{ℕ, ◌≡◌, ◌↔◌, ◌≤◌, All, IfOk, IsTrue, List, length};
+ghost use Rattle.closed_lattice.specs.Closed.{IsAtom, IsClosedPartition};
+ghost use Rattle.closed_lattice.specs.Inner.Generators.{IsLeastAmong};
+ghost use Rattle.hs_lattice.specs.Listing.{Evidence, IfMore, IfWhole, Lists};
+ghost use Rattle.partition.specs.Before.{Before};
+
+use crate::collecting::principals;
+use hs_lattice::{Listing, join_closure};
+use machine_table::Machine;
+use partition::{BitPart, BitWorld, Partition};
+use std::alloc::{AllocError, Global};
+
+/// The same partitions as rows of bits.
+fn in_rows(alloc: Global, list: &[Partition]) -> Result<Vec<BitPart>, AllocError>
+    ensures { IfOk result (λ rows. rows.items ≡ list.now) }
+{
+    let mut rows = Vec::with_capacity(alloc, list.len())?;
+    for p in list {
+        rows.push(BitPart::of(alloc, p)?)?;
+    }
+    Ok(rows)
+}
+
+/// The closed partitions in ascending order, or where there are more than the limit, limit + 1 of them.
+///
+/// Which ones stand as evidence is left open.
+pub fn all(alloc: Global, m: &Machine, limit: usize) -> Result<Listing<BitPart>, AllocError>
+    requires positive { 1 ≤ limit }
+    requires bounded { limit ≤ 10000 }
+    ensures whole { IfOk result (λ listing. IfWhole listing (Lists Before (IsClosedPartition m.now))) }
+    ensures within { IfOk result (λ listing. IfWhole listing (λ items. length items ≤ limit)) }
+    ensures no_more { IfOk result (λ listing. IfWhole listing (λ _. (partitions : List (List ℕ))
+        → Evidence Before (IsClosedPartition m.now) limit partitions → ⊥)) }
+    ensures more { IfOk result (λ listing. IfMore listing
+        (Evidence Before (IsClosedPartition m.now) limit)) }
+{
+    let found = principals(alloc, m)?;
+    let generators = in_rows(alloc, found.as_slice())?;
+    let world = BitWorld { n: m.states() };
+    join_closure(alloc, &world, generators.as_slice(), limit)
+}
+
+/// Whether no partition of the list is strictly below this one.
+fn is_least(found: &[Partition], p: &Partition) -> bool
+    requires { All (λ q. length q ≡ length p.now) found.now }
+    ensures { IsTrue result ↔ IsLeastAmong found.now p.now }
+{
+    for q in found {
+        if q.le(p) && !p.le(q) {
+            return false;
+        }
+    }
+    true
+}
+
+/// The least closed partitions other than zero, all, in ascending order.
+pub fn atoms(alloc: Global, m: &Machine) -> Result<Vec<Partition>, AllocError>
+    ensures { IfOk result (λ list. Lists Before (IsAtom m.now) list.items) }
+{
+    let found = principals(alloc, m)?;
+    let candidates = found.as_slice();
+    let mut list = Vec::new(alloc);
+    for p in candidates {
+        if is_least(candidates, p) {
+            list.push(p.copy(alloc)?)?;
+        }
+    }
+    Ok(list)
+}
