@@ -1,0 +1,4 @@
+pub mod Agreeing
+pub mod Splitting
+pub mod Gathered
+pub mod Listed

@@ -1,0 +1,3 @@
+-- What private functions and proofs need; no public contract cites it.
+pub mod Agreeing
+pub mod Generators

@@ -1,0 +1,36 @@
+//! Whether the outputs respect a partition.
+
+ghost use Rattle.std.specs.Prelude.{◌≡◌, ◌<◌, ◌↔◌, IsTrue, length};
+ghost use Rattle.pair_operators.specs.Consistent.{Consistent};
+ghost use Rattle.partition.specs.Inside.{least_of};
+
+use machine_table::Machine;
+use partition::Partition;
+
+/// Whether states that are together have equal outputs for each symbol.
+///
+/// Each state is compared with the least state of its block.
+pub fn is_consistent(m: &Machine, p: &Partition) -> bool
+    requires { length p.now ≡ length m.now.states }
+    ensures { IsTrue result ↔ Consistent m.now p.now }
+{
+    for s in 0..m.states() {
+        if !m.outputs_agree(least_of(p, s), s) {
+            return false;
+        }
+    }
+    true
+}
+
+/// The least state that is together with s.
+fn least_of(p: &Partition, s: usize) -> usize
+    requires { s < length p.now }
+    ensures { result ≡ least_of p.now s }
+{
+    for t in 0..s {
+        if p.same(t, s) {
+            return t;
+        }
+    }
+    s
+}

@@ -1,0 +1,22 @@
+//! The partitions of a machine's states that its outputs respect, after Hartmanis and Stearns.
+//!
+//! A partition is consistent where states that are together have equal outputs for each symbol;
+//! [`is_consistent`] decides it, and [`bit_partition`] gives the partition of the states by one output alone.
+//! [`all`] lists the partitions that are closed and consistent, in order. Of each of them there is a machine of
+//! its blocks, and a block answers every word as its members do.
+//!
+//! The definition of consistent partitions stands in `pair_operators`, beside pairs; `specs/Outputs` says
+//! which partitions are listed and what the partition by one output is. What stands in `specs/Inner` serves
+//! private functions alone.
+#![tactic(auto)]
+
+mod bits;
+mod collecting;
+mod deciding;
+mod listing;
+#[cfg(test)]
+mod tests;
+
+pub use bits::bit_partition;
+pub use deciding::is_consistent;
+pub use listing::all;
