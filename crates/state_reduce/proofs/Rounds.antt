@@ -1,0 +1,116 @@
+-- Rounds of telling states apart, and what is left when a round changes nothing.
+use Rattle.std.proofs.Common.{◌≡◌, ℕ, ◌<◌, ◌^◌, ◌⊎◌, Bool, List, [], ◌∷◌, length, slice_index, refl, sym, ap, ◌∙◌, subst, inl, inr, arith}
+use Rattle.std.proofs.lemmas.List.Elements.{All-cons, All-head, All-nil, All-tail}
+use Rattle.cubes.specs.Symbol.{number_of, symbol_of}
+use Rattle.cubes.proofs.Numbers.{length-symbol_of, number_below, symbol_of-number_of}
+use Rattle.kiss2.specs.declared.kiss_file.KissFile.{KissFile}
+use Rattle.kiss2.specs.Machine.{answers, next, out}
+use Rattle.partition.specs.Partition.{Le, Together}
+use Rattle.state_reduce.specs.Alike.{Alike, IsEquivalence, IsWord}
+use Rattle.machine_table.specs.Staying.{NeverLeaves}
+use Rattle.state_reduce.specs.Inner.Refining.{AgreeAlways, IsRound, StayTogether}
+use Rattle.state_reduce.specs.Inner.Splitting.{IsSplitBy}
+
+-- both relations are symmetric and transitive
+pub agree_turned : (F : KissFile) (s t : ℕ) → AgreeAlways F s t → AgreeAlways F t s
+agree_turned F s t agree x within = sym (agree x within)
+
+pub agree_on : (F : KissFile) (s t u : ℕ) → AgreeAlways F s t → AgreeAlways F t u → AgreeAlways F s u
+agree_on F s t u one two x within = one x within ∙ two x within
+
+pub together_turned : (p : List ℕ) (s t : ℕ) → Together p s t → Together p t s
+together_turned p s t held = (held.1, held.0, sym held.2)
+
+together_on : (p : List ℕ) (s t u : ℕ) → Together p s t → Together p t u → Together p s u
+together_on p s t u one two = (one.0, two.1, one.2 ∙ two.2)
+
+pub stay_turned : (F : KissFile) (p : List ℕ) (s t : ℕ) → StayTogether F p s t → StayTogether F p t s
+stay_turned F p s t stay = (together_turned p s t stay.0, λ x within. together_turned p _ _ (stay.1 x within))
+
+pub stay_on : (F : KissFile) (p : List ℕ) (s t u : ℕ) → StayTogether F p s t → StayTogether F p t u → StayTogether F p s u
+stay_on F p s t u one two = (together_on p s t u one.0 two.0, λ x within. together_on p _ _ _ (one.1 x within) (two.1 x within))
+
+-- the first answers are equal, and the others
+first_of : (a b : List Bool) (more others : List (List Bool)) → a ∷ more ≡ b ∷ others → a ≡ b
+first_of a b more others e = cc
+
+rest_of : (a b : List Bool) (more others : List (List Bool)) → a ∷ more ≡ b ∷ others → more ≡ others
+rest_of a b more others e = cc
+
+word_more : (inputs : ℕ) (x : List Bool) (word : List (List Bool)) → length x ≡ inputs → IsWord inputs word → IsWord inputs (x ∷ word)
+word_more inputs x word size is = All-cons (λ y. length y ≡ inputs) x word size is
+
+-- alike states agree at each symbol, and go to alike states
+pub alike_agree : (F : KissFile) (s t : ℕ) → Alike F s t → AgreeAlways F s t
+alike_agree F s t alike x within =
+    first_of _ _ _ _ (alike (symbol_of F.inputs x ∷ []) (word_more F.inputs _ [] (length-symbol_of F.inputs x) (All-nil (λ y. length y ≡ F.inputs))))
+
+pub alike_next : (F : KissFile) (s t x : ℕ) → Alike F s t → Alike F (next F s (symbol_of F.inputs x)) (next F t (symbol_of F.inputs x))
+alike_next F s t x alike word is =
+    rest_of _ _ _ _ (alike (symbol_of F.inputs x ∷ word) (word_more F.inputs _ word (length-symbol_of F.inputs x) is))
+
+-- the first round
+pub first_round : (F : KissFile) (p : List ℕ) → IsSplitBy (AgreeAlways F) (length F.states) p → IsRound F p
+first_round F p split = record {
+  lawful = split.lawful;
+  agree = λ s t held. elim (split.related s t held) [
+    | inl same ↦ subst (λ (u : ℕ). AgreeAlways F s u) same (λ x within. refl)
+    | inr agree ↦ agree
+  ];
+  alike = λ s t in_s in_t alike. split.kept s t in_s in_t (alike_agree F s t alike);
+}
+
+-- one round more only tells more states apart
+pub below_last : (F : KissFile) (p q : List ℕ) → length p ≡ length F.states → IsSplitBy (StayTogether F p) (length F.states) q → Le q p
+below_last F p q size split s t held =
+    elim (split.related s t held) [
+      | inl same ↦
+          let in_s : s < length q = held.0 in
+          let in_t : t < length q = held.1 in
+          (omega (arith, split.lawful.length), omega (arith, split.lawful.length), ap (λ (u : ℕ). slice_index p u) same)
+      | inr stay ↦ stay.0
+    ]
+
+pub next_round : (F : KissFile) (p q : List ℕ) → NeverLeaves F → IsRound F p → IsSplitBy (StayTogether F p) (length F.states) q → IsRound F q
+next_round F p q inside last split = record {
+  lawful = split.lawful;
+  agree = λ s t held. last.agree s t (below_last F p q last.lawful.length split s t held);
+  alike = λ s t in_s in_t alike. split.kept s t in_s in_t (
+    last.alike s t in_s in_t alike,
+    λ x within. last.alike _ _ (inside s (symbol_of F.inputs x) in_s (length-symbol_of F.inputs x)) (inside t (symbol_of F.inputs x) in_t (length-symbol_of F.inputs x)) (alike_next F s t x alike),
+  );
+}
+
+-- the number of a symbol, and the symbol again
+pub at_symbol : (F : KissFile) (P : List Bool → Type 0) (x : List Bool) → length x ≡ F.inputs → ((y : ℕ) → y < 2 ^ F.inputs → P (symbol_of F.inputs y)) → P x
+at_symbol F P x size each =
+    let below : number_of x < 2 ^ F.inputs = subst (λ (n : ℕ). number_of x < 2 ^ n) size (number_below x) in
+    let again : symbol_of F.inputs (number_of x) ≡ x = subst (λ (n : ℕ). symbol_of n (number_of x) ≡ x) size (symbol_of-number_of x) in
+    subst P again (each (number_of x) below)
+
+module _ (F : KissFile) (p q : List ℕ) (last : IsRound F p) (split : IsSplitBy (StayTogether F p) (length F.states) q) (stable : q ≡ p) where
+  -- states that are together go to states that are, or are one
+  goes : (s t : ℕ) (x : List Bool) → Together p s t → length x ≡ F.inputs → (s ≡ t) ⊎ Together p (next F s x) (next F t x)
+  goes s t x held size =
+      elim (split.related s t (subst (λ (r : List ℕ). Together r s t) (sym stable) held)) [
+        | inl same ↦ inl same
+        | inr stay ↦ inr (at_symbol F (λ y. Together p (next F s y) (next F t y)) x size stay.1)
+      ]
+
+  same_answers : (word : List (List Bool)) (s t : ℕ) → Together p s t → IsWord F.inputs word → answers F s word ≡ answers F t word
+  same_answers [] s t held is = refl
+  same_answers (x ∷ word) s t held is =
+      let size = All-head (λ y. length y ≡ F.inputs) x word is in
+      let outputs : out F s x ≡ out F t x = at_symbol F (λ y. out F s y ≡ out F t y) x size (last.agree s t held) in
+      let rest : IsWord F.inputs word = All-tail (λ y. length y ≡ F.inputs) x word is in
+      elim (goes s t x held size) [
+        | inl same ↦ ap (λ (u : ℕ). answers F u (x ∷ word)) same
+        | inr go ↦ let later : answers F (next F s x) word ≡ answers F (next F t x) word = same_answers word (next F s x) (next F t x) go rest in cc
+      ]
+
+  -- so the partition is that of alike states
+  pub stable_is_equivalence : IsEquivalence F p
+  stable_is_equivalence = record {
+    lawful = last.lawful;
+    together = λ s t in_s in_t. (λ held word is. same_answers word s t held is, λ alike. last.alike s t in_s in_t alike);
+  }

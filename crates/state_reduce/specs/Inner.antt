@@ -1,0 +1,5 @@
+-- What private functions and proofs need; no public contract cites it.
+pub mod Splitting
+pub mod Refining
+pub mod Demanded
+pub mod Named

@@ -1,0 +1,195 @@
+//! The machine of the blocks of a partition.
+ghost use Rattle.std.specs.Prelude.{◌≡◌, ◌<◌, ◌≤◌, ◌==◌, ◌++◌, ◌∷◌, [], Contains, IfErr, IfOk, IfSome, OnOk, Some, length, map, slice_get};
+ghost use Rattle.kiss2.specs.Lawful.{AreNumbered, IsLawful};
+ghost use Rattle.kiss2.specs.Machine.{Accepted};
+ghost use Rattle.kiss2.specs.Names.{AreDistinct};
+ghost use Rattle.kiss2.specs.Standing.{each_once};
+ghost use Rattle.kiss2.specs.declared.fill.Fill.{Fill};
+ghost use Rattle.machine_table.specs.Table.{IsTable};
+ghost use Rattle.pair_operators.specs.Consistent.{Consistent};
+ghost use Rattle.pair_operators.specs.Pair.{Closed};
+ghost use Rattle.partition.specs.Inside.{least_of};
+ghost use Rattle.state_reduce.specs.Alike.{AreApart, IsEquivalence};
+ghost use Rattle.state_reduce.specs.Cause.{Caused};
+ghost use Rattle.state_reduce.specs.Inner.Named.{AreAllNamed, currents_of};
+ghost use Rattle.state_reduce.specs.Quotient.{AnswersAsMembers, AreBlocksInOrder, AreNamed, HaveRowsInOrder, IsQuotient, block_name, block_names, block_number, kept_rows, row_of_blocks};
+
+use crate::block::least_in_block;
+use crate::copying::copied_given;
+use crate::judging::{Demand, QuotientFail, first_against};
+use kiss2::{KissFile, KissRow, Rows, StateNames};
+use machine_table::Machine;
+use partition::Partition;
+use std::alloc::{AllocError, Global};
+
+/// The machine of the blocks of a partition. The machine m was built from the file.
+pub fn quotient(
+    alloc: Global,
+    file: &KissFile,
+    m: &Machine,
+    p: &Partition,
+) -> Result<KissFile, QuotientFail>
+    requires built { m.now ≡ file.now }
+    requires numbered { AreNumbered file.now }
+    requires states { length p.now ≡ length file.now.states }
+    ensures quotient { IfOk result (IsQuotient file.now p.now) }
+    ensures named { IfOk result (AreNamed file.now p.now) }
+    ensures rows_in_order { IfOk result (λ _. HaveRowsInOrder file.now p.now) }
+    ensures in_order { IsEquivalence file.now p.now → IfOk result (AreBlocksInOrder file.now p.now) }
+    ensures closed { IfOk result (λ _. Closed file.now p.now) }
+    ensures consistent { IfOk result (λ _. Consistent file.now p.now) }
+    ensures table { IfOk result IsTable }
+    ensures numbered { IfOk result AreNumbered }
+    ensures lawful { IsLawful file.now → IfOk result IsLawful }
+    ensures accepted { (fill : Fill) → Accepted file.now fill → IfOk result (λ q. Accepted q fill) }
+    ensures answers { IfOk result (AnswersAsMembers file.now p.now) }
+    ensures apart { IsEquivalence file.now p.now → IfOk result AreApart }
+    ensures caused { IfErr result (Caused file.now p.now) }
+{
+    m.keeps_its_states();
+    if let Some((s, t, x)) = first_against(m, p, Demand::NextStates) {
+        return Err(QuotientFail::NotClosed { s, t, x });
+    }
+    if let Some((s, t, x)) = first_against(m, p, Demand::Outputs) {
+        return Err(QuotientFail::NotConsistent { s, t, x });
+    }
+    let file = file_of_blocks(alloc, file, p)?;
+    Ok(file)
+}
+
+/// The file of the blocks, each of which has a name.
+fn file_of_blocks(alloc: Global, file: &KissFile, p: &Partition) -> Result<KissFile, AllocError>
+    requires table { IsTable file.now }
+    requires p { length p.now ≡ length file.now.states }
+    requires each { AreAllNamed file.now p.now }
+    ensures { IfOk result (IsQuotient file.now p.now) }
+{
+    let mut states = StateNames::new(alloc);
+    add_currents(&mut states, file, p)?;
+    add_nexts(&mut states, file, p)?;
+    let reset = number_of(&mut states, file, p, file.reset)?;
+    let rows = rows_of_blocks(alloc, &mut states, file, p)?;
+    Ok(KissFile {
+        inputs: file.inputs,
+        outputs: file.outputs,
+        reset,
+        states,
+        rows,
+        input_names: copied_given(alloc, &file.input_names)?,
+        output_names: copied_given(alloc, &file.output_names)?,
+    })
+}
+
+/// Adds the names of the blocks of current states.
+fn add_currents(states: &mut StateNames, file: &KissFile, p: &Partition) -> Result<(), AllocError>
+    requires table { IsTable file.now }
+    requires p { length p.now ≡ length file.now.states }
+    requires empty { states.old ≡ [] }
+    ensures { OnOk result (states.new ≡ each_once (currents_of file.now p.now file.now.rows)) }
+{
+    for row in file.rows.as_slice() {
+        if is_kept(p, row) {
+            number_of(states, file, p, row.from)?;
+        }
+    }
+    Ok(())
+}
+
+/// Adds the names of the blocks of next states.
+fn add_nexts(states: &mut StateNames, file: &KissFile, p: &Partition) -> Result<(), AllocError>
+    requires table { IsTable file.now }
+    requires p { length p.now ≡ length file.now.states }
+    requires currents { states.old ≡ each_once (currents_of file.now p.now file.now.rows) }
+    ensures { OnOk result (states.new ≡ block_names file.now p.now) }
+{
+    for row in file.rows.as_slice() {
+        if !is_kept(p, row) {
+            continue;
+        }
+        if let Some(t) = row.to {
+            number_of(states, file, p, t)?;
+        }
+    }
+    Ok(())
+}
+
+/// The rows of the blocks, each of which has its name among the states.
+fn rows_of_blocks(
+    alloc: Global,
+    states: &mut StateNames,
+    file: &KissFile,
+    p: &Partition,
+) -> Result<Rows, AllocError>
+    requires table { IsTable file.now }
+    requires p { length p.now ≡ length file.now.states }
+    requires names { states.old ≡ block_names file.now p.now }
+    requires each { AreAllNamed file.now p.now }
+    ensures rows { IfOk result (λ rows. rows ≡ map (row_of_blocks file.now p.now) (kept_rows file.now p.now)) }
+    ensures names { OnOk result (states.new ≡ states.old) }
+{
+    let mut rows = Rows::new(alloc);
+    for row in file.rows.as_slice() {
+        if is_kept(p, row) {
+            rows.push(row_of(states, file, p, row)?)?;
+        }
+    }
+    Ok(rows)
+}
+
+/// The row with the blocks of its states in their place.
+fn row_of(
+    states: &mut StateNames,
+    file: &KissFile,
+    p: &Partition,
+    row: &KissRow,
+) -> Result<KissRow, AllocError>
+    requires table { IsTable file.now }
+    requires p { length p.now ≡ length file.now.states }
+    requires names { states.old ≡ block_names file.now p.now }
+    requires each { AreAllNamed file.now p.now }
+    requires from { row.now.from < length file.now.states }
+    requires to { IfSome row.now.to (λ t. t < length file.now.states) }
+    ensures row { IfOk result (λ it. it ≡ row_of_blocks file.now p.now row.now) }
+    ensures names { OnOk result (states.new ≡ states.old) }
+{
+    let from = number_of(states, file, p, row.from)?;
+    let to = match row.to {
+        Some(t) => Some(number_of(states, file, p, t)?),
+        None => None,
+    };
+    Ok(KissRow {
+        cube: row.cube,
+        from,
+        to,
+        care: row.care,
+        value: row.value,
+    })
+}
+
+/// Whether the row is kept: its current state is the least of its block.
+fn is_kept(p: &Partition, row: &KissRow) -> bool
+    requires { row.now.from < length p.now }
+    ensures { result ≡ (least_of p.now row.now.from == row.now.from) }
+{
+    let from = usize::from(row.from);
+    least_in_block(p, from) == from
+}
+
+/// The number of the block of a state among the names. A new name goes last.
+fn number_of(
+    states: &mut StateNames,
+    file: &KissFile,
+    p: &Partition,
+    s: u16,
+) -> Result<u16, AllocError>
+    requires s { s < length file.now.states }
+    requires p { length p.now ≡ length file.now.states }
+    requires few { length states.old < 65535 }
+    ensures number { IfOk result (λ number. slice_get states.new number ≡ Some (block_name file.now p.now s)) }
+    ensures known { Contains states.old (block_name file.now p.now s) → OnOk result (states.new ≡ states.old) }
+    ensures last { (¬ Contains states.old (block_name file.now p.now s))
+        → OnOk result (states.new ≡ states.old ++ block_name file.now p.now s ∷ []) }
+    ensures distinct { AreDistinct states.new }
+{
+    states.add(file.states.name(least_in_block(p, usize::from(s))))
+}
