@@ -31,6 +31,19 @@ abbrev pub unspecified_line : List ℕ → List ℕ → List ℕ → List ℕ
 unspecified_line state symbol part =
     as_line (codes "hsdec: unspecified state " ++ state ++ codes " symbol " ++ symbol ++ codes " " ++ part)
 
+-- the line of a listing that passes its limit
+abbrev pub more_line : ℕ → List ℕ
+more_line limit = as_line (codes "hsdec: more than " ++ decimal limit)
+
+-- the line of a text of a part that is no partition: the number of the part, and the place of its first bad label
+abbrev pub part_place_line : ℕ → ℕ → List ℕ
+part_place_line part place = as_line (codes "hsdec: part " ++ decimal part ++ codes " place " ++ decimal place)
+
+-- the line of a text of a part that has another number of labels than there are states
+abbrev pub part_length_line : ℕ → ℕ → ℕ → List ℕ
+part_length_line part found states =
+    as_line (codes "hsdec: part " ++ decimal part ++ codes " has " ++ decimal found ++ codes " labels, not " ++ decimal states)
+
 -- the line of a text that could not be put whole
 abbrev pub cannot_write_line : List ℕ
 cannot_write_line = as_line (codes "hsdec: cannot write")

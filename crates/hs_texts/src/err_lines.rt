@@ -1,7 +1,8 @@
 //! The lines that go to err.
 
-ghost use Rattle.std.specs.Prelude.{◌≡◌, ◌++◌, IfOk, codes};
-ghost use Rattle.hs_texts.specs.ErrLines.{as_line, usage_line, cannot_read_line, too_long_line, kiss_line, conflict_line, unspecified_line};
+ghost use Rattle.std.specs.Prelude.{◌≡◌, ◌++◌, IfOk, OnOk, codes};
+ghost use Rattle.std.specs.Fmt.{decimal};
+ghost use Rattle.hs_texts.specs.ErrLines.{as_line, usage_line, cannot_read_line, too_long_line, kiss_line, conflict_line, more_line, unspecified_line, part_length_line, part_place_line};
 
 use std::alloc::{AllocError, Global};
 
@@ -50,12 +51,9 @@ pub fn kiss(alloc: Global, line: u32, fault: &[u8]) -> Result<Vec<u8>, AllocErro
 pub fn conflict(alloc: Global, row: u32, other: u32) -> Result<Vec<u8>, AllocError>
     ensures { IfOk result (λ line. line.items ≡ conflict_line row other) }
 {
-    let first = row.to_string(alloc)?;
-    let second = other.to_string(alloc)?;
-    let mut line = Vec::from_slice(alloc, b"hsdec: conflict rows ")?;
-    line.extend_from_slice(first.as_bytes())?;
-    line.extend_from_slice(b" and ")?;
-    line.extend_from_slice(second.as_bytes())?;
+    let mut line = Vec::new(alloc);
+    append_number(alloc, &mut line, b"hsdec: conflict rows ", u64::from(row))?;
+    append_number(alloc, &mut line, b" and ", u64::from(other))?;
     line.push(b'\n')?;
     Ok(line)
 }
@@ -77,6 +75,57 @@ pub fn unspecified(
     line.extend_from_slice(part)?;
     line.push(b'\n')?;
     Ok(line)
+}
+
+/// The line of a listing that passes its limit.
+pub fn more(alloc: Global, limit: usize) -> Result<Vec<u8>, AllocError>
+    ensures { IfOk result (λ line. line.items ≡ more_line limit) }
+{
+    let number = limit.to_string(alloc)?;
+    line_of(alloc, b"hsdec: more than ", number.as_bytes())
+}
+
+/// The line of a text of a part with a bad label: the number of the part, and the place of the first such label.
+pub fn part_place(alloc: Global, part: usize, place: usize) -> Result<Vec<u8>, AllocError>
+    ensures { IfOk result (λ line. line.items ≡ part_place_line part place) }
+{
+    let mut line = Vec::new(alloc);
+    append_number(alloc, &mut line, b"hsdec: part ", part as u64)?;
+    append_number(alloc, &mut line, b" place ", place as u64)?;
+    line.push(b'\n')?;
+    Ok(line)
+}
+
+/// The line of a text of a part that has `found` labels, and not one for each of the states.
+pub fn part_length(
+    alloc: Global,
+    part: usize,
+    found: usize,
+    states: usize,
+) -> Result<Vec<u8>, AllocError>
+    ensures { IfOk result (λ line. line.items ≡ part_length_line part found states) }
+{
+    let mut line = Vec::new(alloc);
+    append_number(alloc, &mut line, b"hsdec: part ", part as u64)?;
+    append_number(alloc, &mut line, b" has ", found as u64)?;
+    append_number(alloc, &mut line, b" labels, not ", states as u64)?;
+    line.push(b'\n')?;
+    Ok(line)
+}
+
+/// Appends words and a number.
+fn append_number(
+    alloc: Global,
+    line: &mut Vec<u8>,
+    words: &[u8],
+    number: u64,
+) -> Result<(), AllocError>
+    ensures { OnOk result (line.new.items ≡ line.old.items ++ words.now ++ decimal number) }
+{
+    let digits = number.to_string(alloc)?;
+    line.extend_from_slice(words)?;
+    line.extend_from_slice(digits.as_bytes())?;
+    Ok(())
 }
 
 /// A line of words and a name or a number.

@@ -16,6 +16,8 @@ Exit status:
   3   the text of the machine is refused
   4   two rows of the machine conflict
   5   the machine leaves something open
+  7   there are more than the limit
+  8   the partition is refused
   12  a file cannot be read
   13  a file is longer than 4,194,304 bytes
   14  the text could not be written whole

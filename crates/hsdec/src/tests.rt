@@ -63,6 +63,10 @@ const NETWORK: &[u8] = b"# hsdec code
 
 const HELP: &[u8] = b"Commands:
   hsdec check FILE [--fill hold]
+  hsdec reduce FILE [--fill hold]
+  hsdec closed FILE [--limit N] [--fill hold]
+  hsdec low FILE PART [--fill hold]
+  hsdec high FILE PART [--fill hold]
   hsdec code FILE
 
 Exit status:
@@ -71,6 +75,8 @@ Exit status:
   3   the text of the machine is refused
   4   two rows of the machine conflict
   5   the machine leaves something open
+  7   there are more than the limit
+  8   the partition is refused
   12  a file cannot be read
   13  a file is longer than 4,194,304 bytes
   14  the text could not be written whole

@@ -38,11 +38,11 @@ open_of F s x part first specified =
 
 right_conflict : (job : Job) (F : KissFile) (row other : ℕ) (made : Outcome) → IsFirstConflict F row other → IsRefusal Conflict (λ line. line ≡ conflict_line row other) made → IsRightOf job F made
 right_conflict job F row other made first (line, is_line, is) =
-    right_refused job F line Conflict made (λ e. cc) (conflicting_of F row other first) (row, other, first, is_line) is
+    right_refused job F line Conflict made (λ e. cc) (λ e. cc) (conflicting_of F row other first) (row, other, first, is_line) is
 
 right_open : (job : Job) (F : KissFile) (s x : ℕ) (part : Missing) (made : Outcome) → IsRefusedAt F (fill_of job) (IsFirstOpen F s x part) → IsRefusal Unspecified (IsOpenLine F s x part) made → IsRightOf job F made
 right_open job F s x part made cause (line, is_line, is) =
-    right_refused job F line Unspecified made (λ e. cc)
+    right_refused job F line Unspecified made (λ e. cc) (λ e. cc)
     (record { no_conflict = cause.no_conflict; some_open = open_of F s x part cause.entry; refused = cause.refused })
     (s, x, part, cause.entry, is_line) is
 

@@ -6,12 +6,15 @@ pub mod Free
 pub mod KissLaws
 pub mod LawfulHeader
 pub mod Lines
+pub mod Listed
 pub mod Naming
 pub mod NaturalCodes
 pub mod OnSets
 pub mod Pairs
+pub mod PartOperands
 pub mod Planes
 pub mod Ranges
+pub mod Reducing
 pub mod Right
 pub mod Runs
 pub mod Stepping

@@ -31,7 +31,7 @@ use Rattle.hsdec_core.specs.Inner.CodeNetwork.{IsCodeGate, IsCodeNetwork, code_l
 use Rattle.hsdec_core.specs.Kind.{HasParts, IsBitOf, IsPartOf, IsWithinKind}
 use Rattle.hsdec_core.specs.Inner.CodeNames.{names_of_inputs, names_of_states, state_name}
 use Rattle.hsdec_core.specs.OwnPairs.{HasOwnPair, IsReadPartition, OwnPairs, Reads}
-use Rattle.hsdec_core.specs.Pair.{Pair}
+use Rattle.pair_operators.specs.Pair.{Pair}
 use Rattle.hsdec_core.specs.Permits.{AgreeOn}
 use Rattle.hsdec_core.proofs.NaturalCodes.{code_part_lawful, codes_apart, owned_by_one}
 

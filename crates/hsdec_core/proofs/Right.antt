@@ -9,7 +9,7 @@ use Rattle.kiss2.specs.Kiss.{IsKissFault, Kiss}
 use Rattle.kiss2.specs.Lawful.{IsLawful}
 use Rattle.kiss2.specs.Machine.{Accepted}
 use Rattle.hsdec_core.specs.declared.answers.Answer.{Answer}
-use Rattle.hsdec_core.specs.declared.answers.Answer.TheVariants.{Done, Usage, KissRefused, ReadFault, TooLong, WriteFault, NoMemory}
+use Rattle.hsdec_core.specs.declared.answers.Answer.TheVariants.{Done, Usage, KissRefused, More, ReadFault, TooLong, WriteFault, NoMemory}
 use Rattle.hsdec_core.specs.declared.loading.Loaded.{Loaded}
 use Rattle.hsdec_core.specs.declared.loading.Loaded.TheVariants.{Text}
 use Rattle.hsdec_core.specs.declared.outcomes.Outcome.{Outcome}
@@ -26,23 +26,25 @@ use Rattle.hsdec_core.proofs.KissLaws.{machine_or_fault}
 
 -- ---- of a machine
 -- a command that is done, and a refusal
-pub right_done : (job : Job) (F : KissFile) (text : List ℕ) (made : Outcome) → Accepted F (fill_of job) → CanServe job.command F → IsPromised job.command job F text → made ≡ finished text → IsRightOf job F made
+pub right_done : (job : Job) (F : KissFile) (text : List ℕ) (made : Outcome) → Accepted F (fill_of job) → CanServe job.command job F → IsPromised job.command job F text → made ≡ finished text → IsRightOf job F made
 right_done job F text made accepted calls promised is =
     subst (IsRightOf job F) (sym is)
     (record {
       cause = (accepted, calls);
       text = λ _. (accepted, promised);
-      no_text = λ undone. absurd (undone refl);
+      shown = λ e. cc;
+      no_text = λ undone more. absurd (undone refl);
       line = λ undone. absurd (undone refl);
     })
 
-pub right_refused : (job : Job) (F : KissFile) (line : List ℕ) (answer : Answer) (made : Outcome) → answer ≢ Done → FileCallsFor job F answer → IsFileLine F answer line → made ≡ refusal answer line → IsRightOf job F made
-right_refused job F line answer made undone calls is_line is =
+pub right_refused : (job : Job) (F : KissFile) (line : List ℕ) (answer : Answer) (made : Outcome) → answer ≢ Done → answer ≢ More → FileCallsFor job F answer → IsFileLine job F answer line → made ≡ refusal answer line → IsRightOf job F made
+right_refused job F line answer made undone few calls is_line is =
     subst (IsRightOf job F) (sym is)
     (record {
       cause = calls;
       text = λ e. absurd (undone e);
-      no_text = λ _. refl;
+      shown = λ e. absurd (few e);
+      no_text = λ _ _. refl;
       line = λ _. is_line;
     })
 
@@ -53,16 +55,17 @@ calls_on job bytes F TooLong within kiss calls = absurd calls.1
 calls_on job bytes F KissRefused within kiss calls = absurd calls.1
 calls_on job bytes F _ within kiss calls = (within, (F, kiss, calls))
 
-line_on : (bytes : List ℕ) (F : KissFile) (answer : Answer) (line : List ℕ) → Kiss bytes F → IsFileLine F answer line → IsTextLine bytes answer line
-line_on bytes F KissRefused line kiss is = absurd is
-line_on bytes F _ line kiss is = (F, kiss, is)
+line_on : (job : Job) (bytes : List ℕ) (F : KissFile) (answer : Answer) (line : List ℕ) → Kiss bytes F → IsFileLine job F answer line → IsTextLine job bytes answer line
+line_on job bytes F KissRefused line kiss is = absurd is
+line_on job bytes F _ line kiss is = (F, kiss, is)
 
 pub right_machine : (job : Job) (bytes : List ℕ) (F : KissFile) (made : Outcome) → IsWithin bytes → Kiss bytes F → IsLawful F → IsRightOf job F made → IsRightOn job bytes made
 right_machine job bytes F made within kiss lawful right = record {
   cause = calls_on job bytes F made.answer within kiss right.cause;
   text = λ e. (F, kiss, lawful, (right.text e).0, (right.text e).1);
+  shown = λ e. (F, kiss, lawful, (right.shown e).0, (right.shown e).1);
   no_text = right.no_text;
-  line = λ undone. line_on bytes F made.answer made.line kiss (right.line undone);
+  line = λ undone. line_on job bytes F made.answer made.line kiss (right.line undone);
   own = (λ e. (subst (FileCallsFor job F) e right.cause).1, λ e. (subst (FileCallsFor job F) e right.cause).1, λ e. (subst (FileCallsFor job F) e right.cause).1);
 }
 
@@ -73,7 +76,8 @@ right_fault job bytes number kind made within fault (line, is_line, is) =
     (record {
       cause = (within, λ F kiss. machine_or_fault bytes F number kind kiss fault);
       text = λ e. absurd cc;
-      no_text = λ _. refl;
+      shown = λ e. absurd cc;
+      no_text = λ _ _. refl;
       line = λ _. (number, kind, fault, is_line);
       own = (λ e. cc, λ e. cc, λ e. cc);
     })
@@ -89,7 +93,8 @@ right_usage word holds Faulted made is =
       read_fault = λ e. absurd cc;
       cause = tt;
       text = λ e. tt;
-      no_text = λ _. refl;
+      shown = λ e. tt;
+      no_text = λ _ _. refl;
       line = λ _. refl;
       in_memory = λ e. cc;
     })
@@ -117,7 +122,8 @@ right_load job holds Faulted made (inl (faulted, is)) =
       read_fault = λ _. faulted;
       cause = any (holds job.file) (λ bytes. (ReadFault ≡ ReadFault) ⊎ CallsFor job bytes ReadFault) (λ bytes. inl refl);
       text = λ e. absurd cc;
-      no_text = λ _. refl;
+      shown = λ e. absurd cc;
+      no_text = λ _ _. refl;
       line = λ _. refl;
       in_memory = λ e. cc;
     })
@@ -129,13 +135,14 @@ right_load job holds Faulted made (inr (long, is)) =
       read_fault = λ e. absurd cc;
       cause = each (holds job.file) (λ bytes. CallsFor job bytes TooLong) (λ bytes. (TooLong ≡ ReadFault) ⊎ CallsFor job bytes TooLong) (λ bytes h. inr h) long;
       text = λ e. absurd cc;
-      no_text = λ _. refl;
+      shown = λ e. absurd cc;
+      no_text = λ _ _. refl;
       line = λ _. refl;
       in_memory = λ e. cc;
     })
 
 -- what a command makes of the text of the operand
-line_for : (job : Job) (held : Option (List ℕ)) (bytes : List ℕ) (answer : Answer) (line : List ℕ) → IsText held bytes → (answer ≢ ReadFault) × (answer ≢ WriteFault) → IsTextLine bytes answer line → IsLineOf job held answer line
+line_for : (job : Job) (held : Option (List ℕ)) (bytes : List ℕ) (answer : Answer) (line : List ℕ) → IsText held bytes → (answer ≢ ReadFault) × (answer ≢ WriteFault) → IsTextLine job bytes answer line → IsLineOf job held answer line
 line_for job held bytes ReadFault line is_text own is = absurd (own.0 refl)
 line_for job held bytes WriteFault line is_text own is = absurd (own.1 refl)
 line_for job held bytes TooLong line is_text own (F, kiss, is) = absurd is
@@ -149,6 +156,7 @@ right_text job holds Faulted bytes made is_text right = record {
   read_fault = λ e. absurd (right.own.1 e);
   cause = told (holds job.file) (λ other. (made.answer ≡ ReadFault) ⊎ CallsFor job other made.answer) bytes is_text.1 (inr right.cause);
   text = λ e. let t = right.text e in (bytes, t.0, record { text = is_text; kiss = t.1; lawful = t.2; accepted = t.3 }, t.4);
+  shown = λ e. let t = right.shown e in (bytes, t.0, record { text = is_text; kiss = t.1; lawful = t.2; accepted = t.3 }, t.4);
   no_text = right.no_text;
   line = λ undone. line_for job (holds job.file) bytes made.answer made.line is_text (right.own.1, right.own.2) (right.line undone);
   in_memory = right.own.2;

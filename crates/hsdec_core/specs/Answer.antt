@@ -32,6 +32,12 @@ abbrev pub ExactlyWhere : Answer → Answer → Type 0 → Type 0
 ExactlyWhere result answer Condition =
     (result ≡ answer → Condition) × (Condition → (result ≡ answer) ⊎ (result ≡ NoMemory))
 
+-- an answer that is given with a text comes exactly where a condition on what was read holds, but for want of memory and a
+-- fault of reading or writing
+abbrev pub ExactlyWherePut : Answer → Answer → Type 0 → Type 0
+ExactlyWherePut result answer Condition =
+    (result ≡ answer → Condition) × (Condition → (result ≡ answer) ⊎ (result ≡ NoMemory) ⊎ (result ≡ ReadFault) ⊎ (result ≡ WriteFault))
+
 -- an answer comes exactly where a condition on what was read holds, but for want of memory and a fault of reading
 abbrev pub ExactlyWhereRead : Answer → Answer → Type 0 → Type 0
 ExactlyWhereRead result answer Condition =

@@ -4,5 +4,6 @@ pub mod CodeNames
 pub mod CodeNetwork
 pub mod Load
 pub mod Made
+pub mod PartOperand
 pub mod RightFor
 pub mod Source

@@ -10,7 +10,7 @@ use Rattle.net_core.specs.Flat.{base_of}
 use Rattle.net_core.specs.Sound.{driven_by}
 use Rattle.partition.specs.Partition.{IsPartition, Together}
 use Rattle.state_codes.specs.Agreement.{IsBitPartition}
-use Rattle.hsdec_core.specs.Pair.{Pair}
+use Rattle.pair_operators.specs.Pair.{Pair}
 use Rattle.hsdec_core.specs.Permits.{AgreeOn, Permits}
 
 -- a gate reads state bit c: the output of latch c is among its inputs

@@ -1,5 +1,5 @@
 -- What each command promises of the text that it puts: one relation for each command or family, over the machine of its file.
-use Rattle.std.specs.Prelude.{ℕ, List, Option, Some, None}
+use Rattle.std.specs.Prelude.{ℕ, ◌⊎◌, List, Option, Some, None}
 use Rattle.job_words.specs.declared.command.Command.{Command}
 use Rattle.job_words.specs.declared.command.Command.TheVariants as commands
 use Rattle.job_words.specs.declared.jobs.Job.{Job}
@@ -10,10 +10,14 @@ use Rattle.kiss2.specs.Lawful.{IsLawful}
 use Rattle.kiss2.specs.Machine.{Accepted}
 use Rattle.state_codes.specs.declared.split.Kind.{Kind}
 use Rattle.state_codes.specs.declared.split.Kind.TheVariants.{Code}
+use Rattle.closed_lattice.specs.Closed.{IsClosedPartition}
 use Rattle.hsdec_core.specs.CheckReport.{IsChecked}
 use Rattle.hsdec_core.specs.Decomposition.{IsWritten}
+use Rattle.hsdec_core.specs.ExtremeTexts.{IsHighText, IsLowText}
 use Rattle.hsdec_core.specs.Fill.{fill_of}
+use Rattle.hsdec_core.specs.ListTexts.{IsEvidenceText, IsListText}
 use Rattle.hsdec_core.specs.Loading.{IsText}
+use Rattle.hsdec_core.specs.ReducedText.{IsReducedText}
 
 -- the kind of decomposition that a command writes, if it writes one
 abbrev pub kind_of : Command → Option Kind
@@ -24,7 +28,16 @@ kind_of _ = None
 abbrev pub IsPromised : Command → Job → KissFile → List ℕ → Type 0
 IsPromised commands.Check job F text = IsChecked F text
 IsPromised commands.Code job F text = IsWritten F Code text
+IsPromised commands.Reduce job F text = IsReducedText F (fill_of job) text
+IsPromised commands.Low job F text = IsLowText F job.second text
+IsPromised commands.High job F text = IsHighText F job.second text
+IsPromised commands.Closed job F text = IsListText (IsClosedPartition F) job.limit text
 IsPromised _ job F text = ⊥
+
+-- the text is that of the evidence that there are more than the limit
+abbrev pub IsShown : Command → Job → KissFile → List ℕ → Type 0
+IsShown commands.Closed job F text = IsEvidenceText (IsClosedPartition F) job.limit text
+IsShown _ job F text = ⊥
 
 -- the bytes that a shelf holds say a lawful machine, which is accepted with a fill
 pub record HoldsMachine (held : Option (List ℕ)) (fill : Fill) (bytes : List ℕ) (F : KissFile) : Type 0 where
@@ -37,6 +50,15 @@ pub record HoldsMachine (held : Option (List ℕ)) (fill : Fill) (bytes : List �
 abbrev pub IsAsked : Job → (List ℕ → Option (List ℕ)) → List ℕ → Type 0
 IsAsked job holds text =
     (bytes : List ℕ) × (F : KissFile) × HoldsMachine (holds job.file) (fill_of job) bytes F × IsPromised job.command job F text
+
+-- the text of evidence that a job shows, of what the shelf holds under its file
+abbrev pub IsEvidence : Job → (List ℕ → Option (List ℕ)) → List ℕ → Type 0
+IsEvidence job holds text =
+    (bytes : List ℕ) × (F : KissFile) × HoldsMachine (holds job.file) (fill_of job) bytes F × IsShown job.command job F text
+
+-- either of the two
+abbrev pub IsAskedOrShown : Job → (List ℕ → Option (List ℕ)) → List ℕ → Type 0
+IsAskedOrShown job holds text = IsAsked job holds text ⊎ IsEvidence job holds text
 
 -- a decomposition of that kind, of the machine that a job's file says
 abbrev pub IsDecompositionOf : Kind → Job → (List ℕ → Option (List ℕ)) → List ℕ → Type 0

@@ -9,8 +9,8 @@
 //! The clause `headline` says what a written decomposition is: `specs/Decomposition` puts together that the
 //! text denotes a network which answers every word as the machine of the file does from its reset state
 //! (`specs/Carries`), that the header has the names (`specs/Named`) and the codes of the states, and that
-//! each gate of a latch reads only what the latch's printed pair permits (`specs/OwnPairs`, `specs/Permits`,
-//! `specs/Pair`), within the kind of the decomposition (`specs/Kind`).
+//! each gate of a latch reads only what the latch's printed pair permits (`specs/OwnPairs`, `specs/Permits`),
+//! within the kind of the decomposition (`specs/Kind`).
 //!
 //! A command makes an `Outcome`: its answer, its text and its line, and shows that they are right for its
 //! job, `IsRightOn` of `specs/Inner/RightFor`. All clauses of `run` follow from that. One function puts every
@@ -33,14 +33,18 @@ mod binary;
 mod check_command;
 mod code_command;
 mod delivery;
+mod extreme_commands;
 mod header_of_code;
 mod kiss_texts;
 mod laws;
+mod list_commands;
 mod loading;
 mod network_of_code;
 mod outcomes;
 mod own_names;
+mod part_operand;
 mod performing;
+mod reduce_command;
 mod refusals;
 mod running;
 mod signals;

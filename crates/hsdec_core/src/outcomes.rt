@@ -1,7 +1,7 @@
 //! What a command makes in memory.
 
 ghost use Rattle.std.specs.Prelude.{◌≡◌};
-ghost use Rattle.hsdec_core.specs.Inner.Made.{refusal, finished};
+ghost use Rattle.hsdec_core.specs.Inner.Made.{exceeded, finished, refusal};
 
 use crate::Answer;
 use hs_list::Items;
@@ -26,6 +26,17 @@ impl Outcome {
         Outcome {
             answer,
             text: Bytes::new(alloc),
+            line: Bytes::from(line),
+        }
+    }
+
+    /// The evidence that there is more than a limit, with its line.
+    pub fn exceeded(text: Vec<u8>, line: Vec<u8>) -> Outcome
+        ensures { result ≡ exceeded text.items line.items }
+    {
+        Outcome {
+            answer: Answer::More,
+            text: Bytes::from(text),
             line: Bytes::from(line),
         }
     }

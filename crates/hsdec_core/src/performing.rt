@@ -3,7 +3,7 @@
 ghost use Rattle.std.specs.Prelude.{◌≡◌, ◌-◌, ◌^◌, ◌<◌, ◌≤◌, ◌↔◌, ℕ, false, List, IfOk, IsErr, length};
 ghost use Rattle.hs_io.specs.Counts.{Rose};
 ghost use Rattle.job_words.specs.declared.command.Command.TheVariants as commands;
-ghost use Rattle.job_words.specs.Job.{JobOf};
+ghost use Rattle.job_words.specs.Job.{IsLimit, JobOf};
 ghost use Rattle.job_words.specs.Table.{IsBuilt};
 ghost use Rattle.kiss2.specs.Lawful.{IsLawful};
 ghost use Rattle.kiss2.specs.Machine.{Accepted};
@@ -13,7 +13,10 @@ ghost use Rattle.hsdec_core.specs.Loading.{IsWithin};
 
 use crate::check_command::check;
 use crate::code_command::code;
+use crate::extreme_commands::{high, low};
+use crate::list_commands::closed;
 use crate::loading::{Loaded, load_operand};
+use crate::reduce_command::reduce;
 use crate::refusals::{conflict, kiss_refused, unspecified};
 use crate::{Answer, Outcome};
 use hs_io::Shelf;
@@ -52,6 +55,7 @@ pub fn perform<F: Shelf>(alloc: Global, words: &Words, shelf: &mut F) -> Result<
 fn perform_on(alloc: Global, job: &Job, text: &[u8]) -> Result<Outcome, AllocError>
     requires built { IsBuilt job.now.command }
     requires unheld { job.now.command ≡ commands.Code → job.now.hold ≡ false }
+    requires limited { IsLimit job.now.limit }
     requires within { IsWithin text.now }
     ensures { IfOk result (IsRightOn job.now text.now) }
 {
@@ -66,11 +70,12 @@ fn perform_on(alloc: Global, job: &Job, text: &[u8]) -> Result<Outcome, AllocErr
 fn perform_of(alloc: Global, job: &Job, file: KissFile) -> Result<Outcome, AllocError>
     requires built { IsBuilt job.now.command }
     requires unheld { job.now.command ≡ commands.Code → job.now.hold ≡ false }
+    requires limited { IsLimit job.now.limit }
     requires lawful { IsLawful file }
     ensures { IfOk result (IsRightOf job.now file) }
 {
     match Machine::build(alloc, &file, fill(job)) {
-        Ok(_) => command(alloc, job, file),
+        Ok(machine) => command(alloc, job, file, &machine),
         Err(BuildFail::Conflict { row_a, row_b }) => conflict(alloc, row_a, row_b),
         Err(
             BuildFail::Unspecified {
@@ -84,16 +89,27 @@ fn perform_of(alloc: Global, job: &Job, file: KissFile) -> Result<Outcome, Alloc
 }
 
 /// The command of a job, on the machine of its file.
-fn command(alloc: Global, job: &Job, file: KissFile) -> Result<Outcome, AllocError>
+fn command(
+    alloc: Global,
+    job: &Job,
+    file: KissFile,
+    machine: &Machine,
+) -> Result<Outcome, AllocError>
     requires built { IsBuilt job.now.command }
     requires unheld { job.now.command ≡ commands.Code → job.now.hold ≡ false }
+    requires limited { IsLimit job.now.limit }
     requires lawful { IsLawful file }
     requires accepted { Accepted file (fill_of job.now) }
+    requires machine { machine.now ≡ file }
     ensures { IfOk result (IsRightOf job.now file) }
 {
     match job.command {
         Command::Check => check(alloc, job, &file),
         Command::Code => code(alloc, job, file),
+        Command::Low => low(alloc, job, machine),
+        Command::High => high(alloc, job, machine),
+        Command::Reduce => reduce(alloc, job, &file, machine),
+        Command::Closed => closed(alloc, job, machine),
         _ => unreachable!(),
     }
 }

@@ -5,11 +5,11 @@ ghost use Rattle.hs_io.specs.Counts.{Rose};
 ghost use Rattle.hs_io.specs.Pieces.{Appends, AppendsFront};
 ghost use Rattle.job_words.specs.Job.{JobOf};
 ghost use Rattle.kiss2.specs.Machine.{Conflicting};
-ghost use Rattle.hsdec_core.specs.Answer.{ExactlyWhere, ExactlyWhereRead};
-ghost use Rattle.hsdec_core.specs.Cause.{IfTold, IsNoMachine, IsOpen, IsUnrefused, SaysMachine};
+ghost use Rattle.hsdec_core.specs.Answer.{ExactlyWhere, ExactlyWherePut, ExactlyWhereRead};
+ghost use Rattle.hsdec_core.specs.Cause.{HasMoreThanLimit, HasPartRefused, IfTold, IsNoMachine, IsOpen, IsUnrefused, SaysMachine};
 ghost use Rattle.hsdec_core.specs.Line.{IsLineFor};
 ghost use Rattle.hsdec_core.specs.Loading.{IsTooLong};
-ghost use Rattle.hsdec_core.specs.Promise.{IsAsked, IsDecompositionOf, kind_of};
+ghost use Rattle.hsdec_core.specs.Promise.{IsAsked, IsAskedOrShown, IsDecompositionOf, IsEvidence, kind_of};
 ghost use Rattle.hsdec_core.specs.Put.{LinePut};
 
 use crate::Answer;
@@ -42,6 +42,10 @@ pub fn run<F: Shelf, O: Sink, E: Sink>(
         ExactlyWhereRead result Answer.Conflict (SaysMachine bytes Conflicting)) }
     ensures unspecified { IfTold words.now (F.holds shelf.old) (λ job bytes.
         ExactlyWhereRead result Answer.Unspecified (SaysMachine bytes (IsOpen job))) }
+    ensures part_refused { IfTold words.now (F.holds shelf.old) (λ job bytes.
+        ExactlyWhereRead result Answer.PartRefused (SaysMachine bytes (HasPartRefused job))) }
+    ensures more { IfTold words.now (F.holds shelf.old) (λ job bytes.
+        ExactlyWherePut result Answer.More (SaysMachine bytes (HasMoreThanLimit job))) }
     ensures write_fault { result ≡ Answer.WriteFault → Rose (O.faults out.old) (O.faults out.new) }
 
     // Where nothing calls for a refusal and no count rises, the job is done or memory is wanting.
@@ -50,14 +54,17 @@ pub fn run<F: Shelf, O: Sink, E: Sink>(
         → (result ≡ Answer.Done) ⊎ (result ≡ Answer.NoMemory)) }
 
     // A command that decomposes gives out a whole decomposition of the machine of its file. Every command
-    // gives the whole text that the job asks for, a front of it at `WriteFault`, and nothing at a refusal.
+    // gives the whole text that the job asks for, or the evidence that there is more than the limit; a front
+    // of either at `WriteFault`, and nothing at a refusal.
     ensures headline { result ≡ Answer.Done → IfOk (JobOf words.now) (λ job. IfSome (kind_of job.command) (λ kind.
         (text : List ℕ) × IsDecompositionOf kind job (F.holds shelf.old) text
         × Appends (O.given out.old) text (O.given out.new))) }
     ensures text { result ≡ Answer.Done → IfOk (JobOf words.now) (λ job. (text : List ℕ)
         × IsAsked job (F.holds shelf.old) text × Appends (O.given out.old) text (O.given out.new)) }
+    ensures evidence { result ≡ Answer.More → IfOk (JobOf words.now) (λ job. (text : List ℕ)
+        × IsEvidence job (F.holds shelf.old) text × Appends (O.given out.old) text (O.given out.new)) }
     ensures front { result ≡ Answer.WriteFault → IfOk (JobOf words.now) (λ job. (text : List ℕ)
-        × IsAsked job (F.holds shelf.old) text × AppendsFront (O.given out.old) text (O.given out.new)) }
+        × IsAskedOrShown job (F.holds shelf.old) text × AppendsFront (O.given out.old) text (O.given out.new)) }
     ensures untouched { result ≢ Answer.Done → result ≢ Answer.More → result ≢ Answer.WriteFault
         → out.new ≡ out.old }
 

@@ -1,4 +1,5 @@
 mod machines;
+mod partitions;
 mod stepping;
 mod whole_texts;
 

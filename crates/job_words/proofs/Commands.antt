@@ -15,23 +15,29 @@ use Rattle.job_words.specs.Item.{Item, Operand, Chosen, Lacking, Unknown, items_
 use Rattle.job_words.specs.Job.{job_of, judged, judged_as, judgement, refusal, refused_or, row_named, with_kind, with_operand, with_option}
 use Rattle.job_words.specs.Table.{IsBuilt, Row, built, commands_of}
 
--- an operand or an option leaves the command
-with_operand-command : (kind : OperandKind) (word : List ℕ) (job : Job) → (with_operand kind word job).command ≡ job.command
-with_operand-command File word job = refl
-with_operand-command Net word job = refl
-with_operand-command Part word job = refl
-with_operand-command Parts word job = refl
-with_operand-command Symbols word job = refl
-with_operand-command Cover word job = refl
-with_operand-command Seed word job = refl
-with_operand-command A word job = refl
-with_operand-command B word job = refl
-with_operand-command K word job = refl
+-- an operand leaves the command, the limit, and what is filled
+pub record Keeps (job more : Job) : Type 0 where
+  pub command : more.command ≡ job.command
+  pub limit : more.limit ≡ job.limit
+  pub hold : more.hold ≡ job.hold
 
-with_kind-command : (kind : Option OperandKind) (word : List ℕ) (job : Job) → (with_kind kind word job).command ≡ job.command
-with_kind-command None word job = refl
-with_kind-command (Some kind) word job = with_operand-command kind word job
+with_operand-keeps : (kind : OperandKind) (word : List ℕ) (job : Job) → Keeps job (with_operand kind word job)
+with_operand-keeps File word job = record { command = refl; limit = refl; hold = refl }
+with_operand-keeps Net word job = record { command = refl; limit = refl; hold = refl }
+with_operand-keeps Part word job = record { command = refl; limit = refl; hold = refl }
+with_operand-keeps Parts word job = record { command = refl; limit = refl; hold = refl }
+with_operand-keeps Symbols word job = record { command = refl; limit = refl; hold = refl }
+with_operand-keeps Cover word job = record { command = refl; limit = refl; hold = refl }
+with_operand-keeps Seed word job = record { command = refl; limit = refl; hold = refl }
+with_operand-keeps A word job = record { command = refl; limit = refl; hold = refl }
+with_operand-keeps B word job = record { command = refl; limit = refl; hold = refl }
+with_operand-keeps K word job = record { command = refl; limit = refl; hold = refl }
 
+pub with_kind-keeps : (kind : Option OperandKind) (word : List ℕ) (job : Job) → Keeps job (with_kind kind word job)
+with_kind-keeps None word job = record { command = refl; limit = refl; hold = refl }
+with_kind-keeps (Some kind) word job = with_operand-keeps kind word job
+
+-- an option leaves the command
 with_option-command : (option : CommandOption) (word : List ℕ) (job : Job) → (with_option option word job).command ≡ job.command
 with_option-command Limit word job = refl
 with_option-command Reduce word job = refl
@@ -40,7 +46,7 @@ with_option-command Fill word job = refl
 
 job_of-command : (row : Row) (before : List Item) → (job_of row before).command ≡ row.command
 job_of-command row [] = refl
-job_of-command row (Operand word ∷ before) = with_kind-command _ word (job_of row before) ∙ job_of-command row before
+job_of-command row (Operand word ∷ before) = (with_kind-keeps _ word (job_of row before)).command ∙ job_of-command row before
 job_of-command row (Chosen option word ∷ before) = with_option-command option word (job_of row before) ∙ job_of-command row before
 job_of-command row (Lacking option ∷ before) = job_of-command row before
 job_of-command row (Unknown ∷ before) = job_of-command row before
@@ -53,6 +59,11 @@ ended row before number job false e = let same : job_of row before ≡ job = cc 
 pub not_refused : (number : ℕ) (place : Option ℕ) (rest : Result Job ℕ) (job : Job) → refused_or number place rest ≡ Ok job → rest ≡ Ok job
 not_refused number None rest job e = e
 not_refused number (Some place) rest job e = cc
+
+-- an item that was judged on was not refused
+pub passed : (number : ℕ) (place : Option ℕ) (rest : Result Job ℕ) (job : Job) → refused_or number place rest ≡ Ok job → place ≡ None
+passed number None rest job e = refl
+passed number (Some place) rest job e = cc
 
 pub judged-command : (row : Row) (before : List Item) (number : ℕ) (items : List Item) (job : Job) → judged row before number items ≡ Ok job → job.command ≡ row.command
 judged-command row before number [] job e = ended row before number job _ e

@@ -1,5 +1,5 @@
 -- The job of a list of words, or the number of the refused word, by a table of commands.
-use Rattle.std.specs.Prelude.{◌≡◌, ℕ, ◌+◌, ◌*◌, ◌==◌, Bool, true, false, not, ◌&&◌, ◌||◌, nat_le, nat_lt, if◌then◌else◌, List, [], ◌∷◌, length, count_by, slice_get, Option, Some, None, Result, Ok, Err, codes}
+use Rattle.std.specs.Prelude.{◌≡◌, ◌≤◌, ℕ, ◌+◌, ◌*◌, ◌==◌, Bool, true, false, not, ◌&&◌, ◌||◌, nat_le, nat_lt, if◌then◌else◌, List, [], ◌∷◌, length, count_by, slice_get, Option, Some, None, Result, Ok, Err, codes}
 use Rattle.std.specs.List.{find, list_any}
 use Rattle.std.specs.Str.{bytes_eq}
 use Rattle.job_words.specs.declared.command.Command.{Command}
@@ -141,6 +141,14 @@ judgement rows (word ∷ words) = judged_as (row_named rows word) words
 -- the same by the commands that are built
 abbrev pub JobOf : List (List ℕ) → Result Job ℕ
 JobOf words = judgement built words
+
+-- a limit that `--limit` takes
+abbrev pub IsLimit : ℕ → Type 0
+IsLimit limit = (1 ≤ limit) × (limit ≤ 10000)
+
+-- each job has such a limit, with the option and without
+abbrev pub LimitsAreLimits : Type 0
+LimitsAreLimits = (words : List (List ℕ)) (job : Job) → JobOf words ≡ Ok job → IsLimit job.limit
 
 -- the words of `code` leave no open entry to be filled
 abbrev pub CodeHoldsNothing : Type 0

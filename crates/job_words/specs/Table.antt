@@ -5,8 +5,8 @@ use Rattle.job_words.specs.declared.command.Command.TheVariants as commands
 use Rattle.job_words.specs.declared.table.CommandOption.{CommandOption}
 use Rattle.job_words.specs.declared.table.Form.{Form}
 use Rattle.job_words.specs.declared.table.OperandKind.{OperandKind}
-use Rattle.job_words.specs.declared.table.OperandKind.TheVariants.{File}
-use Rattle.job_words.specs.declared.table.CommandOption.TheVariants.{Fill}
+use Rattle.job_words.specs.declared.table.OperandKind.TheVariants.{File, Part}
+use Rattle.job_words.specs.declared.table.CommandOption.TheVariants.{Fill, Limit}
 
 pub record Row : Type 0 where
   pub command : Command
@@ -24,6 +24,10 @@ row command operands options = record { command = command; operands = operands; 
 abbrev pub built : List Row
 built =
     row commands.Check (File ∷ []) (Fill ∷ [])
+    ∷ row commands.Reduce (File ∷ []) (Fill ∷ [])
+    ∷ row commands.Closed (File ∷ []) (Limit ∷ Fill ∷ [])
+    ∷ row commands.Low (File ∷ Part ∷ []) (Fill ∷ [])
+    ∷ row commands.High (File ∷ Part ∷ []) (Fill ∷ [])
     ∷ row commands.Code (File ∷ []) []
     ∷ []
 

@@ -52,10 +52,30 @@ pub struct Form {
 }
 
 /// The commands that are built.
-const BUILT: [Form; 2] = [
+const BUILT: [Form; 6] = [
     Form {
         command: Command::Check,
         operands: &[OperandKind::File],
+        options: &[CommandOption::Fill],
+    },
+    Form {
+        command: Command::Reduce,
+        operands: &[OperandKind::File],
+        options: &[CommandOption::Fill],
+    },
+    Form {
+        command: Command::Closed,
+        operands: &[OperandKind::File],
+        options: &[CommandOption::Limit, CommandOption::Fill],
+    },
+    Form {
+        command: Command::Low,
+        operands: &[OperandKind::File, OperandKind::Part],
+        options: &[CommandOption::Fill],
+    },
+    Form {
+        command: Command::High,
+        operands: &[OperandKind::File, OperandKind::Part],
         options: &[CommandOption::Fill],
     },
     Form {

@@ -4,7 +4,7 @@ use Rattle.std.specs.declared.alloc.AllocError.{AllocError}
 use Rattle.hs_io.specs.Counts.{Rose}
 use Rattle.hs_io.specs.Pieces.{Appends, AppendsFront}
 use Rattle.hsdec_core.specs.declared.answers.Answer.{Answer}
-use Rattle.hsdec_core.specs.declared.answers.Answer.TheVariants.{Done, WriteFault, NoMemory}
+use Rattle.hsdec_core.specs.declared.answers.Answer.TheVariants.{Done, More, WriteFault, NoMemory}
 use Rattle.hsdec_core.specs.declared.outcomes.Outcome.{Outcome}
 use Rattle.hs_texts.specs.ErrLines.{cannot_write_line, no_memory_line}
 
@@ -15,6 +15,10 @@ refusal answer line = record { answer = answer; text = []; line = line }
 -- the outcome is an answer whose line is so, and no text
 abbrev pub IsRefusal : Answer → (List ℕ → Type 0) → Outcome → Type 0
 IsRefusal answer IsLine made = (line : List ℕ) × IsLine line × (made ≡ refusal answer line)
+
+-- evidence that there is more than a limit, with the line for err
+abbrev pub exceeded : List ℕ → List ℕ → Outcome
+exceeded text line = record { answer = More; text = text; line = line }
 
 -- a whole text
 abbrev pub finished : List ℕ → Outcome

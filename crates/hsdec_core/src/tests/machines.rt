@@ -7,7 +7,7 @@ use std::alloc::{AllocError, Global};
 use std::test::Fail;
 
 /// A counter of eight states with names for its inputs and outputs, and dashes.
-const COUNTER: &[u8] = b".i 3
+pub const COUNTER: &[u8] = b".i 3
 .o 2
 .ilb clr cep cet
 .ob zero top

@@ -1,0 +1,27 @@
+-- What `reduce` prints: the machine of the classes of alike states.
+use Rattle.std.specs.Prelude.{◌≡◌, ℕ, Bool, List}
+use Rattle.kiss2.specs.declared.fill.Fill.{Fill}
+use Rattle.kiss2.specs.declared.kiss_file.KissFile.{KissFile}
+use Rattle.kiss2.specs.Kiss.{Kiss}
+use Rattle.kiss2.specs.Lawful.{IsLawful}
+use Rattle.kiss2.specs.Machine.{Accepted, answers}
+use Rattle.kiss2.specs.Written.{kiss_text}
+use Rattle.state_reduce.specs.Alike.{AreApart, IsEquivalence, IsWord}
+use Rattle.state_reduce.specs.Quotient.{AnswersAsMembers, AreBlocksInOrder, IsQuotient}
+
+-- Q is the machine of the classes of alike states of F, in order: no two states of Q are alike, each answers every word as
+-- the states of its class do, and so does the reset state
+pub record IsReduced (F : KissFile) (fill : Fill) (classes : List ℕ) (Q : KissFile) : Type 0 where
+  pub alike : IsEquivalence F classes
+  pub quotient : IsQuotient F classes Q
+  pub in_order : AreBlocksInOrder F classes Q
+  pub lawful : IsLawful Q
+  pub accepted : Accepted Q fill
+  pub apart : AreApart Q
+  pub members : AnswersAsMembers F classes Q
+  pub reset : (word : List (List Bool)) → IsWord F.inputs word → answers Q Q.reset word ≡ answers F F.reset word
+
+-- the text is that of the reduced machine, and says it when it is read
+abbrev pub IsReducedText : KissFile → Fill → List ℕ → Type 0
+IsReducedText F fill text =
+    (classes : List ℕ) × (Q : KissFile) × IsReduced F fill classes Q × (text ≡ kiss_text Q) × Kiss text Q

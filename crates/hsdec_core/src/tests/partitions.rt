@@ -1,0 +1,157 @@
+//! What commands on partitions answer.
+
+use super::answer;
+use super::machines::COUNTER as NAMED_COUNTER;
+use crate::Answer;
+use hs_io::{MemShelf, MemSink};
+use std::test::Fail;
+
+/// Two machines of two states side by side.
+const PRODUCT: &[u8] = b".i 1
+.o 1
+0 st0 st1 0
+1 st0 st3 0
+0 st1 st0 0
+1 st1 st2 0
+0 st2 st3 0
+1 st2 st1 0
+0 st3 st2 1
+1 st3 st0 1
+.e
+";
+
+/// Four states that never move, and a counter modulo 4.
+const STILL: &[u8] = b".i 1\n.o 1\n- a a 0\n- b b 0\n- c c 0\n- d d 0\n.e\n";
+
+const COUNTER: &[u8] = b".i 1
+.o 1
+0 c0 c0 0
+1 c0 c1 0
+0 c1 c1 0
+1 c1 c2 0
+0 c2 c2 0
+1 c2 c3 0
+0 c3 c3 0
+1 c3 c0 1
+.e
+";
+
+/// Three alike states and a fourth, of which the third is the reset state.
+const ALIKE: &[u8] = b".i 1
+.o 1
+.r c
+0 a b 0
+1 a d 0
+0 b c 0
+1 b d 0
+0 c a 0
+1 c d 0
+0 d a 1
+1 d d 1
+.e
+";
+
+const REDUCED: &[u8] = b".i 1
+.o 1
+.p 4
+.s 2
+.r a
+0 a a 0
+1 a d 0
+0 d a 1
+1 d d 1
+.e
+";
+
+/// The partitions of four states in order, a line each.
+const FIFTEEN: &[u8] = b"0,1,2,3
+0,0,1,2
+0,1,0,2
+0,1,1,2
+0,1,2,0
+0,1,2,1
+0,1,2,2
+0,0,0,1
+0,0,1,0
+0,0,1,1
+0,1,0,0
+0,1,0,1
+0,1,1,0
+0,1,1,1
+0,0,0,0
+";
+
+/// Reduced machines, closed partitions, m and M of partitions, and the texts that are refused.
+#[test]
+fn answers_about_partitions(rt: HostRuntime) -> Result<(), Fail> {
+    let cases: [(&str, Answer, &[u8], &[u8]); 15] = [
+        ("reduce A", Answer::Done, REDUCED, b""),
+        ("reduce R", Answer::Done, REDUCED, b""),
+        (
+            "closed G",
+            Answer::Done,
+            b"0,1,2,3,4,5,6,7\n0,1,2,3,0,1,2,3\n0,1,0,1,0,1,0,1\n0,0,0,0,0,0,0,0\n",
+            b"",
+        ),
+        (
+            "closed P",
+            Answer::Done,
+            b"0,1,2,3\n0,0,1,1\n0,1,0,1\n0,1,1,0\n0,0,0,0\n",
+            b"",
+        ),
+        (
+            "closed C",
+            Answer::Done,
+            b"0,1,2,3\n0,1,0,1\n0,0,0,0\n",
+            b"",
+        ),
+        ("closed S --limit 15", Answer::Done, FIFTEEN, b""),
+        (
+            "closed S --limit 14",
+            Answer::More,
+            FIFTEEN,
+            b"hsdec: more than 14\n",
+        ),
+        (
+            "closed S --limit 0",
+            Answer::Usage,
+            b"",
+            b"hsdec: usage word 4\n",
+        ),
+        ("low P 0,1,0,2", Answer::Done, b"0,1,2,1\n", b""),
+        ("high P 0,1,0,2", Answer::Done, b"0,1,2,1\n", b""),
+        ("low P 0,0,0,0 --fill hold", Answer::Done, b"0,0,0,0\n", b""),
+        ("high P 0,1,2,3", Answer::Done, b"0,1,2,3\n", b""),
+        (
+            "low P 0,1",
+            Answer::PartRefused,
+            b"",
+            b"hsdec: part 0 has 2 labels, not 4\n",
+        ),
+        (
+            "high P 0,2,1,1",
+            Answer::PartRefused,
+            b"",
+            b"hsdec: part 0 place 1\n",
+        ),
+        ("low P", Answer::Usage, b"", b"hsdec: usage word 3\n"),
+    ];
+    for (line, expected, text, refusal) in cases {
+        let mut shelf = MemShelf::new(rt.alloc());
+        shelf.add(b"A", ALIKE)?;
+        shelf.add(b"R", REDUCED)?;
+        shelf.add(b"G", NAMED_COUNTER)?;
+        shelf.add(b"P", PRODUCT)?;
+        shelf.add(b"C", COUNTER)?;
+        shelf.add(b"S", STILL)?;
+        let mut out = MemSink::new(rt.alloc(), 4096)?;
+        let mut err = MemSink::new(rt.alloc(), 4096)?;
+        assert_eq!(rt;
+            answer(rt.alloc(), line, &mut shelf, &mut out, &mut err)?,
+            expected
+        );
+        assert_eq!(rt; out.bytes(), text);
+        assert_eq!(rt; err.bytes(), refusal);
+    }
+    Ok(())
+}
