@@ -27,9 +27,9 @@ dense 256
 long 14
 long 15
 long 16
-cubes 1
-cubes 2
-cubes 4
+cubes 16
+cubes 64
+cubes 256
 sparse 64
 sparse 128
 sparse 256

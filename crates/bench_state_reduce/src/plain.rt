@@ -92,7 +92,7 @@ fn is_first(marks: &Marks, s: usize) -> bool
 }
 
 /// How many classes of alike states there are.
-pub fn classes(alloc: Global, m: &Machine) -> Result<usize, AllocError> {
+pub(crate) fn classes(alloc: Global, m: &Machine) -> Result<usize, AllocError> {
     let mut marks = Marks::new(alloc)?;
     for s in 0..m.states() {
         mark_outputs(m, &mut marks, s);
