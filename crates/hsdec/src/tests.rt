@@ -65,6 +65,8 @@ const HELP: &[u8] = b"Commands:
   hsdec check FILE [--fill hold]
   hsdec reduce FILE [--fill hold]
   hsdec closed FILE [--limit N] [--fill hold]
+  hsdec output FILE [--limit N] [--fill hold]
+  hsdec pairs FILE [--limit N] [--fill hold]
   hsdec low FILE PART [--fill hold]
   hsdec high FILE PART [--fill hold]
   hsdec code FILE

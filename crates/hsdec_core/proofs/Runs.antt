@@ -21,6 +21,9 @@ use Rattle.hsdec_core.specs.Line.{IsLineFor}
 use Rattle.hsdec_core.specs.Loading.{IsTooLong, IsWithin}
 use Rattle.hsdec_core.specs.Promise.{HoldsMachine, IsAsked, IsAskedOrShown, IsDecompositionOf, IsEvidence, IsPromised, kind_of}
 use Rattle.closed_lattice.specs.Closed.{IsClosedPartition}
+use Rattle.mm_lattice.specs.Laws.{right_before_chains, right_never_before}
+use Rattle.mm_lattice.specs.MmPairs.{IsMmPair, RightBefore}
+use Rattle.output_consistent.specs.Outputs.{IsClosedAndConsistent}
 use Rattle.hs_lattice.proofs.Exclusion.{StrictOrder, few_exclude_more}
 use Rattle.partition.specs.Before.{Before}
 use Rattle.partition.specs.Laws.World.{before_chains, before_never}
@@ -45,16 +48,29 @@ before_orders n = record {
   transitive = λ p q r p_lawful q_lawful r_lawful. before_chains n p q r p_lawful q_lawful;
 }
 
-few_or_more : (n : ℕ) (P : List ℕ → Type 0) (limit : ℕ) → ((p : List ℕ) → P p → IsPartition n p) → HasFew P limit → HasMore P limit → ⊥
-few_or_more n P limit lawful (xs, lists, few) (ys, evidence) =
-    few_exclude_more (IsPartition n) Before P xs ys limit (before_orders n) (λ k d within. lawful (get_or xs k d) (lists.members k d within)) lists few evidence
+-- a strict order of Mm pairs
+rights_order : (F : KissFile) → StrictOrder (IsMmPair F) RightBefore
+rights_order F = record {
+  irreflexive = λ x pair. right_never_before x;
+  transitive = λ x y z one two three. right_before_chains F x y z one two;
+}
+
+few_or_more : {M : Type 0} (fits : M → Type 0) (precedes : M → M → Type 0) (P : M → Type 0) (limit : ℕ) → StrictOrder fits precedes → ((x : M) → P x → fits x) → HasFew precedes P limit → HasMore precedes P limit → ⊥
+few_or_more fits precedes P limit order fit (xs, lists, few) (ys, evidence) =
+    few_exclude_more fits precedes P xs ys limit order (λ k d within. fit (get_or xs k d) (lists.members k d within)) lists few evidence
 
 served_or_more : (c : Command) (job : Job) (F : KissFile) → CanServe c job F → ListsMore c job F → ⊥
-served_or_more commands.Closed job F h k = few_or_more (length F.states) (IsClosedPartition F) job.limit (λ p closed. closed.0) h k
+served_or_more commands.Closed job F h k =
+    few_or_more (IsPartition (length F.states)) Before (IsClosedPartition F) job.limit (before_orders (length F.states)) (λ p closed. closed.0) h k
+served_or_more commands.Output job F h k =
+    few_or_more (IsPartition (length F.states)) Before (IsClosedAndConsistent F) job.limit (before_orders (length F.states)) (λ p respects. respects.0.0) h k
+served_or_more commands.Pairs job F h k = few_or_more (IsMmPair F) RightBefore (IsMmPair F) job.limit (rights_order F) (λ x pair. pair) h k
 served_or_more _ job F h k = absurd k
 
 refused_or_more : (c : Command) (job : Job) (F : KissFile) → RefusesPart c job F → ListsMore c job F → ⊥
 refused_or_more commands.Closed job F h k = h
+refused_or_more commands.Output job F h k = h
+refused_or_more commands.Pairs job F h k = h
 refused_or_more _ job F h k = absurd k
 
 command_calls_for_one : (c : Command) (job : Job) (F : KissFile) (a b : Answer) → CommandCallsFor a c job F → CommandCallsFor b c job F → a ≡ b

@@ -11,6 +11,8 @@ use Rattle.kiss2.specs.Machine.{Accepted, Conflicting, Specified}
 use Rattle.partition.specs.declared.PartFail.{PartFail}
 use Rattle.closed_lattice.specs.Closed.{IsClosedPartition}
 use Rattle.hs_lattice.specs.Listing.{Evidence, Lists}
+use Rattle.mm_lattice.specs.MmPairs.{IsMmPair, RightBefore}
+use Rattle.output_consistent.specs.Outputs.{IsClosedAndConsistent}
 use Rattle.partition.specs.Before.{Before}
 use Rattle.partition.specs.Partition.{IsPartition}
 use Rattle.partition.specs.Text.{TextFault, labels_text}
@@ -27,13 +29,13 @@ IsPartText F text p = IsPartition (length F.states) p × (text ≡ labels_text p
 abbrev pub IsNoPartText : KissFile → List ℕ → Type 0
 IsNoPartText F text = (fail : PartFail) × TextFault (length F.states) text fail
 
--- no more than so many partitions have a property, as a list of all of them shows
-abbrev pub HasFew : (List ℕ → Type 0) → ℕ → Type 0
-HasFew P limit = (members : List (List ℕ)) × Lists Before P members × (length members ≤ limit)
+-- no more than so many values have a property, as a list of all of them in order shows
+abbrev pub HasFew : {M : Type 0} → (M → M → Type 0) → (M → Type 0) → ℕ → Type 0
+HasFew {M} precedes P limit = (members : List M) × Lists precedes P members × (length members ≤ limit)
 
--- more than so many partitions have a property, as one more of them show
-abbrev pub HasMore : (List ℕ → Type 0) → ℕ → Type 0
-HasMore P limit = (members : List (List ℕ)) × Evidence Before P limit members
+-- more than so many values have a property, as one more of them in order show
+abbrev pub HasMore : {M : Type 0} → (M → M → Type 0) → (M → Type 0) → ℕ → Type 0
+HasMore {M} precedes P limit = (members : List M) × Evidence precedes P limit members
 
 -- a command can do its work on a machine; one that is not built can do none
 abbrev pub CanServe : Command → Job → KissFile → Type 0
@@ -42,7 +44,9 @@ CanServe commands.Code job F = ⊤
 CanServe commands.Reduce job F = ⊤
 CanServe commands.Low job F = (p : List ℕ) × IsPartText F job.second p
 CanServe commands.High job F = (p : List ℕ) × IsPartText F job.second p
-CanServe commands.Closed job F = HasFew (IsClosedPartition F) job.limit
+CanServe commands.Closed job F = HasFew Before (IsClosedPartition F) job.limit
+CanServe commands.Output job F = HasFew Before (IsClosedAndConsistent F) job.limit
+CanServe commands.Pairs job F = HasFew RightBefore (IsMmPair F) job.limit
 CanServe _ job F = ⊥
 
 -- a command is handed a text that is no partition of the machine's states
@@ -53,7 +57,9 @@ RefusesPart _ job F = ⊥
 
 -- more than the limit stand to be listed
 abbrev pub ListsMore : Command → Job → KissFile → Type 0
-ListsMore commands.Closed job F = HasMore (IsClosedPartition F) job.limit
+ListsMore commands.Closed job F = HasMore Before (IsClosedPartition F) job.limit
+ListsMore commands.Output job F = HasMore Before (IsClosedAndConsistent F) job.limit
+ListsMore commands.Pairs job F = HasMore RightBefore (IsMmPair F) job.limit
 ListsMore _ job F = ⊥
 
 -- the machine that a command is asked of calls for an answer of the command's own

@@ -1,23 +1,28 @@
--- What commands that list partitions print: one partition a line, in ascending order.
-use Rattle.std.specs.Prelude.{◌≡◌, ◌≤◌, ℕ, List, length}
+-- What commands that list print: one partition or one pair a line, in ascending order.
+use Rattle.std.specs.Prelude.{◌≡◌, ◌≤◌, ◌++◌, ◌∷◌, ℕ, List, length}
 use Rattle.std.specs.List.{flat_map}
 use Rattle.hs_lattice.specs.Listing.{Evidence, Lists}
 use Rattle.hs_texts.specs.ErrLines.{as_line}
-use Rattle.partition.specs.Before.{Before}
+use Rattle.mm_lattice.specs.Sides.{Sides}
 use Rattle.partition.specs.Text.{labels_text}
 
 -- the line of a partition
 abbrev pub partition_line : List ℕ → List ℕ
 partition_line p = as_line (labels_text p)
 
--- the lines of partitions
-abbrev pub lines_of : List (List ℕ) → List ℕ
-lines_of partitions = flat_map partition_line partitions
+-- the line of a pair: its left side, a space, and its right side
+abbrev pub pair_line : Sides → List ℕ
+pair_line pair = labels_text pair.0 ++ 32 ∷ partition_line pair.1
 
--- the lines of all partitions with a property, which are no more than the limit
-abbrev pub IsListText : (List ℕ → Type 0) → ℕ → List ℕ → Type 0
-IsListText P limit text = (members : List (List ℕ)) × Lists Before P members × (length members ≤ limit) × (text ≡ lines_of members)
+-- the lines of values
+abbrev pub lines_of : {M : Type 0} → (M → List ℕ) → List M → List ℕ
+lines_of line members = flat_map line members
+
+-- the lines of all values with a property, which are no more than the limit
+abbrev pub IsListText : {M : Type 0} → (M → List ℕ) → (M → M → Type 0) → (M → Type 0) → ℕ → List ℕ → Type 0
+IsListText {M} line precedes P limit text =
+    (members : List M) × Lists precedes P members × (length members ≤ limit) × (text ≡ lines_of line members)
 
 -- the lines of limit + 1 of them
-abbrev pub IsEvidenceText : (List ℕ → Type 0) → ℕ → List ℕ → Type 0
-IsEvidenceText P limit text = (members : List (List ℕ)) × Evidence Before P limit members × (text ≡ lines_of members)
+abbrev pub IsEvidenceText : {M : Type 0} → (M → List ℕ) → (M → M → Type 0) → (M → Type 0) → ℕ → List ℕ → Type 0
+IsEvidenceText {M} line precedes P limit text = (members : List M) × Evidence precedes P limit members × (text ≡ lines_of line members)

@@ -11,11 +11,14 @@ use Rattle.kiss2.specs.Machine.{Accepted}
 use Rattle.state_codes.specs.declared.split.Kind.{Kind}
 use Rattle.state_codes.specs.declared.split.Kind.TheVariants.{Code}
 use Rattle.closed_lattice.specs.Closed.{IsClosedPartition}
+use Rattle.mm_lattice.specs.MmPairs.{IsMmPair, RightBefore}
+use Rattle.output_consistent.specs.Outputs.{IsClosedAndConsistent}
+use Rattle.partition.specs.Before.{Before}
 use Rattle.hsdec_core.specs.CheckReport.{IsChecked}
 use Rattle.hsdec_core.specs.Decomposition.{IsWritten}
 use Rattle.hsdec_core.specs.ExtremeTexts.{IsHighText, IsLowText}
 use Rattle.hsdec_core.specs.Fill.{fill_of}
-use Rattle.hsdec_core.specs.ListTexts.{IsEvidenceText, IsListText}
+use Rattle.hsdec_core.specs.ListTexts.{IsEvidenceText, IsListText, pair_line, partition_line}
 use Rattle.hsdec_core.specs.Loading.{IsText}
 use Rattle.hsdec_core.specs.ReducedText.{IsReducedText}
 
@@ -31,12 +34,16 @@ IsPromised commands.Code job F text = IsWritten F Code text
 IsPromised commands.Reduce job F text = IsReducedText F (fill_of job) text
 IsPromised commands.Low job F text = IsLowText F job.second text
 IsPromised commands.High job F text = IsHighText F job.second text
-IsPromised commands.Closed job F text = IsListText (IsClosedPartition F) job.limit text
+IsPromised commands.Closed job F text = IsListText partition_line Before (IsClosedPartition F) job.limit text
+IsPromised commands.Output job F text = IsListText partition_line Before (IsClosedAndConsistent F) job.limit text
+IsPromised commands.Pairs job F text = IsListText pair_line RightBefore (IsMmPair F) job.limit text
 IsPromised _ job F text = ⊥
 
 -- the text is that of the evidence that there are more than the limit
 abbrev pub IsShown : Command → Job → KissFile → List ℕ → Type 0
-IsShown commands.Closed job F text = IsEvidenceText (IsClosedPartition F) job.limit text
+IsShown commands.Closed job F text = IsEvidenceText partition_line Before (IsClosedPartition F) job.limit text
+IsShown commands.Output job F text = IsEvidenceText partition_line Before (IsClosedAndConsistent F) job.limit text
+IsShown commands.Pairs job F text = IsEvidenceText pair_line RightBefore (IsMmPair F) job.limit text
 IsShown _ job F text = ⊥
 
 -- the bytes that a shelf holds say a lawful machine, which is accepted with a fill

@@ -8,6 +8,7 @@ ghost use Rattle.hsdec_core.specs.Inner.RightFor.{IsRightOf};
 ghost use Rattle.hsdec_core.specs.ListTexts.{partition_line};
 
 use crate::Outcome;
+use crate::list_commands::append_line;
 use crate::part_operand::{PartOperand, read_part};
 use job_words::Job;
 use machine_table::Machine;
@@ -49,7 +50,6 @@ fn line_of(alloc: Global, part: &Partition) -> Result<Vec<u8>, AllocError>
     ensures { IfOk result (λ text. text.items ≡ partition_line part.now) }
 {
     let mut text = Vec::new(alloc);
-    part.show(alloc, &mut text)?;
-    text.push(b'\n')?;
+    append_line(alloc, part, &mut text)?;
     Ok(text)
 }

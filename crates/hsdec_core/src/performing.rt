@@ -14,7 +14,7 @@ ghost use Rattle.hsdec_core.specs.Loading.{IsWithin};
 use crate::check_command::check;
 use crate::code_command::code;
 use crate::extreme_commands::{high, low};
-use crate::list_commands::closed;
+use crate::list_commands::{closed, output, pairs};
 use crate::loading::{Loaded, load_operand};
 use crate::reduce_command::reduce;
 use crate::refusals::{conflict, kiss_refused, unspecified};
@@ -110,6 +110,8 @@ fn command(
         Command::High => high(alloc, job, machine),
         Command::Reduce => reduce(alloc, job, &file, machine),
         Command::Closed => closed(alloc, job, machine),
+        Command::Output => output(alloc, job, machine),
+        Command::Pairs => pairs(alloc, job, machine),
         _ => unreachable!(),
     }
 }

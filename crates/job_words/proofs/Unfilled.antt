@@ -59,7 +59,7 @@ abbrev pub CodeIsUnfilled : Row → Type 0
 CodeIsUnfilled row = row.command ≡ commands.Code → IsUnfilled row
 
 built_unfilled : AllByRecursion CodeIsUnfilled built
-built_unfilled = (λ e. cc, (λ e. cc, (λ e. cc, (λ e. cc, (λ e. cc, (λ e. refl, tt))))))
+built_unfilled = (λ e. cc, (λ e. cc, (λ e. cc, (λ e. cc, (λ e. cc, (λ e. cc, (λ e. cc, (λ e. refl, tt))))))))
 
 of_row : (word : List ℕ) (words : List (List ℕ)) (job : Job) (row : Option Row) → row_named built word ≡ row → judged_as row words ≡ Ok job → job.command ≡ commands.Code → job.hold ≡ false
 of_row word words job None f g code = cc

@@ -26,6 +26,8 @@ built =
     row commands.Check (File ∷ []) (Fill ∷ [])
     ∷ row commands.Reduce (File ∷ []) (Fill ∷ [])
     ∷ row commands.Closed (File ∷ []) (Limit ∷ Fill ∷ [])
+    ∷ row commands.Output (File ∷ []) (Limit ∷ Fill ∷ [])
+    ∷ row commands.Pairs (File ∷ []) (Limit ∷ Fill ∷ [])
     ∷ row commands.Low (File ∷ Part ∷ []) (Fill ∷ [])
     ∷ row commands.High (File ∷ Part ∷ []) (Fill ∷ [])
     ∷ row commands.Code (File ∷ []) []

@@ -52,7 +52,7 @@ pub struct Form {
 }
 
 /// The commands that are built.
-const BUILT: [Form; 6] = [
+const BUILT: [Form; 8] = [
     Form {
         command: Command::Check,
         operands: &[OperandKind::File],
@@ -65,6 +65,16 @@ const BUILT: [Form; 6] = [
     },
     Form {
         command: Command::Closed,
+        operands: &[OperandKind::File],
+        options: &[CommandOption::Limit, CommandOption::Fill],
+    },
+    Form {
+        command: Command::Output,
+        operands: &[OperandKind::File],
+        options: &[CommandOption::Limit, CommandOption::Fill],
+    },
+    Form {
+        command: Command::Pairs,
         operands: &[OperandKind::File],
         options: &[CommandOption::Limit, CommandOption::Fill],
     },

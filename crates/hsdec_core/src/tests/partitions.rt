@@ -81,10 +81,22 @@ const FIFTEEN: &[u8] = b"0,1,2,3
 0,0,0,0
 ";
 
-/// Reduced machines, closed partitions, m and M of partitions, and the texts that are refused.
+/// The Mm pairs of the product, a line each.
+const PAIRS: &[u8] = b"0,1,2,3 0,1,2,3
+0,1,2,1 0,1,0,2
+0,1,0,2 0,1,2,1
+0,0,1,1 0,0,1,1
+0,1,0,1 0,1,0,1
+0,1,1,0 0,1,1,0
+0,0,0,0 0,0,0,0
+";
+
+/// Reduced machines, closed and consistent partitions, Mm pairs, m and M of partitions, and the texts that are refused.
 #[test]
 fn answers_about_partitions(rt: HostRuntime) -> Result<(), Fail> {
-    let cases: [(&str, Answer, &[u8], &[u8]); 15] = [
+    let cases: [(&str, Answer, &[u8], &[u8]); 17] = [
+        ("output A", Answer::Done, b"0,1,2,3\n0,0,0,1\n", b""),
+        ("pairs P", Answer::Done, PAIRS, b""),
         ("reduce A", Answer::Done, REDUCED, b""),
         ("reduce R", Answer::Done, REDUCED, b""),
         (

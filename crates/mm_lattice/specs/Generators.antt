@@ -1,0 +1,11 @@
+-- The right sides of two states, of which all right sides are joins.
+use Rattle.std.specs.Prelude.{ℕ, List, length}
+use Rattle.kiss2.specs.declared.kiss_file.KissFile.{KissFile}
+use Rattle.partition.specs.Partition.{IsHold}
+use Rattle.pair_operators.specs.Extremes.{IsLow}
+
+-- q is m of the partition that holds s and t together and nothing else
+pub record IsRightOf (F : KissFile) (s t : ℕ) (q : List ℕ) : Type 0 where
+  pub hold : List ℕ
+  pub holds : IsHold (length F.states) s t hold
+  pub low : IsLow F hold q

@@ -1,0 +1,5 @@
+pub mod Sides
+pub mod MmPairs
+pub mod Generators
+pub mod Laws
+pub mod Inner
