@@ -153,3 +153,6 @@ pub principals_are_one : (F : KissFile) (s t : ℕ) (p q : List ℕ) → IsPrinc
 principals_are_one F s t p q one other =
     same_labels p q one.lawful.numbered other.lawful.numbered (one.lawful.length ∙ sym other.lawful.length)
     (λ u v. (one.least q (other.lawful, other.closed) other.together u v, other.least p (one.lawful, one.closed) one.together u v))
+
+pub states_counted : (F : KissFile) (n : ℕ) → n ≡ length F.states → 0 < n → n ≤ 256 → IsStateCount (length F.states)
+states_counted F n size some few = (omega (arith, size, some), omega (arith, size, few))

@@ -1,10 +1,11 @@
 pub mod Waiting
 pub mod Growing
+pub mod Joining
 pub mod Blocks
+pub mod ZeroBlocks
 pub mod Generating
 pub mod Principals
 pub mod Listed
 pub mod Grown
 pub mod Conditions
-pub mod Steps
 pub mod Sifting

@@ -1,4 +1,3 @@
 pub mod Closed
-pub mod Growth
 pub mod Limits
 pub mod Inner

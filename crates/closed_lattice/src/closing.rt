@@ -3,12 +3,17 @@
 //! Pairs of states wait to be put together, at first the two alone. One that is still apart is taken, its
 //! blocks become one, and the pairs of next states of the two wait too. Each pair that ever waits is
 //! together in each closed partition that holds the first two, so nothing is put together without need;
-//! and where no pair is apart any more, next states of states that are together are together.
+//! and where no pair is apart any more, next states of states that are together are together. Where the least
+//! closed partition of a pair that waits is known already, it is joined at once.
 
 ghost use Rattle.std.specs.Prelude.{ℕ, ◌≡◌, ◌<◌, Contains, IfNone, IfOk, IfSome, OnOk, length};
 ghost use Rattle.closed_lattice.specs.Closed.{IsPrincipal};
+ghost use Rattle.closed_lattice.specs.Inner.Known.{AreKnown, Joins};
 ghost use Rattle.closed_lattice.specs.Inner.Waiting.{AddsImages, AreStates, AreTogether, TakesApart};
+ghost use Rattle.machine_table.specs.Staying.{NeverLeaves};
+ghost use Rattle.partition.specs.Partition.{IsPartition, Together};
 
+use crate::known::Known;
 use machine_table::Machine;
 use partition::Partition;
 use std::alloc::{AllocError, Global};
@@ -28,25 +33,83 @@ fn next_apart(p: &Partition, waiting: &mut Vec<(u16, u16)>) -> Option<(usize, us
     None
 }
 
-/// Adds the pairs of next states of two states.
-fn add_images(
+/// Joins the partition with the known one of two states, if there is one, unless they are together.
+#[tactic(auto, using(crate::proofs::Joining::joins_none))]
+fn join_one(
     alloc: Global,
     m: &Machine,
-    s: usize,
-    t: usize,
-    waiting: &mut Vec<(u16, u16)>,
+    known: &Known,
+    u: u16,
+    v: u16,
+    p: &mut Partition,
 ) -> Result<(), AllocError>
-    requires s { s < length m.now.states }
-    requires t { t < length m.now.states }
-    ensures { OnOk result (AddsImages m.now s t waiting.old.items waiting.new.items) }
+    requires known { AreKnown m.now known.now.items.items }
+    requires lawful { IsPartition (length m.now.states) p.old }
+    requires u { u < length p.old }
+    requires v { v < length p.old }
+    ensures { OnOk result (Joins m.now (λ q. Together q u v) p.old p.new) }
 {
-    let images = m.images(alloc, s, t)?;
-    waiting.extend_from_slice(images.as_slice())?;
+    if !p.same(usize::from(u), usize::from(v)) {
+        if let Some(least) = known.find(u, v) {
+            *p = p.join(alloc, least)?;
+        }
+    }
     Ok(())
 }
 
-/// The least closed partition that holds s and t together.
-pub fn principal(alloc: Global, m: &Machine, s: usize, t: usize) -> Result<Partition, AllocError>
+/// Joins the partition with the known ones of pairs of states.
+fn join_known(
+    alloc: Global,
+    m: &Machine,
+    known: &Known,
+    pairs: &[(u16, u16)],
+    p: &mut Partition,
+) -> Result<(), AllocError>
+    requires known { AreKnown m.now known.now.items.items }
+    requires lawful { IsPartition (length m.now.states) p.old }
+    requires states { AreStates (length m.now.states) pairs.now }
+    ensures { OnOk result (Joins m.now (λ q. AreTogether q pairs.now) p.old p.new) }
+{
+    for (u, v) in pairs {
+        join_one(alloc, m, known, *u, *v, p)?;
+    }
+    Ok(())
+}
+
+/// Adds the pairs of next states of two states, and joins the partition with the known ones of them.
+fn add_images(
+    alloc: Global,
+    m: &Machine,
+    known: &Known,
+    s: usize,
+    t: usize,
+    waiting: &mut Vec<(u16, u16)>,
+    p: &mut Partition,
+) -> Result<(), AllocError>
+    requires known { AreKnown m.now known.now.items.items }
+    requires stays { NeverLeaves m.now }
+    requires lawful { IsPartition (length m.now.states) p.old }
+    requires s { s < length m.now.states }
+    requires t { t < length m.now.states }
+    ensures added { OnOk result (AddsImages m.now s t waiting.old.items waiting.new.items) }
+    ensures joined { OnOk result (Joins m.now (λ q. AreTogether q waiting.new.items) p.old p.new) }
+{
+    let images = m.images(alloc, s, t)?;
+    let pairs = images.as_slice();
+    join_known(alloc, m, known, pairs, p)?;
+    waiting.extend_from_slice(pairs)?;
+    Ok(())
+}
+
+/// The least closed partition that holds s and t together, made with the known ones of other pairs.
+pub(crate) fn principal_beside(
+    alloc: Global,
+    m: &Machine,
+    known: &Known,
+    s: usize,
+    t: usize,
+) -> Result<Partition, AllocError>
+    requires known { AreKnown m.now known.now.items.items }
     requires s { s < length m.now.states }
     requires t { t < length m.now.states }
     ensures { IfOk result (IsPrincipal m.now s t) }
@@ -59,7 +122,35 @@ pub fn principal(alloc: Global, m: &Machine, s: usize, t: usize) -> Result<Parti
         if p.blocks() == 1 {
             return Ok(p);
         }
-        add_images(alloc, m, u, v, &mut waiting)?;
+        add_images(alloc, m, known, u, v, &mut waiting, &mut p)?;
     }
+    Ok(p)
+}
+
+/// The least closed partition that holds s and t together.
+pub fn principal(alloc: Global, m: &Machine, s: usize, t: usize) -> Result<Partition, AllocError>
+    requires s { s < length m.now.states }
+    requires t { t < length m.now.states }
+    ensures { IfOk result (IsPrincipal m.now s t) }
+{
+    principal_beside(alloc, m, &Known::none(alloc), s, t)
+}
+
+/// The least closed partition that holds s and t together, which is known from then on.
+pub(crate) fn learn(
+    alloc: Global,
+    m: &Machine,
+    known: &mut Known,
+    s: usize,
+    t: usize,
+) -> Result<Partition, AllocError>
+    requires known { AreKnown m.now known.old.items.items }
+    requires s { s < length m.now.states }
+    requires t { t < length m.now.states }
+    ensures known { OnOk result (AreKnown m.now known.new.items.items) }
+    ensures principal { IfOk result (IsPrincipal m.now s t) }
+{
+    let p = principal_beside(alloc, m, known, s, t)?;
+    known.add(alloc, s as u16, t as u16, &p)?;
     Ok(p)
 }

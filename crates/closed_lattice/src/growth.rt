@@ -3,13 +3,15 @@
 //! Each condition that a partition meets, each smaller one meets too. So a pair whose least closed partition
 //! could not be joined once cannot be joined later, and one pass over the pairs is enough.
 
-ghost use Rattle.std.specs.Prelude.{ℕ, ◌≡◌, ◌<◌, ◌↔◌, IfOk, IsTrue, List, length};
+ghost use Rattle.std.specs.Prelude.{ℕ, ◌≡◌, ◌<◌, ◌↔◌, IfOk, IsTrue, List, OnOk, length};
 ghost use Rattle.closed_lattice.specs.Closed.{IsClosedPartition, IsPrincipal};
-ghost use Rattle.closed_lattice.specs.Growth.{GrowsOver, IsGrowth, pairs_from};
+ghost use Rattle.pair_operators.specs.Growth.{GrowsOver, IsGrowth, pairs_from};
+ghost use Rattle.closed_lattice.specs.Inner.Known.{AreKnown};
 ghost use Rattle.closed_lattice.specs.Limits.{HoldsApart, IsGreatestGrown, IsStrictlyBelow, MeetInZero};
 ghost use Rattle.partition.specs.Partition.{IsPartition, IsZero, zero_of};
 
-use crate::principal;
+use crate::closing::learn;
+use crate::known::Known;
 use machine_table::Machine;
 use partition::Partition;
 use std::alloc::{AllocError, Global};
@@ -83,20 +85,23 @@ impl Condition for InTwoBlocks {
 fn grow_from<C: Condition>(
     alloc: Global,
     m: &Machine,
+    known: &mut Known,
     start: Partition,
     s: usize,
     condition: &C,
 ) -> Result<Partition, AllocError>
+    requires known { AreKnown m.now known.old.items.items }
     requires lawful { IsPartition (length m.now.states) start }
     requires state { s < length m.now.states }
     requires suits { C.suits condition.now (length m.now.states) }
+    ensures known { OnOk result (AreKnown m.now known.new.items.items) }
     ensures lawful { IfOk result (IsPartition (length m.now.states)) }
     ensures grown { IfOk result (GrowsOver (IsPrincipal m.now) (C.meets condition.now) start
         (pairs_from (length m.now.states) s)) }
 {
     let mut grown = start;
     for t in s + 1..m.states() {
-        let least = principal(alloc, m, s, t)?;
+        let least = learn(alloc, m, known, s, t)?;
         let joined = grown.join(alloc, &least)?;
         if condition.is_met(alloc, &joined)? {
             grown = joined;
@@ -117,9 +122,10 @@ fn grow<C: Condition>(
     ensures { IfOk result (IsGrowth (IsPrincipal m.now) (C.meets condition.now)
         (length m.now.states) start) }
 {
+    let mut known = Known::new(alloc)?;
     let mut grown = start;
     for s in 0..m.states() {
-        grown = grow_from(alloc, m, grown, s, condition)?;
+        grown = grow_from(alloc, m, &mut known, grown, s, condition)?;
     }
     Ok(grown)
 }

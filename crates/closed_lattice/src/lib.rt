@@ -11,13 +11,14 @@
 //! of [`closed_are_joins`].
 //!
 //! `specs/Closed` says what a closed partition is and which one is the least that holds two states together,
-//! `specs/Growth` what a growth is, step by step, and `specs/Limits` what it is for: no closed partition
+//! `specs/Limits` how far closed partitions grow and what a growth is for: no closed partition
 //! strictly above it meets the condition. What stands in `specs/Inner` serves private functions alone.
 #![tactic(auto)]
 
 mod closing;
 mod collecting;
 mod growth;
+mod known;
 mod laws;
 mod listing;
 #[cfg(test)]

@@ -6,12 +6,13 @@
 
 ghost use Rattle.std.specs.Prelude.{ℕ, ◌≡◌, ◌↔◌, ◌≤◌, All, IfOk, IsTrue, List, length};
 ghost use Rattle.closed_lattice.specs.Closed.{IsAtom, IsClosedPartition};
-ghost use Rattle.closed_lattice.specs.Inner.Generators.{IsLeastAmong};
+ghost use Rattle.closed_lattice.specs.Inner.Generators.{AreClosed, HavePrincipals, IsLeastAmong};
 ghost use Rattle.hs_lattice.specs.Listing.{Evidence, IfMore, IfWhole, Lists};
 ghost use Rattle.partition.specs.Before.{Before};
 
-use crate::collecting::principals;
+use crate::collecting::{principals, principals_within};
 use hs_lattice::{Listing, join_closure};
+use hs_list::Items;
 use machine_table::Machine;
 use partition::{BitPart, BitWorld, Partition};
 use std::alloc::{AllocError, Global};
@@ -27,6 +28,29 @@ fn in_rows(alloc: Global, list: &[Partition]) -> Result<Vec<BitPart>, AllocError
     Ok(rows)
 }
 
+/// The closed partitions in ascending order, or more of them, as the joins of the least ones of two states.
+fn joins_of(
+    alloc: Global,
+    m: &Machine,
+    found: &[Partition],
+    limit: usize,
+) -> Result<Listing<BitPart>, AllocError>
+    requires closed { AreClosed m.now found.now }
+    requires each { HavePrincipals m.now (length m.now.states) found.now }
+    requires positive { 1 ≤ limit }
+    requires bounded { limit ≤ 10000 }
+    ensures whole { IfOk result (λ listing. IfWhole listing (Lists Before (IsClosedPartition m.now))) }
+    ensures within { IfOk result (λ listing. IfWhole listing (λ items. length items ≤ limit)) }
+    ensures no_more { IfOk result (λ listing. IfWhole listing (λ _. (partitions : List (List ℕ))
+        → Evidence Before (IsClosedPartition m.now) limit partitions → ⊥)) }
+    ensures more { IfOk result (λ listing. IfMore listing
+        (Evidence Before (IsClosedPartition m.now) limit)) }
+{
+    let generators = in_rows(alloc, found)?;
+    let world = BitWorld { n: m.states() };
+    join_closure(alloc, &world, generators.as_slice(), limit)
+}
+
 /// The closed partitions in ascending order, or where there are more than the limit, limit + 1 of them.
 ///
 /// Which ones stand as evidence is left open.
@@ -40,10 +64,13 @@ pub fn all(alloc: Global, m: &Machine, limit: usize) -> Result<Listing<BitPart>,
     ensures more { IfOk result (λ listing. IfMore listing
         (Evidence Before (IsClosedPartition m.now) limit)) }
 {
-    let found = principals(alloc, m)?;
-    let generators = in_rows(alloc, found.as_slice())?;
-    let world = BitWorld { n: m.states() };
-    join_closure(alloc, &world, generators.as_slice(), limit)
+    let found = principals_within(alloc, m, limit)?;
+    let partitions = found.as_slice();
+    if partitions.len() > limit {
+        let rows = in_rows(alloc, &partitions[..limit + 1])?;
+        return Ok(Listing::More(Items::from(rows)));
+    }
+    joins_of(alloc, m, partitions, limit)
 }
 
 /// Whether no partition of the list is strictly below this one.

@@ -53,7 +53,7 @@ joined_above F (x ∷ xs) y (one, rest) (z, of, joined) =
     (mm_joins_fit F x z y one so_far.0 joined, (above.left, each_below z.1 y.1 above.right xs so_far.1))
 
 -- what holds s and t together and nothing else is below each partition that holds them together
-hold_below : (n s t : ℕ) (hold p : List ℕ) → IsHold n s t hold → length p ≡ n → Together p s t → Le hold p
+pub hold_below : (n s t : ℕ) (hold p : List ℕ) → IsHold n s t hold → length p ≡ n → Together p s t → Le hold p
 hold_below n s t hold p is size held u v together =
     elim (is.nothing_else u v together) [
       | inl same ↦ subst (λ (k : ℕ). Together p u k) same (omega (arith, together.0, is.lawful.length), omega (arith, together.0, is.lawful.length), refl)

@@ -1,3 +1,4 @@
 pub mod Found
 pub mod Generating
 pub mod Listed
+pub mod Topmost

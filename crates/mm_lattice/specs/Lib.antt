@@ -1,5 +1,6 @@
 pub mod Sides
 pub mod MmPairs
 pub mod Generators
+pub mod Top
 pub mod Laws
 pub mod Inner

@@ -13,6 +13,21 @@ use pair_operators::low;
 use partition::Partition;
 use std::alloc::{AllocError, Global};
 
+/// The least right side that two states make with each other: m of the partition that holds them together.
+pub(crate) fn right_of(
+    alloc: Global,
+    m: &Machine,
+    s: usize,
+    t: usize,
+) -> Result<Partition, AllocError>
+    requires s { s < length m.now.states }
+    requires t { t < length m.now.states }
+    ensures { IfOk result (IsRightOf m.now s t) }
+{
+    let hold = Partition::hold(alloc, m.states(), s, t)?;
+    low(alloc, m, &hold)
+}
+
 /// The Mm pair whose right side is the least that two states make with each other.
 fn generator(alloc: Global, m: &Machine, s: usize, t: usize) -> Result<MmPair, AllocError>
     requires s { s < length m.now.states }
@@ -20,8 +35,7 @@ fn generator(alloc: Global, m: &Machine, s: usize, t: usize) -> Result<MmPair, A
     ensures right { IfOk result (λ pair. IsRightOf m.now s t pair.right) }
     ensures pair { IfOk result (λ pair. IsMmPair m.now (sides_of pair)) }
 {
-    let hold = Partition::hold(alloc, m.states(), s, t)?;
-    let right = low(alloc, m, &hold)?;
+    let right = right_of(alloc, m, s, t)?;
     with_right(alloc, m, right)
 }
 

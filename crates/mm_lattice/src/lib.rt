@@ -6,11 +6,15 @@
 //! values of a world that can be joined, [`MmWorld`], and [`all`] lists them as the joins of those whose right
 //! side is m of a partition that holds two states together and nothing else.
 //!
+//! [`top_right`] joins the right sides of two states as far as some states stay apart, so that no right side
+//! stands strictly between what it gives and one.
+//!
 //! That joins of Mm pairs are Mm pairs, and that each Mm pair is such a join, are the clauses of
 //! [`mm_pairs_are_joins`].
 //!
 //! `specs/Sides` says how contracts see an [`MmPair`], `specs/MmPairs` has the Mm pairs, their order, their least
-//! one and their joins, and `specs/Generators` the right sides of two states. What stands in `specs/Inner`
+//! one and their joins, `specs/Generators` the right sides of two states, and `specs/Top` the greatest right
+//! sides strictly below one. What stands in `specs/Inner`
 //! serves private functions alone.
 #![tactic(auto)]
 
@@ -19,8 +23,10 @@ mod laws;
 mod listing;
 #[cfg(test)]
 mod tests;
+mod top;
 mod worlds;
 
 pub use laws::mm_pairs_are_joins;
 pub use listing::all;
+pub use top::top_right;
 pub use worlds::{MmPair, MmWorld};

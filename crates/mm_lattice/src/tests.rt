@@ -2,7 +2,7 @@
 
 ghost use Rattle.std.specs.Prelude.{◌<◌, ◌≤◌, ◌^◌, length};
 
-use crate::all;
+use crate::{all, top_right};
 use hs_lattice::Listing;
 use kiss2::{Fill, read};
 use machine_table::Machine;
@@ -20,6 +20,18 @@ const THREE: &str =
 /// The Mm pairs of the product.
 const SEVEN: &str = "0,1,2,3 0,1,2,3;0,1,2,1 0,1,0,2;0,1,0,2 0,1,2,1;0,0,1,1 0,0,1,1;\
     0,1,0,1 0,1,0,1;0,1,1,0 0,1,1,0;0,0,0,0 0,0,0,0;";
+
+/// Four states of which each input moves some.
+const CROSSED: &str = ".i 1\n.o 1\n0 st0 st0 0\n1 st0 st2 0\n0 st1 st2 0\n1 st1 st0 0\n\
+    0 st2 st1 0\n1 st2 st3 0\n0 st3 st3 1\n1 st3 st1 1\n.e\n";
+
+/// A counter modulo 8 that is cleared, counts or stays.
+const CLEARED: &str = ".i 3\n.o 2\n.r c2\n1-- c0 c0 10\n00- c0 c0 10\n0-0 c0 c0 10\n011 c0 c1 10\n\
+    1-- c1 c0 00\n00- c1 c1 00\n0-0 c1 c1 00\n011 c1 c2 00\n1-- c2 c0 00\n00- c2 c2 00\n\
+    0-0 c2 c2 00\n011 c2 c3 00\n1-- c3 c0 00\n00- c3 c3 00\n0-0 c3 c3 00\n011 c3 c4 00\n\
+    1-- c4 c0 00\n00- c4 c4 00\n0-0 c4 c4 00\n011 c4 c5 00\n1-- c5 c0 00\n00- c5 c5 00\n\
+    0-0 c5 c5 00\n011 c5 c6 00\n1-- c6 c0 00\n00- c6 c6 00\n0-0 c6 c6 00\n011 c6 c7 00\n\
+    1-- c7 c0 01\n00- c7 c7 01\n0-0 c7 c7 01\n011 c7 c0 01\n.e\n";
 
 /// One state.
 const ALONE: &str = ".i 1\n.o 1\n- a a 1\n.e\n";
@@ -82,6 +94,31 @@ fn evidence_of_more(rt: HostRuntime) -> Result<(), Fail> {
         let found = listed(alloc, &m, limit)?;
         assert!(rt; !found.0);
         assert_eq!(rt; found.1, limit + 1);
+    }
+    Ok(())
+}
+
+/// The text of the greatest right side that grows strictly below one.
+fn topmost(alloc: Global, m: &Machine) -> Result<Vec<u8>, AllocError> {
+    let mut text = Vec::new(alloc);
+    top_right(alloc, m)?.show(alloc, &mut text)?;
+    Ok(text)
+}
+
+#[test]
+fn right_sides_strictly_below_one(rt: HostRuntime) -> Result<(), Fail> {
+    let alloc = rt.alloc();
+    let cases = [
+        (CROSSED, "0,1,0,1"),
+        (CLEARED, "0,0,0,0,0,0,0,1"),
+        (PRODUCT, "0,0,1,1"),
+        (THREE, "0,1,2"),
+        (ALONE, "0"),
+    ];
+    for (text, wanted) in cases {
+        assert!(rt; text.len() < 1000);
+        let m = machine(alloc, text).ok_or("the text says a machine")?;
+        assert_eq!(rt; topmost(alloc, &m)?.as_slice(), wanted.as_bytes());
     }
     Ok(())
 }

@@ -3,4 +3,9 @@ use Rattle.closed_lattice.proofs.Principals.{none_closed}
 use Rattle.closed_lattice.proofs.collecting.principals.Goals as goal
 
 pub loop-t-init : goal.loop-t-init
-loop-t-init c = rw c.new-found.ensures.items (record { found = none_closed c.args.m.now; each = λ s t order below. absurd (omega arith) })
+loop-t-init c =
+    rw c.new-found.ensures.items (record {
+      known = c.in_ok-known.ensures c.args.m.now;
+      found = none_closed c.args.m.now;
+      each = λ s t order below. absurd (omega arith);
+    })

@@ -1,7 +1,7 @@
 use Rattle.std.proofs.Common.{ℕ, List, IfOk, length, subst}
 use Rattle.std.proofs.lemmas.Result.{IfOk-weaker}
 use Rattle.closed_lattice.specs.Closed.{IsPrincipal}
-use Rattle.closed_lattice.specs.Growth.{IsGrowth}
+use Rattle.pair_operators.specs.Growth.{IsGrowth}
 use Rattle.closed_lattice.specs.Limits.{MeetInZero}
 use Rattle.closed_lattice.proofs.Conditions.{meet_in_zero_down}
 use Rattle.closed_lattice.proofs.Grown.{grown_greatest}

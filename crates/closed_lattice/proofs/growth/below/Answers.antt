@@ -2,12 +2,12 @@ use Rattle.std.proofs.Common.{◌≡◌, ℕ, List, IfOk, length, ap, ◌∙◌,
 use Rattle.std.proofs.lemmas.Result.{IfOk-weaker}
 use Rattle.partition.specs.Partition.{zero_of}
 use Rattle.closed_lattice.specs.Closed.{IsPrincipal}
-use Rattle.closed_lattice.specs.Growth.{IsGrowth, pairs_of}
+use Rattle.pair_operators.specs.Growth.{IsGrowth, pairs_of}
 use Rattle.closed_lattice.specs.Limits.{IsStrictlyBelow}
 use Rattle.closed_lattice.proofs.Conditions.{never_below_zero, strictly_below_down, zero_strictly_below}
-use Rattle.closed_lattice.proofs.Generating.{zero_closed}
-use Rattle.closed_lattice.proofs.Grown.{grown_greatest, grown_nothing}
-use Rattle.closed_lattice.proofs.Steps.{states_counted}
+use Rattle.closed_lattice.proofs.Generating.{states_counted, zero_closed}
+use Rattle.closed_lattice.proofs.Grown.{grown_greatest}
+use Rattle.pair_operators.specs.Laws.Growth.{grown_nothing}
 use Rattle.closed_lattice.proofs.growth.below.Goals as goal
 
 pub returns-clause-growth : goal.returns-clause-growth
@@ -28,5 +28,5 @@ returns-clause-zero c =
     let n = length c.args.m.now.states in
     let closed = zero_closed c.args.m.now (zero_of n) c.states.ensures.inside (states_counted c.args.m.now c.states.result c.states.ensures.count c.states.ensures.some c.states.ensures.limit) refl in
     IfOk-weaker c.grow.result _ _
-    (λ p growth zero. grown_nothing c.args.m.now (IsStrictlyBelow c.args.top.now) n (never_below_zero n c.args.top.now c.requires zero) refl (zero_of n) p (pairs_of n) closed.0 growth)
+    (λ p growth zero. grown_nothing n (IsPrincipal c.args.m.now) (IsStrictlyBelow c.args.top.now) (never_below_zero n c.args.top.now c.requires zero) (zero_of n) p (pairs_of n) closed.0 growth)
     (returns-clause-growth c)

@@ -1,9 +1,11 @@
 use Rattle.std.proofs.Common.{length}
-use Rattle.closed_lattice.proofs.Steps.{row_taken}
+use Rattle.closed_lattice.specs.Closed.{IsPrincipal}
+use Rattle.pair_operators.specs.Laws.Growth.{row_taken}
 use Rattle.closed_lattice.proofs.growth.grow.Goals as goal
 
 pub loop-s-preserved : goal.loop-s-preserved
 loop-s-preserved g c = record {
+  known = c.in_ok-grown.ensures.known;
   lawful = c.in_ok-grown.ensures.lawful;
-  grown = row_taken c.args.m.now (g.C.Condition.meets c.args.condition.now) (length c.args.m.now.states) c.args.start c.loop-s.grown c.in_ok-grown.grown c.loop-s.s c.loop-s.invariant.grown c.in_ok-grown.ensures.grown;
+  grown = row_taken (length c.args.m.now.states) (IsPrincipal c.args.m.now) (g.C.Condition.meets c.args.condition.now) c.args.start c.loop-s.grown c.in_ok-grown.grown c.loop-s.s c.loop-s.invariant.grown c.in_ok-grown.ensures.grown;
 }

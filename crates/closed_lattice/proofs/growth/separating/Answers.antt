@@ -2,12 +2,11 @@ use Rattle.std.proofs.Common.{◌≡◌, ℕ, List, IfOk, length, ap, ◌∙◌,
 use Rattle.std.proofs.lemmas.Result.{IfOk-weaker}
 use Rattle.partition.specs.Partition.{zero_of}
 use Rattle.closed_lattice.specs.Closed.{IsPrincipal}
-use Rattle.closed_lattice.specs.Growth.{IsGrowth}
+use Rattle.pair_operators.specs.Growth.{IsGrowth}
 use Rattle.closed_lattice.specs.Limits.{HoldsApart}
 use Rattle.closed_lattice.proofs.Conditions.{apart_down, zero_apart}
-use Rattle.closed_lattice.proofs.Generating.{zero_closed}
+use Rattle.closed_lattice.proofs.Generating.{states_counted, zero_closed}
 use Rattle.closed_lattice.proofs.Grown.{grown_greatest}
-use Rattle.closed_lattice.proofs.Steps.{states_counted}
 use Rattle.closed_lattice.proofs.growth.separating.Goals as goal
 
 pub returns-clause-growth : goal.returns-clause-growth

@@ -1,7 +1,6 @@
 use Rattle.std.proofs.Common.{◌≡◌, length, ap, ◌∙◌, subst}
 use Rattle.partition.specs.Partition.{zero_of}
-use Rattle.closed_lattice.proofs.Generating.{zero_closed}
-use Rattle.closed_lattice.proofs.Steps.{states_counted}
+use Rattle.closed_lattice.proofs.Generating.{states_counted, zero_closed}
 use Rattle.closed_lattice.proofs.tests.grown_beside.Goals as goal
 
 pub apart-requires-clause-closed : goal.apart-requires-clause-closed

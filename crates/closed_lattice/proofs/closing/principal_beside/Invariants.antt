@@ -1,6 +1,6 @@
 use Rattle.partition.specs.Partition.{blocks_of}
 use Rattle.closed_lattice.proofs.Growing.{IsGrowing}
-use Rattle.closed_lattice.proofs.closing.principal.Given as goal
+use Rattle.closed_lattice.proofs.closing.principal_beside.Given as goal
 
 abbrev pub invariant-loop-u : goal.invariant-loop-u
 invariant-loop-u l = IsGrowing l.m l.s l.t l.p l.waiting.items

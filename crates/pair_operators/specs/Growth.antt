@@ -1,7 +1,8 @@
 -- Growth: joins with one partition for each two states, one after another, as far as a condition lets them. This is told as
 -- steps, since it decides which of several right partitions is given (source: this project).
-use Rattle.std.specs.Prelude.{◌≡◌, ℕ, ◌+◌, ◌-◌, ◌⊎◌, List, [], ◌∷◌, map}
+use Rattle.std.specs.Prelude.{◌≡◌, ℕ, ◌+◌, ◌-◌, ◌<◌, ◌⊎◌, List, [], ◌∷◌, map}
 use Rattle.std.specs.List.{flat_map, range_with_len}
+use Rattle.partition.specs.Partition.{IsPartition, Le}
 use Rattle.partition.specs.MeetAndJoin.{IsJoin}
 
 -- the pairs of a state and a greater one, of n states
@@ -29,3 +30,9 @@ GrowsOver IsGenerator Meets p ((s, t) ∷ pairs) last =
 -- the growth of start over all pairs of n states
 abbrev pub IsGrowth : (ℕ → ℕ → List ℕ → Type 0) → (List ℕ → Type 0) → ℕ → List ℕ → List ℕ → Type 0
 IsGrowth IsGenerator Meets n start last = GrowsOver IsGenerator Meets start (pairs_of n) last
+
+-- the partition of each two states is below p, where it is below some partition that is above p and meets the condition
+abbrev pub NoneFits : ℕ → (ℕ → ℕ → List ℕ → Type 0) → (List ℕ → Type 0) → List ℕ → Type 0
+NoneFits n IsGenerator Meets p =
+    (s t : ℕ) → s < t → t < n → (g : List ℕ) × IsGenerator s t g
+    × ((q : List ℕ) → IsPartition n q → Le p q → Le g q → Meets q → Le g p)

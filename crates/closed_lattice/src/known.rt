@@ -1,0 +1,84 @@
+//! The least closed partitions of pairs of states that are known already.
+
+ghost use Rattle.std.specs.Prelude.{◌≡◌, All, IfOk, IfSome, OnOk, length};
+ghost use Rattle.closed_lattice.specs.Closed.{IsPrincipal};
+ghost use Rattle.closed_lattice.specs.Inner.Known.{AreKnown};
+ghost use Rattle.kiss2.specs.declared.kiss_file.KissFile.{KissFile};
+
+use partition::Partition;
+use std::alloc::{AllocError, Global};
+
+/// The least closed partition that holds two states together.
+#[derive(Drop)]
+pub(crate) struct Item {
+    s: u16,
+    t: u16,
+    least: Partition,
+}
+
+/// Least closed partitions, and for each two states the place where theirs would stand.
+#[derive(Drop)]
+pub(crate) struct Known {
+    items: Vec<Item>,
+    places: Vec<usize>,
+}
+
+/// A number for two states, whichever comes first. Numbers of states are below 256.
+fn number_of(s: u16, t: u16) -> usize {
+    usize::from(s.max(t)) * 256 + usize::from(s.min(t))
+}
+
+impl Known {
+    /// None, and none will be found.
+    pub(crate) fn none(alloc: Global) -> Known
+        ensures { (F : KissFile) → AreKnown F result.items.items }
+    {
+        Known {
+            items: Vec::new(alloc),
+            places: Vec::new(alloc),
+        }
+    }
+
+    /// None so far.
+    pub(crate) fn new(alloc: Global) -> Result<Known, AllocError>
+        ensures { IfOk result (λ known. (F : KissFile) → AreKnown F known.items.items) }
+    {
+        Ok(Known {
+            items: Vec::new(alloc),
+            places: vec![in alloc; 0; 65536]?,
+        })
+    }
+
+    /// The one that holds the two states together, if it is known.
+    pub(crate) fn find(&self, s: u16, t: u16) -> Option<&Partition>
+        ensures { IfSome result (λ p. (F : KissFile) → AreKnown F self.now.items.items → IsPrincipal F s t p.now) }
+    {
+        let place = self.places.get(number_of(s, t))?;
+        let item = self.items.get(*place)?;
+        if item.s == s && item.t == t || item.s == t && item.t == s {
+            Some(&item.least)
+        } else {
+            None
+        }
+    }
+
+    /// Keeps a copy of the one that holds the two states together.
+    pub(crate) fn add(
+        &mut self,
+        alloc: Global,
+        s: u16,
+        t: u16,
+        least: &Partition,
+    ) -> Result<(), AllocError>
+        ensures { OnOk result ((F : KissFile) → AreKnown F self.old.items.items
+            → IsPrincipal F s t least.now → AreKnown F self.new.items.items) }
+    {
+        let place = self.items.len();
+        let least = least.copy(alloc)?;
+        self.items.push(Item { s, t, least })?;
+        if let Some(known) = self.places.get_mut(number_of(s, t)) {
+            *known = place;
+        }
+        Ok(())
+    }
+}
