@@ -5,3 +5,12 @@ pub mod Flat
 pub mod Judged
 pub mod WorkedSteps
 pub mod Limits
+pub mod Counted
+pub mod Numbered
+pub mod Known
+pub mod Stages
+pub mod Turning
+pub mod Permuted
+pub mod Ordered
+pub mod Checked
+pub mod Exclusive

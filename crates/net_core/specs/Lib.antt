@@ -10,3 +10,6 @@ pub mod Blif
 pub mod Limits
 pub mod Flat
 pub mod Worked
+pub mod Causes
+pub mod Order
+pub mod Inner

@@ -1,6 +1,7 @@
 //! Laws of networks, each the contract of a function that does nothing.
 
 ghost use Rattle.net_core.specs.Blif.{BlifOnce};
+ghost use Rattle.net_core.specs.Causes.{CausesAreAlike, SoundHasNoCause};
 ghost use Rattle.net_core.specs.Denotes.{DenotesOnce};
 ghost use Rattle.net_core.specs.Limits.{LimitsByStatement};
 ghost use Rattle.net_core.specs.Flat.{FlatIsSound, GivenIsAStep};
@@ -41,4 +42,14 @@ pub fn flat_is_sound()
 /// In a sound network what every valuation gives is a step.
 pub fn given_is_a_step()
     ensures { GivenIsAStep }
+{}
+
+/// A sound network has no cause of a refusal.
+pub fn sound_has_no_cause()
+    ensures { SoundHasNoCause }
+{}
+
+/// The causes of one network are of one kind, and but for cycles they name one name.
+pub fn causes_are_alike()
+    ensures { CausesAreAlike }
 {}

@@ -12,6 +12,10 @@
 //! - Which networks are sound, so that their signals are determined (`specs/Sound.antt`, `Flat.antt`), and
 //!   what a network does at a symbol and over words (`specs/Step.antt`).
 //!
+//! [`check`] answers for each network. Of a sound one it gives the gates in an order of evaluation
+//! (`specs/Order.antt`), and of any other one the first cause why it is not sound (`specs/Causes.antt`). What
+//! stands in `specs/Inner` serves private functions alone.
+//!
 //! The laws of these definitions, and small worked texts and networks, are contracts of functions that do
 //! nothing.
 #![tactic(auto)]
@@ -19,17 +23,26 @@
 ghost use Rattle.std.specs.Prelude.{◌≡◌};
 ghost use Rattle.net_core.specs.Start.{start_digit};
 
+mod checking;
+mod failing;
 mod laws;
+mod numbering;
+mod ordering;
+mod ring;
 #[cfg(test)]
 mod tests;
+mod walking;
 mod worked;
 
+pub use checking::check;
+pub use failing::NetFail;
 use hs_io::{Name, Names};
 use hs_list::Items;
 pub use laws::{
-    answers_are_determined, blif_once, denotes_once, flat_is_sound, given_is_a_step,
-    limits_by_statement, sound_is_determined,
+    answers_are_determined, blif_once, causes_are_alike, denotes_once, flat_is_sound,
+    given_is_a_step, limits_by_statement, sound_has_no_cause, sound_is_determined,
 };
+pub use ordering::{NumberedGate, Order};
 pub use worked::{
     worked_gates, worked_latches, worked_lines, worked_models, worked_steps, worked_values,
 };

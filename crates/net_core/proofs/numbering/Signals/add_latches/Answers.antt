@@ -1,0 +1,9 @@
+use Rattle.std.proofs.Common.{◌++◌, map, arith}
+use Rattle.net_core.specs.Inner.Told.{TellsAgain}
+use Rattle.net_core.proofs.Numbered.{again_at, at_exit}
+use Rattle.net_core.proofs.numbering.Signals.add_latches.Goals as goal
+
+pub returns-in_err-add-clause-err : goal.returns-in_err-add-clause-err
+returns-in_err-add-clause-err c =
+    at_exit (TellsAgain (c.args.self.now ++ map (λ latch. latch.output) c.args.latches.now)) c.from_residual.result c.in_err-add.field-0.0 c.from_residual.ensures.1
+    (again_at (λ latch. latch.output) c.args.latches.now c.loop-latch.latch-index c.latch-item.result (omega arith) c.latch-item.is c.args.self.now c.loop-latch.self c.in_err-add.field-0.0 c.loop-latch.invariant c.in_err-add.ensures.err)

@@ -1,0 +1,19 @@
+-- What a part of the work tells where it fails.
+use Rattle.std.specs.Prelude.{ℕ, ⊤, List}
+use Rattle.net_core.specs.declared.failing.NetFail.{NetFail}
+use Rattle.net_core.specs.declared.failing.NetFail.TheVariants.{TwoDrivers, Undriven, Cycle, NoMemory}
+use Rattle.net_core.specs.Causes.{IsFirstAgain, IsFirstOutside}
+
+-- of the drivers, that one comes again
+abbrev pub TellsAgain : List (List ℕ) → NetFail → Type 0
+TellsAgain names (TwoDrivers name) = IsFirstAgain names name
+TellsAgain names (Undriven _) = ⊥
+TellsAgain names (Cycle _) = ⊥
+TellsAgain names NoMemory = ⊤
+
+-- of the uses, that one is not driven
+abbrev pub TellsOutside : List (List ℕ) → List (List ℕ) → NetFail → Type 0
+TellsOutside these names (TwoDrivers _) = ⊥
+TellsOutside these names (Undriven name) = IsFirstOutside these names name
+TellsOutside these names (Cycle _) = ⊥
+TellsOutside these names NoMemory = ⊤
