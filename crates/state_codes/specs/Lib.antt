@@ -1,4 +1,5 @@
 pub mod Split
+pub mod Kinds
 pub mod Code
 pub mod Inner
 pub mod Agreement

@@ -1,0 +1,4 @@
+pub mod Kind
+pub mod Best
+pub mod Choice
+pub mod Inner

@@ -1,0 +1,4 @@
+pub mod Numbers
+pub mod Greatest
+pub mod Steps
+pub mod Halves

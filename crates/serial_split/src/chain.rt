@@ -1,0 +1,56 @@
+//! The cascade.
+
+ghost use Rattle.std.specs.Prelude.{ℕ, ◌≡◌, ◌≤◌, ◌↔◌, All, IfOk, IfSome, IsNone, List, length};
+ghost use Rattle.partition.specs.Partition.{IsZero};
+ghost use Rattle.serial_split.specs.Best.{IsBestCascade};
+ghost use Rattle.serial_split.specs.Choice.{IsCascadeChoice};
+ghost use Rattle.serial_split.specs.Inner.Chain.{IsChain};
+ghost use Rattle.serial_split.specs.Kind.{HasNoneNontrivial, IsCascade};
+ghost use Rattle.state_codes.specs.Split.{IsPart};
+
+use crate::part::part_after;
+use closed_lattice::below;
+use machine_table::Machine;
+use partition::Partition;
+use state_codes::{Kind, Parts, Split};
+use std::alloc::{AllocError, Global};
+
+/// The parts of a chain of closed partitions from one down to zero.
+fn chain(alloc: Global, m: &Machine) -> Result<Parts, AllocError>
+    ensures { IfOk result (λ parts. (zero : List ℕ) × IsZero zero × IsChain m.now parts zero) }
+{
+    let n = m.states();
+    let mut top = Partition::one(alloc, n)?;
+    let mut parts = Parts::new(alloc);
+    while top.blocks() < n {
+        let next = below(alloc, m, &top)?;
+        let inside = top.inside(alloc, &next)?;
+        let number = parts.as_slice().len();
+        parts.push(part_after(alloc, inside, number)?)?;
+        top = next;
+    }
+    Ok(parts)
+}
+
+/// What lies inside each closed partition of a chain of the next one. Each part reads those before it. None
+/// where there is no nontrivial closed partition.
+pub fn cascade(alloc: Global, m: &Machine) -> Result<Option<Split>, AllocError>
+    ensures none { IfOk result (λ found. IsNone found ↔ HasNoneNontrivial m.now) }
+
+    ensures kind { IfOk result (λ found. IfSome found (λ split. split.kind ≡ Kind.Cascade)) }
+    ensures cascade { IfOk result (λ found. IfSome found (λ split. IsCascade m.now split.parts)) }
+    ensures best { IfOk result (λ found. IfSome found (λ split. IsBestCascade m.now split.parts)) }
+    ensures choice { IfOk result (λ found. IfSome found (λ split. IsCascadeChoice m.now split.parts)) }
+
+    ensures few { IfOk result (λ found. IfSome found (λ split. length split.parts ≤ 256)) }
+    ensures lawful { IfOk result (λ found. IfSome found (λ split. All (IsPart (length m.now.states)) split.parts)) }
+{
+    let parts = chain(alloc, m)?;
+    if parts.as_slice().len() < 2 {
+        return Ok(None);
+    }
+    Ok(Some(Split {
+        kind: Kind::Cascade,
+        parts,
+    }))
+}
