@@ -1,0 +1,9 @@
+pub mod Words
+pub mod Agreeing
+pub mod Judged
+pub mod Least
+pub mod Listed
+pub mod Symbols
+pub mod Adding
+pub mod Showing
+pub mod Gathered

@@ -1,0 +1,153 @@
+-- What the pieces of a state show is what matters at the state.
+use Rattle.std.proofs.Common.{◌≡◌, ◌≢◌, ◌∙◌, ℕ, ◌+◌, ◌-◌, ◌^◌, ◌<◌, ◌≤◌, All, Bool, Contains, List, length, get_or, Some, inl, inr, ap, sym, subst, arith}
+use Rattle.std.proofs.lemmas.Bool.{cases_lt, cases_order}
+use Rattle.std.proofs.lemmas.List.Elements.{All-contains}
+use Rattle.std.proofs.lemmas.Option.{get_or_from_slice_get, same_Some, slice_get-get_or, slice_get_past, slice_get_within}
+use Rattle.std.specs.List.{slice_get}
+use Rattle.cubes.specs.Symbol.{bit, number_of, symbol_of}
+use Rattle.cubes.specs.Cube.{Holds, HoldsNumber, Meets}
+use Rattle.cubes.proofs.Ends.{least_held}
+use Rattle.cubes.proofs.Held.{agrees_from_held, held_from_agrees}
+use Rattle.cubes.proofs.Meeting.{length_of_held, meets_from_clash}
+use Rattle.cubes.proofs.Numbers.{length-symbol_of, number_below, symbol_of-number_of}
+use Rattle.kiss2.specs.declared.kiss_file.KissFile.{KissFile}
+use Rattle.kiss2.specs.Machine.{next, output_bit}
+use Rattle.machine_table.specs.declared.covering.Piece.{Piece}
+use Rattle.machine_table.specs.Covering.{IsHeldByPiece, IsPiece}
+use Rattle.machine_table.specs.Staying.{NeverLeaves}
+use Rattle.machine_table.proofs.OutputWords.{same_values}
+use Rattle.machine_table.proofs.SharedCubes.{value_below}
+use Rattle.dependence.specs.declared.gate.Gate.{Gate}
+use Rattle.dependence.specs.declared.gate.Gate.TheVariants.{Latch, Output}
+use Rattle.dependence.specs.Inputs.{DifferAlone}
+use Rattle.dependence.specs.Inner.Effects.{MattersAt, Show, ShowAmong, piece_value}
+use Rattle.dependence.specs.Inner.Gates.{IsGate, value_of}
+use Rattle.dependence.proofs.Symbols.{clash_of-differing, clash_turned, differ_alone, parted}
+
+-- a piece of a state goes to a state
+pub piece_stays : (F : KissFile) (s : ℕ) (piece : Piece) → NeverLeaves F → s < length F.states → IsPiece F s piece → piece.next < length F.states
+piece_stays F s piece stays within is =
+    let below : piece.cube.value < 2 ^ F.inputs = subst (λ (k : ℕ). piece.cube.value < 2 ^ k) is.width (value_below piece.cube) in
+    let goes : next F s (symbol_of F.inputs piece.cube.value) ≡ piece.next = is.next_state piece.cube.value below (least_held piece.cube) in
+    subst (λ (t : ℕ). t < length F.states) goes (stays s (symbol_of F.inputs piece.cube.value) within (length-symbol_of F.inputs piece.cube.value))
+
+-- what a gate gives at each symbol of a piece, by its number
+gives : (F : KissFile) (words : List ℕ) (gate : Gate) → IsGate F gate → (s : ℕ) (piece : Piece) → IsPiece F s piece → (x : ℕ) → x < 2 ^ F.inputs → HoldsNumber piece.cube x → value_of F words gate s (symbol_of F.inputs x) ≡ piece_value words gate piece
+gives F words (Latch i) gate s piece is x below held = ap (λ (t : ℕ). bit (get_or words t 0) i) (is.next_state x below held)
+gives F words (Output b) gate s piece is x below held = same_values (output_bit F s (symbol_of F.inputs x)) (bit piece.outputs) F.outputs (is.outputs x below held) b gate
+
+module _ (F : KissFile) (words : List ℕ) (gate : Gate) (of_gate : IsGate F gate) (s : ℕ) where
+  -- at each symbol
+  gives_at : (piece : Piece) → IsPiece F s piece → (x : List Bool) → length x ≡ F.inputs → Holds piece.cube x → value_of F words gate s x ≡ piece_value words gate piece
+  gives_at piece is x size held =
+      let written : symbol_of F.inputs (number_of x) ≡ x = subst (λ (k : ℕ). symbol_of k (number_of x) ≡ x) size (symbol_of-number_of x) in
+      let below : number_of x < 2 ^ F.inputs = subst (λ (k : ℕ). number_of x < 2 ^ k) size (number_below x) in
+      let number : HoldsNumber piece.cube (number_of x) = subst (λ (k : ℕ). Holds piece.cube (symbol_of k (number_of x))) (sym is.width) (subst (Holds piece.cube) (sym written) held) in
+      subst (λ (y : List Bool). value_of F words gate s y ≡ piece_value words gate piece) written (gives F words gate of_gate s piece is (number_of x) below number)
+
+  -- two pieces that show it
+  shown_matters : (one other : Piece) (a : ℕ) → IsPiece F s one → IsPiece F s other → Show F.inputs words one other a gate → MattersAt F (value_of F words gate) s a
+  shown_matters one other a of_one of_other show =
+      let two = parted one.cube other.cube show.differ.place show.differ.clash in
+      let few : F.inputs ≤ 64 = omega (arith, of_one.width, one.cube.width_bound) in
+      let first : Holds one.cube (symbol_of F.inputs two.x) = subst (λ (k : ℕ). Holds one.cube (symbol_of k two.x)) of_one.width (held_from_agrees one.cube two.x two.first) in
+      let second : Holds other.cube (symbol_of F.inputs two.y) = subst (λ (k : ℕ). Holds other.cube (symbol_of k two.y)) of_other.width (held_from_agrees other.cube two.y two.second) in
+      record {
+        x = symbol_of F.inputs two.x;
+        y = symbol_of F.inputs two.y;
+        symbol = length-symbol_of F.inputs two.x;
+        differ = differ_alone F.inputs two.x two.y a show.differ.place few show.differ.of_input two.there two.elsewhere;
+        values = λ same. show.values
+            (sym (gives_at one of_one (symbol_of F.inputs two.x) (length-symbol_of F.inputs two.x) first)
+            ∙ same
+            ∙ gives_at other of_other (symbol_of F.inputs two.y) (length-symbol_of F.inputs two.y) second);
+      }
+
+  -- pieces that hold two such symbols show it
+  matters_shown : (a : ℕ) (matters : MattersAt F (value_of F words gate) s a) (one other : Piece) → IsPiece F s one → IsPiece F s other → HoldsNumber one.cube (number_of matters.x) → HoldsNumber other.cube (number_of matters.y) → Show F.inputs words one other a gate
+  matters_shown a matters one other of_one of_other first second =
+      elim (clash_of-differing one.cube other.cube (number_of matters.x) (number_of matters.y) a (one.cube.width - 1 - a) widths at differ (agrees_from_held one.cube (number_of matters.x) first) (agrees_from_held other.cube (number_of matters.y) second)) [
+        | inl none ↦ absurd (apart (met (meets_from_clash one.cube other.cube (sym widths) none)))
+        | inr clash ↦ record { differ = record { place = one.cube.width - 1 - a; of_input = at ∙ of_one.width; clash = clash }; values = apart }
+      ] where
+        y_size : length matters.y ≡ F.inputs
+        y_size = sym matters.differ.lengths ∙ matters.symbol
+
+        within : a < F.inputs
+        within =
+            elim (cases_lt a F.inputs) [
+              | inl below ↦ below
+              | inr past ↦ absurd (matters.differ.there (slice_get_past matters.x a (omega (arith, past, matters.symbol)) ∙ sym (slice_get_past matters.y a (omega (arith, past, y_size)))))
+            ]
+
+        widths : other.cube.width ≡ one.cube.width
+        widths = of_other.width ∙ sym of_one.width
+
+        at : one.cube.width - 1 - a + a + 1 ≡ one.cube.width
+        at = omega (arith, within, of_one.width)
+
+        written : (x : List Bool) → length x ≡ F.inputs → symbol_of one.cube.width (number_of x) ≡ x
+        written x size = subst (λ (k : ℕ). symbol_of k (number_of x) ≡ x) (size ∙ sym of_one.width) (symbol_of-number_of x)
+
+        differ : DifferAlone a (symbol_of one.cube.width (number_of matters.x)) (symbol_of one.cube.width (number_of matters.y))
+        differ =
+            subst (λ (x : List Bool). DifferAlone a x (symbol_of one.cube.width (number_of matters.y))) (sym (written matters.x matters.symbol))
+            (subst (λ (y : List Bool). DifferAlone a matters.x y) (sym (written matters.y y_size)) matters.differ)
+
+        x_held : Holds one.cube matters.x
+        x_held = subst (Holds one.cube) (written matters.x matters.symbol) first
+
+        y_held : Holds other.cube matters.y
+        y_held = subst (Holds other.cube) (written matters.y y_size) (subst (λ (k : ℕ). Holds other.cube (symbol_of k (number_of matters.y))) widths second)
+
+        apart : piece_value words gate one ≢ piece_value words gate other
+        apart same = matters.values (gives_at one of_one matters.x matters.symbol x_held ∙ same ∙ sym (gives_at other of_other matters.y y_size y_held))
+
+        met : Meets one.cube other.cube → piece_value words gate one ≡ piece_value words gate other
+        met meets =
+            let size : length meets.0 ≡ F.inputs = length_of_held one.cube meets.0 meets.1 ∙ of_one.width in
+            sym (gives_at one of_one meets.0 size meets.1) ∙ gives_at other of_other meets.0 size meets.2
+
+  turned : (one other : Piece) (a : ℕ) → Show F.inputs words one other a gate → Show F.inputs words other one a gate
+  turned one other a show = record {
+    differ = record { place = show.differ.place; of_input = show.differ.of_input; clash = clash_turned other.cube one.cube ∙ show.differ.clash };
+    values = λ same. show.values (sym same);
+  }
+
+  module _ (pieces : List Piece) (each : (x : ℕ) → x < 2 ^ F.inputs → IsHeldByPiece pieces x) (right : All (IsPiece F s) pieces) where
+    of_piece : (k : ℕ) (piece : Piece) → slice_get pieces k ≡ Some piece → IsPiece F s piece
+    of_piece k piece there =
+        let within : k < length pieces = slice_get_within pieces k piece there in
+        All-contains (IsPiece F s) pieces piece right (k, within, get_or_from_slice_get pieces k piece piece there)
+
+    pub among_matters : (a : ℕ) → ShowAmong F.inputs words pieces (length pieces) a gate → MattersAt F (value_of F words gate) s a
+    among_matters a shown =
+        shown_matters shown.shown.other shown.piece a (of_piece shown.shown.at shown.shown.other shown.shown.there) (of_piece shown.at shown.piece shown.there) shown.shown.show
+
+    -- pieces of these numbers that hold two such symbols
+    held_among : (a : ℕ) (matters : MattersAt F (value_of F words gate) s a) (k l : ℕ) (one other : Piece) → slice_get pieces k ≡ Some one → slice_get pieces l ≡ Some other → HoldsNumber one.cube (number_of matters.x) → HoldsNumber other.cube (number_of matters.y) → ShowAmong F.inputs words pieces (length pieces) a gate
+    held_among a matters k l one other at_k at_l first second =
+        let show : Show F.inputs words one other a gate = matters_shown a matters one other (of_piece k one at_k) (of_piece l other at_l) first second in
+        elim (cases_order k l) [
+          | inl at ↦
+              let same : one ≡ other = same_Some one other (sym at_k ∙ ap (slice_get pieces) at ∙ at_l) in
+              absurd (show.values (ap (piece_value words gate) same))
+          | inr apart ↦ elim apart [
+            | inl below ↦ record { at = l; piece = other; before = slice_get_within pieces l other at_l; there = at_l; shown = record { at = k; other = one; before = below; there = at_k; show = show } }
+            | inr above ↦ record { at = k; piece = one; before = slice_get_within pieces k one at_k; there = at_k; shown = record { at = l; other = other; before = above; there = at_l; show = turned one other a show } }
+          ]
+        ]
+
+    numbered : (piece : Piece) → Contains pieces piece → (k : ℕ) × (slice_get pieces k ≡ Some piece)
+    numbered piece is = (is.0, slice_get-get_or pieces is.0 piece is.1 ∙ ap Some is.2)
+
+    below_inputs : (x : List Bool) → length x ≡ F.inputs → number_of x < 2 ^ F.inputs
+    below_inputs x size = subst (λ (k : ℕ). number_of x < 2 ^ k) size (number_below x)
+
+    pub matters_among : (a : ℕ) → MattersAt F (value_of F words gate) s a → ShowAmong F.inputs words pieces (length pieces) a gate
+    matters_among a matters =
+        let of_x = each (number_of matters.x) (below_inputs matters.x matters.symbol) in
+        let of_y = each (number_of matters.y) (below_inputs matters.y (sym matters.differ.lengths ∙ matters.symbol)) in
+        let at_x = numbered of_x.0 of_x.1 in
+        let at_y = numbered of_y.0 of_y.1 in
+        held_among a matters at_x.0 at_y.0 of_x.0 of_y.0 at_x.1 at_y.1 of_x.2 of_y.2

@@ -1,0 +1,6 @@
+use Rattle.dependence.specs.Inner.Gates.{value_of}
+use Rattle.dependence.proofs.Agreeing.{FirstsGive}
+use Rattle.dependence.proofs.asking.permits_gate.Given as goal
+
+abbrev pub invariant-loop-s : goal.invariant-loop-s
+invariant-loop-s l = FirstsGive l.m l.words l.set (value_of l.m l.words l.gate) l.s

@@ -1,0 +1,5 @@
+use Rattle.dependence.specs.Inner.Judging.{AreListed}
+use Rattle.dependence.proofs.judging.numbers_of.Given as goal
+
+abbrev pub invariant-loop-c : goal.invariant-loop-c
+invariant-loop-c l = AreListed l.numbers l.set l.c

@@ -1,0 +1,6 @@
+use Rattle.dependence.specs.Inner.Gates.{value_of}
+use Rattle.dependence.specs.Inner.Judging.{AreJudgedFrom}
+use Rattle.dependence.proofs.judging.read_bits.Given as goal
+
+abbrev pub invariant-loop-c : goal.invariant-loop-c
+invariant-loop-c l = AreJudgedFrom l.m l.words (value_of l.m l.words l.gate) l.candidates l.set l.c

@@ -1,0 +1,6 @@
+pub mod Permits
+pub mod Candidates
+pub mod ReadRule
+pub mod Inputs
+pub mod Reads
+pub mod Inner

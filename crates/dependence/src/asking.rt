@@ -1,0 +1,61 @@
+//! Whether a set of state bits is enough for a gate.
+
+ghost use Rattle.std.specs.Prelude.{◌≡◌, ◌↔◌, ◌<◌, ◌≤◌, IsTrue, length};
+ghost use Rattle.dependence.specs.Permits as permitted;
+ghost use Rattle.dependence.specs.Permits.{InWord, PermitsValue};
+ghost use Rattle.dependence.specs.Inner.Asking.{IsFirstLike};
+ghost use Rattle.dependence.specs.Inner.Gates.{IsGate, value_of};
+
+use crate::gate::Gate;
+use machine_table::Machine;
+use state_codes::Codes;
+
+/// Whether the bits of the set permit latch i: any two states whose codes agree on the set have, for each
+/// symbol, next states whose codes agree at bit i. Bit c of the set stands for state bit c.
+pub fn permits(m: &Machine, codes: &Codes, set: u64, i: usize) -> bool
+    requires words { length codes.now.words ≡ length m.now.states }
+    requires bit { i < 64 }
+    ensures { IsTrue result ↔ permitted.Permits m.now codes.now.words (InWord set) i }
+{
+    permits_gate(m, codes.words.as_slice(), set, Gate::Latch(i))
+}
+
+/// Whether the bits of the set permit output b: any two states whose codes agree on the set have that
+/// output equal, for each symbol.
+pub fn permits_output(m: &Machine, codes: &Codes, set: u64, b: u8) -> bool
+    requires words { length codes.now.words ≡ length m.now.states }
+    requires output { b < m.now.outputs }
+    ensures { IsTrue result ↔ permitted.PermitsOutput m.now codes.now.words (InWord set) b }
+{
+    permits_gate(m, codes.words.as_slice(), set, Gate::Output(b))
+}
+
+/// Whether the bits of the set permit what the gate gives. Each state is asked about the first one whose
+/// word has the same bits of the set.
+pub(crate) fn permits_gate(m: &Machine, words: &[u64], set: u64, gate: Gate) -> bool
+    requires words { length words.now ≡ length m.now.states }
+    requires gate { IsGate m.now gate }
+    ensures { IsTrue result ↔ PermitsValue m.now words.now (InWord set) (value_of m.now words.now gate) }
+{
+    for s in 0..m.states() {
+        let first = first_like(words, set, s);
+        if first < s && !gate.gives_the_same(m, words, first, s) {
+            return false;
+        }
+    }
+    true
+}
+
+/// The first state whose word has the same bits of the set as that of s.
+fn first_like(words: &[u64], set: u64, s: usize) -> usize
+    requires { s < length words.now }
+    ensures { IsFirstLike words.now set s result }
+{
+    let code = words[s] & set;
+    for (t, word) in words[..s].iter().enumerate() {
+        if *word & set == code {
+            return t;
+        }
+    }
+    s
+}

@@ -1,0 +1,79 @@
+//! Which candidates a gate reads.
+
+ghost use Rattle.std.specs.Prelude.{◌≡◌, ◌↔◌, ◌<◌, ◌⊎◌, ℕ, IfOk, IsTrue, length};
+ghost use Rattle.dependence.specs.Inner.Gates.{IsGate, value_of};
+ghost use Rattle.dependence.specs.Inner.Judging.{AreListed, IsJudged};
+ghost use Rattle.dependence.specs.Permits.{InWord};
+ghost use Rattle.dependence.specs.ReadRule.{IsReadRule, Without};
+
+use crate::Numbers;
+use crate::asking::permits_gate;
+use crate::gate::Gate;
+use machine_table::Machine;
+use std::alloc::{AllocError, Global};
+
+/// The candidates that the gate reads. They are judged from the highest down: one is left out where the
+/// others that are still in the set permit the gate.
+pub(crate) fn read_bits(m: &Machine, words: &[u64], candidates: u64, gate: Gate) -> u64
+    requires words { length words.now ≡ length m.now.states }
+    requires gate { IsGate m.now gate }
+    ensures { IsReadRule m.now words.now (InWord candidates) (InWord result) (value_of m.now words.now gate) }
+{
+    let mut set = candidates;
+    for c in (0..64u32).rev() {
+        set = judged(m, words, set, c, gate);
+    }
+    set
+}
+
+/// The set without bit c where that permits the gate; else the set.
+fn judged(m: &Machine, words: &[u64], set: u64, c: u32, gate: Gate) -> u64
+    requires words { length words.now ≡ length m.now.states }
+    requires gate { IsGate m.now gate }
+    requires bit { c < 64 }
+    ensures { IsJudged m.now words.now (value_of m.now words.now gate) set c result }
+{
+    let rest = without(set, c);
+    if rest != set && permits_gate(m, words, rest, gate) {
+        rest
+    } else {
+        set
+    }
+}
+
+/// The numbers of the bits of a word, ascending.
+pub(crate) fn numbers_of(alloc: Global, set: u64) -> Result<Numbers, AllocError>
+    ensures { IfOk result (λ numbers. AreListed numbers set 64) }
+{
+    let mut numbers = Numbers::new(alloc);
+    for c in 0..64u8 {
+        if has(set, u32::from(c)) {
+            numbers.push(c)?;
+        }
+    }
+    Ok(numbers)
+}
+
+/// Whether bit c is in the set.
+pub(crate) fn has(set: u64, c: u32) -> bool
+    requires { c < 64 }
+    ensures { IsTrue result ↔ InWord set c }
+{
+    (set >> c) & 1 == 1
+}
+
+/// The set with bit c.
+pub(crate) fn with(set: u64, c: u32) -> u64
+    requires { c < 64 }
+    ensures { (d : ℕ) → InWord result d ↔ (InWord set d ⊎ (d ≡ c)) }
+{
+    set | (1 << c)
+}
+
+/// The set without bit c.
+fn without(set: u64, c: u32) -> u64
+    requires { c < 64 }
+    ensures { (d : ℕ) → InWord result d ↔ Without (InWord set) c d }
+{
+    set & !(1 << c)
+}

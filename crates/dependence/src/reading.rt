@@ -1,0 +1,151 @@
+//! What each gate reads.
+
+ghost use Rattle.std.specs.Prelude.{ℕ, ◌≡◌, ◌↔◌, ◌<◌, ◌≤◌, All, IfOk, IsTrue, length, slice_index};
+ghost use Rattle.state_codes.specs.Code.{IsCode};
+ghost use Rattle.state_codes.specs.Split.{IsPart};
+ghost use Rattle.dependence.specs.Candidates.{IsBitOfCode, IsCandidate, IsOpenTo, MayReadPart};
+ghost use Rattle.dependence.specs.Inner.Effects.{AreEffects};
+ghost use Rattle.dependence.specs.Inner.Gates.{HasPlace, IsGate, value_of};
+ghost use Rattle.dependence.specs.Inner.Sets.{AreLatchSets, AreOutputSets};
+ghost use Rattle.dependence.specs.Permits.{InWord};
+ghost use Rattle.dependence.specs.Reads.{AreReads, IsReadSet};
+
+use crate::effects::{Effect, effects_of, inputs_of};
+use crate::gate::Gate;
+use crate::judging::{numbers_of, read_bits, with};
+use crate::{ReadSet, ReadSets, Reads};
+use machine_table::Machine;
+use state_codes::{Codes, Split};
+use std::alloc::{AllocError, Global};
+
+/// What each gate reads, for the codes of the split. The candidates of a latch are the bits of its part and
+/// the carrier bits of the parts that its part may read, those of an output are all bits. Where the
+/// candidates of a gate permit it, so do the bits that are read.
+pub fn reads(alloc: Global, m: &Machine, split: &Split, codes: &Codes) -> Result<Reads, AllocError>
+    requires parts { All (IsPart (length m.now.states)) split.now.parts }
+    requires code { IsCode (length m.now.states) split.now.parts codes.now }
+    requires short { codes.now.bits ≤ 64 }
+    ensures { IfOk result (AreReads m.now split.now.parts codes.now) }
+{
+    let effects = effects_of(alloc, m, codes.words.as_slice())?;
+    let latches = latch_sets(alloc, m, split, codes, effects.as_slice())?;
+    let outputs = output_sets(alloc, m, codes, effects.as_slice())?;
+    Ok(Reads { latches, outputs })
+}
+
+/// What the gate of each latch reads.
+fn latch_sets(
+    alloc: Global,
+    m: &Machine,
+    split: &Split,
+    codes: &Codes,
+    effects: &[Effect],
+) -> Result<ReadSets, AllocError>
+    requires words { length codes.now.words ≡ length m.now.states }
+    requires owner { length codes.now.owner ≡ codes.now.bits }
+    requires carried { length codes.now.carried ≡ codes.now.bits }
+    requires short { codes.now.bits ≤ 64 }
+    requires effects { AreEffects m.now codes.now.words effects.now (length m.now.states) }
+    ensures { IfOk result (λ sets. AreLatchSets m.now split.now.parts codes.now sets codes.now.bits) }
+{
+    let mut sets = ReadSets::new(alloc);
+    for i in 0..codes.bits {
+        let candidates = candidates_of(split, codes, i);
+        sets.push(read_set(alloc, m, codes, effects, candidates, Gate::Latch(i))?)?;
+    }
+    Ok(sets)
+}
+
+/// What the gate of each output reads.
+fn output_sets(
+    alloc: Global,
+    m: &Machine,
+    codes: &Codes,
+    effects: &[Effect],
+) -> Result<ReadSets, AllocError>
+    requires words { length codes.now.words ≡ length m.now.states }
+    requires short { codes.now.bits ≤ 64 }
+    requires effects { AreEffects m.now codes.now.words effects.now (length m.now.states) }
+    ensures { IfOk result (λ sets. AreOutputSets m.now codes.now sets m.now.outputs) }
+{
+    let mut sets = ReadSets::new(alloc);
+    let candidates = bits_below(codes.bits);
+    for b in 0..m.outputs() {
+        sets.push(read_set(alloc, m, codes, effects, candidates, Gate::Output(b))?)?;
+    }
+    Ok(sets)
+}
+
+/// What a gate reads that has these candidates.
+fn read_set(
+    alloc: Global,
+    m: &Machine,
+    codes: &Codes,
+    effects: &[Effect],
+    candidates: u64,
+    gate: Gate,
+) -> Result<ReadSet, AllocError>
+    requires words { length codes.now.words ≡ length m.now.states }
+    requires gate { IsGate m.now gate }
+    requires place { HasPlace gate }
+    requires effects { AreEffects m.now codes.now.words effects.now (length m.now.states) }
+    ensures { IfOk result (IsReadSet m.now codes.now.words (InWord candidates) (value_of m.now codes.now.words gate)) }
+{
+    let bits = read_bits(m, codes.words.as_slice(), candidates, gate);
+    Ok(ReadSet {
+        inputs: numbers_of(alloc, inputs_of(effects, gate))?,
+        latches: numbers_of(alloc, bits)?,
+    })
+}
+
+/// The candidates of latch i.
+fn candidates_of(split: &Split, codes: &Codes, i: usize) -> u64
+    requires latch { i < codes.now.bits }
+    requires owner { length codes.now.owner ≡ codes.now.bits }
+    requires carried { length codes.now.carried ≡ codes.now.bits }
+    requires short { codes.now.bits ≤ 64 }
+    ensures { (c : ℕ) → InWord result c ↔ IsCandidate split.now.parts codes.now i c }
+{
+    let mut candidates = 0;
+    for c in 0..codes.bits {
+        if is_open(split, codes, i, c) {
+            candidates = with(candidates, c as u32);
+        }
+    }
+    candidates
+}
+
+/// Whether the gate of latch i may read bit c.
+fn is_open(split: &Split, codes: &Codes, i: usize, c: usize) -> bool
+    requires latch { i < codes.now.bits }
+    requires bit { c < codes.now.bits }
+    requires owner { length codes.now.owner ≡ codes.now.bits }
+    requires carried { length codes.now.carried ≡ codes.now.bits }
+    ensures { IsTrue result ↔ IsOpenTo split.now.parts codes.now (slice_index codes.now.owner i) c }
+{
+    let own = codes.owner.as_slice()[i];
+    let other = codes.owner.as_slice()[c];
+    other == own || codes.carried.as_slice()[c] && may_read(split, own, other)
+}
+
+/// Whether part j may read part l.
+fn may_read(split: &Split, j: u16, l: u16) -> bool
+    ensures { IsTrue result ↔ MayReadPart split.now.parts j l }
+{
+    match split.parts.as_slice().get(usize::from(j)) {
+        Some(part) => part.reads.as_slice().contains(&l),
+        None => false,
+    }
+}
+
+/// The bits below a number.
+fn bits_below(bits: usize) -> u64
+    requires { bits ≤ 64 }
+    ensures { (c : ℕ) → InWord result c ↔ (c < bits) }
+{
+    if bits == 0 {
+        0
+    } else {
+        u64::MAX >> (64 - bits)
+    }
+}
