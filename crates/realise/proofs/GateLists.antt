@@ -1,0 +1,176 @@
+-- Gates that are added one by one, the latches, and the network of both.
+use Rattle.std.proofs.Common.{◌≡◌, ℕ, zero, suc, ◌+◌, ◌<◌, inl, inr, Bool, true, false, if◌then◌else◌, Option, Some, List, [], ◌∷◌, ◌++◌, length, map, get_or, slice_get, slice_index, take, All, IsPermutation, refl, ap, sym, ◌∙◌, subst, arith, length-append}
+use Rattle.std.specs.Cmp.Lexicographic.{slice_cmp}
+use Rattle.std.specs.List.{range_with_len}
+use Rattle.std.specs.List.Sorted.{IsSorted}
+use Rattle.std.specs.Ordering.{nat_cmp}
+use Rattle.std.proofs.Math.Path.{fun_ext}
+use Rattle.std.proofs.lemmas.List.{ext_get_or, length-map, length-take-le, take_more}
+use Rattle.std.proofs.lemmas.Option.{get_or_from_slice_get, slice_get-get_or, slice_get_within}
+use Rattle.std.proofs.lemmas.List.FromFn.{get_or-map-range_with_len, length-map-range_with_len}
+use Rattle.std.proofs.lemmas.Simd.{map-map}
+use Rattle.cover_logic.specs.declared.term.Term.{Term}
+use Rattle.cubes.specs.Symbol.{bit}
+use Rattle.dependence.specs.declared.sets.ReadSet.{ReadSet}
+use Rattle.dependence.specs.declared.sets.Reads.{Reads}
+use Rattle.dependence.specs.Permits.{next_value, output_value}
+use Rattle.kiss2.specs.declared.kiss_file.KissFile.{KissFile}
+use Rattle.net_core.specs.declared.Gate.{Gate}
+use Rattle.net_core.specs.declared.Latch.{Latch}
+use Rattle.net_core.specs.declared.Network.{Network}
+use Rattle.net_core.specs.declared.SignalNames.{SignalNames}
+use Rattle.net_core.specs.declared.Start.TheVariants.{Zero, One}
+use Rattle.net_core.specs.Step.{bit_of_start}
+use Rattle.realise.specs.declared.signals.Signal.{Signal}
+use Rattle.realise.specs.Realised.{AreEnough, IsGateFor, IsRealised, name_at}
+use Rattle.realise.specs.Rows.{GivesAt}
+use Rattle.realise.specs.Inner.Adding.{AddsGates, IsGateAt}
+use Rattle.realise.specs.Inner.Lists.{IsTermCover, width_of}
+use Rattle.realise.specs.Inner.Signals.{value_of}
+use Rattle.realise.specs.Inner.Texts.{AreLatches, latch_of, row_text}
+use Rattle.realise.proofs.Literals.{get_behind, get_cases, get_first}
+use Rattle.realise.proofs.ReadNumbers.{read_length}
+use Rattle.realise.proofs.RowTexts.{good_cover, widths}
+
+-- one gate more
+module _ (F : KissFile) (words : List ℕ) (names : SignalNames) (value : ℕ → ℕ → List Bool → Bool) (outputs : List (List ℕ)) (sets : List ReadSet) (set : ReadSet) (old new : List Gate) (gate : Gate) (before : AddsGates F words names value outputs sets old new) (is : IsGateFor F words names set (value (length sets)) (name_at outputs (length sets)) gate) where
+  gate_each : (i : ℕ) (other : ReadSet) → slice_get (sets ++ set ∷ []) i ≡ Some other → IsGateAt F words names (new ++ gate ∷ []) (length old + i) other (value i) (name_at outputs i)
+  gate_each i other at =
+      elim (get_cases sets (set ∷ []) i other at) [
+        | inl first ↦
+            let found = before.each i other first in
+            (found.0, get_first new (gate ∷ []) (length old + i) found.0 found.1, found.2)
+        | inr behind ↦ last i other behind.0 behind.1 behind.2
+      ]
+    where
+      last : (i : ℕ) (other : ReadSet) (j : ℕ) → i ≡ length sets + j → slice_get (set ∷ []) j ≡ Some other → IsGateAt F words names (new ++ gate ∷ []) (length old + i) other (value i) (name_at outputs i)
+      last i other (suc j) place at = absurd (cc)
+      last i other zero place at =
+          let same : set ≡ other = cc in
+          let number : length sets ≡ i = omega arith in
+          let there : length new + 0 ≡ length old + i = omega (arith, before.count, number) in (
+            gate,
+            sym (ap (λ (k : ℕ). slice_get (new ++ gate ∷ []) k) there) ∙ get_behind new (gate ∷ []) 0,
+            subst (λ (s : ReadSet). IsGateFor F words names s (value i) (name_at outputs i) gate) same
+                (subst (λ (k : ℕ). IsGateFor F words names set (value k) (name_at outputs k) gate) number is),
+          )
+
+  gates_whole : AddsGates F words names value outputs (sets ++ set ∷ []) old (new ++ gate ∷ [])
+  gates_whole = record {
+    count = omega (arith, before.count, length-append new (gate ∷ []), length-append sets (set ∷ []));
+    kept = λ k kept at. get_first new (gate ∷ []) k kept (before.kept k kept at);
+    each = gate_each;
+  }
+
+pub gates_more : (F : KissFile) (words : List ℕ) (names : SignalNames) (value : ℕ → ℕ → List Bool → Bool) (outputs : List (List ℕ)) (sets more : List ReadSet) (set : ReadSet) (old new pushed : List Gate) (gate : Gate) (i : ℕ) → more ≡ sets ++ set ∷ [] → length sets ≡ i
+    → AddsGates F words names value outputs sets old new → IsGateFor F words names set (value i) (name_at outputs i) gate → pushed ≡ new ++ gate ∷ [] → AddsGates F words names value outputs more old pushed
+gates_more F words names value outputs sets more set old new pushed gate i is_more count before is is_pushed =
+    subst (AddsGates F words names value outputs more old) (sym is_pushed)
+    (subst (λ (list : List ReadSet). AddsGates F words names value outputs list old (new ++ gate ∷ [])) (sym is_more)
+    (gates_whole F words names value outputs sets set old new gate before
+    (subst (λ (k : ℕ). IsGateFor F words names set (value k) (name_at outputs k) gate) (sym count) is)))
+
+-- what is read is as long as the columns are many
+pub gives_length : (F : KissFile) (words : List ℕ) (set : ReadSet) (value : ℕ → List Bool → Bool) (given : Bool) (read : List Bool) → GivesAt F words set value given read → length read ≡ width_of set
+gives_length F words set value given read h = ap length h.read_there ∙ read_length words set h.s h.x
+
+-- ---- latches
+start_bit : (b : Bool) → bit_of_start (if b then One else Zero) ≡ Some b
+start_bit true = refl
+start_bit false = refl
+
+all_names_at : (names : List (List ℕ)) (bits : ℕ) → length names ≡ bits → map (name_at names) (range_with_len 0 bits) ≡ names
+all_names_at names bits counts =
+    ext_get_or [] (map (name_at names) (range_with_len 0 bits)) names (length-map-range_with_len (name_at names) 0 bits ∙ sym counts)
+    (λ i within. get_or-map-range_with_len (name_at names) 0 bits i i [] (omega (arith, within, length-map-range_with_len (name_at names) 0 bits)) (omega arith))
+
+pub latches_are : (names : SignalNames) (bits word : ℕ) (latches : List Latch) → length names.latch_inputs ≡ bits → length names.latch_outputs ≡ bits
+    → latches ≡ map (latch_of names word) (range_with_len 0 bits) → AreLatches names bits word latches
+latches_are names bits word latches inputs outputs is =
+    record {
+      inputs = ap (map (λ (latch : Latch). latch.input)) is ∙ (map-map (λ (latch : Latch). latch.input) (latch_of names word) (range_with_len 0 bits) ∙ all_names_at names.latch_inputs bits inputs);
+      outputs = ap (map (λ (latch : Latch). latch.output)) is ∙ (map-map (λ (latch : Latch). latch.output) (latch_of names word) (range_with_len 0 bits) ∙ all_names_at names.latch_outputs bits outputs);
+      starts = ap (map (λ (latch : Latch). bit_of_start latch.start)) is
+          ∙ (map-map (λ (latch : Latch). bit_of_start latch.start) (latch_of names word) (range_with_len 0 bits)
+          ∙ (ap (λ (f : ℕ → Option Bool). map f (range_with_len 0 bits)) (fun_ext (λ i. start_bit (bit word i)))
+          ∙ sym (map-map Some (bit word) (range_with_len 0 bits))));
+    }
+
+-- ---- the network
+pub network_realised : (F : KissFile) (bits : ℕ) (words : List ℕ) (reads : Reads) (names : SignalNames) (N : Network) (none latch_gates gates : List Gate) → none ≡ [] → AreEnough F bits words reads
+    → AddsGates F words names (next_value F words) names.latch_inputs reads.latches none latch_gates
+    → AddsGates F words names (output_value F) names.outputs reads.outputs latch_gates gates
+    → AreLatches names bits (slice_index words F.reset) N.latches → N.inputs ≡ names.inputs → N.outputs ≡ names.outputs → N.gates ≡ gates
+    → IsRealised F bits words reads names N
+network_realised F bits words reads names N none latch_gates gates is_none enough first behind latches inputs outputs same =
+    let empty : length none ≡ 0 = ap length is_none in
+    let count : length latch_gates ≡ bits = omega (arith, first.count, enough.latch_count, empty) in
+    record {
+      inputs = inputs;
+      outputs = outputs;
+      latch_inputs = latches.inputs;
+      latch_outputs = latches.outputs;
+      starts = latches.starts;
+      gate_count = ap length same ∙ (omega (arith, behind.count, count, enough.output_count));
+      latch_gates = λ i set at.
+          let found = first.each i set at in
+          let place : length none + i ≡ i = omega (arith, empty) in
+          let there : slice_get latch_gates i ≡ Some found.0 = sym (ap (λ (k : ℕ). slice_get latch_gates k) place) ∙ found.1 in
+          (found.0, ap (λ (list : List Gate). slice_get list i) same ∙ behind.kept i found.0 there, found.2);
+      output_gates = λ b set at.
+          let found = behind.each b set at in
+          let place : bits + b ≡ length latch_gates + b = omega (arith, count) in
+          (found.0, ap (λ (list : List Gate). slice_get list (bits + b)) same ∙ (ap (λ (k : ℕ). slice_get gates k) place ∙ found.1), found.2);
+    }
+
+-- ---- with the values of a call
+pub latches_at : (names : SignalNames) (bits word : ℕ) (latches : List Latch) (i : ℕ) → length names.latch_inputs ≡ bits → length names.latch_outputs ≡ bits → i ≡ bits
+    → latches ≡ map (latch_of names word) (range_with_len 0 i) → AreLatches names bits word latches
+latches_at names bits word latches i inputs outputs all is =
+    latches_are names bits word latches inputs outputs (is ∙ ap (λ (n : ℕ). map (latch_of names word) (range_with_len 0 n)) all)
+
+-- the item of a loop, and the items up to it
+pub item_there : {X : Type 0} (xs items : List X) (i : ℕ) (x : X) → items ≡ xs → i < length items → x ≡ get_or items i x → slice_get xs i ≡ Some x
+item_there {X} xs items i x same inside is =
+    subst (λ (list : List X). slice_get list i ≡ Some x) same (slice_get-get_or items i x inside ∙ ap (λ (y : X). Some y) (sym is))
+
+pub items_more : {X : Type 0} (xs : List X) (i : ℕ) (x : X) → slice_get xs i ≡ Some x → take (i + 1) xs ≡ take i xs ++ x ∷ []
+items_more {X} xs i x is = take_more xs i x (slice_get_within xs i x is) ∙ ap (λ (y : X). take i xs ++ y ∷ []) (get_or_from_slice_get xs i x x is)
+
+pub items_count : {X : Type 0} (xs : List X) (i : ℕ) (x : X) → slice_get xs i ≡ Some x → length (take i xs) ≡ i
+items_count xs i x is = length-take-le i xs (let lt = slice_get_within xs i x is in omega arith)
+
+-- the gate of a cover, whose rows are texts in order
+pub gate_of : (F : KissFile) (words : List ℕ) (names : SignalNames) (set : ReadSet) (value : ℕ → List Bool → Bool) (name : List ℕ) (gate : Gate) (terms lent : List Term) (width : ℕ)
+    → gate.on ≡ true → gate.output ≡ name → gate.inputs ≡ map (name_at names.inputs) set.inputs ++ map (name_at names.latch_outputs) set.latches
+    → IsTermCover (GivesAt F words set value true) (GivesAt F words set value false) (width_of set) terms → lent ≡ terms → width ≡ width_of set
+    → IsPermutation (map (row_text width) lent) gate.rows → IsSorted (slice_cmp nat_cmp) gate.rows → IsGateFor F words names set value name gate
+gate_of F words names set value name gate terms lent width on output inputs cover is_lent is_width moved in_order =
+    let there : IsPermutation (map (row_text (width_of set)) terms) gate.rows =
+    subst (λ (w : ℕ). IsPermutation (map (row_text w) terms) gate.rows) is_width (subst (λ (list : List Term). IsPermutation (map (row_text width) list) gate.rows) is_lent moved) in
+    let count : length gate.inputs ≡ width_of set =
+    omega (
+      arith,
+      ap length inputs,
+      length-append (map (name_at names.inputs) set.inputs) (map (name_at names.latch_outputs) set.latches),
+      length-map set.inputs (name_at names.inputs),
+      length-map set.latches (name_at names.latch_outputs),
+    ) in
+    record {
+      inputs = inputs;
+      output = output;
+      on = on;
+      cover = good_cover (GivesAt F words set value true) (GivesAt F words set value false) (width_of set) terms gate.rows (gives_length F words set value true) (gives_length F words set value false) cover there;
+      widths = subst (λ (n : ℕ). All (λ row. length row ≡ n) gate.rows) (sym count)
+          (widths (GivesAt F words set value true) (GivesAt F words set value false) (width_of set) terms gate.rows (gives_length F words set value true) (gives_length F words set value false) cover there);
+      in_order = in_order;
+    }
+
+pub signal_gate : (F : KissFile) (words used : List ℕ) (names : SignalNames) (set : ReadSet) (signal : Signal) (name : List ℕ) (gate : Gate) (terms lent : List Term) (width : ℕ)
+    → gate.on ≡ true → gate.output ≡ name → gate.inputs ≡ map (name_at names.inputs) set.inputs ++ map (name_at names.latch_outputs) set.latches
+    → IsTermCover (GivesAt F used set (value_of F used signal) true) (GivesAt F used set (value_of F used signal) false) (width_of set) terms → used ≡ words → lent ≡ terms → width ≡ width_of set
+    → IsPermutation (map (row_text width) lent) gate.rows → IsSorted (slice_cmp nat_cmp) gate.rows → IsGateFor F words names set (value_of F words signal) name gate
+signal_gate F words used names set signal name gate terms lent width on output inputs cover is_used is_lent is_width moved in_order =
+    gate_of F words names set (value_of F words signal) name gate terms lent width on output inputs
+    (subst (λ (list : List ℕ). IsTermCover (GivesAt F list set (value_of F list signal) true) (GivesAt F list set (value_of F list signal) false) (width_of set) terms) is_used cover)
+    is_lent is_width moved in_order

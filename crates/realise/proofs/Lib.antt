@@ -1,0 +1,14 @@
+pub mod Apart
+pub mod Carrying
+pub mod EqualReads
+pub mod FlatNetworks
+pub mod Free
+pub mod GateLists
+pub mod Gates
+pub mod Literals
+pub mod Ranges
+pub mod ReadNumbers
+pub mod RowTexts
+pub mod StatePieces
+pub mod Stepping
+pub mod TermLists

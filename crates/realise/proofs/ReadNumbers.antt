@@ -1,0 +1,208 @@
+-- What a gate reads, as a number: the numbers that the columns of a piece allow are those that are read at its symbols.
+use Rattle.std.proofs.Common.{◌≡◌, ℕ, zero, suc, ◌+◌, ◌-◌, ◌^◌, ◌<◌, inl, inr, Bool, eqb, true, false, cond, if◌then◌else◌, Option, Some, None, List, [], ◌∷◌, ◌++◌, length, map, get_or, slice_get, slice_index, All, refl, ap, sym, ◌∙◌, subst, arith, length-append}
+use Rattle.std.specs.List.{AllPairs, range_with_len}
+use Rattle.std.specs.List.Sorted.{IsStrictlyIncreasing}
+use Rattle.std.proofs.lemmas.Bool.{cases_Bool, cases_lt, eq-eqb, eqb-true, false≢true}
+use Rattle.std.proofs.lemmas.List.{ext_get_or, get_or-append-add, get_or-map, get_or_append_left, length-map}
+use Rattle.std.proofs.lemmas.List.FromFn.{get_or-map-range_with_len, length-map-range_with_len}
+use Rattle.std.proofs.lemmas.List.Kept.{AllPairs-from_increasing}
+use Rattle.std.proofs.lemmas.Option.{get_or_from_slice_get, slice_get-get_or, slice_get_within}
+use Rattle.cubes.specs.declared.cube.Cube.{Cube}
+use Rattle.cubes.specs.Cube.{HoldsNumber}
+use Rattle.cubes.specs.Field.{character}
+use Rattle.cubes.specs.Symbol.{bit, number_of, symbol_of}
+use Rattle.cubes.proofs.Held.{agrees_from_held, held_from_agrees}
+use Rattle.cubes.proofs.Numbers.{number_below, symbol_of-number_of}
+use Rattle.dependence.specs.declared.sets.ReadSet.{ReadSet}
+use Rattle.realise.specs.Codes.{code_bits}
+use Rattle.realise.specs.Rows.{input_of, read_values}
+use Rattle.realise.specs.Inner.Columns.{AllowsFrom, code_character, columns_of, input_character}
+use Rattle.realise.specs.Inner.Lists.{width_of}
+use Rattle.realise.proofs.Literals.{from_map, get_behind, get_cases, get_first, get_map}
+
+-- ---- symbols by their bits
+pub symbol_at : (w n a : ℕ) → a < w → get_or (symbol_of w n) a false ≡ bit n (w - 1 - a)
+unfolding symbol_of
+symbol_at zero n a lt = absurd (omega arith)
+symbol_at (suc p) n zero lt = let e : p ≡ suc p - 1 - 0 = omega arith in ap (bit n) e
+symbol_at (suc p) n (suc a) lt = let e : p - 1 - a ≡ suc p - 1 - suc a = omega arith in symbol_at p n a (omega arith) ∙ ap (bit n) e
+
+-- a bit of a number of a symbol
+pub number_bit : (x : List Bool) (w k : ℕ) → length x ≡ w → k < w → bit (number_of x) k ≡ get_or x (w - 1 - k) false
+number_bit x w k long lt =
+    let e : k ≡ w - 1 - (w - 1 - k) = omega arith in
+    let whole : symbol_of w (number_of x) ≡ x = ap (λ (n : ℕ). symbol_of n (number_of x)) (sym long) ∙ symbol_of-number_of x in
+    ap (bit (number_of x)) e ∙ (sym (symbol_at w (number_of x) (w - 1 - k) (omega arith)) ∙ ap (λ (bits : List Bool). get_or bits (w - 1 - k) false) whole)
+
+-- ---- what is read, column by column
+module _ (words : List ℕ) (set : ReadSet) (s : ℕ) (x : List Bool) where
+  pub read_input : (c a : ℕ) → slice_get set.inputs c ≡ Some a → get_or (read_values words set s x) c false ≡ input_of x a
+  read_input c a is =
+      let lt : c < length set.inputs = slice_get_within set.inputs c a is in
+      get_or_append_left (map (input_of x) set.inputs) (map (bit (slice_index words s)) set.latches) false c (omega (arith, lt, length-map set.inputs (input_of x)))
+      ∙ (get_or-map (input_of x) set.inputs c 0 false lt ∙ ap (input_of x) (get_or_from_slice_get set.inputs c a 0 is))
+
+  pub read_latch : (j l : ℕ) → slice_get set.latches j ≡ Some l → get_or (read_values words set s x) (length set.inputs + j) false ≡ bit (slice_index words s) l
+  read_latch j l is =
+      let front : List Bool = map (input_of x) set.inputs in
+      let back : List Bool = map (bit (slice_index words s)) set.latches in
+      let lt : j < length set.latches = slice_get_within set.latches j l is in
+      let e : length set.inputs + j ≡ length front + j = omega (arith, length-map set.inputs (input_of x)) in
+      ap (λ (n : ℕ). get_or (front ++ back) n false) e
+      ∙ (get_or-append-add front back j false
+      ∙ (get_or-map (bit (slice_index words s)) set.latches j 0 false lt ∙ ap (bit (slice_index words s)) (get_or_from_slice_get set.latches j l 0 is)))
+
+  pub read_length : length (read_values words set s x) ≡ width_of set
+  read_length =
+      omega (arith, length-append (map (input_of x) set.inputs) (map (bit (slice_index words s)) set.latches), length-map set.inputs (input_of x), length-map set.latches (bit (slice_index words s)))
+
+-- a bit of a number, in the list of its bits
+pub code_at : (width v c : ℕ) → c < width → get_or (code_bits width v) c false ≡ bit v c
+code_at width v c lt = get_or-map-range_with_len (bit v) 0 width c c false lt (omega arith)
+
+-- ---- the character of a cube and the bits of its symbols
+-- what a character wants is the bit of the value there
+wanted_parts : (cares v wanted : Bool) → cond cares (Some v) None ≡ Some wanted → (cares ≡ true) × (v ≡ wanted)
+wanted_parts true v wanted is = (refl, cc)
+wanted_parts false v wanted is = absurd (cc)
+
+from_wanted : (cares v : Bool) → cares ≡ true → cond cares (Some v) None ≡ Some v
+from_wanted true v h = refl
+from_wanted false v h = absurd (false≢true h)
+
+module _ (cube : Cube) (set : ReadSet) (word : ℕ) (inside : All (λ a. a < cube.width) set.inputs) where
+  -- the number of an input that is listed
+  listed_within : (c a : ℕ) → slice_get set.inputs c ≡ Some a → a < cube.width
+  listed_within c a is = subst (λ (n : ℕ). n < cube.width) (get_or_from_slice_get set.inputs c a 0 is) (inside c 0 (slice_get_within set.inputs c a is))
+
+  -- what is read at a symbol of the cube is allowed
+  pub allowed_there : (words : List ℕ) (s v n : ℕ) → slice_index words s ≡ word → HoldsNumber cube n → code_bits (width_of set) v ≡ read_values words set s (symbol_of cube.width n)
+      → AllowsFrom 0 (columns_of set cube word) v
+  allowed_there words s v n same held read c wanted is =
+      let x : List Bool = symbol_of cube.width n in
+      let e : 0 + c ≡ c = omega arith in
+      let here : get_or (code_bits (width_of set) v) c false ≡ get_or (read_values words set s x) c false = ap (λ (bits : List Bool). get_or bits c false) read in
+      elim (get_cases (map (input_character cube) set.inputs) (map (code_character word) set.latches) c (Some wanted) is) [
+        | inl first ↦
+            let found = from_map (input_character cube) set.inputs c (Some wanted) first in
+            let a : ℕ = found.0 in
+            let low : a < cube.width = listed_within c a found.1 in
+            let parts = wanted_parts (bit cube.care (cube.width - 1 - a)) (bit cube.value (cube.width - 1 - a)) wanted found.2 in
+            let lt : c < width_of set = omega (arith, slice_get_within set.inputs c a found.1) in
+            ap (bit v) e ∙ (sym (code_at (width_of set) v c lt) ∙ (here ∙ (read_input words set s x c a found.1
+            ∙ (symbol_at cube.width n a low ∙ (sym (agrees_from_held cube n held (cube.width - 1 - a) (omega arith) parts.0) ∙ parts.1)))))
+        | inr behind ↦
+            let found = from_map (code_character word) set.latches behind.0 (Some wanted) behind.2 in
+            let l : ℕ = found.0 in
+            let one : bit word l ≡ wanted = (let h = found.2 in cc) in
+            let place : c ≡ length set.inputs + behind.0 = omega (arith, behind.1, length-map set.inputs (input_character cube)) in
+            let lt : c < width_of set = omega (arith, place, slice_get_within set.latches behind.0 l found.1) in
+            ap (bit v) e ∙ (sym (code_at (width_of set) v c lt) ∙ (here ∙ (ap (λ (k : ℕ). get_or (read_values words set s x) k false) place
+            ∙ (read_latch words set s x behind.0 l found.1 ∙ (ap (λ (w : ℕ). bit w l) same ∙ one)))))
+      ]
+
+-- ---- a symbol for a number that is allowed
+-- the value of the first column of an input among those that are listed
+fill : List ℕ → (ℕ → Bool) → ℕ → Bool
+fill [] f a = false
+fill (i ∷ is) f a = if eqb i a then f 0 else fill is (λ c. f (suc c)) a
+
+fill_at : (is : List ℕ) (f : ℕ → Bool) (c a : ℕ) → AllPairs (λ x y. x < y) is → slice_get is c ≡ Some a → fill is f a ≡ f c
+unfolding fill
+fill_at [] f c a ascend at = absurd (cc)
+fill_at (i ∷ is) f zero a ascend at =
+    let same : i ≡ a = cc in
+    ap (λ (test : Bool). if test then f 0 else fill is (λ c. f (suc c)) a) (eq-eqb i a same)
+fill_at (i ∷ is) f (suc c) a ascend at =
+    let lt : c < length is = slice_get_within is c a at in
+    let low : i < a =
+    subst (λ (n : ℕ). i < n) (get_or_from_slice_get is c a i at) (ascend 0 (suc c) i (omega arith) (omega (arith, lt))) in
+    let other : eqb i a ≡ false = differs i a low in
+    ap (λ (test : Bool). if test then f 0 else fill is (λ c. f (suc c)) a) other
+    ∙ fill_at is (λ c. f (suc c)) c a (λ j k d below within. ascend (suc j) (suc k) d (omega arith) (omega arith)) at
+  where
+    differs : (i a : ℕ) → i < a → eqb i a ≡ false
+    differs i a low = elim (cases_Bool (eqb i a)) [ inl same ↦ absurd (let e = eqb-true i a same in omega arith) | inr other ↦ other ]
+
+-- the bit that a character wants, or else one that is free
+choice : Option Bool → Bool → Bool
+choice (Some wanted) free = wanted
+choice None free = free
+
+choice_wanted : (c : Option Bool) (free wanted : Bool) → c ≡ Some wanted → choice c free ≡ wanted
+unfolding choice
+choice_wanted (Some b) free wanted is = cc
+choice_wanted None free wanted is = absurd (cc)
+
+choice_is : (c : Option Bool) (free v : Bool) → (free ≡ v) → ((wanted : Bool) → c ≡ Some wanted → v ≡ wanted) → choice c free ≡ v
+unfolding choice
+choice_is (Some b) free v same all = sym (all b refl)
+choice_is None free v same all = same
+
+module _ (cube : Cube) (set : ReadSet) (word : ℕ) (inside : All (λ a. a < cube.width) set.inputs) (ascend : IsStrictlyIncreasing set.inputs) (v : ℕ) (all : AllowsFrom 0 (columns_of set cube word) v) where
+  -- the bit of the symbol for each input
+  abbrev chosen : ℕ → Bool
+  chosen a = choice (input_character cube a) (fill set.inputs (bit v) a)
+
+  pub filled : List Bool
+  filled = map chosen (range_with_len 0 cube.width)
+
+  filled_length : length filled ≡ cube.width
+  unfolding filled
+  filled_length = length-map-range_with_len chosen 0 cube.width
+
+  filled_at : (a : ℕ) → a < cube.width → get_or filled a false ≡ chosen a
+  unfolding filled
+  filled_at a lt = get_or-map-range_with_len chosen 0 cube.width a a false lt (omega arith)
+
+  -- the cube holds it
+  filled_held : HoldsNumber cube (number_of filled)
+  filled_held = held_from_agrees cube (number_of filled) (λ k lt cares.
+      let a : ℕ = cube.width - 1 - k in
+      let back : cube.width - 1 - a ≡ k = omega arith in
+      let says : input_character cube a ≡ Some (bit cube.value k) =
+      ap (λ (n : ℕ). character cube.care cube.value n) back ∙ from_wanted (bit cube.care k) (bit cube.value k) cares in
+      sym (number_bit filled cube.width k filled_length lt ∙ (filled_at a (omega arith) ∙ choice_wanted (input_character cube a) (fill set.inputs (bit v) a) (bit cube.value k) says)))
+
+  -- and there the number is read
+  filled_read : (words : List ℕ) (s : ℕ) → slice_index words s ≡ word → code_bits (width_of set) v ≡ read_values words set s filled
+  filled_read words s same =
+      ext_get_or false (code_bits (width_of set) v) (read_values words set s filled)
+      (length-map-range_with_len (bit v) 0 (width_of set) ∙ sym (read_length words set s filled))
+      (λ c within.
+      let lt : c < width_of set = omega (arith, within, length-map-range_with_len (bit v) 0 (width_of set)) in
+      code_at (width_of set) v c lt
+      ∙ elim (cases_lt c (length set.inputs)) [
+        | inl low ↦
+            let a : ℕ = get_or set.inputs c 0 in
+            let at : slice_get set.inputs c ≡ Some a = slice_get-get_or set.inputs c 0 low in
+            let free : fill set.inputs (bit v) a ≡ bit v c = fill_at set.inputs (bit v) c a (AllPairs-from_increasing set.inputs ascend) at in
+            let wants : (wanted : Bool) → input_character cube a ≡ Some wanted → bit v c ≡ wanted =
+            λ wanted is.
+            let e : c ≡ 0 + c = omega arith in
+            ap (bit v) e ∙ all c wanted (get_first (map (input_character cube) set.inputs) (map (code_character word) set.latches) c (Some wanted)
+            (get_map (input_character cube) set.inputs c a at ∙ ap (λ (o : Option Bool). Some o) is)) in
+            sym (read_input words set s filled c a at ∙ (filled_at a (inside c 0 low) ∙ choice_is (input_character cube a) (fill set.inputs (bit v) a) (bit v c) free wants))
+        | inr high ↦
+            let j : ℕ = c - length set.inputs in
+            let place : c ≡ length set.inputs + j = omega arith in
+            let few : j < length set.latches = omega (arith, lt) in
+            let l : ℕ = get_or set.latches j 0 in
+            let at : slice_get set.latches j ≡ Some l = slice_get-get_or set.latches j 0 few in
+            let column : 0 + (length (map (input_character cube) set.inputs) + j) ≡ c = omega (arith, place, length-map set.inputs (input_character cube)) in
+            let wants : bit v c ≡ bit word l =
+            sym (ap (bit v) column) ∙ all (length (map (input_character cube) set.inputs) + j) (bit word l)
+            (get_behind (map (input_character cube) set.inputs) (map (code_character word) set.latches) j ∙ get_map (code_character word) set.latches j l at) in
+            wants ∙ sym (ap (λ (k : ℕ). get_or (read_values words set s filled) k false) place ∙ (read_latch words set s filled j l at ∙ ap (λ (w : ℕ). bit w l) same))
+      ])
+
+  -- so the number is read at a symbol of the cube
+  pub read_there : (words : List ℕ) (s : ℕ) → slice_index words s ≡ word
+      → (n : ℕ) × (n < 2 ^ cube.width) × HoldsNumber cube n × (code_bits (width_of set) v ≡ read_values words set s (symbol_of cube.width n))
+  read_there words s same =
+      let whole : symbol_of cube.width (number_of filled) ≡ filled = ap (λ (n : ℕ). symbol_of n (number_of filled)) (sym filled_length) ∙ symbol_of-number_of filled in (
+        number_of filled,
+        subst (λ (n : ℕ). number_of filled < 2 ^ n) filled_length (number_below filled),
+        filled_held,
+        filled_read words s same ∙ ap (read_values words set s) (sym whole),
+      )

@@ -1,0 +1,5 @@
+use Rattle.realise.proofs.Apart.{names_apart}
+use Rattle.realise.proofs.laws.names_apart.Goals as goal
+
+pub returns : goal.returns
+returns c = names_apart

@@ -1,0 +1,8 @@
+-- Definitions that private functions and proofs need; no public contract cites them.
+pub mod Free
+pub mod Signals
+pub mod Columns
+pub mod Pieces
+pub mod Lists
+pub mod Texts
+pub mod Adding
