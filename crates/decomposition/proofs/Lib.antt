@@ -1,0 +1,10 @@
+pub mod Flowing
+pub mod Labelling
+pub mod Enough
+pub mod Reading
+pub mod Pairs
+pub mod Carrying
+pub mod Writable
+pub mod LawfulHeader
+pub mod Unrefused
+pub mod Whole

@@ -1,0 +1,10 @@
+use Rattle.std.proofs.Common.{Bool, None, refl, subst, sym}
+use Rattle.decomposition.specs.declared.work.WorkMachine.{WorkMachine}
+use Rattle.decomposition.specs.Work.{IsWork}
+use Rattle.decomposition.proofs.Unrefused.{file_is}
+use Rattle.decomposition.proofs.work.work_machine.Goals as goal
+
+pub returns-else-reduce : goal.returns-else-reduce
+returns-else-reduce c =
+    let work : WorkMachine = record { machine = c.args.machine; classes = None } in
+    subst (λ (reduce : Bool). IsWork reduce c.args.file.now work) (sym c.if-reduce.false) (file_is c.args.file.now work c.requires.machine refl)

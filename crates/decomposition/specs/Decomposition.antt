@@ -1,0 +1,71 @@
+-- The headline: what is said of a text that is written as a decomposition of a file's machine.
+use Rattle.std.specs.Prelude.{◌≡◌, ℕ, ◌<◌, Bool, List, length, slice_get, slice_index, Some}
+use Rattle.blif_out.specs.declared.header.Header.{Header}
+use Rattle.blif_out.specs.declared.header.LatchNote.{LatchNote}
+use Rattle.blif_out.specs.Head.{Head, net_text_of}
+use Rattle.blif_out.specs.HeadLaw.{IsLawfulHeader}
+use Rattle.blif_out.specs.Order.{HasKnownStarts}
+use Rattle.dependence.specs.declared.sets.Reads.{Reads}
+use Rattle.dependence.specs.Reads.{AreReads}
+use Rattle.kiss2.specs.declared.kiss_file.KissFile.{KissFile}
+use Rattle.net_core.specs.declared.Network.{Network}
+use Rattle.net_core.specs.declared.SignalNames.{SignalNames}
+use Rattle.net_core.specs.Denotes.{Denotes}
+use Rattle.net_core.specs.Sound.{Sound}
+use Rattle.realise.specs.Carries.{AnswersAs, Carries}
+use Rattle.realise.specs.Names.{AreNames}
+use Rattle.realise.specs.Realised.{IsRealised}
+use Rattle.state_codes.specs.declared.Codes.{Codes}
+use Rattle.state_codes.specs.declared.split.Kind.{Kind}
+use Rattle.state_codes.specs.declared.split.Part.{Part}
+use Rattle.state_codes.specs.Code.{IsCode}
+use Rattle.state_reduce.specs.WorkMachine.{IsWorkMachine}
+use Rattle.decomposition.specs.Named.{Named}
+use Rattle.decomposition.specs.OwnPairs.{OwnPairs}
+use Rattle.decomposition.specs.Within.{IsWithinParts}
+use Rattle.decomposition.specs.Work.{AreClasses}
+
+-- the words printed for the states of the file are the codes of their classes; a latch stands for each bit, with its part
+pub record PrintsCodes (F : KissFile) (class : ℕ → ℕ) (codes : Codes) (H : Header) : Type 0 where
+  pub count : length H.words ≡ length F.states
+  pub words : (s : ℕ) → s < length F.states → slice_index H.words s ≡ slice_index codes.words (class s)
+  pub bits : length H.latches ≡ codes.bits
+  pub owners : (i : ℕ) (note : LatchNote) → slice_get H.latches i ≡ Some note → note.part ≡ slice_index codes.owner i
+
+-- Each gate lists exactly its read set, whose bits are those of the rule, with none to spare, and whose inputs are those that
+-- matter; its rows are a good cover of the values at which it gives 1 and those at which it gives 0.
+pub record HasGates (F W : KissFile) (parts : List Part) (codes : Codes) (N : Network) : Type 0 where
+  pub sets : Reads
+  pub by_rule : AreReads W parts codes sets
+  pub names : SignalNames
+  pub own : AreNames F codes.bits names
+  pub realised : IsRealised W codes.bits codes.words sets names N
+
+-- The text is that of a network behind its header, and denotes the network. The network is sound, starts at known values
+-- and answers every word as the machine of the file does from its reset state. The header has the names, the classes, and
+-- the codes that carry every step of the file's machine. The codes are those that the parts give to the states of the work
+-- machine W, and each gate of a latch reads only what its own pair and its part permit. The header is the only lawful one
+-- that the text has, as HeadOnce of blif_out says.
+pub record IsDecomposition (reduce : Bool) (F W : KissFile) (class : ℕ → ℕ) (codes : Codes) (text : List ℕ) (N : Network) (H : Header) : Type 0 where
+  pub whole : text ≡ net_text_of H N
+  pub head : Head text H
+  pub lawful : IsLawfulHeader H
+  pub denotes : Denotes text N
+  pub sound : Sound N
+  pub starts : HasKnownStarts N
+  pub answers : AnswersAs F N
+  pub named : Named F N H
+  pub classes : AreClasses reduce F H.classes
+  pub latches : length N.latches ≡ length H.latches
+  pub carries : Carries F N H.words
+  pub codes_of_parts : IsCode (length W.states) H.parts codes
+  pub printed : PrintsCodes F class codes H
+  pub pairs : OwnPairs W N codes.words H.latches
+  pub within : IsWithinParts W N codes.words H.latches H.parts
+  pub gates : HasGates F W H.parts codes N
+
+-- the text is that of a split of this kind into these parts, of the work machine W of a file
+unfoldable pub IsTextOf : Bool → KissFile → KissFile → Kind → List Part → List ℕ → Type 0
+IsTextOf reduce F W kind parts text =
+    (class : ℕ → ℕ) × (codes : Codes) × (N : Network) × (H : Header)
+    × IsWorkMachine reduce F W class × (H.kind ≡ kind) × (H.parts ≡ parts) × IsDecomposition reduce F W class codes text N H

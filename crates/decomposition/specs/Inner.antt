@@ -1,0 +1,3 @@
+-- Definitions that only private functions and proofs need; no public contract cites them.
+pub mod Headed
+pub mod Labelled

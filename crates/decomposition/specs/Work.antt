@@ -1,0 +1,18 @@
+-- The machine that a command works on, with the classes that its header shows.
+use Rattle.std.specs.Prelude.{Bool, true, false, ℕ, IsNone, List, Option, None, Some}
+use Rattle.decomposition.specs.declared.work.WorkMachine.{WorkMachine}
+use Rattle.kiss2.specs.declared.kiss_file.KissFile.{KissFile}
+use Rattle.state_reduce.specs.Alike.{IsEquivalence}
+use Rattle.state_reduce.specs.WorkMachine.{IsWorkMachine}
+
+-- the classes are the partition of the file's states into alike states, or there are none without `--reduce`
+abbrev pub AreClasses : Bool → KissFile → Option (List ℕ) → Type 0
+AreClasses true F (Some classes) = IsEquivalence F classes
+AreClasses true F None = ⊥
+AreClasses false F classes = IsNone classes
+
+-- the machine is the work machine of the file, with the class that each state of the file has there
+pub record IsWork (reduce : Bool) (F : KissFile) (work : WorkMachine) : Type 0 where
+  pub class : ℕ → ℕ
+  pub machine : IsWorkMachine reduce F work.machine class
+  pub classes : AreClasses reduce F work.classes

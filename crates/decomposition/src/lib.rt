@@ -1,0 +1,22 @@
+//! One way from a split to a text.
+//!
+//! A split of a machine's states into parts gives the states codes, the codes and the flow between the parts
+//! give each gate what it reads, and these give a network and the header that explains it. [`text_of_split`]
+//! goes this way for every split through whose parts information flows as the parts say (`specs/Flow`), so
+//! that what is special to a kind of decomposition is its split alone. The text that it writes denotes a network
+//! that answers as the machine of the file does, and all that `specs/Decomposition` says besides.
+//!
+//! [`work_machine`] makes the machine that is split: that of the file, or of the classes of its alike states
+//! (`specs/Work`). The other definitions are `Named` for names, `OwnPairs` for the partition pair of each
+//! latch, and `Within` for what the gates of a part read.
+#![tactic(auto)]
+
+mod header;
+mod labels;
+mod laws;
+mod work;
+mod writing;
+
+pub use laws::{flow_permits, own_pairs_permit};
+pub use work::{WorkMachine, work_machine};
+pub use writing::text_of_split;

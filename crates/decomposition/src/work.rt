@@ -1,0 +1,106 @@
+//! The machine that is split.
+
+ghost use Rattle.std.specs.Prelude.{◌≡◌, IfOk, true};
+ghost use Rattle.kiss2.specs.Lawful.{IsLawful};
+ghost use Rattle.kiss2.specs.Machine.{Accepted};
+ghost use Rattle.machine_table.specs.Table.{IsTable};
+ghost use Rattle.state_reduce.specs.Alike.{IsEquivalence};
+ghost use Rattle.state_reduce.specs.Quotient.{IsQuotient};
+ghost use Rattle.decomposition.specs.Work.{IsWork};
+
+use kiss2::{Fill, KissFile};
+use machine_table::{BuildFail, Machine};
+use partition::Partition;
+use state_reduce::{QuotientFail, equivalence, quotient};
+use std::alloc::{AllocError, Global};
+
+/// The machine that a command works on: that of its file, or that of the classes of the file's alike states,
+/// with the partition of the file's states into these classes.
+#[derive(Drop)]
+pub struct WorkMachine {
+    pub machine: Machine,
+    pub classes: Option<Partition>,
+}
+
+/// The machine that a command works on. With `reduce` its states are the classes of alike states of the
+/// file's machine, in the order of their least states; else it is the file's machine.
+pub fn work_machine(
+    alloc: Global,
+    file: &KissFile,
+    machine: Machine,
+    fill: Fill,
+    reduce: bool,
+) -> Result<WorkMachine, AllocError>
+    requires lawful { IsLawful file.now }
+    requires accepted { Accepted file.now fill }
+    requires machine { machine ≡ file.now }
+    ensures { IfOk result (IsWork reduce file.now) }
+{
+    if reduce {
+        reduced(alloc, file, &machine, fill)
+    } else {
+        Ok(WorkMachine {
+            machine,
+            classes: None,
+        })
+    }
+}
+
+/// The machine of the classes of alike states.
+fn reduced(
+    alloc: Global,
+    file: &KissFile,
+    machine: &Machine,
+    fill: Fill,
+) -> Result<WorkMachine, AllocError>
+    requires lawful { IsLawful file.now }
+    requires accepted { Accepted file.now fill }
+    requires machine { machine.now ≡ file.now }
+    ensures { IfOk result (IsWork true file.now) }
+{
+    let classes = equivalence(alloc, machine)?;
+    let quotient = file_of_classes(alloc, file, machine, &classes, fill)?;
+    let machine = machine_of(alloc, &quotient, fill)?;
+    Ok(WorkMachine {
+        machine,
+        classes: Some(classes),
+    })
+}
+
+/// The file of the classes of alike states.
+fn file_of_classes(
+    alloc: Global,
+    file: &KissFile,
+    machine: &Machine,
+    classes: &Partition,
+    fill: Fill,
+) -> Result<KissFile, AllocError>
+    requires lawful { IsLawful file.now }
+    requires accepted { Accepted file.now fill }
+    requires machine { machine.now ≡ file.now }
+    requires alike { IsEquivalence file.now classes.now }
+    ensures quotient { IfOk result (IsQuotient file.now classes.now) }
+    ensures table { IfOk result IsTable }
+    ensures accepted { IfOk result (λ reduced. Accepted reduced fill) }
+{
+    match quotient(alloc, file, machine, classes) {
+        Ok(reduced) => Ok(reduced),
+        Err(QuotientFail::NoMemory) => Err(AllocError),
+        Err(QuotientFail::NotClosed { .. }) => unreachable!(),
+        Err(QuotientFail::NotConsistent { .. }) => unreachable!(),
+    }
+}
+
+/// The machine of an accepted file.
+fn machine_of(alloc: Global, file: &KissFile, fill: Fill) -> Result<Machine, AllocError>
+    requires table { IsTable file.now }
+    requires accepted { Accepted file.now fill }
+    ensures { IfOk result (λ machine. machine ≡ file.now) }
+{
+    match Machine::build(alloc, file, fill) {
+        Ok(machine) => Ok(machine),
+        Err(BuildFail::NoMemory) => Err(AllocError),
+        Err(BuildFail::Conflict { .. }) => unreachable!(),
+        Err(BuildFail::Unspecified { .. }) => unreachable!(),
+    }
+}
