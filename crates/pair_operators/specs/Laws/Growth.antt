@@ -8,6 +8,7 @@ use Rattle.std.proofs.lemmas.List.Elements.{Contains-push_cases, Contains-append
 use Rattle.partition.specs.Partition.{IsPartition, Together, Le}
 use Rattle.partition.specs.MeetAndJoin.{IsJoin, IsLeastAbove}
 use Rattle.partition.specs.Laws.Chains.{join_is_least}
+use Rattle.partition.specs.Laws.Joins.{joins_are_one}
 use Rattle.partition.specs.Laws.World.{join_fits}
 use Rattle.pair_operators.specs.Growth.{GrowsOver, IsGrowth, NoneFits, TakesPair, pairs_from, pairs_of}
 
@@ -172,3 +173,25 @@ module _ (n : ℕ) (G : ℕ → ℕ → List ℕ → Type 0) (Meets : List ℕ �
       pub growth_is_full : (start last : List ℕ) → IsPartition n start → IsGrowth G Meets n start last → NoneFits n G Meets last
       growth_is_full start last lawful growth s t order within =
           covered start last (pairs_of n) lawful growth s t (contains_pair n s t order within)
+
+-- where each two states have one partition, growth over these has one value
+module _ (G : ℕ → ℕ → List ℕ → Type 0) (Meets : List ℕ → Type 0) (once : (s t : ℕ) (g h : List ℕ) → G s t g → G s t h → g ≡ h) where
+  taken_once : (p : List ℕ) (s t : ℕ) (next other : List ℕ) → TakesPair G Meets p s t next → TakesPair G Meets p s t other → next ≡ other
+  taken_once p s t next other one two =
+      let generator : one.generator ≡ two.generator = once s t one.generator two.generator one.generates two.generates in
+      let joined : one.joined ≡ two.joined = joins_are_one p two.generator one.joined two.joined (subst (λ (g : List ℕ). IsJoin p g one.joined) generator one.joins) two.joins in
+      elim one.taken [
+        | inl (met, is) ↦ elim two.taken [
+          | inl (other_met, other_is) ↦ is ∙ joined ∙ sym other_is
+          | inr (refused, other_is) ↦ absurd (refused (subst Meets joined met))
+        ]
+        | inr (refused, is) ↦ elim two.taken [
+          | inl (other_met, other_is) ↦ absurd (refused (subst Meets (sym joined) other_met))
+          | inr (other_refused, other_is) ↦ is ∙ sym other_is
+        ]
+      ]
+
+  pub grown_once : (p last other : List ℕ) (pairs : List (ℕ × ℕ)) → GrowsOver G Meets p pairs last → GrowsOver G Meets p pairs other → last ≡ other
+  grown_once p last other [] here there = sym here ∙ there
+  grown_once p last other ((s, t) ∷ pairs) (next, takes, rest) (second, takes_second, rest_second) =
+      grown_once second last other pairs (subst (λ (q : List ℕ). GrowsOver G Meets q pairs last) (taken_once p s t next second takes takes_second) rest) rest_second
