@@ -13,6 +13,7 @@
 //! alone.
 #![tactic(auto)]
 
+mod laws;
 mod members;
 mod ordering;
 mod parallel;
@@ -20,4 +21,5 @@ mod sparing;
 #[cfg(test)]
 mod tests;
 
+pub use laws::choice_is_one;
 pub use parallel::split;

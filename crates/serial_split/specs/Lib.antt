@@ -1,4 +1,5 @@
 pub mod Kind
 pub mod Best
 pub mod Choice
+pub mod Laws
 pub mod Inner

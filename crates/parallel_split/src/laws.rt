@@ -1,0 +1,8 @@
+//! What follows of the definitions.
+
+ghost use Rattle.parallel_split.specs.Laws.{ChoiceIsOne};
+
+/// The machine decides which parallel split is chosen, with its carriers and what its parts read.
+pub fn choice_is_one()
+    ensures { ChoiceIsOne }
+{}
