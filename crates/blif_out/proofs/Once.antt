@@ -53,7 +53,7 @@ labels_small : (labels : List ℕ) → IsLawfulPartition labels → AreSmall lab
 labels_small labels p =
     small_from labels (λ place within. let le = label-le labels p.numbered place within in let count = p.count in omega (arith, within, le, count.1))
 
-partition_once : (p q : List ℕ) → IsLawfulPartition p → IsLawfulPartition q → labels_text p ≡ labels_text q → p ≡ q
+pub partition_once : (p q : List ℕ) → IsLawfulPartition p → IsLawfulPartition q → labels_text p ≡ labels_text q → p ≡ q
 partition_once p q a b e =
     let some = a.count in
     let some' = b.count in

@@ -1,5 +1,5 @@
 -- The classes of alike states have a machine: only memory can be wanting.
-use Rattle.std.proofs.Common.{◌≡◌, ◌≢◌, ℕ, ◌+◌, ◌<◌, ◌⊎◌, inl, inr, true, false, List, Some, None, refl, sym, ◌∙◌, subst, arith}
+use Rattle.std.proofs.Common.{◌≡◌, ◌≢◌, ℕ, ◌+◌, ◌<◌, ◌⊎◌, inl, inr, true, false, List, Option, Some, None, refl, sym, ap, ◌∙◌, subst, arith}
 use Rattle.cubes.specs.Symbol.{symbol_of}
 use Rattle.cubes.proofs.Numbers.{length-symbol_of}
 use Rattle.kiss2.specs.declared.fill.Fill.{Fill}
@@ -19,10 +19,10 @@ use Rattle.state_reduce.specs.declared.judging.QuotientFail.{QuotientFail}
 use Rattle.state_reduce.specs.declared.judging.QuotientFail.TheVariants as quotients
 use Rattle.state_reduce.specs.Alike.{IsEquivalence}
 use Rattle.state_reduce.specs.Cause as causes
-use Rattle.state_reduce.specs.Quotient.{IsQuotient, block_number}
+use Rattle.state_reduce.specs.Quotient.{AreBlocksInOrder, IsQuotient, block_number}
 use Rattle.state_reduce.proofs.Unrefused.{unrefused}
 use Rattle.decomposition.specs.declared.work.WorkMachine.{WorkMachine}
-use Rattle.decomposition.specs.Work.{AreClasses, IsWork}
+use Rattle.decomposition.specs.Work.{AreClasses, AreWorkNames, IsWork}
 
 -- the quotient by alike states is refused for want of memory alone
 pub quotient_unrefused : (F : KissFile) (p : List ℕ) (fail : QuotientFail) → IsLawful F → IsEquivalence F p → fail ≢ quotients.NoMemory → causes.Caused F p fail → ⊥
@@ -53,19 +53,29 @@ pub alike_of : (M F : KissFile) (p : List ℕ) → M ≡ F → IsEquivalence M p
 alike_of M F p is alike = subst (λ (H : KissFile). IsEquivalence H p) is alike
 
 -- the machine of the classes is the work machine
-pub reduced_is : (F Q : KissFile) (work : WorkMachine) (p : List ℕ) → IsEquivalence F p → IsQuotient F p Q → work.machine ≡ Q → work.classes ≡ Some p → IsWork true F work
-reduced_is F Q work p alike quotient machine classes =
+pub reduced_is : (F Q : KissFile) (work : WorkMachine) (p : List ℕ) → IsEquivalence F p → IsQuotient F p Q → AreBlocksInOrder F p Q → work.machine ≡ Q → work.classes ≡ Some p → work.names ≡ Some Q.states → IsWork true F work
+reduced_is F Q work p alike quotient in_order machine classes names =
     record {
       class = block_number F p;
-      machine = record { classes = p; alike = alike; quotient = subst (IsQuotient F p) (sym machine) quotient; class_of = λ s. refl };
+      machine = record { classes = p; alike = alike; quotient = subst (IsQuotient F p) (sym machine) quotient; in_order = subst (AreBlocksInOrder F p) (sym machine) in_order; class_of = λ s. refl };
       classes = subst (AreClasses true F) (sym classes) alike;
+      names = subst (AreWorkNames F work.machine) (sym names) (ap (λ (H : KissFile). H.states) (sym machine));
     }
 
 -- and so is that of the file itself
-pub file_is : (F : KissFile) (work : WorkMachine) → work.machine ≡ F → work.classes ≡ None → IsWork false F work
-file_is F work machine classes =
+pub file_is : (F : KissFile) (work : WorkMachine) → work.machine ≡ F → work.classes ≡ None → work.names ≡ None → IsWork false F work
+file_is F work machine classes names =
     record {
       class = λ s. s;
       machine = record { file = machine; class_of = λ s. refl };
       classes = subst (AreClasses false F) (sym classes) refl;
+      names = subst (AreWorkNames F work.machine) (sym names) (ap (λ (H : KissFile). H.states) machine);
     }
+
+-- the names that are kept are those of the states of the work machine
+pub own_names : (F W : KissFile) (names kept : List (List ℕ)) (held : Option (List (List ℕ))) → held ≡ Some kept → kept ≡ names → AreWorkNames F W held → names ≡ W.states
+own_names F W names kept held some is are = sym is ∙ subst (AreWorkNames F W) some are
+
+-- without any they are the names of the file's states
+pub file_names : (F W : KissFile) (held : Option (List (List ℕ))) → held ≡ None → AreWorkNames F W held → W.states ≡ F.states
+file_names F W held none are = subst (AreWorkNames F W) none are

@@ -1,5 +1,5 @@
 -- The machine that a command works on, with the classes that its header shows.
-use Rattle.std.specs.Prelude.{Bool, true, false, ℕ, IsNone, List, Option, None, Some}
+use Rattle.std.specs.Prelude.{◌≡◌, Bool, true, false, ℕ, IsNone, List, Option, None, Some}
 use Rattle.decomposition.specs.declared.work.WorkMachine.{WorkMachine}
 use Rattle.kiss2.specs.declared.kiss_file.KissFile.{KissFile}
 use Rattle.state_reduce.specs.Alike.{IsEquivalence}
@@ -11,8 +11,14 @@ AreClasses true F (Some classes) = IsEquivalence F classes
 AreClasses true F None = ⊥
 AreClasses false F classes = IsNone classes
 
+-- the names are those of the states of the work machine W; without `--reduce` these are the file's states
+abbrev pub AreWorkNames : KissFile → KissFile → Option (List (List ℕ)) → Type 0
+AreWorkNames F W None = W.states ≡ F.states
+AreWorkNames F W (Some names) = names ≡ W.states
+
 -- the machine is the work machine of the file, with the class that each state of the file has there
 pub record IsWork (reduce : Bool) (F : KissFile) (work : WorkMachine) : Type 0 where
   pub class : ℕ → ℕ
   pub machine : IsWorkMachine reduce F work.machine class
   pub classes : AreClasses reduce F work.classes
+  pub names : AreWorkNames F work.machine work.names

@@ -18,5 +18,5 @@ mod work;
 mod writing;
 
 pub use laws::{flow_permits, own_pairs_permit};
-pub use work::{WorkMachine, work_machine};
+pub use work::{WorkMachine, state_name, work_machine};
 pub use writing::text_of_split;

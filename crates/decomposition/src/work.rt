@@ -1,25 +1,26 @@
 //! The machine that is split.
 
-ghost use Rattle.std.specs.Prelude.{◌≡◌, IfOk, true};
+ghost use Rattle.std.specs.Prelude.{◌≡◌, ◌<◌, Bool, IfOk, Some, length, slice_get, true};
 ghost use Rattle.kiss2.specs.Lawful.{IsLawful};
 ghost use Rattle.kiss2.specs.Machine.{Accepted};
 ghost use Rattle.machine_table.specs.Table.{IsTable};
 ghost use Rattle.state_reduce.specs.Alike.{IsEquivalence};
-ghost use Rattle.state_reduce.specs.Quotient.{IsQuotient};
+ghost use Rattle.state_reduce.specs.Quotient.{AreBlocksInOrder, IsQuotient};
 ghost use Rattle.decomposition.specs.Work.{IsWork};
 
-use kiss2::{Fill, KissFile};
+use kiss2::{Fill, KissFile, StateNames};
 use machine_table::{BuildFail, Machine};
 use partition::Partition;
 use state_reduce::{QuotientFail, equivalence, quotient};
 use std::alloc::{AllocError, Global};
 
 /// The machine that a command works on: that of its file, or that of the classes of the file's alike states,
-/// with the partition of the file's states into these classes.
+/// with the partition of the file's states into these classes and the names that these have.
 #[derive(Drop)]
 pub struct WorkMachine {
     pub machine: Machine,
     pub classes: Option<Partition>,
+    pub names: Option<StateNames>,
 }
 
 /// The machine that a command works on. With `reduce` its states are the classes of alike states of the
@@ -42,7 +43,20 @@ pub fn work_machine(
         Ok(WorkMachine {
             machine,
             classes: None,
+            names: None,
         })
+    }
+}
+
+/// The name of a state of the machine that a command works on: a class has that of its least state.
+pub fn state_name<'a>(file: &'a KissFile, work: &'a WorkMachine, s: usize) -> &'a [u8]
+    requires work { (reduce : Bool) × IsWork reduce file.now work.now }
+    requires state { s < length work.now.machine.states }
+    ensures { slice_get work.now.machine.states s ≡ Some result.now }
+{
+    match &work.names {
+        Some(names) => names.name(s),
+        None => file.states.name(s),
     }
 }
 
@@ -64,6 +78,7 @@ fn reduced(
     Ok(WorkMachine {
         machine,
         classes: Some(classes),
+        names: Some(quotient.states),
     })
 }
 
@@ -80,6 +95,7 @@ fn file_of_classes(
     requires machine { machine.now ≡ file.now }
     requires alike { IsEquivalence file.now classes.now }
     ensures quotient { IfOk result (IsQuotient file.now classes.now) }
+    ensures in_order { IfOk result (AreBlocksInOrder file.now classes.now) }
     ensures table { IfOk result IsTable }
     ensures accepted { IfOk result (λ reduced. Accepted reduced fill) }
 {

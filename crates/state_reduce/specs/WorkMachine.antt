@@ -5,13 +5,15 @@ use Rattle.kiss2.specs.declared.kiss_file.KissFile.{KissFile}
 use Rattle.kiss2.specs.Lawful.{IsLawful}
 use Rattle.kiss2.specs.Machine.{Conflicting, answers}
 use Rattle.state_reduce.specs.Alike.{IsEquivalence, IsWord}
-use Rattle.state_reduce.specs.Quotient.{IsQuotient, block_number}
+use Rattle.state_reduce.specs.Quotient.{AreBlocksInOrder, IsQuotient, block_number}
 
--- W is the machine of the classes of alike states, and the class of a state is the number of its block there
+-- W is the machine of the classes of alike states, in the order of their least states, and the class of a state is the
+-- number of its block there
 pub record IsMachineOfClasses (F W : KissFile) (class : ℕ → ℕ) : Type 0 where
   pub classes : List ℕ
   pub alike : IsEquivalence F classes
   pub quotient : IsQuotient F classes W
+  pub in_order : AreBlocksInOrder F classes W
   pub class_of : (s : ℕ) → class s ≡ block_number F classes s
 
 -- without `--reduce` W is the machine of the file, and each state is its own class

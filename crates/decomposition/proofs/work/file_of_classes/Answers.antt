@@ -17,3 +17,6 @@ unreachable-requires-in-Err-NotConsistent c =
 
 pub returns-in-Ok-clause-accepted : goal.returns-in-Ok-clause-accepted
 returns-in-Ok-clause-accepted c = c.in-Ok.ensures.accepted c.args.fill c.requires.accepted
+
+pub returns-in-Ok-clause-in_order : goal.returns-in-Ok-clause-in_order
+returns-in-Ok-clause-in_order c = c.in-Ok.ensures.in_order c.requires.alike

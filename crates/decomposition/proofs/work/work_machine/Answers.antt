@@ -6,5 +6,5 @@ use Rattle.decomposition.proofs.work.work_machine.Goals as goal
 
 pub returns-else-reduce : goal.returns-else-reduce
 returns-else-reduce c =
-    let work : WorkMachine = record { machine = c.args.machine; classes = None } in
-    subst (λ (reduce : Bool). IsWork reduce c.args.file.now work) (sym c.if-reduce.false) (file_is c.args.file.now work c.requires.machine refl)
+    let work : WorkMachine = record { machine = c.args.machine; classes = None; names = None } in
+    subst (λ (reduce : Bool). IsWork reduce c.args.file.now work) (sym c.if-reduce.false) (file_is c.args.file.now work c.requires.machine refl refl)
