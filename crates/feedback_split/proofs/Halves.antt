@@ -1,0 +1,62 @@
+-- The two parts of a feedback split.
+use Rattle.std.proofs.Common.{◌≡◌, ℕ, All, List, [], ◌∷◌, length, refl, sym, ◌∙◌, subst, inl, inr, arith}
+use Rattle.std.proofs.lemmas.List.Elements.{All-head, All-tail}
+use Rattle.kiss2.specs.declared.kiss_file.KissFile.{KissFile}
+use Rattle.partition.specs.Partition.{IsPartition, IsZero, Together, zero_of}
+use Rattle.partition.specs.Inside.{IsComplement}
+use Rattle.partition.specs.Laws.Extremes.{zero_of_is_partition, zero_of_is_zero}
+use Rattle.partition.specs.Laws.Labels.{IsPartition-of}
+use Rattle.mm_lattice.specs.Laws.{zero_below}
+use Rattle.mm_lattice.specs.Top.{IsGreatestRight}
+use Rattle.state_codes.specs.declared.split.Part.{Part}
+use Rattle.state_codes.specs.Kinds.{PartsMeetInZero}
+use Rattle.state_codes.specs.Laws.InnerLabels.{inside_tells}
+use Rattle.feedback_split.specs.Best.{IsBestFeedback}
+use Rattle.feedback_split.specs.Inner.Parts.{AreHalves, part_reading}
+use Rattle.feedback_split.specs.Kind.{IsFeedback}
+use Rattle.feedback_split.proofs.Sufficing.{greatest_breaks}
+
+-- a partition and its complement meet in zero
+pub complement_apart : (n : ℕ) (first second : List ℕ) → IsPartition n first → IsComplement first second → (s t : ℕ) → Together first s t → Together second s t → s ≡ t
+complement_apart n first second lawful complement s t held inner =
+    let zero : IsPartition n (zero_of n) = zero_of_is_partition n lawful.count in
+    let size : length (zero_of n) ≡ length first = zero.length ∙ sym lawful.length in
+    let inside = complement.inside (zero_of n) (IsPartition-of (sym lawful.length) zero) (zero_of_is_zero n) in
+    let label = inside_tells first (zero_of n) second (zero_below n first lawful) size inside s t held inner.2 in
+    zero_of_is_zero n s t (omega (arith, held.0, size), omega (arith, held.1, size), label)
+
+module _ (F : KissFile) (first : List ℕ) (parts : List Part) (lawful : IsPartition (length F.states) first) (halves : AreHalves F first parts) where
+  in_zero : PartsMeetInZero parts
+  in_zero s t all =
+      let P : Part → Type 0 = λ p. Together p.partition s t in
+      let one : Part = part_reading first halves.first_carrier 1 in
+      let other : Part = part_reading halves.second halves.second_carrier 0 in
+      let both : All P (one ∷ other ∷ []) = subst (All P) halves.two all in
+      complement_apart (length F.states) first halves.second lawful halves.complement s t (All-head P one (other ∷ []) both) (All-head P other [] (All-tail P one (other ∷ []) both))
+
+  pub halves_feedback : IsGreatestRight F first → (IsZero first → ⊥) → IsFeedback F parts
+  halves_feedback greatest not_zero = record {
+    first = part_reading first halves.first_carrier 1;
+    second = part_reading halves.second halves.second_carrier 0;
+    two = halves.two;
+    right = greatest.right;
+    nontrivial = (not_zero, elim greatest.below [ inl below ↦ below | inr zero ↦ absurd (not_zero zero) ]);
+    in_zero = in_zero;
+    blocks = halves.blocks;
+    first_above = halves.first_greatest.above;
+    second_above = halves.second_greatest.above;
+    second_suffices = halves.second_greatest.suffices;
+    first_suffices = halves.first_greatest.suffices;
+    first_reads = refl;
+    second_reads = refl;
+  }
+
+  pub halves_best : IsGreatestRight F first → IsBestFeedback F parts
+  halves_best greatest = record {
+    first = part_reading first halves.first_carrier 1;
+    second = part_reading halves.second halves.second_carrier 0;
+    two = halves.two;
+    greatest = λ q right above strict below. strict (greatest.greatest q right below above);
+    second_carrier = greatest_breaks F first halves.second halves.second_carrier halves.second_greatest;
+    first_carrier = greatest_breaks F halves.second first halves.first_carrier halves.first_greatest;
+  }

@@ -1,0 +1,3 @@
+pub mod Sufficing
+pub mod Halves
+pub mod Chosen

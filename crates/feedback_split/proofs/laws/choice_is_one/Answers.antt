@@ -1,0 +1,5 @@
+use Rattle.feedback_split.proofs.Chosen.{choice_is_one}
+use Rattle.feedback_split.proofs.laws.choice_is_one.Goals as goal
+
+pub returns : goal.returns
+returns c = choice_is_one

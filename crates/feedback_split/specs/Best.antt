@@ -1,0 +1,26 @@
+-- Feedback splits whose first part and whose carriers cannot be made greater (source: this project).
+use Rattle.std.specs.Prelude.{◌≡◌, ℕ, ◌<◌, List, [], ◌∷◌, length}
+use Rattle.kiss2.specs.declared.kiss_file.KissFile.{KissFile}
+use Rattle.partition.specs.Partition.{Le, Together}
+use Rattle.partition.specs.Merging.{IsMerged}
+use Rattle.mm_lattice.specs.Top.{IsBelowOne, IsRightSide}
+use Rattle.state_codes.specs.declared.split.Part.{Part}
+use Rattle.feedback_split.specs.Carrier.{Suffices}
+
+-- no right side of an Mm pair stands strictly between p and one
+abbrev pub NoRightAbove : KissFile → List ℕ → Type 0
+NoRightAbove F p = (q : List ℕ) → IsRightSide F q → Le p q → (Le q p → ⊥) → IsBelowOne q → ⊥
+
+-- with any two blocks of c put together, it does not suffice for own
+abbrev pub BreaksWhenJoined : KissFile → List ℕ → List ℕ → Type 0
+BreaksWhenJoined F own c =
+    (s t : ℕ) (joined : List ℕ) → s < length c → t < length c → (Together c s t → ⊥) → IsMerged c s t joined → Suffices F own joined → ⊥
+
+-- no right side stands strictly between the first part and one, and no carrier can be joined further
+pub record IsBestFeedback (F : KissFile) (parts : List Part) : Type 0 where
+  pub first : Part
+  pub second : Part
+  pub two : parts ≡ first ∷ second ∷ []
+  pub greatest : NoRightAbove F first.partition
+  pub second_carrier : BreaksWhenJoined F first.partition second.carrier
+  pub first_carrier : BreaksWhenJoined F second.partition first.carrier
