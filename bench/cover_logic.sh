@@ -6,7 +6,7 @@
 set -eu
 . "$(dirname "$0")/timing.sh"
 cd "$(dirname "$0")/../crates/bench_cover_logic"
-rt run -- counter 2 check 1 >/dev/null 2>&1
+rt run -- dense 4 check 1 >/dev/null 2>&1
 program=out/bench_cover_logic
 
 # the time of one call, in microseconds: kind, size, work, calls
@@ -17,21 +17,27 @@ each() {
 
 printf '%-16s %10s %10s %10s  %8s %8s  %s\n' us check plain cover 'to check' 'to plain' counts
 while read -r kind size calls; do
-    check=$(each "$kind" "$size" check $((10 * calls)))
-    plain=$(each "$kind" "$size" plain $((10 * calls)))
+    check=$(each "$kind" "$size" check "$calls")
+    plain=$(each "$kind" "$size" plain "$calls")
     cover=$(each "$kind" "$size" cover "$calls")
     ratios=$(awk "BEGIN { printf \"%8.1f %8.1f\", $cover / $check, $cover / $plain }")
     counts=$("$program" "$kind" "$size" cover 1)
     printf '%-16s %10s %10s %10s  %s  %s\n' "$kind $size" "$check" "$plain" "$cover" "$ratios" "$counts"
 done <<'CASES'
-minterms 128 100
-minterms 256 50
-minterms 512 20
-counter 6 100
-counter 8 20
-counter 10 4
-terms 250 20
-terms 500 10
-terms 1000 4
-terms 2000 1
+minterms 128 1000
+minterms 256 500
+minterms 512 200
+dense 10 100
+dense 12 20
+dense 14 4
+dense 16 1
+counter 6 500
+counter 8 100
+counter 10 20
+terms 250 200
+terms 500 100
+terms 1000 20
+terms 2000 4
+terms 4000 1
+terms 8000 1
 CASES

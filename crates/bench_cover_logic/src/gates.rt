@@ -45,6 +45,33 @@ pub fn minterms(alloc: Global, size: usize) -> Result<Gate, AllocError>
     Ok(Gate { on, off, width: 10 })
 }
 
+/// A random function of so many columns, with half of its values in on and the others in off.
+pub fn dense(alloc: Global, columns: u8) -> Result<Gate, AllocError>
+    requires { columns ≤ 16 }
+    ensures { IfOk result (λ gate. gate.width ≡ columns) }
+{
+    let mut rng = Pcg64Mcg::seed_from_u64(1);
+    let care = (1u128 << columns) - 1;
+    let mut values: Vec<u32> = (0..1u32 << columns).collect(alloc)?;
+    values.as_mut_slice().shuffle(&mut rng);
+    let half = values.len() / 2;
+    let mut on = Vec::new(alloc);
+    let mut off = Vec::new(alloc);
+    for (i, value) in values.iter().enumerate() {
+        let minterm = term(care, u128::from(*value));
+        if i < half {
+            on.push(minterm)?;
+        } else {
+            off.push(minterm)?;
+        }
+    }
+    Ok(Gate {
+        on,
+        off,
+        width: columns,
+    })
+}
+
 /// The next value of one bit of a counter with an enable, which is column 0; the state follows.
 pub fn counter_bit(alloc: Global, bits: u8, bit: u8) -> Result<Gate, AllocError>
     requires states { bits ≤ 16 }

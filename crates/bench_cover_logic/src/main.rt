@@ -46,13 +46,14 @@ fn gates_of(alloc: Global, kind: &str, size: usize) -> anyhow::Result<Vec<Gate>>
     match kind {
         "minterms" => gates.push(gates::minterms(alloc, size)?)?,
         "terms" => gates.push(gates::terms(alloc, size)?)?,
+        "dense" => gates.push(gates::dense(alloc, size.min(16) as u8)?)?,
         "counter" => {
             let bits = size.min(16) as u8;
             for bit in 0..bits {
                 gates.push(gates::counter_bit(alloc, bits, bit)?)?;
             }
         }
-        _ => bail!("the kinds are minterms, counter and terms"),
+        _ => bail!("the kinds are minterms, dense, counter and terms"),
     }
     Ok(gates)
 }

@@ -1,6 +1,8 @@
 pub mod Bits
 pub mod Terms
 pub mod Lists
+pub mod Nodes
+pub mod Values
 pub mod Raising
 pub mod Gaps
 pub mod PrimeRows

@@ -1,11 +1,10 @@
 use Rattle.std.proofs.Common.{◌≡◌, ℕ, ◌+◌, ◌<◌, ◌≤◌, ◌∙◌, Bool, true, false, not, IsTrue, refl, List, sym, ◌↔◌, ⊎_elim, subst, arith}
-use Rattle.std.specs.List.{list_any}
-use Rattle.std.specs.Bool.{OnFalse}
+use Rattle.std.specs.List.{Contains, list_any}
 use Rattle.std.proofs.lemmas.Bool.{false≢true, cases_Bool, cases_eq, not_from_false}
 use Rattle.cover_logic.specs.declared.term.Term.{Term}
 use Rattle.cover_logic.specs.Term.{FitsWidth, Holds, HoldsWithDash, IsCovered, LooksAt}
-use Rattle.cover_logic.specs.Inner.Pair.{Includes, IsLooser, agree}
-use Rattle.cover_logic.specs.Inner.Rows.{IsClear, IsPrime, Overlaps}
+use Rattle.cover_logic.specs.Inner.Pair.{Includes, IsLooser, ShareValue, agree}
+use Rattle.cover_logic.specs.Inner.Rows.{IsClear, IsGrown, IsPrime, NeedsLiteral}
 use Rattle.cover_logic.proofs.Bits.{below_width}
 use Rattle.cover_logic.proofs.Terms.{agree_from_shared, shared_from_agree, looser_holds, looser_with_dash}
 use Rattle.cover_logic.proofs.Lists.{passes_from_any, fails_from_none}
@@ -16,7 +15,7 @@ clear_from_none t terms h x p held =
     false≢true (sym (fails_from_none (agree t) terms h held.0 held.1) ∙ agree_from_shared t held.0 x p held.2)
 
 -- and one that touches some shares a value with it
-meets_from_some : (t : Term) (terms : List Term) → list_any (agree t) terms ≡ true → Overlaps terms t
+meets_from_some : (t : Term) (terms : List Term) → list_any (agree t) terms ≡ true → (x : ℕ) × IsCovered terms x × Holds t x
 meets_from_some t terms h =
     let other = passes_from_any (agree t) terms h in
     let value = shared_from_agree t other.0 other.2 in
@@ -34,29 +33,14 @@ clear_says t terms = (
     not_true true h = absurd (false≢true h)
     not_true false h = refl
 
-pub met_says : (t : Term) (terms : List Term) → OnFalse (not (list_any (agree t) terms)) (Overlaps terms t)
-met_says t terms = by_answer (list_any (agree t) terms) (meets_from_some t terms)
-  where
-    by_answer : (b : Bool) → (b ≡ true → Overlaps terms t) → OnFalse (not b) (Overlaps terms t)
-    by_answer true h = h refl
-    by_answer false h = tt
-
 -- the literals below a column are needed
 abbrev pub IsPrimeBelow : List Term → ℕ → Term → Type 0
-IsPrimeBelow off n t = (column : ℕ) → column < n → LooksAt t column → (x : ℕ) × IsCovered off x × HoldsWithDash t column x
+IsPrimeBelow off n t = (column : ℕ) → column < n → LooksAt t column → NeedsLiteral off t column
 
--- a literal that stays is needed
-pub prime_keeps : (off : List Term) (n : ℕ) (t : Term) → IsPrimeBelow off n t → ((x : ℕ) × IsCovered off x × HoldsWithDash t n x) → IsPrimeBelow off (n + 1) t
-prime_keeps off n t h here column below l =
-    ⊎_elim (λ e. subst_column e) (λ ne. h column (omega arith) l) (cases_eq n column)
-  where
-    subst_column : n ≡ column → (x : ℕ) × IsCovered off x × HoldsWithDash t column x
-    subst_column e = (here.0, here.1, subst (λ (k : ℕ). HoldsWithDash t k here.0) e here.2)
-
--- a dash is no literal, and those before it stay needed
-pub prime_dashes : (off : List Term) (n : ℕ) (t wide : Term) → IsPrimeBelow off n t → IsLooser wide t → (LooksAt wide n → ⊥) → IsPrimeBelow off (n + 1) wide
-prime_dashes off n t wide h looser dash column below l =
-    ⊎_elim (λ e. absurd (dash (subst (λ (k : ℕ). LooksAt wide k) (sym e) l)))
+-- a looser term needs those literals too, and the one at the column where it does
+pub prime_more : (off : List Term) (n : ℕ) (t wide : Term) → IsPrimeBelow off n t → IsLooser wide t → (LooksAt wide n → NeedsLiteral off wide n) → IsPrimeBelow off (n + 1) wide
+prime_more off n t wide h looser here column below l =
+    ⊎_elim (λ e. let w = here (subst (λ (k : ℕ). LooksAt wide k) (sym e) l) in (w.0, w.1, subst (λ (k : ℕ). HoldsWithDash wide k w.0) e w.2))
     (λ ne. let w = h column (omega arith) (looser.literals column l).0 in (w.0, w.1, looser_with_dash wide t looser column w.0 w.2))
     (cases_eq n column)
 
@@ -64,12 +48,7 @@ prime_dashes off n t wide h looser dash column below l =
 pub prime_from_below : (off : List Term) (width : ℕ) (t : Term) → FitsWidth width t → IsPrimeBelow off width t → IsPrime off t
 prime_from_below off width t fits h column l = h column (below_width width t.care column fits l) l
 
--- a term that holds what the seed holds, no value of off, and looks nowhere else
-pub record IsGrown (seed : Term) (off : List Term) (row : Term) : Type 0 where
-  pub includes : Includes row seed
-  pub clear : IsClear off row
-  pub care : row.care ≤ seed.care
-
+-- a term grows from its seed
 pub grown_seed : (seed : Term) (off : List Term) → IsClear off seed → IsGrown seed off seed
 grown_seed seed off clear = record { includes = λ x p. p; clear = clear; care = omega arith }
 
@@ -90,21 +69,15 @@ pub record IsRaised (row : Term) (off : List Term) (width n : ℕ) (raised : Ter
 pub raised_row : (row : Term) (off : List Term) (width : ℕ) → IsClear off row → FitsWidth width row → IsRaised row off width 0 row
 raised_row row off width clear fits = record { includes = λ x p. p; clear = clear; fits = fits; prime = λ column below l. absurd (omega arith) }
 
--- one column further, with a dash there
-pub raised_dashed : (row : Term) (off : List Term) (width n : ℕ) (t wide : Term) → IsRaised row off width n t → IsLooser wide t → (LooksAt wide n → ⊥) → wide.care ≤ t.care → IsClear off wide → IsRaised row off width (n + 1) wide
-raised_dashed row off width n t wide r looser dash care clear = record {
+-- one column further
+pub raised_once : (row : Term) (off : List Term) (width n : ℕ) (t wide : Term) → IsRaised row off width n t → IsLooser wide t → IsClear off wide → (LooksAt wide n → NeedsLiteral off wide n) → wide.care ≤ t.care → IsRaised row off width (n + 1) wide
+raised_once row off width n t wide r looser clear here care = record {
   includes = λ x p. looser_holds wide t looser x (r.includes x p);
   clear = clear;
   fits = let f = r.fits in omega arith;
-  prime = prime_dashes off n t wide r.prime looser dash;
+  prime = prime_more off n t wide r.prime looser here;
 }
 
--- one column further, with the literal there, since the dash would hold a value of off
-pub raised_kept : (row : Term) (off : List Term) (width n : ℕ) (t wide : Term) → IsRaised row off width n t → ((x : ℕ) → Holds wide x ↔ HoldsWithDash t n x) → Overlaps off wide → IsRaised row off width (n + 1) t
-raised_kept row off width n t wide r dash met =
-    record {
-      includes = r.includes;
-      clear = r.clear;
-      fits = r.fits;
-      prime = prime_keeps off n t r.prime (met.0, met.1, (dash met.0).0 met.2);
-    }
+-- a term of off that a term with a dash shares a value with is the reason for the literal
+pub needed_from_met : (off : List Term) (t wide met : Term) (column : ℕ) → ((x : ℕ) → Holds wide x ↔ HoldsWithDash t column x) → Contains off met → ShareValue wide met → NeedsLiteral off t column
+needed_from_met off t wide met column dash in' share = (share.0, (met, in', share.2), (dash share.0).0 share.1)

@@ -10,7 +10,8 @@ use Rattle.cover_logic.proofs.Bits.{below_width}
 use Rattle.cover_logic.specs.declared.term.Term.{Term}
 use Rattle.cover_logic.specs.Term.{FitsWidth, Holds, HoldsWithDash, IsCovered}
 use Rattle.cover_logic.specs.Cover.{AreApart, GoodCover}
-use Rattle.cover_logic.specs.Inner.Rows.{Covers, EachNeeded, IsClear, IsPrime}
+use Rattle.cover_logic.specs.Inner.Rows.{Covers, EachNeeded, HasSameValues, IsClear, IsPrime}
+use Rattle.cover_logic.proofs.Values.{covered_back}
 
 -- where a value and its lowest `width` bits are the same
 same_below : (width x column : ℕ) → column < width → bit_at (x % 2 ^ width) column ≡ bit_at x column
@@ -50,20 +51,21 @@ clear_from_apart width on off fits off_fits apart = λ k d h x p held.
 pub apart_from_clear : (width : ℕ) (on off : List Term) → All (IsClear off) on → AreApart width on off
 apart_from_clear width on off clear = λ x h held off_held. All-contains (IsClear off) on held.0 clear held.1 x held.2 off_held
 
--- rows of one width that cover on, are clear of off, prime and each needed are a good cover
-pub good_cover : (width : ℕ) (rows on off : List Term) → All (FitsWidth width) rows → All (FitsWidth width) on → All (FitsWidth width) off → Covers rows on → All (IsClear off) rows → All (IsPrime off) rows → EachNeeded on rows [] → GoodCover width rows on off
-good_cover width rows on off fits on_fits off_fits covers clear prime needed = record {
-  on_held = λ x h held. covers x held;
-  off_free = λ x h off_held held. All-contains (IsClear off) rows held.0 clear held.1 x held.2 off_held;
+-- rows of one width that cover on, are clear of off, prime and each needed are a good cover; on and off may be
+-- told by other lists with the same values
+pub good_cover : (width : ℕ) (rows on off ones zeros : List Term) → HasSameValues on ones → HasSameValues off zeros → All (FitsWidth width) rows → All (FitsWidth width) on → All (FitsWidth width) off → Covers rows ones → All (IsClear zeros) rows → All (IsPrime zeros) rows → EachNeeded ones rows [] → GoodCover width rows on off
+good_cover width rows on off ones zeros same_on same_off fits on_fits off_fits covers clear prime needed = record {
+  on_held = λ x h held. covers x (same_on.covers x held);
+  off_free = λ x h off_held held. All-contains (IsClear zeros) rows held.0 clear held.1 x held.2 (same_off.covers x off_held);
   literals_needed = λ k d h column l.
       let w = prime k d h column l in
-      (w.0 % 2 ^ width, low_is_value width w.0, held_low width off off_fits w.0 w.1, dash_low width (get_or rows k d) (fits k d h) column w.0 w.2);
+      (w.0 % 2 ^ width, low_is_value width w.0, held_low width off off_fits w.0 (covered_back off zeros same_off w.0 w.1), dash_low width (get_or rows k d) (fits k d h) column w.0 w.2);
   rows_needed = λ i h.
       let w = needed i h in
       let P : List Term → Type 0 = λ ts. IsCovered ts w.0 in (
         w.0 % 2 ^ width,
         low_is_value width w.0,
-        held_low width on on_fits w.0 w.1,
+        held_low width on on_fits w.0 (covered_back on ones same_on w.0 w.1),
         λ held. w.2 (subst P (sym (append-nil (remove rows i))) (held_from_low width (remove rows i) (rest_fits i) w.0 held)),
       );
 }
@@ -79,3 +81,7 @@ kept_all P rows kept among h = λ k d below. All-contains P rows (get_or kept k 
 pub from_three : {T E : Type 0} (r : Result T E) (P Q R S : T → Type 0) → IfOk r P → IfOk r Q → IfOk r R → ((x : T) → P x → Q x → R x → S x) → IfOk r S
 from_three (Ok x) P Q R S p q r h = h x p q r
 from_three (Err e) P Q R S p q r h = tt
+
+-- what is clear of off is clear of another list with the same values
+pub clear_of_same : (off zeros terms : List Term) → HasSameValues off zeros → All (IsClear off) terms → All (IsClear zeros) terms
+clear_of_same off zeros terms same clear = λ k d below x p held. clear k d below x p (covered_back off zeros same x held)

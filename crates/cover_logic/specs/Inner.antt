@@ -1,3 +1,5 @@
 -- Definitions that private functions and proofs need; no public contract cites them.
 pub mod Pair
 pub mod Rows
+pub mod Nodes
+pub mod Index

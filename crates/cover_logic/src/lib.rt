@@ -24,7 +24,9 @@ ghost use Rattle.cover_logic.specs.Term.{FitsWidth};
 ghost use Rattle.cover_logic.specs.Cover.{CanCover, GoodCover};
 ghost use Rattle.cover_logic.specs.Inner.Rows.{IsClear};
 
+mod distinct;
 mod gap;
+mod index;
 mod primes;
 mod raise;
 mod spare;
@@ -32,6 +34,8 @@ mod term;
 #[cfg(test)]
 mod tests;
 
+use distinct::distinct;
+use index::Index;
 use primes::primes;
 use raise::is_clear;
 use spare::without_spare;
@@ -69,6 +73,9 @@ pub fn cover(alloc: Global, on: &[Term], off: &[Term], width: u8) -> Result<Vec<
     ensures good { IfOk result (λ rows. GoodCover width rows.items on.now off.now) }
     ensures fits { IfOk result (λ rows. All (FitsWidth width) rows.items) }
 {
-    let rows = primes(alloc, on, off, width)?;
-    without_spare(alloc, &rows, on)
+    let ones = distinct(alloc, on)?;
+    let zeros = distinct(alloc, off)?;
+    let index = Index::new(alloc, &zeros, width)?;
+    let rows = primes(alloc, &ones, &index, width)?;
+    without_spare(alloc, &rows, &ones)
 }

@@ -1,19 +1,26 @@
 -- Lists of terms while a cover is made. Private functions need it; no public contract cites it.
-use Rattle.std.specs.Prelude.{ℕ, List, ◌++◌, EachIndex, Option, MatchOption, remove}
+use Rattle.std.specs.Prelude.{ℕ, ◌≤◌, List, ◌++◌, ◌↔◌, All, Contains, EachIndex, Option, MatchOption, remove}
 use Rattle.cover_logic.specs.declared.term.Term.{Term}
+use Rattle.cover_logic.specs.Inner.Pair.{Includes}
 use Rattle.cover_logic.specs.Term.{LooksAt, Holds, HoldsWithDash, IsCovered}
 
 -- no value of the term is held by the list
 abbrev pub IsClear : List Term → Term → Type 0
 IsClear terms t = (x : ℕ) → Holds t x → IsCovered terms x → ⊥
 
--- some value of the term is held by the list
-abbrev pub Overlaps : List Term → Term → Type 0
-Overlaps terms t = (x : ℕ) × IsCovered terms x × Holds t x
+-- with a dash in place of its literal at the column the term holds a value of off
+abbrev pub NeedsLiteral : List Term → Term → ℕ → Type 0
+NeedsLiteral off t column = (x : ℕ) × IsCovered off x × HoldsWithDash t column x
 
--- each literal is needed: with a dash in its place the term holds a value of off
+-- each literal is needed
 abbrev pub IsPrime : List Term → Term → Type 0
-IsPrime off t = (column : ℕ) → LooksAt t column → (x : ℕ) × IsCovered off x × HoldsWithDash t column x
+IsPrime off t = (column : ℕ) → LooksAt t column → NeedsLiteral off t column
+
+-- a term that holds what the seed holds and no value of off, and looks nowhere else
+pub record IsGrown (seed : Term) (off : List Term) (row : Term) : Type 0 where
+  pub includes : Includes row seed
+  pub clear : IsClear off row
+  pub care : row.care ≤ seed.care
 
 -- a value of the term that the list does not hold, or none where it holds each of them
 abbrev pub IsUncovered : Term → List Term → Option ℕ → Type 0
@@ -33,3 +40,16 @@ Covers rows on = (x : ℕ) → IsCovered on x → IsCovered rows x
 -- each row holds a value of on that neither another row nor the rest holds
 abbrev pub EachNeeded : List Term → List Term → List Term → Type 0
 EachNeeded on rows rest = EachIndex rows (λ i. (x : ℕ) × IsCovered on x × (IsCovered (remove rows i ++ rest) x → ⊥))
+
+-- the lists have the same terms, whatever their order and however often
+abbrev pub HasSameTerms : List Term → List Term → Type 0
+HasSameTerms terms others = (t : Term) → Contains others t ↔ Contains terms t
+
+-- one of the list holds each value of the term
+abbrev pub IsWithinOne : List Term → Term → Type 0
+IsWithinOne terms t = (u : Term) × Contains terms u × Includes u t
+
+-- the others are of the terms, and hold all their values
+pub record HasSameValues (terms others : List Term) : Type 0 where
+  pub among : All (Contains terms) others
+  pub covers : Covers others terms

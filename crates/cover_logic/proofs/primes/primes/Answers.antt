@@ -1,5 +1,6 @@
 use Rattle.std.proofs.Common.{◌≡◌, ◌<◌, ◌+◌, List, [], ◌∷◌, ◌++◌, subst, rules, arith, vec_len, ⊎_elim}
 use Rattle.cover_logic.specs.declared.term.Term.{Term}
+use Rattle.cover_logic.specs.Inner.Index.{terms_of}
 use Rattle.cover_logic.proofs.Lists.{held_none}
 use Rattle.cover_logic.specs.Term.{IsCovered}
 use Rattle.cover_logic.proofs.PrimeRows.{ArePrimes, primes_none, primes_more}
@@ -21,11 +22,11 @@ pub loop-seed-preserved : goal.loop-seed-preserved
 loop-seed-preserved c =
     let popped : c.loop-seed.left.items ≡ c.pop.new.self.items ++ c.in-Some.seed ∷ [] = search rules in
     let pushed : c.push.new.self.items ≡ c.loop-seed.rows.items ++ c.raise-row.result ∷ [] = search rules in
-    let before : ArePrimes c.args.on.now c.args.off.now c.args.width (c.pop.new.self.items ++ c.in-Some.seed ∷ []) c.loop-seed.rows.items =
-    subst (λ (left : List Term). ArePrimes c.args.on.now c.args.off.now c.args.width left c.loop-seed.rows.items) popped c.loop-seed.invariant in
+    let before : ArePrimes c.args.on.now (terms_of c.args.off.now) c.args.width (c.pop.new.self.items ++ c.in-Some.seed ∷ []) c.loop-seed.rows.items =
+    subst (λ (left : List Term). ArePrimes c.args.on.now (terms_of c.args.off.now) c.args.width left c.loop-seed.rows.items) popped c.loop-seed.invariant in
     let raised = c.raise-row.ensures in
     rw (c.drop_included.ensures.kept, pushed)
-    (primes_more _ _ _ _ _ c.in-Some.seed c.raise-row.result before (λ x p. raised.includes x (c.grow.ensures.includes x p)) raised.clear raised.prime raised.fits)
+    (primes_more _ _ _ _ _ c.in-Some.seed c.raise-row.result before (λ x p. raised.includes x (c.in_ok-grown.ensures.includes x p)) raised.clear raised.prime raised.fits)
 
 pub returns-clause-covers : goal.returns-clause-covers
 returns-clause-covers c = λ x h.

@@ -1,9 +1,10 @@
 use Rattle.std.proofs.Common.{vec_len}
+use Rattle.cover_logic.specs.Inner.Index.{terms_of}
 use Rattle.cover_logic.proofs.PrimeRows.{ArePrimes}
 use Rattle.cover_logic.proofs.primes.primes.Given as goal
 
 abbrev pub invariant-loop-seed : goal.invariant-loop-seed
-invariant-loop-seed l = ArePrimes l.on l.off l.width l.left.items l.rows.items
+invariant-loop-seed l = ArePrimes l.on (terms_of l.off) l.width l.left.items l.rows.items
 
 abbrev pub decreases-loop-seed : goal.decreases-loop-seed
 decreases-loop-seed l = vec_len l.left

@@ -1,15 +1,18 @@
 use Rattle.std.proofs.Common.{sym, subst}
 use Rattle.cover_logic.specs.declared.term.Term.{Term}
-use Rattle.cover_logic.proofs.Raising.{IsGrown, grown_wider}
+use Rattle.cover_logic.specs.Inner.Index.{terms_of}
+use Rattle.cover_logic.specs.Inner.Rows.{IsGrown}
+use Rattle.cover_logic.proofs.Raising.{grown_seed, grown_wider}
 use Rattle.cover_logic.proofs.raise.grow.Goals as goal
-use Rattle.cover_logic.proofs.raise.grow.Goals.{then-is_clear, else-is_clear}
+use Rattle.cover_logic.proofs.raise.grow.Goals.{then-is_clear+in-Some+in_ok-push-in-Some, then-is_clear+in-None, else-is_clear}
 
 pub loop-other-preserved : goal.loop-other-preserved
 loop-other-preserved c =
-    let P : Term → Type 0 = λ row. IsGrown c.args.seed c.args.off.now row in
+    let P : Term → Type 0 = λ row. IsGrown c.args.seed (terms_of c.args.off.now) row in
     elim c.if-is_clear.branch [
-      | then-is_clear w ↦
+      | then-is_clear+in-Some+in_ok-push-in-Some w ↦ subst P (sym w.row-is) c.loop-other.invariant
+      | then-is_clear+in-None w ↦
           subst P (sym w.row-is)
-          (grown_wider _ _ c.loop-other.row _ c.loop-other.invariant c.joined-joined.ensures.left c.joined-joined.ensures.care (c.is_clear.ensures.clear.0 w.if-is_clear.true))
+          (grown_wider _ _ c.loop-other.row _ c.loop-other.invariant c.joined-joined.ensures.left c.joined-joined.ensures.care w.in-None.ensures)
       | else-is_clear w ↦ subst P (sym w.row-is) c.loop-other.invariant
     ]
