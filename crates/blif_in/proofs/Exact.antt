@@ -1,0 +1,64 @@
+-- What an answer says of its text.
+use Rattle.std.proofs.Common.{◌≡◌, ℕ, List, [], Option, None, Result, Ok, Err, map, inr, sym, ◌∙◌, refl, ap, subst}
+use Rattle.std.specs.Prelude.{IfOk, MatchResult, OnOk}
+use Rattle.std.specs.Option.{option_or}
+use Rattle.hs_io.specs.declared.lines.Line.{Line}
+use Rattle.hs_io.specs.Lines.{lines_of}
+use Rattle.net_core.specs.declared.Network.{Network}
+use Rattle.net_core.specs.Blif.{Blif}
+use Rattle.net_core.specs.Joined.{joined}
+use Rattle.net_core.specs.Sound.{Sound}
+use Rattle.net_core.specs.Statements.{said_in, statements_of}
+use Rattle.blif_in.specs.declared.fault.BlifFail.{BlifFail}
+use Rattle.blif_in.specs.declared.fault.BlifFail.TheVariants.{NoMemory, Refused}
+use Rattle.blif_in.specs.declared.fault.BlifFault.{BlifFault}
+use Rattle.blif_in.specs.Inner.Joining.{statement_lines}
+use Rattle.blif_in.specs.Inner.Saying.{numbered, says}
+use Rattle.blif_in.specs.Text.{IsBlifFault, IsFaultOf, IsStructureFault, TellsOf, closing_fault, first_fault, network_of, text_fault}
+use Rattle.blif_in.proofs.Closing.{said_numbered}
+use Rattle.blif_in.proofs.Measured.{statements_are}
+use Rattle.blif_in.proofs.Texts.{denoted_is, faultless_text, never_both, one_fault}
+
+-- an answer that is right wherever it is one of the text
+pub record IsRight (bytes : List ℕ) (result : Result Network BlifFail) : Type 0 where
+  pub read : IfOk result (λ net. Blif bytes net)
+  pub refused : (fault : BlifFault) → result ≡ Err (Refused fault) → IsBlifFault bytes fault
+
+-- a network that lines say, where they have no fault and it is sound
+good : (bytes : List ℕ) (lines : List Line) (result : Result Network BlifFail) → lines ≡ statement_lines (joined (lines_of bytes)) → OnOk result (text_fault (numbered lines) ≡ None) → IfOk result (λ net. net ≡ network_of (map says lines)) → IfOk result Sound
+    → IfOk result (λ net. Blif bytes net)
+good bytes lines (Err fail) are faultless is sound = tt
+good bytes lines (Ok net) are faultless is sound =
+    let same : numbered lines ≡ statements_of bytes = ap numbered are ∙ statements_are bytes in
+    let said : map says lines ≡ said_in bytes = sym (said_numbered lines) ∙ ap (map (λ statement. statement.says)) same in
+    let whole : net ≡ network_of (said_in bytes) = is ∙ ap network_of said in
+    let none : text_fault (statements_of bytes) ≡ None = ap text_fault (sym same) ∙ faultless in
+    let text = (faultless_text bytes).denotes none in
+    subst (Blif bytes) (sym whole) (record { denotes = text.0; sound = subst Sound whole sound; within = text.1 })
+
+pub right : (bytes : List ℕ) (lines : List Line) (result : Result Network BlifFail) → lines ≡ statement_lines (joined (lines_of bytes)) → OnOk result (text_fault (numbered lines) ≡ None) → IfOk result (λ net. net ≡ network_of (map says lines)) → IfOk result Sound
+    → ((fault : BlifFault) → result ≡ Err (Refused fault) → IsFaultOf (numbered lines) fault) → IsRight bytes result
+right bytes lines result are faultless is sound refused =
+    record {
+      read = good bytes lines result are faultless is sound;
+      refused = λ fault told. subst (λ statements. IsFaultOf statements fault) (ap numbered are ∙ statements_are bytes) (refused fault told);
+    }
+
+pub never_refused : (bytes : List ℕ) (result : Result Network BlifFail) → IsRight bytes result → (net : Network) → Blif bytes net → MatchResult result (λ read. read ≡ net) (λ fail. fail ≡ NoMemory)
+never_refused bytes (Ok read) is net blif = denoted_is bytes read is.read.denotes ∙ sym (denoted_is bytes net blif.denotes)
+never_refused bytes (Err (Refused fault)) is net blif = absurd (never_both bytes net fault blif (is.refused fault refl))
+never_refused bytes (Err NoMemory) is net blif = refl
+
+pub never_read : (bytes : List ℕ) (result : Result Network BlifFail) → IsRight bytes result → (fault : BlifFault) → IsBlifFault bytes fault → MatchResult result (λ _. ⊥) (TellsOf fault)
+never_read bytes (Ok read) is fault has = never_both bytes read fault is.read has
+never_read bytes (Err (Refused other)) is fault has = one_fault bytes fault other has (is.refused other refl)
+never_read bytes (Err NoMemory) is fault has = tt
+
+-- statements without a fault whose network is not sound
+pub unsound : (lines : List Line) (first closing : Option BlifFault) (N : Network) (fault : BlifFault) → first ≡ first_fault [] (numbered lines) → closing ≡ closing_fault (numbered lines) → first ≡ None → closing ≡ None → N ≡ network_of (map says lines)
+    → IsStructureFault N fault → IsFaultOf (numbered lines) fault
+unsound lines first closing N fault first_is closing_is none closed is structure =
+    inr (
+      ap (λ (found : Option BlifFault). option_or found (closing_fault (numbered lines))) (sym first_is ∙ none) ∙ sym closing_is ∙ closed,
+      subst (λ M. IsStructureFault M fault) (is ∙ sym (ap network_of (said_numbered lines))) structure,
+    )

@@ -1,0 +1,10 @@
+pub mod Lines
+pub mod Names
+pub mod FirstFault
+pub mod Networks
+pub mod Closing
+pub mod Forms
+pub mod Clocks
+pub mod Texts
+pub mod Measured
+pub mod Exact

@@ -1,0 +1,29 @@
+use Rattle.std.proofs.Common.{inl, refl}
+use Rattle.blif_in.proofs.laws.worked_clocks.Goals as goal
+
+pub returns-clause-second_control : goal.returns-clause-second_control
+returns-clause-second_control c = inl refl
+
+pub returns-clause-second_clock : goal.returns-clause-second_clock
+returns-clause-second_clock c = inl refl
+
+pub returns-clause-control_beside_nil : goal.returns-clause-control_beside_nil
+returns-clause-control_beside_nil c = inl refl
+
+pub returns-clause-driven_clock : goal.returns-clause-driven_clock
+returns-clause-driven_clock c = inl refl
+
+pub returns-clause-latch_drives_clock : goal.returns-clause-latch_drives_clock
+returns-clause-latch_drives_clock c = inl refl
+
+pub returns-clause-joined_number : goal.returns-clause-joined_number
+returns-clause-joined_number c = inl refl
+
+pub returns-clause-joined_word : goal.returns-clause-joined_word
+returns-clause-joined_word c = inl refl
+
+pub returns-clause-joined_bad : goal.returns-clause-joined_bad
+returns-clause-joined_bad c = inl refl
+
+pub returns-clause-joined_end : goal.returns-clause-joined_end
+returns-clause-joined_end c = inl refl

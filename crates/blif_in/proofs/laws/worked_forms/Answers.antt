@@ -1,0 +1,35 @@
+use Rattle.std.proofs.Common.{inl, refl}
+use Rattle.blif_in.proofs.laws.worked_forms.Goals as goal
+
+pub returns-clause-unsupported : goal.returns-clause-unsupported
+returns-clause-unsupported c = inl refl
+
+pub returns-clause-arrival : goal.returns-clause-arrival
+returns-clause-arrival c = inl refl
+
+pub returns-clause-second_model : goal.returns-clause-second_model
+returns-clause-second_model c = inl refl
+
+pub returns-clause-model_names : goal.returns-clause-model_names
+returns-clause-model_names c = inl refl
+
+pub returns-clause-clock_names : goal.returns-clause-clock_names
+returns-clause-clock_names c = inl refl
+
+pub returns-clause-latch_fields : goal.returns-clause-latch_fields
+returns-clause-latch_fields c = inl refl
+
+pub returns-clause-start_before_kind : goal.returns-clause-start_before_kind
+returns-clause-start_before_kind c = inl refl
+
+pub returns-clause-row_alone : goal.returns-clause-row_alone
+returns-clause-row_alone c = inl refl
+
+pub returns-clause-row_behind_inputs : goal.returns-clause-row_behind_inputs
+returns-clause-row_behind_inputs c = inl refl
+
+pub returns-clause-latch_kind : goal.returns-clause-latch_kind
+returns-clause-latch_kind c = inl refl
+
+pub returns-clause-kind_before_name : goal.returns-clause-kind_before_name
+returns-clause-kind_before_name c = inl refl

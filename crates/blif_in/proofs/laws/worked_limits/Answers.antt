@@ -1,0 +1,26 @@
+use Rattle.std.proofs.Common.{inl, refl}
+use Rattle.blif_in.proofs.laws.worked_limits.Goals as goal
+
+pub returns-clause-long_name : goal.returns-clause-long_name
+returns-clause-long_name c = inl refl
+
+pub returns-clause-first_long_name : goal.returns-clause-first_long_name
+returns-clause-first_long_name c = inl refl
+
+pub returns-clause-long_control : goal.returns-clause-long_control
+returns-clause-long_control c = inl refl
+
+pub returns-clause-many_inputs : goal.returns-clause-many_inputs
+returns-clause-many_inputs c = inl refl
+
+pub returns-clause-long_before_many : goal.returns-clause-long_before_many
+returns-clause-long_before_many c = inl refl
+
+pub returns-clause-many_outputs : goal.returns-clause-many_outputs
+returns-clause-many_outputs c = inl refl
+
+pub returns-clause-many_gate_inputs : goal.returns-clause-many_gate_inputs
+returns-clause-many_gate_inputs c = inl refl
+
+pub returns-clause-many_latches : goal.returns-clause-many_latches
+returns-clause-many_latches c = inl refl

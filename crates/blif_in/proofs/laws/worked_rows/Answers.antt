@@ -1,0 +1,20 @@
+use Rattle.std.proofs.Common.{inl, refl}
+use Rattle.blif_in.proofs.laws.worked_rows.Goals as goal
+
+pub returns-clause-bad_row : goal.returns-clause-bad_row
+returns-clause-bad_row c = inl refl
+
+pub returns-clause-bit_two : goal.returns-clause-bit_two
+returns-clause-bit_two c = inl refl
+
+pub returns-clause-row_before_cover : goal.returns-clause-row_before_cover
+returns-clause-row_before_cover c = inl refl
+
+pub returns-clause-gate_before : goal.returns-clause-gate_before
+returns-clause-gate_before c = inl refl
+
+pub returns-clause-mixed_cover : goal.returns-clause-mixed_cover
+returns-clause-mixed_cover c = inl refl
+
+pub returns-clause-mixed_joined : goal.returns-clause-mixed_joined
+returns-clause-mixed_joined c = inl refl

@@ -1,0 +1,24 @@
+-- Joined lines, piece by piece, and those of them that are statements.
+use Rattle.std.specs.Prelude.{◌||◌, if◌then◌else◌, Option, Some, None, List, [], ◌∷◌, ◌++◌}
+use Rattle.hs_io.specs.declared.lines.Line.{Line}
+use Rattle.net_core.specs.Joined.{ends_text, in_front}
+use Rattle.net_core.specs.Statements.{is_skipped}
+
+-- a part behind what goes before it
+abbrev pub merged : Line → Line → Line
+merged front part = record { number = front.number; fields = front.fields ++ part.fields; bad = front.bad || part.bad }
+
+abbrev pub behind : Option Line → Line → Line
+behind None part = part
+behind (Some front) part = merged front part
+
+-- lines behind what goes before them
+abbrev pub lines_behind : Option Line → List Line → List Line
+lines_behind None lines = lines
+lines_behind (Some front) lines = in_front front lines
+
+-- the lines of the statements
+abbrev pub statement_lines : List Line → List Line
+statement_lines [] = []
+statement_lines (line ∷ lines) =
+    if ends_text line then [] else (if is_skipped line then statement_lines lines else line ∷ statement_lines lines)

@@ -1,0 +1,54 @@
+-- What the reader keeps while it judges statement after statement.
+use Rattle.std.specs.Prelude.{◌≡◌, ℕ, ◌≤◌, Bool, false, true, Option, Some, None, Result, Ok, Err, List, [], ◌∷◌, length, count_by}
+use Rattle.std.specs.List.{AllByRecursion, filter_map, flat_map, list_any}
+use Rattle.std.specs.Option.{option_copied, option_map}
+use Rattle.net_core.specs.Limits.{is_names}
+use Rattle.net_core.specs.Statements as said
+use Rattle.net_core.specs.Statements.{Statement, is_model, is_clock, clocks_in, inputs_in, outputs_in, latch_in, open_gate}
+use Rattle.blif_in.specs.declared.fault.BlifKind.{BlifKind}
+use Rattle.blif_in.specs.Faults.{form_fault}
+use Rattle.blif_in.specs.declared.judging.OpenGate.{OpenGate}
+use Rattle.blif_in.specs.declared.judging.Standing.{Standing}
+
+abbrev pub gate_seen : OpenGate → said.OpenGate
+gate_seen gate = record { inputs = gate.inputs; bit = gate.bit }
+
+-- all of these are the one name of the clock
+abbrev pub IsClock : Option (List ℕ) → List (List ℕ) → Type 0
+IsClock None names = names ≡ []
+IsClock (Some clock) [] = ⊥
+IsClock (Some clock) (name ∷ names) = AllByRecursion (λ other. other ≡ clock) (name ∷ names)
+
+-- whether a statement has stood
+abbrev pub has_begun : List Statement → Bool
+has_begun [] = false
+has_begun (_ ∷ _) = true
+
+-- what is kept behind these statements, which begin with the last one
+pub record Stands (standing : Standing) (earlier : List Statement) : Type 0 where
+  pub begun : standing.begun ≡ has_begun earlier
+  pub model : standing.model ≡ list_any is_model earlier
+  pub clock_word : standing.clock_word ≡ list_any is_clock earlier
+  pub clock : IsClock (option_copied standing.clock) (flat_map clocks_in earlier)
+  pub gate : option_map gate_seen standing.gate ≡ open_gate earlier
+  pub inputs : standing.inputs ≡ length (flat_map inputs_in earlier)
+  pub outputs : standing.outputs ≡ length (flat_map outputs_in earlier)
+  pub latches : standing.latches ≡ length (filter_map latch_in earlier)
+  pub gates : standing.gates ≡ count_by is_names earlier
+
+-- the counts are within the limits
+pub record IsSmall (standing : Standing) : Type 0 where
+  pub inputs : standing.inputs ≤ 256
+  pub outputs : standing.outputs ≤ 256
+  pub latches : standing.latches ≤ 256
+  pub gates : standing.gates ≤ 65536
+
+-- an answer to a statement with a fault, or to one with none
+abbrev pub Judges : {T : Type 0} → Result T BlifKind → Option BlifKind → (T → Type 0) → Type 0
+Judges (Ok value) fault P = (fault ≡ None) × P value
+Judges (Err kind) fault P = fault ≡ Some kind
+
+-- a statement is judged behind all statements behind which this is kept
+abbrev pub IsJudged : Standing → Statement → Result Standing BlifKind → Type 0
+IsJudged standing statement result =
+    (earlier : List Statement) → Stands standing earlier → Judges result (form_fault earlier statement) (λ next. Stands next (statement ∷ earlier))

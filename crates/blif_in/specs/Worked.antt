@@ -1,0 +1,22 @@
+-- Worked texts, and what they are refused for.
+use Rattle.std.specs.Prelude.{ℕ, List, [], ◌∷◌, replicate}
+use Rattle.std.specs.List.{flat_map}
+use Rattle.hs_io.specs.Spelling.{ended}
+use Rattle.blif_in.specs.declared.fault.BlifKind.{BlifKind}
+use Rattle.blif_in.specs.Text.{IsBlifFault}
+
+-- the text of these lines
+abbrev pub text : List (List ℕ) → List ℕ
+text lines = flat_map ended lines
+
+-- the text is refused for a fault of that kind at that line
+abbrev pub IsRefused : List (List ℕ) → ℕ → BlifKind → Type 0
+IsRefused lines number kind = IsBlifFault (text lines) (record { line = number; kind = kind })
+
+-- a name of so many bytes
+abbrev pub long : ℕ → List ℕ
+long bytes = replicate bytes 97
+
+-- so many names of one byte, each after a space
+abbrev pub many : ℕ → List ℕ
+many names = flat_map (λ name. 32 ∷ name) (replicate names (97 ∷ []))

@@ -1,0 +1,179 @@
+//! Joins the lines that go on, and keeps those that are statements.
+ghost use Rattle.std.specs.Prelude.{◌≡◌, ◌++◌, ◌∷◌, ◌-◌, [], IfOk, OnOk, length, take};
+ghost use Rattle.std.specs.List.{list_any};
+ghost use Rattle.hs_io.specs.Lines.{fields_in};
+ghost use Rattle.net_core.specs.Joined.{is_backslash, is_continued, ends_in_backslash, ends_text, joined, part_of, without_backslash};
+ghost use Rattle.net_core.specs.Joined as joining;
+ghost use Rattle.net_core.specs.Statements.{is_skipped};
+ghost use Rattle.blif_in.specs.Inner.Joining.{behind, merged, statement_lines};
+
+use hs_io::{Fields, Line, Name};
+use std::alloc::{AllocError, Global};
+
+/// The joined lines that are statements, up to the one that ends the text. The lines that go on are copied.
+pub(crate) fn joined_statements(alloc: Global, lines: Vec<Line>) -> Result<Vec<Line>, AllocError>
+    ensures { IfOk result (λ kept. kept.items ≡ statement_lines (joined lines.items)) }
+{
+    let mut kept = Vec::new(alloc);
+    let mut front: Option<Line> = None;
+    let mut rest = lines.into_iter();
+    while let Some(line) = rest.next() {
+        let goes_on = is_joined_to_next(line.fields.as_slice());
+        let whole = line_behind(alloc, front.take(), line)?;
+        if goes_on {
+            front = Some(whole);
+        } else if ends(&whole) {
+            return Ok(kept);
+        } else if !is_blank(&whole) {
+            kept.push(whole)?;
+        }
+    }
+    let Some(last) = front else {
+        return Ok(kept);
+    };
+    if !ends(&last) && !is_blank(&last) {
+        kept.push(last)?;
+    }
+    Ok(kept)
+}
+
+/// Whether the line that has these fields goes on.
+fn is_joined_to_next(fields: &[Name]) -> bool
+    ensures { result ≡ is_continued fields.now }
+{
+    match fields {
+        [.., field] => ends_backslashed(field.bytes()),
+        [] => false,
+    }
+}
+
+/// Whether the last byte is a backslash.
+fn ends_backslashed(field: &[u8]) -> bool
+    ensures { result ≡ ends_in_backslash field.now }
+{
+    field.last() == Some(&b'\\')
+}
+
+/// Whether the text ends before the line.
+fn ends(line: &Line) -> bool
+    ensures { result ≡ ends_text line.now }
+{
+    if line.bad {
+        return false;
+    }
+    match line.fields.as_slice() {
+        [word, ..] => word.bytes() == b".end".as_slice(),
+        [] => false,
+    }
+}
+
+/// Whether the line has no fields and is not bad.
+fn is_blank(line: &Line) -> bool
+    ensures { result ≡ is_skipped line.now }
+{
+    line.fields.as_slice().is_empty() && !line.bad
+}
+
+/// What a line gives, behind what it is joined to.
+fn line_behind(alloc: Global, front: Option<Line>, line: Line) -> Result<Line, AllocError>
+    ensures { IfOk result (λ whole. whole ≡ behind front (part_of line)) }
+{
+    let part = own_part(alloc, line)?;
+    match front {
+        Some(front) => joined_part(alloc, front, &part),
+        None => Ok(part),
+    }
+}
+
+/// The front with the fields of a part at its end.
+fn joined_part(alloc: Global, front: Line, part: &Line) -> Result<Line, AllocError>
+    ensures { IfOk result (λ whole. whole ≡ merged front part.now) }
+{
+    let Line {
+        number,
+        mut fields,
+        bad,
+    } = front;
+    add_fields(alloc, &mut fields, part.fields.as_slice())?;
+    Ok(Line {
+        number,
+        fields,
+        bad: bad || part.bad,
+    })
+}
+
+/// Adds copies of names.
+fn add_fields(alloc: Global, fields: &mut Fields, names: &[Name]) -> Result<(), AllocError>
+    ensures { OnOk result (fields.new ≡ fields.old ++ names.now) }
+{
+    for name in names {
+        fields.push(Name::new(alloc, name.bytes())?)?;
+    }
+    Ok(())
+}
+
+/// What a line gives: its fields without the backslash at its end. A backslash elsewhere makes it bad.
+fn own_part(alloc: Global, line: Line) -> Result<Line, AllocError>
+    ensures { IfOk result (λ part. part ≡ part_of line) }
+{
+    let Line {
+        number,
+        fields,
+        bad,
+    } = line;
+    let fields = read_fields(alloc, fields)?;
+    let bad = bad || some_backslash(fields.as_slice());
+    Ok(Line {
+        number,
+        fields,
+        bad,
+    })
+}
+
+/// The fields without the backslash at their end, if they have one.
+fn read_fields(alloc: Global, fields: Fields) -> Result<Fields, AllocError>
+    ensures { IfOk result (λ read. read ≡ joining.read_fields fields) }
+{
+    if is_joined_to_next(fields.as_slice()) {
+        shortened(alloc, fields.as_slice())
+    } else {
+        Ok(fields)
+    }
+}
+
+/// The fields without their last byte, a backslash. A field of a backslash alone is none.
+fn shortened(alloc: Global, fields: &[Name]) -> Result<Fields, AllocError>
+    ensures { IfOk result (λ short. short ≡ without_backslash fields.now) }
+{
+    let mut short = Fields::new(alloc);
+    let [front @ .., last] = fields else {
+        return Ok(short);
+    };
+    add_fields(alloc, &mut short, front)?;
+    add_shortened(alloc, &mut short, last.bytes())?;
+    Ok(short)
+}
+
+/// Adds a field without its last byte, where it has another one.
+fn add_shortened(alloc: Global, fields: &mut Fields, field: &[u8]) -> Result<(), AllocError>
+    ensures { OnOk result (fields.new ≡ fields.old ++ fields_in (take (length field.now - 1) field.now ∷ [])) }
+{
+    match field {
+        [text @ .., _] if !text.is_empty() => fields.push(Name::new(alloc, text)?),
+        _ => Ok(()),
+    }
+}
+
+/// Whether a backslash stands in some field.
+fn some_backslash(fields: &[Name]) -> bool
+    ensures { result ≡ list_any (list_any is_backslash) fields.now }
+{
+    fields.iter().any(|field| holds_backslash(field.bytes()))
+}
+
+/// Whether a backslash stands in the field.
+fn holds_backslash(field: &[u8]) -> bool
+    ensures { result ≡ list_any is_backslash field.now }
+{
+    field.iter().any(|byte| *byte == b'\\')
+}

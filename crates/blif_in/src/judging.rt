@@ -1,0 +1,422 @@
+//! Judges statements behind those before them.
+ghost use Rattle.std.specs.Prelude.{◌≡◌, ℕ, ◌^◌, ◌<◌, ◌≤◌, ◌==◌, ◌&&◌, [], ◌∷◌, ◌++◌, All, IfOk, List, MatchOption, MatchResult, None, Some, false, true, length, nat_le};
+ghost use Rattle.std.specs.List.{list_all};
+ghost use Rattle.std.specs.Option.{ForSome, option_copied, option_to_list};
+ghost use Rattle.net_core.specs.Faults.{has_other_kind, is_row_for, names_another};
+ghost use Rattle.net_core.specs.Blif.{latch_names};
+ghost use Rattle.net_core.specs.Statements as said;
+ghost use Rattle.blif_in.specs.Faults.{fault_in, fault_where, long_name};
+ghost use Rattle.blif_in.specs.Text as text;
+ghost use Rattle.blif_in.specs.Inner.Judging.{IsClock, IsJudged, IsSmall, Judges, Stands};
+ghost use Rattle.blif_in.specs.Inner.Measuring.{AreMeasurable};
+ghost use Rattle.blif_in.specs.Inner.Saying.{fields_said, numbered, parts_said, said_by};
+
+use crate::fault::{BlifFault, BlifKind, NetLimit};
+use crate::statement::{LatchParts, Statement, clock_named, latch_parts, start_said, statement_of};
+use hs_io::{Line, Name};
+
+/// What a gate asks of its next row.
+#[derive(Clone, Copy)]
+pub(crate) struct OpenGate {
+    /// The number of its inputs.
+    pub inputs: usize,
+    /// The output bit of its first row.
+    pub bit: Option<bool>,
+}
+
+/// What stands in the statements so far.
+#[derive(Clone, Copy)]
+pub(crate) struct Standing<'a> {
+    /// Whether there is a statement.
+    pub begun: bool,
+    /// Whether there is a model.
+    pub model: bool,
+    /// Whether there is a `.clock`.
+    pub clock_word: bool,
+    /// The name of the clock.
+    pub clock: Option<&'a Name>,
+    /// The gate that a row would belong to.
+    pub gate: Option<OpenGate>,
+    pub inputs: usize,
+    pub outputs: usize,
+    pub latches: usize,
+    pub gates: usize,
+}
+
+/// The first fault of a statement in lines.
+pub(crate) fn fault_of_statements(lines: &[Line]) -> Option<BlifFault>
+    requires { All (λ line. AreMeasurable line.fields) lines.now }
+    ensures { result ≡ text.first_fault [] (numbered lines.now) }
+{
+    let mut standing = Standing::new();
+    for line in lines {
+        match standing.after_line(line) {
+            Ok(next) => standing = next,
+            Err(kind) => {
+                return Some(BlifFault {
+                    line: line.number,
+                    kind,
+                });
+            }
+        }
+    }
+    None
+}
+
+impl<'a> Standing<'a> {
+    /// Before the first statement.
+    fn new() -> Standing<'a>
+        ensures stands { Stands result [] }
+        ensures small { IsSmall result }
+    {
+        Standing {
+            begun: false,
+            model: false,
+            clock_word: false,
+            clock: None,
+            gate: None,
+            inputs: 0,
+            outputs: 0,
+            latches: 0,
+            gates: 0,
+        }
+    }
+
+    /// What stands behind the statement of a line too, or its fault.
+    fn after_line(&self, line: &'a Line) -> Result<Standing<'a>, BlifKind>
+        requires measurable { AreMeasurable line.now.fields }
+        requires small { IsSmall self.now }
+        ensures judged { (earlier : List said.Statement) → Stands self.now earlier → Judges result (fault_in earlier (said.numbered_of line.now)) (λ next. Stands next (said.statement_of line.now.fields ∷ earlier)) }
+        ensures small { IfOk result IsSmall }
+    {
+        if line.bad {
+            return Err(BlifKind::BadByte);
+        }
+        let statement = statement_of(line);
+        if !self.begun && !is_model(statement) {
+            return Err(BlifKind::NoModel);
+        }
+        self.after(statement)
+    }
+
+    /// What stands behind a statement too, or its fault.
+    fn after(&self, statement: Statement<'a>) -> Result<Standing<'a>, BlifKind>
+        requires measurable { AreMeasurable (fields_said statement) }
+        requires small { IsSmall self.now }
+        ensures judged { IsJudged self.now (said_by statement.entry) result }
+        ensures small { IfOk result IsSmall }
+    {
+        match statement {
+            Statement::Model(names) => self.after_model(names),
+            Statement::Inputs(names) => self.after_inputs(names),
+            Statement::Outputs(names) => self.after_outputs(names),
+            Statement::Clock(names) => self.after_clock(names),
+            Statement::Latch(operands) => self.after_latch(operands),
+            Statement::Names(names) => self.after_names(names),
+            Statement::Row(fields) => self.after_row(fields),
+            Statement::Other => Err(BlifKind::Unsupported),
+        }
+    }
+
+    /// `.model`
+    fn after_model(&self, names: &[Name]) -> Result<Standing<'a>, BlifKind>
+        requires { IsSmall self.now }
+        ensures judged { IsJudged self.now (said.Model names.now) result }
+        ensures small { IfOk result IsSmall }
+    {
+        if self.model {
+            return Err(BlifKind::Unsupported);
+        }
+        if names.len() > 1 {
+            return Err(BlifKind::BadFields);
+        }
+        Ok(Standing {
+            begun: true,
+            model: true,
+            gate: None,
+            ..*self
+        })
+    }
+
+    /// `.inputs`
+    fn after_inputs(&self, names: &[Name]) -> Result<Standing<'a>, BlifKind>
+        requires measurable { AreMeasurable names.now }
+        requires small { IsSmall self.now }
+        ensures judged { IsJudged self.now (said.Inputs names.now) result }
+        ensures small { IfOk result IsSmall }
+    {
+        judge_lengths(names)?;
+        if names.len() > 256 - self.inputs {
+            return Err(over(NetLimit::Inputs, 257));
+        }
+        Ok(Standing {
+            begun: true,
+            gate: None,
+            inputs: self.inputs + names.len(),
+            ..*self
+        })
+    }
+
+    /// `.outputs`
+    fn after_outputs(&self, names: &[Name]) -> Result<Standing<'a>, BlifKind>
+        requires measurable { AreMeasurable names.now }
+        requires small { IsSmall self.now }
+        ensures judged { IsJudged self.now (said.Outputs names.now) result }
+        ensures small { IfOk result IsSmall }
+    {
+        judge_lengths(names)?;
+        if names.len() > 256 - self.outputs {
+            return Err(over(NetLimit::Outputs, 257));
+        }
+        Ok(Standing {
+            begun: true,
+            gate: None,
+            outputs: self.outputs + names.len(),
+            ..*self
+        })
+    }
+
+    /// `.clock`
+    fn after_clock(&self, names: &'a [Name]) -> Result<Standing<'a>, BlifKind>
+        requires measurable { AreMeasurable names.now }
+        requires small { IsSmall self.now }
+        ensures judged { IsJudged self.now (said.Clock names.now) result }
+        ensures small { IfOk result IsSmall }
+    {
+        match names {
+            [name] => self.after_clock_named(name),
+            _ => Err(BlifKind::BadFields),
+        }
+    }
+
+    /// `.clock` with one name.
+    fn after_clock_named(&self, name: &'a Name) -> Result<Standing<'a>, BlifKind>
+        requires measurable { length name.now < 2 ^ 32 }
+        requires small { IsSmall self.now }
+        ensures judged { IsJudged self.now (said.Clock (name.now ∷ [])) result }
+        ensures small { IfOk result IsSmall }
+    {
+        judge_length(name)?;
+        if differs_from(self.clock, name) || self.clock_word {
+            return Err(BlifKind::Clocks);
+        }
+        Ok(Standing {
+            begun: true,
+            clock_word: true,
+            clock: Some(name),
+            gate: None,
+            ..*self
+        })
+    }
+
+    /// `.latch`
+    fn after_latch(&self, operands: &'a [Name]) -> Result<Standing<'a>, BlifKind>
+        requires measurable { AreMeasurable operands.now }
+        requires small { IsSmall self.now }
+        ensures judged { IsJudged self.now (said.LatchLine operands.now) result }
+        ensures small { IfOk result IsSmall }
+    {
+        let Some(parts) = latch_parts(operands) else {
+            return Err(BlifKind::BadFields);
+        };
+        if start_said(parts.start).is_none() {
+            return Err(BlifKind::BadFields);
+        }
+        if is_other_kind(parts.kind) {
+            return Err(BlifKind::LatchKind);
+        }
+        judge_latch_names(&parts)?;
+        let clock = self.clock_with(clock_named(parts.control))?;
+        if self.latches >= 256 {
+            return Err(over(NetLimit::Latches, 257));
+        }
+        Ok(Standing {
+            begun: true,
+            clock,
+            gate: None,
+            latches: self.latches + 1,
+            ..*self
+        })
+    }
+
+    /// `.names`
+    fn after_names(&self, names: &[Name]) -> Result<Standing<'a>, BlifKind>
+        requires measurable { AreMeasurable names.now }
+        requires small { IsSmall self.now }
+        ensures judged { IsJudged self.now (said.Names names.now) result }
+        ensures small { IfOk result IsSmall }
+    {
+        if names.is_empty() {
+            return Err(BlifKind::BadFields);
+        }
+        judge_lengths(names)?;
+        let inputs = names.len() - 1;
+        if inputs > 256 {
+            return Err(over(NetLimit::GateInputs, 257));
+        }
+        if self.gates >= 65536 {
+            return Err(over(NetLimit::Gates, 65537));
+        }
+        Ok(Standing {
+            begun: true,
+            gate: Some(OpenGate { inputs, bit: None }),
+            gates: self.gates + 1,
+            ..*self
+        })
+    }
+
+    /// A row.
+    fn after_row(&self, fields: &[Name]) -> Result<Standing<'a>, BlifKind>
+        requires { IsSmall self.now }
+        ensures judged { IsJudged self.now (said.Row fields.now) result }
+        ensures small { IfOk result IsSmall }
+    {
+        let Some(gate) = self.gate else {
+            return Err(BlifKind::BadFields);
+        };
+        let Some(bit) = row_bit(gate.inputs, fields) else {
+            return Err(BlifKind::BadRow);
+        };
+        let first = gate.bit.unwrap_or(bit);
+        if first != bit {
+            return Err(BlifKind::MixedCover);
+        }
+        Ok(Standing {
+            begun: true,
+            gate: Some(OpenGate {
+                inputs: gate.inputs,
+                bit: Some(first),
+            }),
+            ..*self
+        })
+    }
+
+    /// The clock where a latch may name it.
+    fn clock_with(&self, name: Option<&'a Name>) -> Result<Option<&'a Name>, BlifKind>
+        ensures { (names : List (List ℕ)) → IsClock (option_copied self.now.clock) names → Judges result (fault_where (names_another names (option_to_list (option_copied name.entry))) BlifKind.Clocks) (λ clock. IsClock (option_copied clock) (option_to_list (option_copied name.entry) ++ names)) }
+    {
+        match name {
+            None => Ok(self.clock),
+            Some(name) if differs_from(self.clock, name) => Err(BlifKind::Clocks),
+            Some(name) => Ok(Some(name)),
+        }
+    }
+}
+
+/// The fault that more stands than is taken.
+fn over(what: NetLimit, found: u32) -> BlifKind
+    ensures { result ≡ BlifKind.OverLimit what found }
+{
+    BlifKind::OverLimit { what, found }
+}
+
+/// Whether the statement is a model's.
+fn is_model(statement: Statement<'_>) -> bool
+    ensures { result ≡ said.is_model (said_by statement.entry) }
+{
+    match statement {
+        Statement::Model(_) => true,
+        _ => false,
+    }
+}
+
+/// Whether each name is short enough.
+fn judge_lengths(names: &[Name]) -> Result<(), BlifKind>
+    requires { AreMeasurable names.now }
+    ensures { MatchResult result (λ _. long_name names.now ≡ None) (λ kind. long_name names.now ≡ Some kind) }
+{
+    for name in names {
+        judge_length(name)?;
+    }
+    Ok(())
+}
+
+/// Whether a name is short enough.
+fn judge_length(name: &Name) -> Result<(), BlifKind>
+    requires { length name.now < 2 ^ 32 }
+    ensures { MatchResult result (λ _. long_name (name.now ∷ []) ≡ None) (λ kind. long_name (name.now ∷ []) ≡ Some kind) }
+{
+    let found = name.bytes().len();
+    if found > 64 {
+        return Err(over(NetLimit::NameBytes, found as u32));
+    }
+    Ok(())
+}
+
+/// Whether the names of a latch are short enough.
+fn judge_latch_names(parts: &LatchParts<'_>) -> Result<(), BlifKind>
+    requires input { length parts.now.input.now < 2 ^ 32 }
+    requires output { length parts.now.output.now < 2 ^ 32 }
+    requires control { ForSome (option_copied parts.now.control) (λ control. length control < 2 ^ 32) }
+    ensures { MatchResult result (λ _. long_name (latch_names (Some (parts_said parts.now))) ≡ None) (λ kind. long_name (latch_names (Some (parts_said parts.now))) ≡ Some kind) }
+{
+    judge_length(parts.input)?;
+    judge_length(parts.output)?;
+    match parts.control {
+        Some(control) => judge_length(control),
+        None => Ok(()),
+    }
+}
+
+/// Whether the clock has another name.
+fn differs_from(clock: Option<&Name>, name: &Name) -> bool
+    ensures { (names : List (List ℕ)) → IsClock (option_copied clock.entry) names → names_another names (name.now ∷ []) ≡ result }
+{
+    match clock {
+        Some(clock) => name.bytes() != clock.bytes(),
+        None => false,
+    }
+}
+
+/// Whether the type of a latch is not the one that is read.
+fn is_other_kind(kind: Option<&Name>) -> bool
+    ensures { result ≡ said.is_other_kind (option_copied kind.entry) }
+{
+    match kind {
+        Some(kind) => kind.bytes() != b"re".as_slice(),
+        None => false,
+    }
+}
+
+/// The output bit of a row of a gate with so many inputs.
+fn row_bit(inputs: usize, fields: &[Name]) -> Option<bool>
+    ensures { MatchOption result (is_row_for inputs fields.now ≡ false) (λ bit. (is_row_for inputs fields.now ≡ true) × (bit ≡ said.bit_of fields.now)) }
+{
+    match fields {
+        [bit] if inputs == 0 => bit_said(bit.bytes()),
+        [plane, bit] if is_plane(inputs, plane.bytes()) => bit_said(bit.bytes()),
+        _ => None,
+    }
+}
+
+/// Whether the field is a plane of so many inputs, one or more.
+fn is_plane(inputs: usize, field: &[u8]) -> bool
+    ensures { result ≡ (nat_le 1 inputs && length field.now == inputs && list_all said.is_plane_character field.now) }
+{
+    inputs >= 1 && field.len() == inputs && has_plane_characters(field)
+}
+
+/// Whether each character may stand in a plane.
+fn has_plane_characters(field: &[u8]) -> bool
+    ensures { result ≡ list_all said.is_plane_character field.now }
+{
+    field.iter().all(|c| is_plane_character(*c))
+}
+
+/// Whether the character may stand in a plane.
+fn is_plane_character(c: u8) -> bool
+    ensures { result ≡ said.is_plane_character c }
+{
+    c == b'0' || c == b'1' || c == b'-'
+}
+
+/// The output bit that a field is.
+pub(crate) fn bit_said(field: &[u8]) -> Option<bool>
+    ensures { MatchOption result (said.is_bit field.now ≡ false) (λ bit. (said.is_bit field.now ≡ true) × (bit ≡ said.is_one field.now)) }
+{
+    match field {
+        b"0" => Some(false),
+        b"1" => Some(true),
+        _ => None,
+    }
+}

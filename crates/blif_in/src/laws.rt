@@ -1,0 +1,90 @@
+//! Laws of texts and their faults, and worked texts, each the contract of a function that does nothing.
+
+ghost use Rattle.std.specs.Prelude.{[], ◌∷◌, ◌++◌, codes, replicate};
+ghost use Rattle.blif_in.specs.Text.{FaultlessDenotes, NeverBoth, OneFault};
+ghost use Rattle.blif_in.specs.Worked.{IsRefused, long, many};
+ghost use Rattle.net_core.specs.declared.failing.NetFail.TheVariants.{TwoDrivers, Undriven};
+ghost use Rattle.blif_in.specs.declared.fault.BlifKind.TheVariants.{BadByte, BadFields, BadRow, Clocks, LatchKind, MixedCover, NoModel, OverLimit, Structure, Unsupported};
+ghost use Rattle.blif_in.specs.declared.fault.NetLimit.TheVariants.{GateInputs, Inputs, Latches, NameBytes, Outputs};
+
+/// A text is one of a network or has a first fault, never both, and at most one first fault. Where there are
+/// several cycles, any one of them may be told.
+pub fn one_fault()
+    ensures never_both { NeverBoth }
+    ensures once { OneFault }
+{}
+
+/// A text has no other fault than that its network is not sound exactly where it denotes a network within
+/// the limits.
+pub fn faultless_denotes()
+    ensures { FaultlessDenotes }
+{}
+
+/// Texts that do not begin with a model, and lines with a byte that may not stand there.
+pub fn worked_beginnings()
+    ensures nothing { IsRefused [] 0 NoModel }
+    ensures ended_first { IsRefused (codes ".end" ∷ codes ".model m" ∷ []) 0 NoModel }
+    ensures comments_alone { IsRefused (codes "# .model m" ∷ [] ∷ codes "  # a" ∷ []) 0 NoModel }
+    ensures inputs_first { IsRefused (codes "# a" ∷ codes ".inputs a" ∷ codes ".model m" ∷ []) 2 NoModel }
+    ensures row_first { IsRefused (codes "1 1" ∷ []) 1 NoModel }
+    ensures bad_before_no_model { IsRefused (codes ".inputs \u{1}" ∷ []) 1 BadByte }
+    ensures bad_end { IsRefused (codes ".model m" ∷ codes ".end \u{1}" ∷ []) 2 BadByte }
+    ensures bad_before_unsupported { IsRefused (codes ".model m" ∷ codes ".gate \u{7f}" ∷ []) 2 BadByte }
+    ensures backslash_within { IsRefused (codes ".model m" ∷ codes ".inputs a" ∷ codes ".outputs z\\a" ∷ []) 3 BadByte }
+{}
+
+/// Words and forms of lines that are not read.
+pub fn worked_forms()
+    ensures unsupported { IsRefused (codes ".model m" ∷ codes ".subckt n a=b" ∷ codes ".end" ∷ []) 2 Unsupported }
+    ensures arrival { IsRefused (codes ".model m" ∷ codes ".default_input_arrival 0 0" ∷ []) 2 Unsupported }
+    ensures second_model { IsRefused (codes ".model m" ∷ codes ".inputs a" ∷ codes ".model m n" ∷ []) 3 Unsupported }
+    ensures model_names { IsRefused (codes ".model m n" ∷ []) 1 BadFields }
+    ensures clock_names { IsRefused (codes ".model m" ∷ codes ".clock c d" ∷ []) 2 BadFields }
+    ensures latch_fields { IsRefused (codes ".model m" ∷ codes ".latch a" ∷ codes ".latch a b" ∷ []) 2 BadFields }
+    ensures start_before_kind { IsRefused (codes ".model m" ∷ codes ".latch a b fe c 4" ∷ []) 2 BadFields }
+    ensures row_alone { IsRefused (codes ".model m" ∷ codes "1 1" ∷ codes ".end" ∷ []) 2 BadFields }
+    ensures row_behind_inputs { IsRefused (codes ".model m" ∷ codes ".names z" ∷ codes "1" ∷ codes ".inputs a" ∷ codes "1" ∷ []) 5 BadFields }
+    ensures latch_kind { IsRefused (codes ".model m" ∷ codes ".latch a b fe c 0" ∷ []) 2 LatchKind }
+    ensures kind_before_name { IsRefused (codes ".model m" ∷ (codes ".latch a " ++ (long 65 ++ codes " fe c 0")) ∷ []) 2 LatchKind }
+{}
+
+/// Rows that are none of their gate.
+pub fn worked_rows()
+    ensures bad_row { IsRefused (codes ".model m" ∷ codes ".names a z" ∷ codes "11 1" ∷ []) 3 BadRow }
+    ensures bit_two { IsRefused (codes ".model m" ∷ codes ".names a z" ∷ codes "1 1" ∷ codes "1 2" ∷ []) 4 BadRow }
+    ensures row_before_cover { IsRefused (codes ".model m" ∷ codes ".names a z" ∷ codes "1 1" ∷ codes "00 0" ∷ []) 4 BadRow }
+    ensures gate_before { IsRefused (codes ".model m" ∷ codes ".names a b u" ∷ codes "11 1" ∷ codes ".names a v" ∷ codes "11 1" ∷ []) 5 BadRow }
+    ensures mixed_cover { IsRefused (codes ".model m" ∷ codes ".names a z" ∷ codes "1 1" ∷ codes "0 0" ∷ []) 4 MixedCover }
+    ensures mixed_joined { IsRefused (codes ".model m" ∷ codes ".names \\" ∷ codes "a z" ∷ codes "1 1" ∷ codes "0\\" ∷ codes "0" ∷ []) 5 MixedCover }
+{}
+
+/// Clocks, and lines that are joined.
+pub fn worked_clocks()
+    ensures second_control { IsRefused (codes ".model m" ∷ codes ".latch a b re c 0" ∷ codes ".latch a d re e 0" ∷ []) 3 Clocks }
+    ensures second_clock { IsRefused (codes ".model m" ∷ codes ".clock c" ∷ codes ".clock c" ∷ []) 3 Clocks }
+    ensures control_beside_nil { IsRefused (codes ".model m" ∷ codes ".clock NIL" ∷ codes ".latch a b re c 0" ∷ []) 3 Clocks }
+    ensures driven_clock { IsRefused (codes ".model m" ∷ codes ".inputs a" ∷ codes ".clock c" ∷ codes ".names c" ∷ codes "1" ∷ []) 3 Clocks }
+    ensures latch_drives_clock { IsRefused (codes ".model m" ∷ codes ".latch a c 0" ∷ codes ".latch a b re c 0" ∷ []) 3 Clocks }
+    ensures joined_number { IsRefused (codes ".model m" ∷ codes ".inputs a \\" ∷ codes "b\\" ∷ codes "c" ∷ codes ".gate x" ∷ []) 5 Unsupported }
+    ensures joined_word { IsRefused (codes ".model m\\" ∷ [] ∷ codes ".subckt\\" ∷ codes " n" ∷ []) 3 Unsupported }
+    ensures joined_bad { IsRefused (codes ".model m" ∷ codes ".inputs a \\" ∷ codes "\u{1}" ∷ codes ".gate x" ∷ []) 2 BadByte }
+    ensures joined_end { IsRefused (codes ".model m" ∷ codes ".gate\\" ∷ []) 2 Unsupported }
+{}
+
+/// Limits, and which fault of a line comes first.
+pub fn worked_limits()
+    ensures long_name { IsRefused (codes ".model m" ∷ (codes ".inputs " ++ long 65) ∷ []) 2 (OverLimit NameBytes 65) }
+    ensures first_long_name { IsRefused (codes ".model m" ∷ (codes ".names " ++ (long 66 ++ (codes " " ++ long 65))) ∷ []) 2 (OverLimit NameBytes 66) }
+    ensures long_control { IsRefused (codes ".model m" ∷ codes ".clock c" ∷ (codes ".latch a b re " ++ long 65) ∷ []) 3 (OverLimit NameBytes 65) }
+    ensures many_inputs { IsRefused (codes ".model m" ∷ codes ".inputs a" ∷ (codes ".inputs" ++ many 256) ∷ []) 3 (OverLimit Inputs 257) }
+    ensures long_before_many { IsRefused (codes ".model m" ∷ (codes ".inputs" ++ (many 257 ++ (codes " " ++ long 65))) ∷ []) 2 (OverLimit NameBytes 65) }
+    ensures many_outputs { IsRefused (codes ".model m" ∷ (codes ".outputs" ++ many 257) ∷ []) 2 (OverLimit Outputs 257) }
+    ensures many_latches { IsRefused (codes ".model m" ∷ replicate 257 (codes ".latch a b")) 258 (OverLimit Latches 257) }
+    ensures many_gate_inputs { IsRefused (codes ".model m" ∷ (codes ".names" ++ many 258) ∷ []) 2 (OverLimit GateInputs 257) }
+{}
+
+/// Networks that are not sound, though each statement is right.
+pub fn worked_structures()
+    ensures undriven { IsRefused (codes ".model m" ∷ codes ".outputs z" ∷ []) 0 (Structure (Undriven (codes "z"))) }
+    ensures two_drivers { IsRefused (codes ".model m" ∷ codes ".inputs z" ∷ codes ".outputs z" ∷ codes ".names z" ∷ codes "1" ∷ []) 0 (Structure (TwoDrivers (codes "z"))) }
+{}

@@ -1,0 +1,138 @@
+//! What a line says.
+ghost use Rattle.std.specs.Prelude.{◌≡◌, ◌∷◌, None, Some};
+ghost use Rattle.std.specs.Option.{option_map, option_copied, option_to_list};
+ghost use Rattle.net_core.specs.Statements as said;
+ghost use Rattle.blif_in.specs.Inner.Measuring.{AreMeasurable};
+ghost use Rattle.blif_in.specs.Inner.Saying.{fields_said, parts_said, said_by};
+
+use hs_io::{Line, Name};
+use net_core::Start;
+
+/// What a line says, by its first field, with the fields behind it.
+#[derive(Clone, Copy)]
+pub(crate) enum Statement<'a> {
+    Model(&'a [Name]),
+    Inputs(&'a [Name]),
+    Outputs(&'a [Name]),
+    Clock(&'a [Name]),
+    Latch(&'a [Name]),
+    Names(&'a [Name]),
+    /// All fields of a row.
+    Row(&'a [Name]),
+    /// Another word that begins with a dot.
+    Other,
+}
+
+/// What a line says.
+pub(crate) fn statement_of(line: &Line) -> Statement<'_>
+    ensures says { said_by result ≡ said.statement_of line.now.fields }
+    ensures measurable { AreMeasurable line.now.fields → AreMeasurable (fields_said result) }
+{
+    let fields = line.fields.as_slice();
+    match fields {
+        [] => Statement::Row(fields),
+        [word, operands @ ..] => statement_by(word.bytes(), operands, fields),
+    }
+}
+
+/// What a line of these fields says.
+#[tactic(auto, using(crate::proofs::Names::measurable_tail))]
+fn statement_by<'a>(word: &[u8], operands: &'a [Name], fields: &'a [Name]) -> Statement<'a>
+    requires { fields.now ≡ word.now ∷ operands.now }
+    ensures says { said_by result ≡ said.statement_of (word.now ∷ operands.now) }
+    ensures measurable { AreMeasurable (word.now ∷ operands.now) → AreMeasurable (fields_said result) }
+{
+    if word == b".model".as_slice() {
+        Statement::Model(operands)
+    } else if word == b".inputs".as_slice() {
+        Statement::Inputs(operands)
+    } else if word == b".outputs".as_slice() {
+        Statement::Outputs(operands)
+    } else if word == b".clock".as_slice() {
+        Statement::Clock(operands)
+    } else if word == b".latch".as_slice() {
+        Statement::Latch(operands)
+    } else if word == b".names".as_slice() {
+        Statement::Names(operands)
+    } else if word.first() == Some(&b'.') {
+        Statement::Other
+    } else {
+        Statement::Row(fields)
+    }
+}
+
+/// The operands of a latch.
+#[derive(Clone, Copy)]
+pub(crate) struct LatchParts<'a> {
+    pub input: &'a Name,
+    pub output: &'a Name,
+    pub kind: Option<&'a Name>,
+    pub control: Option<&'a Name>,
+    pub start: Option<&'a Name>,
+}
+
+impl<'a> LatchParts<'a> {
+    /// A latch's input and output alone.
+    fn of(input: &'a Name, output: &'a Name) -> LatchParts<'a>
+        ensures { parts_said result ≡ record { input = input.now; output = output.now; kind = None; control = None; start = None } }
+    {
+        LatchParts {
+            input,
+            output,
+            kind: None,
+            control: None,
+            start: None,
+        }
+    }
+}
+
+/// The two to five operands of a latch.
+pub(crate) fn latch_parts(operands: &[Name]) -> Option<LatchParts<'_>>
+    ensures { option_map parts_said result ≡ said.latch_parts operands.now }
+{
+    match operands {
+        [input, output] => Some(LatchParts::of(input, output)),
+        [input, output, start] => Some(LatchParts {
+            start: Some(start),
+            ..LatchParts::of(input, output)
+        }),
+        [input, output, kind, control] => Some(LatchParts {
+            kind: Some(kind),
+            control: Some(control),
+            ..LatchParts::of(input, output)
+        }),
+        [input, output, kind, control, start] => Some(LatchParts {
+            kind: Some(kind),
+            control: Some(control),
+            start: Some(start),
+            ..LatchParts::of(input, output)
+        }),
+        _ => None,
+    }
+}
+
+/// The start that a field says, or one that is not known where it is missing.
+pub(crate) fn start_said(field: Option<&Name>) -> Option<Start>
+    ensures { result ≡ said.start_said (option_copied field.entry) }
+{
+    let Some(field) = field else {
+        return Some(Start::Unknown);
+    };
+    match field.bytes() {
+        b"0" => Some(Start::Zero),
+        b"1" => Some(Start::One),
+        b"2" => Some(Start::Free),
+        b"3" => Some(Start::Unknown),
+        _ => None,
+    }
+}
+
+/// The name of the clock, if the control is one.
+pub(crate) fn clock_named(control: Option<&Name>) -> Option<&Name>
+    ensures { said.clock_named (option_copied control.entry) ≡ option_to_list (option_copied result) }
+{
+    match control {
+        Some(name) if name.bytes() != b"NIL".as_slice() => Some(name),
+        _ => None,
+    }
+}
