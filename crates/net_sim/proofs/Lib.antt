@@ -1,0 +1,13 @@
+pub mod Texts
+pub mod Rows
+pub mod Evaluating
+pub mod Known
+pub mod Stepped
+pub mod FieldByField
+pub mod Taking
+pub mod Progress
+pub mod Beginning
+pub mod Exclusive
+pub mod Binary
+pub mod TableValues
+pub mod ReadSymbols

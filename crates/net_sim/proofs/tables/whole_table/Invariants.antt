@@ -1,0 +1,11 @@
+use Rattle.std.proofs.Common.{◌≡◌, ℕ, ◌<◌, false, get_or, length, vec_len}
+use Rattle.cubes.specs.Symbol.{symbol_of}
+use Rattle.net_sim.specs.Inner.Evaluated.{value_for}
+use Rattle.net_sim.proofs.tables.whole_table.Given as goal
+
+abbrev pub invariant-loop-number : goal.invariant-loop-number
+invariant-loop-number l = record {
+  wide : vec_len l.bits ≡ l.inputs;
+  long : length l.table ≡ l.number;
+  values : (k : ℕ) → k < l.number → get_or l.table k false ≡ value_for l.gate (symbol_of l.inputs k);
+}

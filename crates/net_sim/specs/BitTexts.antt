@@ -1,0 +1,16 @@
+-- Bits as texts (source: this product's profile): the symbols of a file, the lines of answers, and given starts.
+use Rattle.std.specs.Prelude.{◌≡◌, ℕ, Bool, if◌then◌else◌, List, [], ◌∷◌, length, map, codes}
+
+-- the character of a bit
+abbrev pub character_of : Bool → ℕ
+character_of bit = if bit then 49 else 48
+
+-- the text of bits in order; where there are none it is a dash
+abbrev pub bit_text : List Bool → List ℕ
+bit_text [] = codes "-"
+bit_text (bit ∷ bits) = map character_of (bit ∷ bits)
+
+-- the text is that of these bits, which are so many
+pub record IsBitText (count : ℕ) (text : List ℕ) (bits : List Bool) : Type 0 where
+  pub as_many : length bits ≡ count
+  pub is : text ≡ bit_text bits

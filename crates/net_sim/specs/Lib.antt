@@ -1,0 +1,5 @@
+pub mod BitTexts
+pub mod Symbols
+pub mod Starts
+pub mod Run
+pub mod Inner

@@ -1,0 +1,31 @@
+//! Runs networks on symbols.
+//!
+//! [`step_into`] is one step of a network, by an order in which its gates are evaluated: what it writes is
+//! what the definition of a step says of each sound network that the order is of. [`run`] takes a whole file
+//! of symbols, and gives the text of the answers, or the first cause why there is none, exactly where it stands.
+//! [`read_symbols`] reads the same files as numbers.
+//!
+//! Which texts are those of bits is said in `specs/BitTexts.antt`, which words a file of symbols says, and which
+//! of its lines is refused first, in `specs/Symbols.antt`, where a network begins in `specs/Starts.antt`,
+//! and what a run is in `specs/Run.antt`. What stands in `specs/Inner` serves private functions alone.
+//!
+//! A run makes tables of the gates that have few inputs before the first symbol (`tables`), and reads the file
+//! line by line (`lines`).
+#![tactic(auto)]
+
+mod bit_texts;
+mod failing;
+mod gate_values;
+mod lines;
+mod running;
+mod starting;
+mod stepping;
+mod symbols;
+mod tables;
+#[cfg(test)]
+mod tests;
+
+pub use failing::SimFail;
+pub use running::run;
+pub use stepping::step_into;
+pub use symbols::{SymbolFail, read_symbols};

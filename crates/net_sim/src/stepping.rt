@@ -1,0 +1,96 @@
+//! One step of a network.
+
+ghost use Rattle.std.specs.Prelude.{◌≡◌, ◌+◌, ◌<◌, ◌≤◌, All, List, Some, ◌++◌, length, slice_get, take, drop};
+ghost use Rattle.net_core.specs.declared.Network.{Network};
+ghost use Rattle.net_core.specs.Order.{IsOrderOf};
+ghost use Rattle.net_core.specs.Sound.{Sound};
+ghost use Rattle.net_core.specs.Step.{Step};
+ghost use Rattle.net_core.specs.declared.ordering.NumberedGate.{NumberedGate};
+ghost use Rattle.net_sim.specs.Inner.Evaluated.{bits_at, evaluated};
+ghost use Rattle.net_sim.specs.Inner.Tables.{AreTables, IsTable};
+
+use crate::gate_values::value_by;
+use hs_list::Items;
+use net_core::Order;
+
+/// One step of each network that the order is of: `z` becomes the output at the symbol `x`, and `state` the
+/// next latch values. What `scratch` holds before is not read. It takes no memory.
+pub fn step_into(
+    order: &Order,
+    state: &mut [bool],
+    x: &[bool],
+    z: &mut [bool],
+    scratch: &mut [bool],
+)
+    requires latches { length state.old ≡ order.now.latch_count }
+    requires inputs { length x.now ≡ order.now.input_count }
+    requires outputs { length z.old ≡ length order.now.output_signals.items }
+    requires signals { length scratch.old ≡ order.now.signal_count }
+    ensures { (N : Network) → Sound N → IsOrderOf N order.now → Step N state.old x.now z.new state.new }
+{
+    step_by(&[], order, state, x, z, scratch);
+}
+
+/// The same step, with tables of the gates as far as they go.
+pub(crate) fn step_by(
+    tables: &[Items<bool>],
+    order: &Order,
+    state: &mut [bool],
+    x: &[bool],
+    z: &mut [bool],
+    scratch: &mut [bool],
+)
+    requires tables { AreTables order.now.gates.items tables.now }
+    requires latches { length state.old ≡ order.now.latch_count }
+    requires inputs { length x.now ≡ order.now.input_count }
+    requires outputs { length z.old ≡ length order.now.output_signals.items }
+    requires signals { length scratch.old ≡ order.now.signal_count }
+    ensures { (N : Network) → Sound N → IsOrderOf N order.now → Step N state.old x.now z.new state.new }
+{
+    put(scratch, 0, x);
+    put(scratch, x.len(), state);
+    evaluate(tables, order, scratch);
+    read_signals(&order.output_signals, scratch, z);
+    read_signals(&order.latch_signals, scratch, state);
+}
+
+/// Writes bits from a place on.
+fn put(signals: &mut [bool], from: usize, bits: &[bool])
+    requires { from + length bits.now ≤ length signals.old }
+    ensures { signals.new ≡ take from signals.old ++ (bits.now ++ drop (from + length bits.now) signals.old) }
+{
+    signals[from..from + bits.len()].copy_from_slice(bits);
+}
+
+/// Gives the gates their values in the order of evaluation.
+fn evaluate(tables: &[Items<bool>], order: &Order, signals: &mut [bool])
+    requires tables { AreTables order.now.gates.items tables.now }
+    requires signals { length signals.old ≡ order.now.signal_count }
+    ensures { signals.new ≡ evaluated (order.now.input_count + order.now.latch_count) order.now.gates.items order.now.sequence.items signals.old }
+{
+    let base = order.input_count + order.latch_count;
+    for place in &order.sequence {
+        let gate = &order.gates[*place];
+        signals[base + *place] = value_by(table_at(tables, *place), gate, signals);
+    }
+}
+
+/// The table of the gate at a place, or the empty one.
+fn table_at(tables: &[Items<bool>], place: usize) -> &[bool]
+    ensures { (gates : List NumberedGate) (gate : NumberedGate) → AreTables gates tables.now → slice_get gates place ≡ Some gate → IsTable gate result.now }
+{
+    match tables.get(place) {
+        Some(table) => table.as_slice(),
+        None => &[],
+    }
+}
+
+/// Reads the signals of these numbers, where there is a place for each.
+fn read_signals(numbers: &[usize], signals: &[bool], bits: &mut [bool])
+    requires { All (λ s. s < length signals.now) numbers.now }
+    ensures { length numbers.now ≡ length bits.old → bits.new ≡ bits_at signals.now numbers.now }
+{
+    for place in 0..bits.len().min(numbers.len()) {
+        bits[place] = signals[numbers[place]];
+    }
+}
