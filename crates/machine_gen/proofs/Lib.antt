@@ -1,0 +1,10 @@
+pub mod Words
+pub mod Names
+pub mod Cubes
+pub mod Numbered
+pub mod Stepping
+pub mod Standing
+pub mod Accepting
+pub mod Lawfully
+pub mod Sides
+pub mod OneMachine

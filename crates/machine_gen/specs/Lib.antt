@@ -1,0 +1,4 @@
+pub mod Words
+pub mod MachineOf
+pub mod Parallel
+pub mod Inner

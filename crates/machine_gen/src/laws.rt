@@ -1,0 +1,33 @@
+//! Laws of generated machines, each the contract of a function that does nothing.
+
+ghost use Rattle.std.specs.Prelude.{◌≡◌};
+ghost use Rattle.machine_gen.specs.MachineOf.{HaveOneMachine, next_first, next_second};
+ghost use Rattle.machine_gen.specs.Parallel.{PartsAreParallel};
+ghost use Rattle.machine_gen.specs.Words.{word};
+
+/// The same words and numbers are those of one file.
+pub fn one_machine()
+    ensures { HaveOneMachine }
+{}
+
+/// The partitions by the first and by the second part are closed, neither zero nor one, and meet in zero, so
+/// a machine that is made has a parallel decomposition.
+pub fn parallel_exists()
+    ensures { PartsAreParallel }
+{}
+
+/// The first words of seed 42.
+pub fn words_of_42()
+    ensures first { word 42 0 ≡ 0xa15c02b7 }
+    ensures second { word 42 1 ≡ 0x7b47f409 }
+    ensures third { word 42 2 ≡ 0xba1d3330 }
+    ensures fourth { word 42 3 ≡ 0x83d2f293 }
+{}
+
+/// Where each of two first and of two second parts goes at each of two symbols, by the words of seed 42.
+pub fn parts_of_42()
+    ensures first_0 { (next_first (word 42) 2 1 0 0 ≡ 1) × (next_first (word 42) 2 1 0 1 ≡ 1) }
+    ensures first_1 { (next_first (word 42) 2 1 1 0 ≡ 0) × (next_first (word 42) 2 1 1 1 ≡ 1) }
+    ensures second_0 { (next_second (word 42) 2 1 0 0 ≡ 0) × (next_second (word 42) 2 1 0 1 ≡ 1) }
+    ensures second_1 { (next_second (word 42) 2 1 1 0 ≡ 1) × (next_second (word 42) 2 1 1 1 ≡ 0) }
+{}
