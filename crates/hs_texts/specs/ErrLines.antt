@@ -44,6 +44,18 @@ abbrev pub part_length_line : ℕ → ℕ → ℕ → List ℕ
 part_length_line part found states =
     as_line (codes "hsdec: part " ++ decimal part ++ codes " has " ++ decimal found ++ codes " labels, not " ++ decimal states)
 
+-- the line of two states that are together in all parts
+abbrev pub not_apart_line : List ℕ → List ℕ → List ℕ
+not_apart_line state other = as_line (codes "hsdec: states " ++ state ++ codes " and " ++ other ++ codes " not apart")
+
+-- the line of codes that have too many bits
+abbrev pub code_bits_line : ℕ → List ℕ
+code_bits_line bits = as_line (codes "hsdec: code has " ++ decimal bits ++ codes " bits")
+
+-- the line of a machine that has no decomposition of a kind
+abbrev pub no_split_line : List ℕ → List ℕ
+no_split_line kind = as_line (codes "hsdec: no " ++ kind ++ codes " decomposition")
+
 -- the line of a text that could not be put whole
 abbrev pub cannot_write_line : List ℕ
 cannot_write_line = as_line (codes "hsdec: cannot write")

@@ -2,7 +2,7 @@
 
 ghost use Rattle.std.specs.Prelude.{◌≡◌, ◌++◌, IfOk, OnOk, codes};
 ghost use Rattle.std.specs.Fmt.{decimal};
-ghost use Rattle.hs_texts.specs.ErrLines.{as_line, usage_line, cannot_read_line, too_long_line, kiss_line, conflict_line, more_line, unspecified_line, part_length_line, part_place_line};
+ghost use Rattle.hs_texts.specs.ErrLines.{as_line, usage_line, cannot_read_line, too_long_line, kiss_line, conflict_line, more_line, unspecified_line, part_length_line, part_place_line, not_apart_line, code_bits_line, no_split_line};
 
 use std::alloc::{AllocError, Global};
 
@@ -110,6 +110,38 @@ pub fn part_length(
     append_number(alloc, &mut line, b" has ", found as u64)?;
     append_number(alloc, &mut line, b" labels, not ", states as u64)?;
     line.push(b'\n')?;
+    Ok(line)
+}
+
+/// The line of two states, by their names, that are together in all parts.
+pub fn not_apart(alloc: Global, state: &[u8], other: &[u8]) -> Result<Vec<u8>, AllocError>
+    ensures { IfOk result (λ line. line.items ≡ not_apart_line state.now other.now) }
+{
+    let mut line = Vec::from_slice(alloc, b"hsdec: states ")?;
+    line.extend_from_slice(state)?;
+    line.extend_from_slice(b" and ")?;
+    line.extend_from_slice(other)?;
+    line.extend_from_slice(b" not apart\n")?;
+    Ok(line)
+}
+
+/// The line of codes that have too many bits.
+pub fn code_bits(alloc: Global, bits: usize) -> Result<Vec<u8>, AllocError>
+    ensures { IfOk result (λ line. line.items ≡ code_bits_line bits) }
+{
+    let mut line = Vec::new(alloc);
+    append_number(alloc, &mut line, b"hsdec: code has ", bits as u64)?;
+    line.extend_from_slice(b" bits\n")?;
+    Ok(line)
+}
+
+/// The line of a machine that has no decomposition of a kind.
+pub fn no_split(alloc: Global, kind: &[u8]) -> Result<Vec<u8>, AllocError>
+    ensures { IfOk result (λ line. line.items ≡ no_split_line kind.now) }
+{
+    let mut line = Vec::from_slice(alloc, b"hsdec: no ")?;
+    line.extend_from_slice(kind)?;
+    line.extend_from_slice(b" decomposition\n")?;
     Ok(line)
 }
 

@@ -12,12 +12,14 @@ const VERSION: &[u8] = b"hsdec 0.1.0\n";
 const ANSWERS: &[u8] = b"
 Exit status:
   0   the text was written whole
+  1   the machine has no decomposition of that kind
   2   the words are refused
   3   the text of the machine is refused
   4   two rows of the machine conflict
   5   the machine leaves something open
   7   there are more than the limit
-  8   the partition is refused
+  8   a partition is refused, or two states are together in all
+  9   the codes have more than 64 bits
   12  a file cannot be read
   13  a file is longer than 4,194,304 bytes
   14  the text could not be written whole

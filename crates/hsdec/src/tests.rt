@@ -69,16 +69,23 @@ const HELP: &[u8] = b"Commands:
   hsdec pairs FILE [--limit N] [--fill hold]
   hsdec low FILE PART [--fill hold]
   hsdec high FILE PART [--fill hold]
-  hsdec code FILE
+  hsdec code FILE [--reduce] [--fill hold]
+  hsdec assign FILE PARTS [--reduce] [--fill hold]
+  hsdec parallel FILE [--reduce] [--fill hold]
+  hsdec serial FILE [--reduce] [--fill hold]
+  hsdec cascade FILE [--reduce] [--fill hold]
+  hsdec feedback FILE [--reduce] [--fill hold]
 
 Exit status:
   0   the text was written whole
+  1   the machine has no decomposition of that kind
   2   the words are refused
   3   the text of the machine is refused
   4   two rows of the machine conflict
   5   the machine leaves something open
   7   there are more than the limit
-  8   the partition is refused
+  8   a partition is refused, or two states are together in all
+  9   the codes have more than 64 bits
   12  a file cannot be read
   13  a file is longer than 4,194,304 bytes
   14  the text could not be written whole

@@ -1,5 +1,5 @@
 -- What is made of a whole listing is right.
-use Rattle.std.proofs.Common.{◌≡◌, ℕ, ◌≤◌, List, length, map, sym, subst}
+use Rattle.std.proofs.Common.{◌≡◌, ℕ, ◌≤◌, List, None, length, map, refl, sym, subst}
 use Rattle.std.proofs.lemmas.List.{length-map}
 use Rattle.closed_lattice.specs.Closed.{IsClosedPartition}
 use Rattle.hs_lattice.specs.declared.Listing.{Listing}
@@ -21,16 +21,15 @@ use Rattle.hsdec_core.specs.Fill.{fill_of}
 use Rattle.hsdec_core.specs.Inner.Made.{finished}
 use Rattle.hsdec_core.specs.Inner.RightFor.{IsRightOf}
 use Rattle.hsdec_core.specs.ListTexts.{IsListText, lines_of, pair_line, partition_line}
-use Rattle.hsdec_core.specs.Promise.{IsPromised}
-use Rattle.hsdec_core.proofs.Right.{right_done}
+use Rattle.hsdec_core.specs.Promise.{IsReport}
+use Rattle.hsdec_core.specs.Splits.{kind_of}
+use Rattle.hsdec_core.proofs.Right.{right_report}
 
 -- a list of all values with a property, for a command that promises its lines
-listed : {M : Type 0} (line : M → List ℕ) (precedes : M → M → Type 0) (P : M → Type 0) (job : Job) (F : KissFile) (c : Command) (members : List M) (text : List ℕ) (made : Outcome) → job.command ≡ c → Accepted F (fill_of job)
-    → (HasFew precedes P job.limit → CanServe c job F) → (IsListText line precedes P job.limit text → IsPromised c job F text) → Lists precedes P members → length members ≤ job.limit → text ≡ lines_of line members → made ≡ finished text → IsRightOf job F made
-listed line precedes P job F c members text made command accepted serves promises lists few lines whole =
-    right_done job F text made accepted
-    (subst (λ (d : Command). CanServe d job F) (sym command) (serves (members, lists, few)))
-    (subst (λ (d : Command). IsPromised d job F text) (sym command) (promises (members, lists, few, lines))) whole
+listed : {M : Type 0} (line : M → List ℕ) (precedes : M → M → Type 0) (P : M → Type 0) (job : Job) (F : KissFile) (c : Command) (members : List M) (text : List ℕ) (made : Outcome) → job.command ≡ c → kind_of c ≡ None → Accepted F (fill_of job)
+    → (HasFew precedes P job.limit → CanServe c job F) → (IsListText line precedes P job.limit text → IsReport c job F text) → Lists precedes P members → length members ≤ job.limit → text ≡ lines_of line members → made ≡ finished text → IsRightOf job F made
+listed line precedes P job F c members text made command none accepted serves promises lists few lines whole =
+    right_report c job F text made command none accepted (serves (members, lists, few)) (promises (members, lists, few, lines)) whole
 
 module _ (job : Job) (F : KissFile) (listing : Listing (List ℕ)) (all lent : List (List ℕ)) (text : List ℕ) (made : Outcome) (accepted : Accepted F (fill_of job)) (is : listing ≡ Whole all)
     (few : IfWhole listing (λ items. length items ≤ job.limit)) (same : lent ≡ all) (lines : text ≡ lines_of partition_line lent) (whole : made ≡ finished text) where
@@ -43,13 +42,13 @@ module _ (job : Job) (F : KissFile) (listing : Listing (List ℕ)) (all lent : L
   -- the closed partitions
   pub all_closed : job.command ≡ commands.Closed → IfWhole listing (Lists Before (IsClosedPartition F)) → IsRightOf job F made
   all_closed command lists =
-      listed partition_line Before (IsClosedPartition F) job F commands.Closed all text made command accepted (λ h. h) (λ h. h)
+      listed partition_line Before (IsClosedPartition F) job F commands.Closed all text made command refl accepted (λ h. h) (λ h. h)
       (subst (λ (l : Listing (List ℕ)). IfWhole l (Lists Before (IsClosedPartition F))) is lists) few_here lines_here whole
 
   -- those that the outputs respect
   pub all_consistent : job.command ≡ commands.Output → IfWhole listing (Lists Before (IsClosedAndConsistent F)) → IsRightOf job F made
   all_consistent command lists =
-      listed partition_line Before (IsClosedAndConsistent F) job F commands.Output all text made command accepted (λ h. h) (λ h. h)
+      listed partition_line Before (IsClosedAndConsistent F) job F commands.Output all text made command refl accepted (λ h. h) (λ h. h)
       (subst (λ (l : Listing (List ℕ)). IfWhole l (Lists Before (IsClosedAndConsistent F))) is lists) few_here lines_here whole
 
 length_map : {A B : Type 0} (f : A → B) (xs : List A) (n : ℕ) → length xs ≤ n → length (map f xs) ≤ n
@@ -59,7 +58,7 @@ length_map f xs n few = subst (λ (m : ℕ). m ≤ n) (sym (length-map xs f)) fe
 pub all_pairs : (job : Job) (F : KissFile) (listing : Listing MmPair) (all lent : List MmPair) (text : List ℕ) (made : Outcome) → Accepted F (fill_of job) → listing ≡ Whole all → IfWhole listing (λ items. length items ≤ job.limit) → lent ≡ all
     → text ≡ lines_of pair_line (map sides_of lent) → made ≡ finished text → job.command ≡ commands.Pairs → IfWhole listing (λ items. Lists RightBefore (IsMmPair F) (map sides_of items)) → IsRightOf job F made
 all_pairs job F listing all lent text made accepted is few same lines whole command lists =
-    listed pair_line RightBefore (IsMmPair F) job F commands.Pairs (map sides_of all) text made command accepted (λ h. h) (λ h. h)
+    listed pair_line RightBefore (IsMmPair F) job F commands.Pairs (map sides_of all) text made command refl accepted (λ h. h) (λ h. h)
     (subst (λ (l : Listing MmPair). IfWhole l (λ items. Lists RightBefore (IsMmPair F) (map sides_of items))) is lists)
     (length_map sides_of all job.limit (subst (λ (l : Listing MmPair). IfWhole l (λ items. length items ≤ job.limit)) is few))
     (subst (λ (xs : List MmPair). text ≡ lines_of pair_line (map sides_of xs)) same lines) whole

@@ -1,6 +1,5 @@
 -- What `reduce` makes of a machine is right, and it is never refused.
-use Rattle.std.proofs.Common.{◌≡◌, ◌≢◌, ℕ, List, sym, ap, ◌∙◌, subst}
-use Rattle.job_words.specs.declared.command.Command.{Command}
+use Rattle.std.proofs.Common.{◌≡◌, ◌≢◌, ℕ, List, refl, sym, ap, ◌∙◌, subst}
 use Rattle.job_words.specs.declared.command.Command.TheVariants as commands
 use Rattle.job_words.specs.declared.jobs.Job.{Job}
 use Rattle.kiss2.specs.declared.kiss_file.KissFile.{KissFile}
@@ -17,13 +16,11 @@ use Rattle.state_reduce.specs.Cause.{Caused}
 use Rattle.state_reduce.specs.Quotient.{AnswersAsMembers, AreBlocksInOrder, IsQuotient}
 use Rattle.state_reduce.proofs.Unrefused.{unrefused}
 use Rattle.hsdec_core.specs.declared.outcomes.Outcome.{Outcome}
-use Rattle.hsdec_core.specs.Cause.{CanServe}
 use Rattle.hsdec_core.specs.Fill.{fill_of}
 use Rattle.hsdec_core.specs.Inner.Made.{finished}
 use Rattle.hsdec_core.specs.Inner.RightFor.{IsRightOf}
-use Rattle.hsdec_core.specs.Promise.{IsPromised}
 use Rattle.hsdec_core.specs.ReducedText.{IsReduced, IsReducedText}
-use Rattle.hsdec_core.proofs.Right.{right_done}
+use Rattle.hsdec_core.proofs.Right.{right_report}
 
 module _ (F : KissFile) (p : List ℕ) (lawful : IsLawful F) (alike : IsEquivalence F p) where
   -- no refusal but for memory
@@ -46,6 +43,4 @@ module _ (F : KissFile) (p : List ℕ) (lawful : IsLawful F) (alike : IsEquivale
         reset = λ word words. ap (λ (s : ℕ). answers Q s word) quotient.reset ∙ members F.reset word lawful.reset words;
       } in
       let read : Kiss text Q = subst (λ (t : List ℕ). Kiss t Q) (sym whole) (says_again Q lawful_Q) in
-      right_done job F text made accepted
-      (subst (λ (c : Command). CanServe c job F) (sym command) tt)
-      (subst (λ (c : Command). IsPromised c job F text) (sym command) (p, Q, reduced, whole, read)) is
+      right_report commands.Reduce job F text made command refl accepted tt (p, Q, reduced, whole, read) is

@@ -13,13 +13,14 @@ use Rattle.hsdec_core.specs.Answer.{ExactlyWhere, ExactlyWherePut, ExactlyWhereR
 use Rattle.kiss2.specs.declared.fill.Fill.TheVariants.{Refuse, Hold}
 use Rattle.kiss2.specs.declared.kiss_file.KissFile.{KissFile}
 use Rattle.kiss2.specs.Machine.{Accepted, Conflicting}
-use Rattle.hsdec_core.specs.Cause.{CallsFor, CanServe, CommandCallsFor, FileCallsFor, HasFew, HasMore, IsNoMachine, IsNoPartText, IsOpen, IsPartText, IsUnrefused, ListsMore, RefusesPart, SaysMachine}
+use Rattle.hsdec_core.specs.Cause.{CallsFor, CallsForBy, CanServe, CommandCallsFor, FileCallsFor, HasFew, HasMore, IsNoMachine, IsNoPartText, IsOpen, IsPartText, IsUnrefused, ListsMore, RefusesPart, ReportCallsFor, SaysMachine, WorkCallsFor}
 use Rattle.hsdec_core.specs.Fill.{fill_of}
 use Rattle.hsdec_core.specs.Inner.Made.{answer_of, made_text, line_at, TextPut}
 use Rattle.hsdec_core.specs.Inner.RightFor.{IsRightFor}
 use Rattle.hsdec_core.specs.Line.{IsLineFor}
 use Rattle.hsdec_core.specs.Loading.{IsTooLong, IsWithin}
-use Rattle.hsdec_core.specs.Promise.{HoldsMachine, IsAsked, IsAskedOrShown, IsDecompositionOf, IsEvidence, IsPromised, kind_of}
+use Rattle.hsdec_core.specs.Promise.{HoldsMachine, IsAsked, IsAskedOrShown, IsDecompositionOf, IsEvidence, IsPromisedBy}
+use Rattle.hsdec_core.specs.Splits.{kind_of}
 use Rattle.closed_lattice.specs.Closed.{IsClosedPartition}
 use Rattle.mm_lattice.specs.Laws.{right_before_chains, right_never_before}
 use Rattle.mm_lattice.specs.MmPairs.{IsMmPair, RightBefore}
@@ -29,8 +30,11 @@ use Rattle.partition.specs.Before.{Before}
 use Rattle.partition.specs.Laws.World.{before_chains, before_never}
 use Rattle.partition.specs.Partition.{IsPartition}
 use Rattle.partition.proofs.Faults.{no_fault_of_partition}
+use Rattle.state_codes.specs.declared.split.Kind.{Kind}
+use Rattle.hsdec_core.proofs.Codes.{work_calls_for_one}
 use Rattle.hsdec_core.proofs.KissLaws.{one_file}
 use Rattle.hsdec_core.proofs.Lines.{line_at-made}
+use Rattle.hsdec_core.proofs.Works.{one_work}
 
 -- a machine calls for one answer of a command
 part_or_none : (F : KissFile) (text : List ℕ) → (p : List ℕ) × IsPartText F text p → IsNoPartText F text → ⊥
@@ -73,20 +77,29 @@ refused_or_more commands.Output job F h k = h
 refused_or_more commands.Pairs job F h k = h
 refused_or_more _ job F h k = absurd k
 
+report_calls_for_one : (c : Command) (job : Job) (F : KissFile) (a b : Answer) → ReportCallsFor a c job F → ReportCallsFor b c job F → a ≡ b
+report_calls_for_one c job F Done Done h k = refl
+report_calls_for_one c job F PartRefused PartRefused h k = refl
+report_calls_for_one c job F Done PartRefused h k = absurd (served_or_refused c job F h k)
+report_calls_for_one c job F PartRefused Done h k = absurd (served_or_refused c job F k h)
+report_calls_for_one c job F More More h k = refl
+report_calls_for_one c job F Done More h k = absurd (served_or_more c job F h k)
+report_calls_for_one c job F More Done h k = absurd (served_or_more c job F k h)
+report_calls_for_one c job F PartRefused More h k = absurd (refused_or_more c job F h k)
+report_calls_for_one c job F More PartRefused h k = absurd (refused_or_more c job F k h)
+report_calls_for_one c job F Done _ h k = absurd k
+report_calls_for_one c job F PartRefused _ h k = absurd k
+report_calls_for_one c job F More _ h k = absurd k
+report_calls_for_one c job F _ b h k = absurd h
+
+-- a command that writes a decomposition works on one machine
+calls_by_for_one : (o : Option Kind) (c : Command) (job : Job) (F : KissFile) (a b : Answer) → CallsForBy o a c job F → CallsForBy o b c job F → a ≡ b
+calls_by_for_one None c job F a b h k = report_calls_for_one c job F a b h k
+calls_by_for_one (Some kind) c job F a b (W, work, h) (V, other, k) =
+    work_calls_for_one kind job W a b h (subst (λ (U : KissFile). WorkCallsFor b kind job U) (one_work job F V W other work) k)
+
 command_calls_for_one : (c : Command) (job : Job) (F : KissFile) (a b : Answer) → CommandCallsFor a c job F → CommandCallsFor b c job F → a ≡ b
-command_calls_for_one c job F Done Done h k = refl
-command_calls_for_one c job F PartRefused PartRefused h k = refl
-command_calls_for_one c job F Done PartRefused h k = absurd (served_or_refused c job F h k)
-command_calls_for_one c job F PartRefused Done h k = absurd (served_or_refused c job F k h)
-command_calls_for_one c job F More More h k = refl
-command_calls_for_one c job F Done More h k = absurd (served_or_more c job F h k)
-command_calls_for_one c job F More Done h k = absurd (served_or_more c job F k h)
-command_calls_for_one c job F PartRefused More h k = absurd (refused_or_more c job F h k)
-command_calls_for_one c job F More PartRefused h k = absurd (refused_or_more c job F k h)
-command_calls_for_one c job F Done _ h k = absurd k
-command_calls_for_one c job F PartRefused _ h k = absurd k
-command_calls_for_one c job F More _ h k = absurd k
-command_calls_for_one c job F _ b h k = absurd h
+command_calls_for_one c job F a b h k = calls_by_for_one (kind_of c) c job F a b h k
 
 -- a machine is accepted, conflicts or leaves something open, and never two of these
 accepted_or : (job : Job) (F : KissFile) (a : Answer) → (a ≡ Conflict) ⊎ ((a ≡ Unspecified) ⊎ (FileCallsFor job F a → Accepted F (fill_of job) × CommandCallsFor a job.command job F))
@@ -396,13 +409,13 @@ pub made_in_memory : (job : Result Job ℕ) (holds : List ℕ → Option (List �
 made_in_memory job holds Faulted (Err wanting) right e = cc
 made_in_memory job holds Faulted (Ok made) right e = right.in_memory e
 
--- a text of a command that decomposes is a decomposition
-kinded : (c : Command) (j : Job) (bytes text : List ℕ) (F : KissFile) (holds : List ℕ → Option (List ℕ)) (given given' : Option (List ℕ)) → HoldsMachine (holds j.file) (fill_of j) bytes F → IsPromised c j F text → Appends given text given'
-    → IfSome (kind_of c) (λ kind. (t : List ℕ) × IsDecompositionOf kind j holds t × Appends given t given')
-kinded commands.Code j bytes text F holds given given' said promised put = (text, (bytes, F, said, promised), put)
-kinded _ j bytes text F holds given given' said promised put = tt
+-- a text of a command that writes a decomposition is one
+kinded : (o : Option Kind) (j : Job) (bytes text : List ℕ) (F : KissFile) (holds : List ℕ → Option (List ℕ)) (given given' : Option (List ℕ)) → HoldsMachine (holds j.file) (fill_of j) bytes F → IsPromisedBy o j.command j F text → Appends given text given'
+    → IfSome o (λ kind. (t : List ℕ) × IsDecompositionOf kind j holds t × Appends given t given')
+kinded (Some kind) j bytes text F holds given given' said promised put = (text, (bytes, F, said, promised), put)
+kinded None j bytes text F holds given given' said promised put = tt
 
 pub headline_of : (job : Result Job ℕ) (holds : List ℕ → Option (List ℕ)) (given given' : Option (List ℕ)) → IfOk job (λ j. (text : List ℕ) × IsAsked j holds text × Appends given text given')
     → IfOk job (λ j. IfSome (kind_of j.command) (λ kind. (text : List ℕ) × IsDecompositionOf kind j holds text × Appends given text given'))
 headline_of (Err word) holds given given' h = tt
-headline_of (Ok j) holds given given' (text, (bytes, F, said, promised), put) = kinded j.command j bytes text F holds given given' said promised put
+headline_of (Ok j) holds given given' (text, (bytes, F, said, promised), put) = kinded (kind_of j.command) j bytes text F holds given given' said promised put

@@ -1,9 +1,6 @@
 -- What only private functions and proofs cite.
-pub mod CodeHeader
-pub mod CodeNames
-pub mod CodeNetwork
 pub mod Load
 pub mod Made
 pub mod PartOperand
+pub mod Planned
 pub mod RightFor
-pub mod Source

@@ -1,47 +1,52 @@
--- The kinds of decomposition, and what each asks of its parts (source: Hartmanis and Stearns).
-use Rattle.std.specs.Prelude.{◌≡◌, ℕ, ◌<◌, ◌↔◌, ◌⊎◌, All, Contains, List, [], ◌∷◌, Some, length, slice_get}
-use Rattle.blif_out.specs.declared.header.Header.{Header}
-use Rattle.blif_out.specs.declared.header.LatchNote.{LatchNote}
+-- The kinds of decomposition, what each asks of its parts, and that no step of one can be taken in smaller ones (source:
+-- Hartmanis and Stearns). A kind that no command writes asks what no parts meet.
+use Rattle.std.specs.Prelude.{◌≡◌, ⊤, List, length}
+use Rattle.feedback_split.specs.Best.{IsBestFeedback}
+use Rattle.feedback_split.specs.Choice.{IsFeedbackChoice}
+use Rattle.feedback_split.specs.Kind.{IsFeedback}
+use Rattle.job_words.specs.declared.jobs.Job.{Job}
 use Rattle.kiss2.specs.declared.kiss_file.KissFile.{KissFile}
-use Rattle.net_core.specs.declared.Gate.{Gate}
-use Rattle.net_core.specs.declared.Network.{Network}
-use Rattle.partition.specs.Partition.{IsZero, Together}
+use Rattle.parallel_split.specs.Best.{IsBestParallel}
+use Rattle.parallel_split.specs.Choice.{IsParallelChoice}
+use Rattle.parallel_split.specs.Kind.{IsParallel}
+use Rattle.serial_split.specs.Best.{IsBestCascade, IsBestSerial}
+use Rattle.serial_split.specs.Choice.{IsCascadeChoice, IsSerialChoice}
+use Rattle.serial_split.specs.Kind.{IsCascade, IsSerial}
 use Rattle.state_codes.specs.declared.split.Kind.{Kind}
-use Rattle.state_codes.specs.declared.split.Kind.TheVariants.{Code}
+use Rattle.state_codes.specs.declared.split.Kind.TheVariants.{Code, Assign, Parallel, Serial, Cascade, Feedback}
 use Rattle.state_codes.specs.declared.split.Part.{Part}
-use Rattle.state_codes.specs.Agreement.{AgreeAt}
-use Rattle.state_codes.specs.Split.{IsPart}
-use Rattle.hsdec_core.specs.OwnPairs.{Reads}
-use Rattle.hsdec_core.specs.Permits.{AgreeOn}
+use Rattle.state_codes.specs.Kinds.{PartsMeetInZero}
+use Rattle.hsdec_core.specs.Splits.{AreGivenParts, code_parts}
 
--- bit c of the codes is one of part j
-abbrev pub IsBitOf : Header → ℕ → ℕ → Type 0
-IsBitOf H j c = (note : LatchNote) × (slice_get H.latches c ≡ Some note) × (note.part ≡ j)
+-- what a kind asks of the parts of the machine that a job works on
+abbrev pub HasParts : Kind → Job → KissFile → List Part → Type 0
+HasParts Code job W parts = parts ≡ code_parts (length W.states)
+HasParts Assign job W parts = AreGivenParts (length W.states) job.second parts × PartsMeetInZero parts
+HasParts Parallel job W parts = IsParallel W parts
+HasParts Serial job W parts = IsSerial W parts
+HasParts Cascade job W parts = IsCascade W parts
+HasParts Feedback job W parts = IsFeedback W parts
+HasParts _ job W parts = ⊥
 
--- part j of so many states: two of them are together in its partition exactly where their codes agree on its bits
-pub record IsPartOf (states : ℕ) (H : Header) (j : ℕ) (part : Part) : Type 0 where
-  pub lawful : IsPart states part
-  pub bits : (s t : ℕ) → s < states → t < states → Together part.partition s t ↔ AgreeOn H.words (IsBitOf H j) s t
+-- nothing stands strictly between neighbours of a chain, no carrier can be joined further, and no parallel part is spared or
+-- has a split of its own
+abbrev pub IsBest : Kind → KissFile → List Part → Type 0
+IsBest Parallel W parts = IsBestParallel W parts
+IsBest Serial W parts = IsBestSerial W parts
+IsBest Cascade W parts = IsBestCascade W parts
+IsBest Feedback W parts = IsBestFeedback W parts
+IsBest _ W parts = ⊤
 
--- a carrier bit of a part: it is equal for states of one block of the carrier
-abbrev pub IsCarrierBit : Header → Part → ℕ → Type 0
-IsCarrierBit H part c = (s t : ℕ) → Together part.carrier s t → AgreeAt H.words c s t
+-- which of several right decompositions it is
+abbrev pub IsChoice : Kind → KissFile → List Part → Type 0
+IsChoice Parallel W parts = IsParallelChoice W parts
+IsChoice Serial W parts = IsSerialChoice W parts
+IsChoice Cascade W parts = IsCascadeChoice W parts
+IsChoice Feedback W parts = IsFeedbackChoice W parts
+IsChoice _ W parts = ⊤
 
--- a gate of part j may read the bits of that part, and the carrier bits of the parts that it reads
-abbrev pub MayRead : Header → ℕ → Part → ℕ → Type 0
-MayRead H j part c =
-    IsBitOf H j c
-    ⊎ ((l : ℕ) × (other : Part) × Contains part.reads l × (slice_get H.parts l ≡ Some other) × IsBitOf H l c × IsCarrierBit H other c)
-
--- what a kind asks of the parts; a kind that no command writes has none
-abbrev pub HasParts : Kind → List Part → Type 0
-HasParts Code parts = (part : Part) × (parts ≡ part ∷ []) × IsZero part.partition × (part.carrier ≡ part.partition) × (part.reads ≡ [])
-HasParts _ parts = ⊥
-
--- the parts are what the bits of the codes say, each gate of a latch reads what its part may read, and the parts are as
--- the kind asks
-pub record IsWithinKind (W : KissFile) (N : Network) (H : Header) : Type 0 where
-  pub parts : (j : ℕ) (part : Part) → slice_get H.parts j ≡ Some part → IsPartOf (length W.states) H j part
-  pub owned : All (λ note. note.part < length H.parts) H.latches
-  pub reads : (i c : ℕ) (note : LatchNote) (gate : Gate) (part : Part) → slice_get H.latches i ≡ Some note → slice_get N.gates i ≡ Some gate → slice_get H.parts note.part ≡ Some part → Reads N gate c → MayRead H note.part part c
-  pub kind : HasParts H.kind H.parts
+-- the parts are as the kind asks, best of their kind, and the ones that are chosen
+pub record IsSplitOf (kind : Kind) (job : Job) (W : KissFile) (parts : List Part) : Type 0 where
+  pub parts_of_kind : HasParts kind job W parts
+  pub best : IsBest kind W parts
+  pub choice : IsChoice kind W parts

@@ -1,8 +1,6 @@
 pub mod Answer
-pub mod Carries
 pub mod Cause
 pub mod CheckReport
-pub mod Decomposition
 pub mod Digits
 pub mod ExtremeTexts
 pub mod Fill
@@ -12,9 +10,10 @@ pub mod KissTexts
 pub mod Line
 pub mod ListTexts
 pub mod Loading
-pub mod Named
-pub mod OwnPairs
-pub mod Permits
+pub mod PartTexts
 pub mod Promise
 pub mod Put
 pub mod ReducedText
+pub mod Splits
+pub mod Work
+pub mod Written

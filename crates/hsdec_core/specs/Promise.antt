@@ -9,35 +9,39 @@ use Rattle.kiss2.specs.Kiss.{Kiss}
 use Rattle.kiss2.specs.Lawful.{IsLawful}
 use Rattle.kiss2.specs.Machine.{Accepted}
 use Rattle.state_codes.specs.declared.split.Kind.{Kind}
-use Rattle.state_codes.specs.declared.split.Kind.TheVariants.{Code}
 use Rattle.closed_lattice.specs.Closed.{IsClosedPartition}
 use Rattle.mm_lattice.specs.MmPairs.{IsMmPair, RightBefore}
 use Rattle.output_consistent.specs.Outputs.{IsClosedAndConsistent}
 use Rattle.partition.specs.Before.{Before}
 use Rattle.hsdec_core.specs.CheckReport.{IsChecked}
-use Rattle.hsdec_core.specs.Decomposition.{IsWritten}
 use Rattle.hsdec_core.specs.ExtremeTexts.{IsHighText, IsLowText}
 use Rattle.hsdec_core.specs.Fill.{fill_of}
 use Rattle.hsdec_core.specs.ListTexts.{IsEvidenceText, IsListText, pair_line, partition_line}
 use Rattle.hsdec_core.specs.Loading.{IsText}
 use Rattle.hsdec_core.specs.ReducedText.{IsReducedText}
+use Rattle.hsdec_core.specs.Splits.{kind_of}
+use Rattle.hsdec_core.specs.Written.{IsWritten}
 
--- the kind of decomposition that a command writes, if it writes one
-abbrev pub kind_of : Command → Option Kind
-kind_of commands.Code = Some Code
-kind_of _ = None
+-- the text is what a command that prints what it finds promises for the machine of its file; one that is not built
+-- promises none
+abbrev pub IsReport : Command → Job → KissFile → List ℕ → Type 0
+IsReport commands.Check job F text = IsChecked F text
+IsReport commands.Reduce job F text = IsReducedText F (fill_of job) text
+IsReport commands.Low job F text = IsLowText F job.second text
+IsReport commands.High job F text = IsHighText F job.second text
+IsReport commands.Closed job F text = IsListText partition_line Before (IsClosedPartition F) job.limit text
+IsReport commands.Output job F text = IsListText partition_line Before (IsClosedAndConsistent F) job.limit text
+IsReport commands.Pairs job F text = IsListText pair_line RightBefore (IsMmPair F) job.limit text
+IsReport _ job F text = ⊥
 
--- the text is what a command promises for the machine of its file; a command that is not built promises none
+-- by the kind of decomposition that the command writes, if it writes one
+abbrev pub IsPromisedBy : Option Kind → Command → Job → KissFile → List ℕ → Type 0
+IsPromisedBy None command job F text = IsReport command job F text
+IsPromisedBy (Some kind) command job F text = IsWritten kind job F text
+
+-- the text is what a command promises for the machine of its file
 abbrev pub IsPromised : Command → Job → KissFile → List ℕ → Type 0
-IsPromised commands.Check job F text = IsChecked F text
-IsPromised commands.Code job F text = IsWritten F Code text
-IsPromised commands.Reduce job F text = IsReducedText F (fill_of job) text
-IsPromised commands.Low job F text = IsLowText F job.second text
-IsPromised commands.High job F text = IsHighText F job.second text
-IsPromised commands.Closed job F text = IsListText partition_line Before (IsClosedPartition F) job.limit text
-IsPromised commands.Output job F text = IsListText partition_line Before (IsClosedAndConsistent F) job.limit text
-IsPromised commands.Pairs job F text = IsListText pair_line RightBefore (IsMmPair F) job.limit text
-IsPromised _ job F text = ⊥
+IsPromised command job F text = IsPromisedBy (kind_of command) command job F text
 
 -- the text is that of the evidence that there are more than the limit
 abbrev pub IsShown : Command → Job → KissFile → List ℕ → Type 0
@@ -70,4 +74,4 @@ IsAskedOrShown job holds text = IsAsked job holds text ⊎ IsEvidence job holds 
 -- a decomposition of that kind, of the machine that a job's file says
 abbrev pub IsDecompositionOf : Kind → Job → (List ℕ → Option (List ℕ)) → List ℕ → Type 0
 IsDecompositionOf kind job holds text =
-    (bytes : List ℕ) × (F : KissFile) × HoldsMachine (holds job.file) (fill_of job) bytes F × IsWritten F kind text
+    (bytes : List ℕ) × (F : KissFile) × HoldsMachine (holds job.file) (fill_of job) bytes F × IsWritten kind job F text

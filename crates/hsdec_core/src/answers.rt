@@ -42,7 +42,7 @@ pub enum Answer {
     CoverRefused,
     /// The machine is not definite.
     NotDefinite,
-    /// No word of that length ends in the reset state.
+    /// No word of as many symbols as the order of a definite machine ends in the reset state.
     NotReached,
     /// The machine has too many inputs.
     TooManyInputs,

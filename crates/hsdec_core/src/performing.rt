@@ -1,9 +1,9 @@
 //! From words to what is made in memory.
 
-ghost use Rattle.std.specs.Prelude.{◌≡◌, ◌-◌, ◌^◌, ◌<◌, ◌≤◌, ◌↔◌, ℕ, false, List, IfOk, IsErr, length};
+ghost use Rattle.std.specs.Prelude.{◌≡◌, ◌-◌, ◌^◌, ◌<◌, ◌≤◌, ◌↔◌, ℕ, List, IfOk, IsErr, length};
 ghost use Rattle.hs_io.specs.Counts.{Rose};
 ghost use Rattle.job_words.specs.declared.command.Command.TheVariants as commands;
-ghost use Rattle.job_words.specs.Job.{IsLimit, JobOf};
+ghost use Rattle.job_words.specs.Job.{HasFewSlashes, IsLimit, JobOf};
 ghost use Rattle.job_words.specs.Table.{IsBuilt};
 ghost use Rattle.kiss2.specs.Lawful.{IsLawful};
 ghost use Rattle.kiss2.specs.Machine.{Accepted};
@@ -12,12 +12,12 @@ ghost use Rattle.hsdec_core.specs.Inner.RightFor.{IsRightFor, IsRightOf, IsRight
 ghost use Rattle.hsdec_core.specs.Loading.{IsWithin};
 
 use crate::check_command::check;
-use crate::code_command::code;
 use crate::extreme_commands::{high, low};
 use crate::list_commands::{closed, output, pairs};
 use crate::loading::{Loaded, load_operand};
 use crate::reduce_command::reduce;
 use crate::refusals::{conflict, kiss_refused, unspecified};
+use crate::split_commands::decompose;
 use crate::{Answer, Outcome};
 use hs_io::Shelf;
 use hs_texts::err_lines;
@@ -54,7 +54,7 @@ pub fn perform<F: Shelf>(alloc: Global, words: &Words, shelf: &mut F) -> Result<
 /// Makes what a job asks for of the text of its file.
 fn perform_on(alloc: Global, job: &Job, text: &[u8]) -> Result<Outcome, AllocError>
     requires built { IsBuilt job.now.command }
-    requires unheld { job.now.command ≡ commands.Code → job.now.hold ≡ false }
+    requires few { job.now.command ≡ commands.Assign → HasFewSlashes job.now.second }
     requires limited { IsLimit job.now.limit }
     requires within { IsWithin text.now }
     ensures { IfOk result (IsRightOn job.now text.now) }
@@ -69,13 +69,13 @@ fn perform_on(alloc: Global, job: &Job, text: &[u8]) -> Result<Outcome, AllocErr
 /// Makes what a job asks for of the record of its file.
 fn perform_of(alloc: Global, job: &Job, file: KissFile) -> Result<Outcome, AllocError>
     requires built { IsBuilt job.now.command }
-    requires unheld { job.now.command ≡ commands.Code → job.now.hold ≡ false }
+    requires few { job.now.command ≡ commands.Assign → HasFewSlashes job.now.second }
     requires limited { IsLimit job.now.limit }
     requires lawful { IsLawful file }
     ensures { IfOk result (IsRightOf job.now file) }
 {
     match Machine::build(alloc, &file, fill(job)) {
-        Ok(machine) => command(alloc, job, file, &machine),
+        Ok(machine) => command(alloc, job, file, machine),
         Err(BuildFail::Conflict { row_a, row_b }) => conflict(alloc, row_a, row_b),
         Err(
             BuildFail::Unspecified {
@@ -93,31 +93,36 @@ fn command(
     alloc: Global,
     job: &Job,
     file: KissFile,
-    machine: &Machine,
+    machine: Machine,
 ) -> Result<Outcome, AllocError>
     requires built { IsBuilt job.now.command }
-    requires unheld { job.now.command ≡ commands.Code → job.now.hold ≡ false }
+    requires few { job.now.command ≡ commands.Assign → HasFewSlashes job.now.second }
     requires limited { IsLimit job.now.limit }
     requires lawful { IsLawful file }
     requires accepted { Accepted file (fill_of job.now) }
-    requires machine { machine.now ≡ file }
+    requires machine { machine ≡ file }
     ensures { IfOk result (IsRightOf job.now file) }
 {
     match job.command {
         Command::Check => check(alloc, job, &file),
-        Command::Code => code(alloc, job, file),
-        Command::Low => low(alloc, job, machine),
-        Command::High => high(alloc, job, machine),
-        Command::Reduce => reduce(alloc, job, &file, machine),
-        Command::Closed => closed(alloc, job, machine),
-        Command::Output => output(alloc, job, machine),
-        Command::Pairs => pairs(alloc, job, machine),
+        Command::Low => low(alloc, job, &machine),
+        Command::High => high(alloc, job, &machine),
+        Command::Reduce => reduce(alloc, job, &file, &machine),
+        Command::Closed => closed(alloc, job, &machine),
+        Command::Output => output(alloc, job, &machine),
+        Command::Pairs => pairs(alloc, job, &machine),
+        Command::Code
+        | Command::Assign
+        | Command::Parallel
+        | Command::Serial
+        | Command::Cascade
+        | Command::Feedback => decompose(alloc, job, file, machine),
         _ => unreachable!(),
     }
 }
 
 /// The fill of a job.
-fn fill(job: &Job) -> Fill
+pub fn fill(job: &Job) -> Fill
     ensures { result ≡ fill_of job.now }
 {
     if job.hold { Fill::Hold } else { Fill::Refuse }

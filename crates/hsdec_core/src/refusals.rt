@@ -1,16 +1,18 @@
 //! The refusals of a text and of a machine, each with its line.
 
-ghost use Rattle.std.specs.Prelude.{◌≡◌, ℕ, ◌<◌, ◌≤◌, ◌^◌, IfOk, Some, length, map, slice_get};
+ghost use Rattle.std.specs.Prelude.{◌≡◌, ℕ, ◌<◌, ◌≤◌, ◌^◌, Bool, IfOk, Some, length, map, slice_get};
 ghost use Rattle.cubes.specs.Symbol.{symbol_of};
-ghost use Rattle.hs_texts.specs.ErrLines.{conflict_line, kiss_line};
+ghost use Rattle.hs_texts.specs.ErrLines.{code_bits_line, conflict_line, kiss_line};
+ghost use Rattle.decomposition.specs.Work.{IsWork};
 ghost use Rattle.hsdec_core.specs.Digits.{digit};
 ghost use Rattle.hsdec_core.specs.Inner.Made.{IsRefusal};
 ghost use Rattle.hsdec_core.specs.KissTexts.{kind_text};
-ghost use Rattle.hsdec_core.specs.Line.{IsOpenLine, missing_text};
+ghost use Rattle.hsdec_core.specs.Line.{IsNotApartLine, IsOpenLine, missing_text};
 
 use crate::binary::append_symbol;
 use crate::kiss_texts::text_of_kind;
 use crate::{Answer, Outcome};
+use decomposition::{WorkMachine, state_name};
 use hs_texts::err_lines;
 use kiss2::{KissFault, KissFile};
 use machine_table::Missing;
@@ -51,6 +53,33 @@ pub fn unspecified(
     let name = file.states.name(state);
     let line = err_lines::unspecified(alloc, name, digits.as_slice(), missing.as_slice())?;
     Ok(Outcome::refused(alloc, Answer::Unspecified, line))
+}
+
+/// The refusal of parts that leave two states of the machine that a job works on together.
+pub fn not_apart(
+    alloc: Global,
+    file: &KissFile,
+    work: &WorkMachine,
+    state: usize,
+    other: usize,
+) -> Result<Outcome, AllocError>
+    requires work { (reduce : Bool) × IsWork reduce file.now work.now }
+    requires state { state < length work.now.machine.states }
+    requires other { other < length work.now.machine.states }
+    ensures { IfOk result (IsRefusal Answer.PartRefused (IsNotApartLine work.now.machine state other)) }
+{
+    let name = state_name(file, work, state);
+    let other_name = state_name(file, work, other);
+    let line = err_lines::not_apart(alloc, name, other_name)?;
+    Ok(Outcome::refused(alloc, Answer::PartRefused, line))
+}
+
+/// The refusal of codes that have too many bits.
+pub fn code_too_long(alloc: Global, bits: usize) -> Result<Outcome, AllocError>
+    ensures { IfOk result (IsRefusal Answer.CodeTooLong (λ line. line ≡ code_bits_line bits)) }
+{
+    let line = err_lines::code_bits(alloc, bits)?;
+    Ok(Outcome::refused(alloc, Answer::CodeTooLong, line))
 }
 
 /// The text of what is missing.

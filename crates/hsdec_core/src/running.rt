@@ -6,11 +6,12 @@ ghost use Rattle.hs_io.specs.Pieces.{Appends, AppendsFront};
 ghost use Rattle.job_words.specs.Job.{JobOf};
 ghost use Rattle.kiss2.specs.Machine.{Conflicting};
 ghost use Rattle.hsdec_core.specs.Answer.{ExactlyWhere, ExactlyWherePut, ExactlyWhereRead};
-ghost use Rattle.hsdec_core.specs.Cause.{HasMoreThanLimit, HasPartRefused, IfTold, IsNoMachine, IsOpen, IsUnrefused, SaysMachine};
+ghost use Rattle.hsdec_core.specs.Cause.{HasCodeTooLong, HasMoreThanLimit, HasPartRefused, IfTold, IsNoMachine, IsOpen, IsUnrefused, LacksSplit, SaysMachine};
 ghost use Rattle.hsdec_core.specs.Line.{IsLineFor};
 ghost use Rattle.hsdec_core.specs.Loading.{IsTooLong};
-ghost use Rattle.hsdec_core.specs.Promise.{IsAsked, IsAskedOrShown, IsDecompositionOf, IsEvidence, kind_of};
+ghost use Rattle.hsdec_core.specs.Promise.{IsAsked, IsAskedOrShown, IsDecompositionOf, IsEvidence};
 ghost use Rattle.hsdec_core.specs.Put.{LinePut};
+ghost use Rattle.hsdec_core.specs.Splits.{kind_of};
 
 use crate::Answer;
 use crate::delivery::deliver;
@@ -44,6 +45,10 @@ pub fn run<F: Shelf, O: Sink, E: Sink>(
         ExactlyWhereRead result Answer.Unspecified (SaysMachine bytes (IsOpen job))) }
     ensures part_refused { IfTold words.now (F.holds shelf.old) (λ job bytes.
         ExactlyWhereRead result Answer.PartRefused (SaysMachine bytes (HasPartRefused job))) }
+    ensures no_split { IfTold words.now (F.holds shelf.old) (λ job bytes.
+        ExactlyWhereRead result Answer.NoSplit (SaysMachine bytes (LacksSplit job))) }
+    ensures code_too_long { IfTold words.now (F.holds shelf.old) (λ job bytes.
+        ExactlyWhereRead result Answer.CodeTooLong (SaysMachine bytes (HasCodeTooLong job))) }
     ensures more { IfTold words.now (F.holds shelf.old) (λ job bytes.
         ExactlyWherePut result Answer.More (SaysMachine bytes (HasMoreThanLimit job))) }
     ensures write_fault { result ≡ Answer.WriteFault → Rose (O.faults out.old) (O.faults out.new) }

@@ -1,7 +1,7 @@
+mod decompositions;
 mod machines;
 mod partitions;
 mod stepping;
-mod whole_texts;
 
 use super::*;
 use hs_io::{MemShelf, MemSink};
@@ -104,7 +104,8 @@ fn refuses_words(rt: HostRuntime) -> Result<(), Fail> {
         ("code", "hsdec: usage word 2\n"),
         ("code f g", "hsdec: usage word 3\n"),
         ("code f --limit 5", "hsdec: usage word 3\n"),
-        ("code f --fill hold", "hsdec: usage word 3\n"),
+        ("check f --fill keep", "hsdec: usage word 4\n"),
+        ("closed f --limit 0", "hsdec: usage word 4\n"),
     ];
     for (line, refusal) in lines {
         let mut shelf = MemShelf::new(rt.alloc());
@@ -206,6 +207,20 @@ fn refuses_what_it_cannot_read(rt: HostRuntime) -> Result<(), Fail> {
         assert_eq!(rt; err.bytes(), refusal);
         assert_eq!(rt; out.bytes().len(), 0);
     }
+    Ok(())
+}
+
+/// The second load fails, and there is none.
+#[test]
+fn loads_its_file_once(rt: HostRuntime) -> Result<(), Fail> {
+    let mut shelf = MemShelf::new(rt.alloc());
+    shelf.add(b"T", toggle())?;
+    shelf.fail_at(2)?;
+    let mut out = MemSink::new(rt.alloc(), 4096)?;
+    let mut err = MemSink::new(rt.alloc(), 4096)?;
+    let answered = answer(rt.alloc(), "code T", &mut shelf, &mut out, &mut err)?;
+    assert_eq!(rt; answered, Answer::Done);
+    assert_eq!(rt; out.bytes(), toggle_network());
     Ok(())
 }
 

@@ -3,4 +3,4 @@ pub mod Digits
 pub mod ItemsAt
 pub mod Reading
 pub mod Limits
-pub mod Unfilled
+pub mod Slashes

@@ -150,6 +150,10 @@ IsLimit limit = (1 ≤ limit) × (limit ≤ 10000)
 abbrev pub LimitsAreLimits : Type 0
 LimitsAreLimits = (words : List (List ℕ)) (job : Job) → JobOf words ≡ Ok job → IsLimit job.limit
 
--- the words of `code` leave no open entry to be filled
-abbrev pub CodeHoldsNothing : Type 0
-CodeHoldsNothing = (words : List (List ℕ)) (job : Job) → JobOf words ≡ Ok job → job.command ≡ commands.Code → job.hold ≡ false
+-- the text of PARTS has no more than so many slashes
+abbrev pub HasFewSlashes : List ℕ → Type 0
+HasFewSlashes text = count_by (λ c. c == 47) text ≤ 255
+
+-- so the operand PARTS of `assign` has at most 256 pieces
+abbrev pub PartsAreFew : Type 0
+PartsAreFew = (words : List (List ℕ)) (job : Job) → JobOf words ≡ Ok job → job.command ≡ commands.Assign → HasFewSlashes job.second

@@ -5,8 +5,8 @@ use Rattle.job_words.specs.declared.command.Command.TheVariants as commands
 use Rattle.job_words.specs.declared.table.CommandOption.{CommandOption}
 use Rattle.job_words.specs.declared.table.Form.{Form}
 use Rattle.job_words.specs.declared.table.OperandKind.{OperandKind}
-use Rattle.job_words.specs.declared.table.OperandKind.TheVariants.{File, Part}
-use Rattle.job_words.specs.declared.table.CommandOption.TheVariants.{Fill, Limit}
+use Rattle.job_words.specs.declared.table.OperandKind.TheVariants.{File, Part, Parts}
+use Rattle.job_words.specs.declared.table.CommandOption.TheVariants.{Fill, Limit, Reduce}
 
 pub record Row : Type 0 where
   pub command : Command
@@ -30,7 +30,12 @@ built =
     ∷ row commands.Pairs (File ∷ []) (Limit ∷ Fill ∷ [])
     ∷ row commands.Low (File ∷ Part ∷ []) (Fill ∷ [])
     ∷ row commands.High (File ∷ Part ∷ []) (Fill ∷ [])
-    ∷ row commands.Code (File ∷ []) []
+    ∷ row commands.Code (File ∷ []) (Reduce ∷ Fill ∷ [])
+    ∷ row commands.Assign (File ∷ Parts ∷ []) (Reduce ∷ Fill ∷ [])
+    ∷ row commands.Parallel (File ∷ []) (Reduce ∷ Fill ∷ [])
+    ∷ row commands.Serial (File ∷ []) (Reduce ∷ Fill ∷ [])
+    ∷ row commands.Cascade (File ∷ []) (Reduce ∷ Fill ∷ [])
+    ∷ row commands.Feedback (File ∷ []) (Reduce ∷ Fill ∷ [])
     ∷ []
 
 -- the commands of rows

@@ -1,7 +1,7 @@
 //! Worked examples of the definitions and a law of jobs, each the contract of a function that does nothing.
 
 ghost use Rattle.job_words.specs.Examples.{ReadsNumbers, RefusesWords, TakesOptions};
-ghost use Rattle.job_words.specs.Job.{CodeHoldsNothing, LimitsAreLimits};
+ghost use Rattle.job_words.specs.Job.{LimitsAreLimits, PartsAreFew};
 
 /// What the judgement over a table says of some lines.
 pub fn judged_lines()
@@ -10,9 +10,9 @@ pub fn judged_lines()
     ensures numbers { ReadsNumbers }
 {}
 
-/// The words of `code` leave no open entry to be filled.
-pub fn code_holds_nothing()
-    ensures { CodeHoldsNothing }
+/// The operand PARTS of `assign` has at most 255 slashes.
+pub fn parts_are_few()
+    ensures { PartsAreFew }
 {}
 
 /// The limit of a job is from 1 to 10,000.

@@ -52,7 +52,7 @@ pub struct Form {
 }
 
 /// The commands that are built.
-const BUILT: [Form; 8] = [
+const BUILT: [Form; 13] = [
     Form {
         command: Command::Check,
         operands: &[OperandKind::File],
@@ -91,7 +91,32 @@ const BUILT: [Form; 8] = [
     Form {
         command: Command::Code,
         operands: &[OperandKind::File],
-        options: &[],
+        options: &[CommandOption::Reduce, CommandOption::Fill],
+    },
+    Form {
+        command: Command::Assign,
+        operands: &[OperandKind::File, OperandKind::Parts],
+        options: &[CommandOption::Reduce, CommandOption::Fill],
+    },
+    Form {
+        command: Command::Parallel,
+        operands: &[OperandKind::File],
+        options: &[CommandOption::Reduce, CommandOption::Fill],
+    },
+    Form {
+        command: Command::Serial,
+        operands: &[OperandKind::File],
+        options: &[CommandOption::Reduce, CommandOption::Fill],
+    },
+    Form {
+        command: Command::Cascade,
+        operands: &[OperandKind::File],
+        options: &[CommandOption::Reduce, CommandOption::Fill],
+    },
+    Form {
+        command: Command::Feedback,
+        operands: &[OperandKind::File],
+        options: &[CommandOption::Reduce, CommandOption::Fill],
     },
 ];
 

@@ -7,7 +7,7 @@ use hs_io::{MemShelf, MemSink};
 use std::test::Fail;
 
 /// Two machines of two states side by side.
-const PRODUCT: &[u8] = b".i 1
+pub const PRODUCT: &[u8] = b".i 1
 .o 1
 0 st0 st1 0
 1 st0 st3 0
@@ -21,9 +21,9 @@ const PRODUCT: &[u8] = b".i 1
 ";
 
 /// Four states that never move, and a counter modulo 4.
-const STILL: &[u8] = b".i 1\n.o 1\n- a a 0\n- b b 0\n- c c 0\n- d d 0\n.e\n";
+pub const STILL: &[u8] = b".i 1\n.o 1\n- a a 0\n- b b 0\n- c c 0\n- d d 0\n.e\n";
 
-const COUNTER: &[u8] = b".i 1
+pub const COUNTER: &[u8] = b".i 1
 .o 1
 0 c0 c0 0
 1 c0 c1 0
@@ -36,8 +36,15 @@ const COUNTER: &[u8] = b".i 1
 .e
 ";
 
+/// A counter modulo 3.
+pub const THREE: &[u8] =
+    b".i 1\n.o 1\n0 c0 c0 0\n1 c0 c1 0\n0 c1 c1 0\n1 c1 c2 0\n0 c2 c2 0\n1 c2 c0 1\n.e\n";
+
+/// One state, whose code has no bits.
+pub const ALONE: &[u8] = b".i 1\n.o 1\n- a a 1\n.e\n";
+
 /// Three alike states and a fourth, of which the third is the reset state.
-const ALIKE: &[u8] = b".i 1
+pub const ALIKE: &[u8] = b".i 1
 .o 1
 .r c
 0 a b 0
@@ -94,7 +101,7 @@ const PAIRS: &[u8] = b"0,1,2,3 0,1,2,3
 /// Reduced machines, closed and consistent partitions, Mm pairs, m and M of partitions, and the texts that are refused.
 #[test]
 fn answers_about_partitions(rt: HostRuntime) -> Result<(), Fail> {
-    let cases: [(&str, Answer, &[u8], &[u8]); 17] = [
+    let cases: [(&str, Answer, &[u8], &[u8]); 21] = [
         ("output A", Answer::Done, b"0,1,2,3\n0,0,0,1\n", b""),
         ("pairs P", Answer::Done, PAIRS, b""),
         ("reduce A", Answer::Done, REDUCED, b""),
@@ -117,6 +124,9 @@ fn answers_about_partitions(rt: HostRuntime) -> Result<(), Fail> {
             b"0,1,2,3\n0,1,0,1\n0,0,0,0\n",
             b"",
         ),
+        ("closed D", Answer::Done, b"0,1,2\n0,0,0\n", b""),
+        ("pairs D", Answer::Done, b"0,1,2 0,1,2\n0,0,0 0,0,0\n", b""),
+        ("closed O", Answer::Done, b"0\n", b""),
         ("closed S --limit 15", Answer::Done, FIFTEEN, b""),
         (
             "closed S --limit 14",
@@ -146,6 +156,12 @@ fn answers_about_partitions(rt: HostRuntime) -> Result<(), Fail> {
             b"",
             b"hsdec: part 0 place 1\n",
         ),
+        (
+            "low C 0,1",
+            Answer::PartRefused,
+            b"",
+            b"hsdec: part 0 has 2 labels, not 4\n",
+        ),
         ("low P", Answer::Usage, b"", b"hsdec: usage word 3\n"),
     ];
     for (line, expected, text, refusal) in cases {
@@ -156,6 +172,8 @@ fn answers_about_partitions(rt: HostRuntime) -> Result<(), Fail> {
         shelf.add(b"P", PRODUCT)?;
         shelf.add(b"C", COUNTER)?;
         shelf.add(b"S", STILL)?;
+        shelf.add(b"D", THREE)?;
+        shelf.add(b"O", ALONE)?;
         let mut out = MemSink::new(rt.alloc(), 4096)?;
         let mut err = MemSink::new(rt.alloc(), 4096)?;
         assert_eq!(rt;

@@ -1,11 +1,11 @@
 use Rattle.job_words.specs.Job.{JobOf}
 use Rattle.job_words.proofs.Limits.{limits_are_limits}
-use Rattle.job_words.proofs.Unfilled.{code_holds_nothing}
+use Rattle.job_words.proofs.Slashes.{parts_are_few}
 use Rattle.hsdec_core.proofs.Right.{right_results, text_of_load}
 use Rattle.hsdec_core.proofs.performing.perform.Goals as goal
 
-pub perform_on-requires-clause-unheld : goal.perform_on-requires-clause-unheld
-perform_on-requires-clause-unheld g c = code_holds_nothing c.args.words.now c.in-Ok.job c.in-Ok.ensures.job
+pub perform_on-requires-clause-few : goal.perform_on-requires-clause-few
+perform_on-requires-clause-few g c = parts_are_few c.args.words.now c.in-Ok.job c.in-Ok.ensures.job
 
 pub perform_on-requires-clause-limited : goal.perform_on-requires-clause-limited
 perform_on-requires-clause-limited g c = limits_are_limits c.args.words.now c.in-Ok.job c.in-Ok.ensures.job

@@ -1,4 +1,4 @@
-use Rattle.hsdec_core.specs.declared.answers.Answer.TheVariants.{Conflict, KissRefused, PartRefused, TooLong, Unspecified}
+use Rattle.hsdec_core.specs.declared.answers.Answer.TheVariants.{CodeTooLong, Conflict, KissRefused, NoSplit, PartRefused, TooLong, Unspecified}
 use Rattle.hsdec_core.proofs.Runs.{IsAnswered, answered, complete_of, evidence_of, exact_of, front_of, headline_of, line_is, made_in_memory, more_of, no_text_of, put_fault_of, read_fault_of, text_of_done, usage_of}
 use Rattle.job_words.specs.Job.{JobOf}
 use Rattle.hsdec_core.proofs.running.run.Goals as goal
@@ -41,6 +41,18 @@ pub returns-clause-part_refused : goal.returns-clause-part_refused
 returns-clause-part_refused g c =
     let a : IsAnswered c.perform-made.result c.deliver.result = answered _ _ _ _ _ _ c.deliver.ensures.text c.deliver.ensures.no_text in
     exact_of (JobOf c.args.words.now) _ _ c.perform-made.result _ PartRefused c.perform-made.ensures.right a
+    (record { undone = λ e. cc; few = λ e. cc; unread = λ e. cc; unput = λ e. cc; unwanting = λ e. cc })
+
+pub returns-clause-no_split : goal.returns-clause-no_split
+returns-clause-no_split g c =
+    let a : IsAnswered c.perform-made.result c.deliver.result = answered _ _ _ _ _ _ c.deliver.ensures.text c.deliver.ensures.no_text in
+    exact_of (JobOf c.args.words.now) _ _ c.perform-made.result _ NoSplit c.perform-made.ensures.right a
+    (record { undone = λ e. cc; few = λ e. cc; unread = λ e. cc; unput = λ e. cc; unwanting = λ e. cc })
+
+pub returns-clause-code_too_long : goal.returns-clause-code_too_long
+returns-clause-code_too_long g c =
+    let a : IsAnswered c.perform-made.result c.deliver.result = answered _ _ _ _ _ _ c.deliver.ensures.text c.deliver.ensures.no_text in
+    exact_of (JobOf c.args.words.now) _ _ c.perform-made.result _ CodeTooLong c.perform-made.ensures.right a
     (record { undone = λ e. cc; few = λ e. cc; unread = λ e. cc; unput = λ e. cc; unwanting = λ e. cc })
 
 pub returns-clause-more : goal.returns-clause-more

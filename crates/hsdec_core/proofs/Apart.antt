@@ -1,0 +1,77 @@
+-- Codes that are distinct come from parts that tell all states apart.
+use Rattle.std.proofs.Common.{◌≡◌, ℕ, ◌<◌, ◌≤◌, All, List, get_or, length, refl, sym, ◌∙◌, subst, inl, inr, arith}
+use Rattle.std.proofs.lemmas.Bool.{cases_lt, cases_order}
+use Rattle.std.proofs.lemmas.List.{get_or_past, length-map}
+use Rattle.std.proofs.lemmas.List.Elements.{All-head}
+use Rattle.std.proofs.lemmas.Nat.Bits.{same_from_bits}
+use Rattle.std.specs.Int.{bit_at}
+use Rattle.partition.specs.Partition.{Together}
+use Rattle.realise.proofs.Gates.{all_at, item_at}
+use Rattle.state_codes.specs.declared.Codes.{Codes}
+use Rattle.state_codes.specs.declared.split.Part.{Part}
+use Rattle.state_codes.specs.Agreement.{AreDistinct}
+use Rattle.state_codes.specs.Code.{IsCode, Place, bit_of, places_of, state_code}
+use Rattle.state_codes.specs.Fault.{AreApart}
+use Rattle.state_codes.specs.Kinds.{PartsMeetInZero}
+use Rattle.state_codes.specs.Laws.Codes.{owner-lt, part_bits_tell}
+use Rattle.state_codes.specs.Split.{IsPart, TogetherInAll}
+
+module _ (n : ℕ) (parts : List Part) (codes : Codes) (lawful : All (IsPart n) parts) (code : IsCode n parts codes) (s t : ℕ) (in_s : s < n) (in_t : t < n) (together : TogetherInAll parts s t) where
+  -- at each place of the codes the bits of two states that are together in all parts agree
+  bit_within : (i : ℕ) → i < codes.bits → bit_at (get_or codes.words s 0) i ≡ bit_at (get_or codes.words t 0) i
+  bit_within i below =
+      let owner : ℕ = get_or codes.owner i 0 in
+      let found = item_at parts owner (owner-lt n parts codes code i below) in
+      (part_bits_tell n parts codes lawful code owner found.0 found.1 s t in_s in_t).1 (all_at (λ (part : Part). Together part.partition s t) parts owner found.0 together found.1) i below refl
+
+  -- and no bit stands behind them
+  bit_past : (u : ℕ) → u < n → (i : ℕ) → codes.bits ≤ i → bit_at (get_or codes.words u 0) i ≡ 0
+  bit_past u in_u i past =
+      let places : List Place = places_of 0 parts code.inners in
+      let size : length (state_code places u) ≡ length places = length-map places (bit_of u) in
+      code.written.spelled u in_u i ∙ get_or_past (state_code places u) i 0 (omega (arith, size, code.written.size, past))
+
+  same_bit : (i : ℕ) → bit_at (get_or codes.words s 0) i ≡ bit_at (get_or codes.words t 0) i
+  same_bit i =
+      elim (cases_lt i codes.bits) [
+        | inl below ↦ bit_within i below
+        | inr past ↦ bit_past s in_s i (omega (arith, past)) ∙ sym (bit_past t in_t i (omega (arith, past)))
+      ]
+
+  same_words : get_or codes.words s 0 ≡ get_or codes.words t 0
+  same_words = same_from_bits (get_or codes.words s 0) (get_or codes.words t 0) same_bit
+
+pub apart_of_codes : (n : ℕ) (parts : List Part) (codes : Codes) → All (IsPart n) parts → IsCode n parts codes → AreDistinct n codes.words → AreApart n parts
+apart_of_codes n parts codes lawful code distinct s t before in_t together =
+    let in_s : s < n = omega (arith, before, in_t) in
+    let same : s ≡ t = distinct s t in_s in_t (same_words n parts codes lawful code s t in_s in_t together) in
+    omega (arith, same, before)
+
+-- the same of codes for so many states
+pub apart_of_encoded : (m n : ℕ) (parts : List Part) (codes : Codes) → m ≡ n → All (IsPart n) parts → IsCode m parts codes → AreDistinct m codes.words → AreApart n parts
+apart_of_encoded m n parts codes same lawful code distinct =
+    apart_of_codes n parts codes lawful (subst (λ (k : ℕ). IsCode k parts codes) same code) (subst (λ (k : ℕ). AreDistinct k codes.words) same distinct)
+
+-- the states that some part holds together are states
+held_within : (n : ℕ) (parts : List Part) (s t : ℕ) → All (IsPart n) parts → 0 < length parts → TogetherInAll parts s t → (s < n) × (t < n)
+held_within n parts s t lawful some together =
+    let found = item_at parts 0 some in
+    let held : Together found.0.partition s t = all_at (λ (part : Part). Together part.partition s t) parts 0 found.0 together found.1 in
+    let part : IsPart n found.0 = all_at (IsPart n) parts 0 found.0 lawful found.1 in
+    (omega (arith, held.0, part.partition.length), omega (arith, held.1, part.partition.length))
+
+-- so parts that tell all states apart meet in zero
+pub zero_of_apart : (n : ℕ) (parts : List Part) → All (IsPart n) parts → 0 < length parts → AreApart n parts → PartsMeetInZero parts
+zero_of_apart n parts lawful some apart s t together =
+    let within = held_within n parts s t lawful some together in
+    elim (cases_order s t) [
+      | inl same ↦ same
+      | inr (inl before) ↦ absurd (apart s t before within.1 together)
+      | inr (inr after) ↦ absurd (apart t s after within.0 (turned parts s t together))
+    ] where
+      turned : (parts : List Part) (s t : ℕ) → TogetherInAll parts s t → TogetherInAll parts t s
+      turned parts s t together = λ k d within. let held = together k d within in (held.1, held.0, sym held.2)
+
+-- and parts that meet in zero tell all states apart
+pub apart_of_zero : (n : ℕ) (parts : List Part) → PartsMeetInZero parts → AreApart n parts
+apart_of_zero n parts zero s t before in_t together = let same : s ≡ t = zero s t together in omega (arith, same, before)

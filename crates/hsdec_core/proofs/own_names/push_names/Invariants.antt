@@ -1,7 +1,0 @@
--- The names so far were added.
-use Rattle.std.proofs.Common.{◌≡◌, ◌++◌}
-use Rattle.hsdec_core.specs.Named.{own_names}
-use Rattle.hsdec_core.proofs.own_names.push_names.Given as goal
-
-abbrev pub invariant-loop-number : goal.invariant-loop-number
-invariant-loop-number l = l.names ≡ l.initial.names ++ own_names l.count l.letter l.number

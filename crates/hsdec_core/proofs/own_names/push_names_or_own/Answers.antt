@@ -1,8 +1,0 @@
-use Rattle.hsdec_core.proofs.Ranges.{map-range-push}
-use Rattle.hsdec_core.specs.Inner.CodeNames.{name_at}
-use Rattle.hsdec_core.specs.Named.{own_name}
-use Rattle.hsdec_core.proofs.own_names.push_names_or_own.Goals as goal
-
-pub loop-number-preserved : goal.loop-number-preserved
-loop-number-preserved c =
-    map-range-push (name_at c.args.given.now (own_name c.args.count c.args.letter)) _ _ _ _ _ c.loop-number.invariant c.in_ok-push.ensures.ok c.in_ok-name_or_own.ensures

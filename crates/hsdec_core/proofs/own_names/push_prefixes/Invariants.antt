@@ -1,7 +1,0 @@
--- The prefixes so far were added.
-use Rattle.std.proofs.Common.{◌≡◌, ◌++◌}
-use Rattle.hsdec_core.specs.Named.{prefix}
-use Rattle.hsdec_core.proofs.own_names.push_prefixes.Given as goal
-
-abbrev pub invariant-loop-i : goal.invariant-loop-i
-invariant-loop-i l = l.text.items ≡ l.initial.text.items ++ prefix l._i
