@@ -4,12 +4,12 @@ use Rattle.std.proofs.lemmas.List.FromFn.{length-map-range_with_len}
 use Rattle.std.proofs.lemmas.Nat.{div-add-mod'}
 use Rattle.std.proofs.lemmas.Option.{same_Some}
 use Rattle.cubes.specs.Cube.{Holds}
-use Rattle.cubes.specs.Symbol.{bit, number_of, symbol_of}
+use Rattle.cubes.specs.Symbol.{bit, symbol_of}
 use Rattle.kiss2.specs.declared.fill.Fill.TheVariants.{Refuse}
 use Rattle.kiss2.specs.declared.kiss_file.KissFile.{KissFile}
 use Rattle.kiss2.specs.declared.kiss_file.KissRow.{KissRow}
 use Rattle.kiss2.specs.Machine.{Accepted, Conflicting, GiveBoth, IsRowAt, NameTwo, Specified, given_bit}
-use Rattle.machine_gen.specs.MachineOf.{AreSizes, IsMachineOf, next_first, next_second, state_name}
+use Rattle.machine_gen.specs.MachineOf.{AreSizes, IsMachineOf, state_name}
 use Rattle.machine_gen.proofs.Standing.{both_given, held_symbol, row_at_symbol, row_known, symbol_number}
 
 -- a row does not contradict itself
@@ -46,19 +46,13 @@ module _ (word : ℕ → ℕ) (a b k : ℕ) (F : KissFile) (sizes : AreSizes a b
         | inr gives ↦ gives_one other (subst (λ (r : KissRow). GiveBoth r other) same gives)
       ]
 
-  -- the row of a state and a symbol, and where it goes
-  pub row_of : (s : ℕ) (symbol : List Bool) → s < length F.states → length symbol ≡ F.inputs → (row : KissRow) × IsRowAt F s symbol row
-      × (row.to ≡ Some (next_first word a k (s / b) (number_of symbol) * b + next_second word b k (s % b) (number_of symbol))) × (row.care ≡ 3)
-  row_of s symbol within long =
-      let there = row_at_symbol word a b k F.rows sizes is.rows s symbol (subst (λ n. s < n) state_count within) (long ∙ is.inputs) in
-      (there.0, record { among = there.1; from = there.2; held = there.3 }, there.4.to, there.4.care)
-
   specified : Specified F
   specified s symbol within long =
-      let there = row_of s symbol within long in
+      let there = row_at_symbol word a b k F.rows sizes is.rows s symbol (subst (λ n. s < n) state_count within) (long ∙ is.inputs) in
+      let at : IsRowAt F s symbol there.0 = record { among = there.1; from = there.2; held = there.3 } in
       record {
-        next = (there.0, there.1, ap is_some there.2);
-        outputs = λ output low. (there.0, there.1, gives output (there.0) there.3 (subst (λ n. output < n) is.outputs low));
+        next = (there.0, at, ap is_some there.4.to);
+        outputs = λ output low. (there.0, at, gives output (there.0) there.4.care (subst (λ n. output < n) is.outputs low));
       } where
         gives : (output : ℕ) (row : KissRow) → row.care ≡ 3 → output < 2 → IsSome (given_bit output row)
         gives output row care low = ap (λ given. is_some (cond given (Some (bit row.value output)) None)) (ap (λ n. bit n output) care ∙ both_given output low)

@@ -8,3 +8,4 @@ pub mod Accepting
 pub mod Lawfully
 pub mod Sides
 pub mod OneMachine
+pub mod Going

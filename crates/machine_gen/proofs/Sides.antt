@@ -8,13 +8,13 @@ use Rattle.std.proofs.lemmas.Nat.{div-add-mod', div-mul-add, mod-mul-add, mod_be
 use Rattle.cubes.specs.Symbol.{number_of}
 use Rattle.kiss2.specs.declared.kiss_file.KissFile.{KissFile}
 use Rattle.kiss2.specs.Machine.{next}
-use Rattle.kiss2.proofs.Machine.{next_said}
 use Rattle.partition.specs.Partition.{IsNumbered, IsPartition, Together, blocks_of}
 use Rattle.partition.specs.Laws.Labels.{label-lt-blocks_of-take}
 use Rattle.pair_operators.specs.Pair.{Closed}
 use Rattle.machine_gen.specs.MachineOf.{AreSizes, IsMachineOf, next_first, next_second}
 use Rattle.machine_gen.specs.Parallel.{AreParallel, IsNontrivialClosed, by_first, by_second}
-use Rattle.machine_gen.proofs.Accepting.{no_conflict, row_of, state_count}
+use Rattle.machine_gen.proofs.Accepting.{state_count}
+use Rattle.machine_gen.proofs.Going.{at_state}
 use Rattle.machine_gen.proofs.Numbered.{two_digits}
 
 -- ---- a partition by a number of each state
@@ -101,9 +101,7 @@ module _ (word : ℕ → ℕ) (a b k : ℕ) (F : KissFile) (sizes : AreSizes a b
   -- ---- where states go
   next_is : (s : ℕ) (symbol : List Bool) → s < a * b → length symbol ≡ F.inputs
       → next F s symbol ≡ next_first word a k (s / b) (number_of symbol) * b + next_second word b k (s % b) (number_of symbol)
-  next_is s symbol low long =
-      let there = row_of word a b k F sizes is s symbol (subst (λ n. s < n) (sym states) low) long in
-      next_said F s symbol (no_conflict word a b k F sizes is) there.0 _ there.1 there.2
+  next_is s symbol low long = (at_state word a b k F sizes is s symbol low (long ∙ is.inputs)).0
 
   next_low : (s : ℕ) (symbol : List Bool) → s < a * b → length symbol ≡ F.inputs → next F s symbol < a * b
   next_low s symbol low long =

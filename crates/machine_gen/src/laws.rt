@@ -1,6 +1,7 @@
 //! Laws of generated machines, each the contract of a function that does nothing.
 
 ghost use Rattle.std.specs.Prelude.{◌≡◌};
+ghost use Rattle.machine_gen.specs.Going.{GoByParts};
 ghost use Rattle.machine_gen.specs.MachineOf.{HaveOneMachine, next_first, next_second};
 ghost use Rattle.machine_gen.specs.Parallel.{PartsAreParallel};
 ghost use Rattle.machine_gen.specs.Words.{word};
@@ -8,6 +9,12 @@ ghost use Rattle.machine_gen.specs.Words.{word};
 /// The same words and numbers are those of one file.
 pub fn one_machine()
     ensures { HaveOneMachine }
+{}
+
+/// The parts of a state go by themselves, and output 0 tells whether the first is 0, output 1 whether the
+/// second is.
+pub fn parts_go()
+    ensures { GoByParts }
 {}
 
 /// The partitions by the first and by the second part are closed, neither zero nor one, and meet in zero, so
