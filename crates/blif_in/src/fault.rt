@@ -24,7 +24,7 @@ pub enum NetLimit {
 #[derive(Debug, Drop)]
 pub enum BlifKind {
     /// The line has a byte outside its comments that is neither a tab nor printable ASCII, or a backslash
-    /// that joins no line.
+    /// elsewhere than at its end.
     BadByte,
     /// A second model, or a word that is not read.
     Unsupported,

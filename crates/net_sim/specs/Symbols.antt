@@ -1,8 +1,10 @@
 -- The symbols of a file, line by line (source: this product's profile).
-use Rattle.std.specs.Prelude.{◌≡◌, ◌==◌, ℕ, ◌<◌, Bool, false, not, ◌&&◌, List, [], ◌∷◌, Some, filter, length, slice_get}
+use Rattle.std.specs.Prelude.{◌≡◌, ◌==◌, ℕ, ◌<◌, ⊤, Bool, false, not, ◌&&◌, List, [], ◌∷◌, Some, filter, length, slice_get}
 use Rattle.std.specs.List.{AllZip}
 use Rattle.hs_io.specs.declared.lines.Line.{Line}
 use Rattle.hs_io.specs.Lines.{lines_of}
+use Rattle.net_sim.specs.declared.symbols.SymbolFail.{SymbolFail}
+use Rattle.net_sim.specs.declared.symbols.SymbolFail.TheVariants.{NoMemory, Refused}
 use Rattle.net_sim.specs.BitTexts.{bit_text}
 
 -- a line without fields says nothing, where it is not bad
@@ -40,3 +42,8 @@ IsSymbolFile width bytes word = SayWord width (lines_of bytes) word
 -- the bytes are no file of symbols, and this is the number of the first line that is refused
 abbrev pub IsSymbolFault : ℕ → List ℕ → ℕ → Type 0
 IsSymbolFault width bytes number = IsFirstRefused width (lines_of bytes) number
+
+-- the answer tells the first refused line, where it tells something
+abbrev pub TellsRefused : ℕ → List ℕ → SymbolFail → Type 0
+TellsRefused width bytes (Refused line) = IsSymbolFault width bytes line
+TellsRefused width bytes NoMemory = ⊤

@@ -16,6 +16,7 @@
 mod bit_texts;
 mod failing;
 mod gate_values;
+mod laws;
 mod lines;
 mod running;
 mod starting;
@@ -26,6 +27,7 @@ mod tables;
 mod tests;
 
 pub use failing::SimFail;
+pub use laws::worked_texts;
 pub use running::run;
 pub use stepping::step_into;
 pub use symbols::{SymbolFail, read_symbols};

@@ -4,8 +4,8 @@ ghost use Rattle.std.specs.Prelude.{◌≡◌, ℕ, ◌+◌, ◌*◌, ◌^◌, �
 ghost use Rattle.cubes.specs.Symbol.{number_of, symbol_of};
 ghost use Rattle.hs_io.specs.Lines.{line_of};
 ghost use Rattle.net_sim.specs.declared.symbols.SymbolFail.TheVariants.{NoMemory, Refused};
-ghost use Rattle.net_sim.specs.Symbols.{IsSymbolFault, IsSymbolFile};
-ghost use Rattle.net_sim.specs.Inner.Numbers.{AddedLine, TellsRefused, TellsRefusedLine};
+ghost use Rattle.net_sim.specs.Symbols.{IsSymbolFault, IsSymbolFile, TellsRefused};
+ghost use Rattle.net_sim.specs.Inner.Numbers.{AddedLine, TellsRefusedLine};
 
 use crate::lines::{Said, first_line, read_line};
 use hs_list::Items;

@@ -4,7 +4,7 @@ use Rattle.cubes.specs.Symbol.{symbol_of}
 use Rattle.hs_io.specs.declared.lines.Line.{Line}
 use Rattle.net_sim.specs.declared.symbols.SymbolFail.{SymbolFail}
 use Rattle.net_sim.specs.declared.symbols.SymbolFail.TheVariants.{NoMemory, Refused}
-use Rattle.net_sim.specs.Symbols.{IsRefusedLine, IsSymbolFault, SaysSymbol, SayWord, is_skipped}
+use Rattle.net_sim.specs.Symbols.{IsRefusedLine, SaysSymbol, SayWord, is_skipped}
 use Rattle.net_sim.specs.Inner.Ran.{HasTaken}
 
 -- the list stayed as it was, or has besides the number of the symbol that the line says
@@ -19,11 +19,6 @@ pub record HasReadTo (width : ℕ) (bytes rest : List ℕ) (count : ℕ) (number
   pub taken : HasTaken width bytes rest count done
   pub reads : SayWord width done (map (symbol_of width) numbers)
   pub below : All (λ x. x < 2 ^ width) numbers
-
--- the answer tells the first refused line, where it tells something
-abbrev pub TellsRefused : ℕ → List ℕ → SymbolFail → Type 0
-TellsRefused width bytes (Refused line) = IsSymbolFault width bytes line
-TellsRefused width bytes NoMemory = ⊤
 
 -- the line is the refused one, where the answer tells something
 abbrev pub TellsRefusedLine : ℕ → Line → SymbolFail → Type 0

@@ -1,6 +1,7 @@
 use Rattle.std.proofs.Common.{◌≡◌, ◌+◌, ℕ, length, refl, ◌∙◌, subst, arith}
 use Rattle.hs_io.specs.Lines.{line_of}
-use Rattle.net_sim.specs.Inner.Numbers.{AddedLine, TellsRefused, TellsRefusedLine}
+use Rattle.net_sim.specs.Symbols.{TellsRefused}
+use Rattle.net_sim.specs.Inner.Numbers.{AddedLine, TellsRefusedLine}
 use Rattle.net_sim.proofs.Beginning.{at_exit}
 use Rattle.net_sim.proofs.ReadSymbols.{read_more, told_refused}
 use Rattle.net_sim.proofs.Taking.{refused_here}
