@@ -2,7 +2,7 @@
 
 use super::answer;
 use super::machines::{COUNTER as NAMED_COUNTER, HALF};
-use super::partitions::{ALIKE, ALONE, COUNTER, PRODUCT, STILL, THREE};
+use super::partitions::{ALIKE, ALONE, COUNTER, DRAWN, PRODUCT, STILL, THREE};
 use crate::Answer;
 use hs_io::{MemShelf, MemSink};
 use std::alloc::{AllocError, Global};
@@ -54,6 +54,33 @@ const PARALLEL_PRODUCT: &[u8] = b"# hsdec parallel
 0 1
 .names q0 q1 z0
 11 1
+.end
+";
+
+const PARALLEL_DRAWN: &[u8] = b"# hsdec parallel
+# part 0 0,0,1,1 carrier 0,0,1,1 reads -
+# part 1 0,1,0,1 carrier 0,1,0,1 reads -
+# code s0 00
+# code s1 01
+# code s2 10
+# code s3 11
+# latch 0 part 0 from 0,0,1,1 to 0,0,1,1
+# latch 1 part 1 from 0,1,0,1 to 0,1,0,1
+.model hsdec
+.inputs x0
+.outputs z0 z1
+.latch d0 q0 0
+.latch d1 q1 0
+.names x0 q0 d0
+-0 1
+1- 1
+.names x0 q1 d1
+01 1
+10 1
+.names q0 z0
+0 1
+.names q1 z1
+0 1
 .end
 ";
 
@@ -244,6 +271,7 @@ fn machines(alloc: Global) -> Result<MemShelf, AllocError> {
     shelf.add(b"D", THREE)?;
     shelf.add(b"G", NAMED_COUNTER)?;
     shelf.add(b"H", HALF)?;
+    shelf.add(b"M", DRAWN)?;
     shelf.add(b"O", ALONE)?;
     shelf.add(b"P", PRODUCT)?;
     shelf.add(b"S", STILL)?;
@@ -254,11 +282,12 @@ fn machines(alloc: Global) -> Result<MemShelf, AllocError> {
 /// Whole texts, the fronts of texts, and the lines of refusals.
 #[test]
 fn writes_decompositions(rt: HostRuntime) -> Result<(), Fail> {
-    let cases: [(&str, Answer, &[u8], &[u8]); 25] = [
+    let cases: [(&str, Answer, &[u8], &[u8]); 26] = [
         ("code O", Answer::Done, ALONE_NETWORK, b""),
         ("code A --reduce", Answer::Done, REDUCED_CODE, b""),
         ("code H --fill hold", Answer::Done, FILLED_CODE, b""),
         ("parallel P", Answer::Done, PARALLEL_PRODUCT, b""),
+        ("parallel M", Answer::Done, PARALLEL_DRAWN, b""),
         ("parallel S", Answer::Done, PARALLEL_STILL, b""),
         ("serial C", Answer::Done, SERIAL_COUNTER, b""),
         ("cascade G", Answer::Done, CASCADE_COUNTER, b""),

@@ -5,7 +5,7 @@ ghost use Rattle.std.specs.Prelude.{◌<◌, ◌^◌, length};
 use super::answer;
 use super::decompositions::CROSSED;
 use super::machines::{COUNTER as NAMED_COUNTER, HALF};
-use super::partitions::{ALIKE, COUNTER, PRODUCT};
+use super::partitions::{ALIKE, COUNTER, DRAWN, PRODUCT, STILL};
 use crate::Answer;
 use blif_in::read;
 use hs_io::{MemShelf, MemSink};
@@ -80,8 +80,10 @@ fn machine_answers(alloc: Global, text: &[u8], symbols: &[u8]) -> Option<Vec<u8>
 #[test]
 fn networks_answer_as_machines(rt: HostRuntime) -> Result<(), Fail> {
     let alloc = rt.alloc();
-    let cases: [(&str, u8, &[u8]); 17] = [
+    let cases: [(&str, u8, &[u8]); 19] = [
         ("parallel f", 1, PRODUCT),
+        ("parallel f", 1, DRAWN),
+        ("parallel f", 1, STILL),
         ("serial f", 1, PRODUCT),
         ("cascade f", 1, PRODUCT),
         ("feedback f", 1, PRODUCT),
