@@ -28,6 +28,12 @@ gates 65536
 names 16384
 names 32768
 names 65536
+chain 16383
+chain 32767
+chain 65535
+ring 16383
+ring 32767
+ring 65535
 rows 250000
 rows 500000
 rows 1000000

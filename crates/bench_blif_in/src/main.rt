@@ -45,7 +45,7 @@ fn run(rt: &impl Print, alloc: Global, text: &[u8], work: Work) -> anyhow::Resul
             net.latches.as_slice().len(),
             net.gates.as_slice().len()
         )?,
-        Err(BlifFail::Refused(fault)) => println!(rt; "line {} {:?}", fault.line, fault.kind)?,
+        Err(BlifFail::Refused(fault)) => println!(rt; "refused at line {}", fault.line)?,
         Err(BlifFail::NoMemory) => bail!("no memory"),
     }
     Ok(())

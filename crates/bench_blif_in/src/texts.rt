@@ -60,9 +60,29 @@ fn gates(alloc: Global, front: &[u8], row: &[u8], size: usize) -> Result<Text, A
     Ok(text)
 }
 
+/// So many gates, each of which reads the gate behind it, and one behind them that reads the signal.
+fn chain(alloc: Global, signal: &[u8], size: usize) -> Result<Text, AllocError> {
+    let mut text = Text::new(alloc, b".model m\n.inputs x\n")?;
+    for gate in 0..size {
+        text.add(b".names g")?;
+        text.add_digits(gate + 1)?;
+        text.add(b" g")?;
+        text.add_digits(gate)?;
+        text.add(b"\n1 1\n")?;
+    }
+    text.add(b".names ")?;
+    text.add(signal)?;
+    text.add(b" g")?;
+    text.add_digits(size)?;
+    text.add(b"\n1 1\n")?;
+    Ok(text)
+}
+
 /// The text of that kind and size.
 ///
 /// - `gates` are so many gates with twelve inputs, `names` so many whose names share a front of 20 bytes;
+/// - `chain` are so many gates that each read the gate behind them, and one that reads an input, `ring` the same
+///   with one that reads the first;
 /// - `rows` are so many rows of one gate;
 /// - `continued` is a line `.names` that is continued so many times, with a field on each line, `blanks` the
 ///   same without fields;
@@ -78,6 +98,8 @@ pub fn text_of(alloc: Global, kind: &str, size: usize) -> Result<Vec<u8>, Error>
             text = gates(alloc, front, b"\n1-------0--- 1\n", size)?;
         }
         "names" => text = gates(alloc, b".names state_of_the_machine", b"\n1\n", size)?,
+        "chain" => text = chain(alloc, b"x", size)?,
+        "ring" => text = chain(alloc, b"g00000", size)?,
         "rows" => {
             text.add(b".model m\n.inputs x\n.names x z\n")?;
             text.repeat(b"1 1\n", size)?;
@@ -102,7 +124,9 @@ pub fn text_of(alloc: Global, kind: &str, size: usize) -> Result<Vec<u8>, Error>
             text.add(b".inputs x\n")?;
             text.repeat(b"1 1\n", size)?;
         }
-        _ => bail!("the kinds are gates, names, rows, continued, blanks, line, fields and refused"),
+        _ => bail!(
+            "the kinds are gates, names, chain, ring, rows, continued, blanks, line, fields and refused"
+        ),
     }
     Ok(text.bytes)
 }
