@@ -1,7 +1,8 @@
 -- The command of a job is that of a row.
-use Rattle.std.proofs.Common.{◌≡◌, ℕ, ◌+◌, Bool, true, false, if◌then◌else◌, List, [], ◌∷◌, Contains, Option, Some, None, Result, Ok, Err, IfOk, refl, sym, ap, ◌∙◌, subst, suc, inl, inr, arith}
+use Rattle.std.proofs.Common.{◌≡◌, ℕ, Bool, true, false, List, [], ◌∷◌, Contains, Option, Some, None, Result, Ok, Err, IfOk, refl, sym, ap, ◌∙◌, subst, suc, inl, inr, arith}
 use Rattle.std.proofs.lemmas.Bool.{cases_Bool}
-use Rattle.std.specs.List.{find}
+use Rattle.std.specs.Prelude.{⊤}
+use Rattle.std.specs.List.{AllByRecursion, find}
 use Rattle.job_words.specs.declared.command.Command.{Command}
 use Rattle.job_words.specs.declared.jobs.Job.{Job}
 use Rattle.job_words.specs.declared.jobs.JobFail.{JobFail}
@@ -11,9 +12,10 @@ use Rattle.job_words.specs.declared.table.OperandKind.{OperandKind}
 use Rattle.job_words.specs.declared.table.OperandKind.TheVariants.{File, Net, Part, Parts, Symbols, Cover, Seed, A, B, K}
 use Rattle.std.specs.Str.{bytes_eq}
 use Rattle.job_words.specs.Command.{command_word}
-use Rattle.job_words.specs.Item.{Item, Operand, Chosen, Lacking, Unknown, items_of, width_of}
-use Rattle.job_words.specs.Job.{job_of, judged, judged_as, judgement, refusal, refused_or, row_named, with_kind, with_operand, with_option}
+use Rattle.job_words.specs.Item.{Item, Operand, Chosen, Lacking, Unknown, items_of}
+use Rattle.job_words.specs.Job.{job_of, judged, judged_as, judgement, row_named, with_kind, with_operand, with_option}
 use Rattle.job_words.specs.Table.{IsBuilt, Row, built, commands_of}
+use Rattle.job_words.proofs.Judged.{judged-keeps}
 
 -- an operand leaves the command, the limit, and what is filled
 pub record Keeps (job more : Job) : Type 0 where
@@ -52,23 +54,10 @@ job_of-command row (Lacking option ∷ before) = job_of-command row before
 job_of-command row (Unknown ∷ before) = job_of-command row before
 
 -- so the job that items give has the command of the row
-ended : (row : Row) (before : List Item) (number : ℕ) (job : Job) (missing : Bool) → (if missing then Err number else Ok (job_of row before)) ≡ Ok job → job.command ≡ row.command
-ended row before number job true e = cc
-ended row before number job false e = let same : job_of row before ≡ job = cc in ap (λ (j : Job). j.command) (sym same) ∙ job_of-command row before
-
-pub not_refused : (number : ℕ) (place : Option ℕ) (rest : Result Job ℕ) (job : Job) → refused_or number place rest ≡ Ok job → rest ≡ Ok job
-not_refused number None rest job e = e
-not_refused number (Some place) rest job e = cc
-
--- an item that was judged on was not refused
-pub passed : (number : ℕ) (place : Option ℕ) (rest : Result Job ℕ) (job : Job) → refused_or number place rest ≡ Ok job → place ≡ None
-passed number None rest job e = refl
-passed number (Some place) rest job e = cc
-
 pub judged-command : (row : Row) (before : List Item) (number : ℕ) (items : List Item) (job : Job) → judged row before number items ≡ Ok job → job.command ≡ row.command
-judged-command row before number [] job e = ended row before number job _ e
-judged-command row before number (item ∷ items) job e =
-    judged-command row (item ∷ before) (number + width_of item) items job (not_refused number (refusal row before item) _ job e)
+judged-command row before number items job e =
+    let is = judged-keeps (λ _. ⊤) row before number items job (λ before item holds kept. tt) tt e in
+    ap (λ (j : Job). j.command) (sym is.job_is) ∙ job_of-command row is.items
 
 -- a row that is found is one of them
 here : (first : Row) (rows : List Row) (row : Row) → first ≡ row → Contains (commands_of (first ∷ rows)) row.command
@@ -77,10 +66,10 @@ here first rows row e = (0, omega arith, ap (λ (r : Row). r.command) e)
 there : (first : Row) (rows : List Row) (command : Command) → Contains (commands_of rows) command → Contains (commands_of (first ∷ rows)) command
 there first rows command (k, within, is) = (suc k, omega arith, is)
 
-pub found_first : (p : Row → Bool) (first : Row) (rows : List Row) (row : Row) → p first ≡ true → find p (first ∷ rows) ≡ Some row → first ≡ row
+found_first : (p : Row → Bool) (first : Row) (rows : List Row) (row : Row) → p first ≡ true → find p (first ∷ rows) ≡ Some row → first ≡ row
 found_first p first rows row is e = let same : find p (first ∷ rows) ≡ Some first = rw is refl in cc
 
-pub found_later : (p : Row → Bool) (first : Row) (rows : List Row) (row : Row) → p first ≡ false → find p (first ∷ rows) ≡ Some row → find p rows ≡ Some row
+found_later : (p : Row → Bool) (first : Row) (rows : List Row) (row : Row) → p first ≡ false → find p (first ∷ rows) ≡ Some row → find p rows ≡ Some row
 found_later p first rows row other e = let same : find p (first ∷ rows) ≡ find p rows = rw other refl in sym same ∙ e
 
 found : (p : Row → Bool) (rows : List Row) (row : Row) → find p rows ≡ Some row → Contains (commands_of rows) row.command
@@ -90,6 +79,37 @@ found p (first ∷ rows) row e =
       | inl is ↦ here first rows row (found_first p first rows row is e)
       | inr other ↦ there first rows row.command (found p rows row (found_later p first rows row other e))
     ]
+
+-- what each row has, a row that is found has
+found_has : (p : Row → Bool) (Q : Row → Type 0) (rows : List Row) (row : Row) → AllByRecursion Q rows → find p rows ≡ Some row → Q row
+found_has p Q [] row each is = cc
+found_has p Q (first ∷ rows) row (has, each) is =
+    elim (cases_Bool (p first)) [
+      | inl here ↦ subst Q (found_first p first rows row here is) has
+      | inr later ↦ found_has p Q rows row each (found_later p first rows row later is)
+    ]
+
+-- a job is that of words after the command, by a row with its command that has what each row has
+pub record HasRow (Q : Row → Type 0) (job : Job) : Type 0 where
+  pub row : Row
+  pub has : Q row
+  pub command_is : job.command ≡ row.command
+  pub words : List (List ℕ)
+  pub judged_is : judged row [] 2 (items_of words) ≡ Ok job
+
+row_found : (Q : Row → Type 0) (rows : List Row) (word : List ℕ) (words : List (List ℕ)) (job : Job) (row : Option Row) → AllByRecursion Q rows → row_named rows word ≡ row → judged_as row words ≡ Ok job → HasRow Q job
+row_found Q rows word words job None each f g = cc
+row_found Q rows word words job (Some row) each f g = record {
+  row = row;
+  has = found_has (λ r. bytes_eq word (command_word r.command)) Q rows row each f;
+  command_is = judged-command row [] 2 (items_of words) job g;
+  words = words;
+  judged_is = g;
+}
+
+pub row_of_job : (Q : Row → Type 0) (rows : List Row) (words : List (List ℕ)) (job : Job) → AllByRecursion Q rows → judgement rows words ≡ Ok job → HasRow Q job
+row_of_job Q rows [] job each e = cc
+row_of_job Q rows (word ∷ words) job each e = row_found Q rows word words job (row_named rows word) each refl e
 
 of_row : (rows : List Row) (word : List ℕ) (words : List (List ℕ)) (job : Job) (row : Option Row) → row_named rows word ≡ row → judged_as row words ≡ Ok job → Contains (commands_of rows) job.command
 of_row rows word words job None f g = cc

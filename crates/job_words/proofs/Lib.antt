@@ -1,6 +1,9 @@
+pub mod Judged
+pub mod Ranges
 pub mod Commands
 pub mod Digits
 pub mod ItemsAt
 pub mod Reading
 pub mod Limits
 pub mod Slashes
+pub mod Sizes

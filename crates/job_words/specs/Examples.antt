@@ -7,7 +7,7 @@ use Rattle.job_words.specs.declared.command.Command.TheVariants as commands
 use Rattle.job_words.specs.declared.jobs.Job.{Job}
 use Rattle.job_words.specs.declared.table.CommandOption.TheVariants.{Limit, Reduce, Start, Fill}
 use Rattle.job_words.specs.declared.table.OperandKind.TheVariants.{File, Net, Part, Parts, Symbols, Seed, A, B, K}
-use Rattle.job_words.specs.Job.{empty_job, judgement}
+use Rattle.job_words.specs.Job.{JobOf, empty_job, judgement}
 use Rattle.job_words.specs.Table.{Row, row}
 
 -- some rows
@@ -20,9 +20,17 @@ example_rows =
     ∷ row commands.Gen (Seed ∷ A ∷ B ∷ K ∷ []) []
     ∷ []
 
--- what the words of a line give, cut at each space
+-- the words of a line, cut at each space
+abbrev pub words_of : String → List (List ℕ)
+words_of line = slice_split (λ byte. byte == 32) (codes line)
+
+-- what they give by these rows
 abbrev pub judged_line : String → Result Job ℕ
-judged_line line = judgement example_rows (slice_split (λ byte. byte == 32) (codes line))
+judged_line line = judgement example_rows (words_of line)
+
+-- what they give by the commands that are built
+abbrev pub job_of_line : String → Result Job ℕ
+job_of_line line = JobOf (words_of line)
 
 -- a number of slashes
 abbrev pub slashes : ℕ → List ℕ
@@ -74,3 +82,22 @@ pub record ReadsNumbers : Type 0 where
   pub no_inputs : judged_line "gen 7 128 2" ≡ Err 5
   pub pieces : judgement example_rows (codes "assign" ∷ codes "f" ∷ slashes 255 ∷ []) ≡ Ok (record (empty_job commands.Assign) { file = codes "f"; second = slashes 255 })
   pub more_pieces : judgement example_rows (codes "assign" ∷ codes "f" ∷ slashes 256 ∷ []) ≡ Err 3
+
+-- a walk and a simulation read symbols
+pub record ReadsSymbols : Type 0 where
+  pub walk : job_of_line "walk f g --fill hold" ≡ Ok (record (empty_job commands.Walk) { file = codes "f"; second = codes "g"; hold = true })
+  pub no_symbols : job_of_line "walk f" ≡ Err 3
+  pub walk_keep : job_of_line "walk f g --fill keep" ≡ Err 5
+  pub sim : job_of_line "sim f g --start 01" ≡ Ok (record (empty_job commands.Sim) { file = codes "f"; second = codes "g"; start = Some (codes "01") })
+  pub no_start : job_of_line "sim f g --start" ≡ Err 5
+  pub sim_fill : job_of_line "sim f g --fill hold" ≡ Err 4
+
+-- a generator takes the numbers of a machine of at most 256 states
+pub record TakesSizes : Type 0 where
+  pub gen : job_of_line "gen 1 2 2 1" ≡ Ok (record (empty_job commands.Gen) { seed = 1; a = 2; b = 2; k = 1 })
+  pub trial : job_of_line "trial 1 128 2 8" ≡ Ok (record (empty_job commands.Trial) { seed = 1; a = 128; b = 2; k = 8 })
+  pub numbers_missing : job_of_line "gen 1 2" ≡ Err 4
+  pub second_above : job_of_line "gen 1 2 129 1" ≡ Err 4
+  pub states_above : job_of_line "gen 1 16 17 1" ≡ Err 4
+  pub inputs_above : job_of_line "trial 1 2 2 9" ≡ Err 5
+  pub option : job_of_line "trial 1 2 2 1 --reduce" ≡ Err 6

@@ -1,5 +1,5 @@
 -- The job of a list of words, or the number of the refused word, by a table of commands.
-use Rattle.std.specs.Prelude.{◌≡◌, ◌≤◌, ℕ, ◌+◌, ◌*◌, ◌==◌, Bool, true, false, not, ◌&&◌, ◌||◌, nat_le, nat_lt, if◌then◌else◌, List, [], ◌∷◌, length, count_by, slice_get, Option, Some, None, Result, Ok, Err, codes}
+use Rattle.std.specs.Prelude.{◌≡◌, ◌⊎◌, ◌≤◌, ℕ, ◌+◌, ◌*◌, ◌==◌, Bool, true, false, not, ◌&&◌, ◌||◌, nat_le, nat_lt, if◌then◌else◌, List, [], ◌∷◌, length, count_by, slice_get, Option, Some, None, Result, Ok, Err, codes}
 use Rattle.std.specs.List.{find, list_any}
 use Rattle.std.specs.Str.{bytes_eq}
 use Rattle.job_words.specs.declared.command.Command.{Command}
@@ -157,3 +157,17 @@ HasFewSlashes text = count_by (λ c. c == 47) text ≤ 255
 -- so the operand PARTS of `assign` has at most 256 pieces
 abbrev pub PartsAreFew : Type 0
 PartsAreFew = (words : List (List ℕ)) (job : Job) → JobOf words ≡ Ok job → job.command ≡ commands.Assign → HasFewSlashes job.second
+
+-- the numbers of a job that makes a machine are in their ranges
+pub record HasSizes (job : Job) : Type 0 where
+  pub a_low : 2 ≤ job.a
+  pub a_high : job.a ≤ 128
+  pub b_low : 2 ≤ job.b
+  pub b_high : job.b ≤ 128
+  pub states : job.a * job.b ≤ 256
+  pub k_low : 1 ≤ job.k
+  pub k_high : job.k ≤ 8
+
+-- each job of `gen` and of `trial` has such numbers
+abbrev pub SizesAreSizes : Type 0
+SizesAreSizes = (words : List (List ℕ)) (job : Job) → JobOf words ≡ Ok job → (job.command ≡ commands.Gen) ⊎ (job.command ≡ commands.Trial) → HasSizes job

@@ -5,8 +5,8 @@ use Rattle.job_words.specs.declared.command.Command.TheVariants as commands
 use Rattle.job_words.specs.declared.table.CommandOption.{CommandOption}
 use Rattle.job_words.specs.declared.table.Form.{Form}
 use Rattle.job_words.specs.declared.table.OperandKind.{OperandKind}
-use Rattle.job_words.specs.declared.table.OperandKind.TheVariants.{File, Part, Parts}
-use Rattle.job_words.specs.declared.table.CommandOption.TheVariants.{Fill, Limit, Reduce}
+use Rattle.job_words.specs.declared.table.OperandKind.TheVariants.{File, Net, Part, Parts, Symbols, Seed, A, B, K}
+use Rattle.job_words.specs.declared.table.CommandOption.TheVariants.{Fill, Limit, Reduce, Start}
 
 pub record Row : Type 0 where
   pub command : Command
@@ -36,6 +36,10 @@ built =
     ∷ row commands.Serial (File ∷ []) (Reduce ∷ Fill ∷ [])
     ∷ row commands.Cascade (File ∷ []) (Reduce ∷ Fill ∷ [])
     ∷ row commands.Feedback (File ∷ []) (Reduce ∷ Fill ∷ [])
+    ∷ row commands.Walk (File ∷ Symbols ∷ []) (Fill ∷ [])
+    ∷ row commands.Sim (Net ∷ Symbols ∷ []) (Start ∷ [])
+    ∷ row commands.Gen (Seed ∷ A ∷ B ∷ K ∷ []) []
+    ∷ row commands.Trial (Seed ∷ A ∷ B ∷ K ∷ []) []
     ∷ []
 
 -- the commands of rows

@@ -1,13 +1,15 @@
-//! Worked examples of the definitions and a law of jobs, each the contract of a function that does nothing.
+//! Worked examples of the definitions and laws of jobs, each the contract of a function that does nothing.
 
-ghost use Rattle.job_words.specs.Examples.{ReadsNumbers, RefusesWords, TakesOptions};
-ghost use Rattle.job_words.specs.Job.{LimitsAreLimits, PartsAreFew};
+ghost use Rattle.job_words.specs.Examples.{ReadsNumbers, ReadsSymbols, RefusesWords, TakesOptions, TakesSizes};
+ghost use Rattle.job_words.specs.Job.{LimitsAreLimits, PartsAreFew, SizesAreSizes};
 
-/// What the judgement over a table says of some lines.
+/// What the judgement over a table, and over the commands that are built, says of some lines.
 pub fn judged_lines()
     ensures words { RefusesWords }
     ensures options { TakesOptions }
     ensures numbers { ReadsNumbers }
+    ensures symbols { ReadsSymbols }
+    ensures sizes { TakesSizes }
 {}
 
 /// The operand PARTS of `assign` has at most 255 slashes.
@@ -18,4 +20,9 @@ pub fn parts_are_few()
 /// The limit of a job is from 1 to 10,000.
 pub fn limits_are_limits()
     ensures { LimitsAreLimits }
+{}
+
+/// The numbers A, B and K of a job of `gen` or `trial` are in their ranges, and A times B is at most 256.
+pub fn sizes_are_sizes()
+    ensures { SizesAreSizes }
 {}

@@ -51,8 +51,16 @@ pub struct Form {
     pub options: &'static [CommandOption],
 }
 
+/// The operands of a command that makes a machine.
+const NUMBERS: &[OperandKind] = &[
+    OperandKind::Seed,
+    OperandKind::A,
+    OperandKind::B,
+    OperandKind::K,
+];
+
 /// The commands that are built.
-const BUILT: [Form; 13] = [
+const BUILT: [Form; 17] = [
     Form {
         command: Command::Check,
         operands: &[OperandKind::File],
@@ -117,6 +125,26 @@ const BUILT: [Form; 13] = [
         command: Command::Feedback,
         operands: &[OperandKind::File],
         options: &[CommandOption::Reduce, CommandOption::Fill],
+    },
+    Form {
+        command: Command::Walk,
+        operands: &[OperandKind::File, OperandKind::Symbols],
+        options: &[CommandOption::Fill],
+    },
+    Form {
+        command: Command::Sim,
+        operands: &[OperandKind::Net, OperandKind::Symbols],
+        options: &[CommandOption::Start],
+    },
+    Form {
+        command: Command::Gen,
+        operands: NUMBERS,
+        options: &[],
+    },
+    Form {
+        command: Command::Trial,
+        operands: NUMBERS,
+        options: &[],
     },
 ];
 

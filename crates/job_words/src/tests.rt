@@ -129,6 +129,27 @@ fn makes_a_job(rt: HostRuntime) -> Result<(), Fail> {
 }
 
 #[test]
+fn makes_jobs_of_symbols_and_numbers(rt: HostRuntime) -> Result<(), Fail> {
+    let lines = [
+        ("walk f g --fill hold", Command::Walk, "g", 0),
+        ("sim f g --start 01", Command::Sim, "g", 0),
+        ("gen 1 2 2 1", Command::Gen, "", 4),
+        ("trial 1 16 16 8", Command::Trial, "", 256),
+    ];
+    for (line, command, second, states) in lines {
+        let words = words_of(rt.alloc(), line)?;
+        assert!(rt; words.count() < 6);
+        let Ok(job) = job(rt.alloc(), &words) else {
+            return Err(Fail::from(AllocError));
+        };
+        assert_eq!(rt; job.command, command, "{line}");
+        assert_eq!(rt; job.second.bytes(), second.as_bytes(), "{line}");
+        assert_eq!(rt; u32::from(job.a) * u32::from(job.b), states, "{line}");
+    }
+    Ok(())
+}
+
+#[test]
 fn refuses_words(rt: HostRuntime) -> Result<(), Fail> {
     let lines = [
         ("", 1),
