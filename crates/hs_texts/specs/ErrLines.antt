@@ -1,6 +1,8 @@
 -- The lines that go to err with an answer. Each ends with a line feed.
 use Rattle.std.specs.Prelude.{ℕ, List, [], ◌∷◌, ◌++◌, codes}
 use Rattle.std.specs.Fmt.{decimal}
+use Rattle.std.specs.List.{flat_map}
+use Rattle.hs_io.specs.Spelling.{spaced}
 
 -- a text as a line, ended by a line feed
 abbrev pub as_line : List ℕ → List ℕ
@@ -21,6 +23,34 @@ too_long_line name = as_line (codes "hsdec: too long " ++ name)
 -- the line of a text of a machine that is refused: the number of its line, and what is wrong there
 abbrev pub kiss_line : ℕ → List ℕ → List ℕ
 kiss_line number fault = as_line (codes "hsdec: kiss line " ++ decimal number ++ codes ": " ++ fault)
+
+-- the line of a text of a network that is refused: the number of its line, and what is wrong there
+abbrev pub net_line : ℕ → List ℕ → List ℕ
+net_line number fault = as_line (codes "hsdec: net line " ++ decimal number ++ codes ": " ++ fault)
+
+-- the line of a signal with two drivers
+abbrev pub two_drivers_line : List ℕ → List ℕ
+two_drivers_line name = as_line (codes "hsdec: net two drivers " ++ name)
+
+-- the line of a signal that nothing drives
+abbrev pub undriven_line : List ℕ → List ℕ
+undriven_line name = as_line (codes "hsdec: net undriven " ++ name)
+
+-- the line of a cycle of gates, with the names of their outputs
+abbrev pub cycle_line : List (List ℕ) → List ℕ
+cycle_line names = as_line (codes "hsdec: net cycle" ++ flat_map spaced names)
+
+-- the line of first values that are no bits, or not one for each latch
+abbrev pub bad_start_line : List ℕ
+bad_start_line = as_line (codes "hsdec: bad start")
+
+-- the line of a latch whose first value is not known
+abbrev pub start_unknown_line : List ℕ → List ℕ
+start_unknown_line name = as_line (codes "hsdec: start unknown " ++ name)
+
+-- the line of a text of symbols that is refused, with the number of the first line that is wrong
+abbrev pub symbol_line : ℕ → List ℕ
+symbol_line number = as_line (codes "hsdec: symbols line " ++ decimal number)
 
 -- the line of two rows that conflict
 abbrev pub conflict_line : ℕ → ℕ → List ℕ

@@ -2,8 +2,11 @@
 
 ghost use Rattle.std.specs.Prelude.{◌≡◌, ◌++◌, IfOk, OnOk, codes};
 ghost use Rattle.std.specs.Fmt.{decimal};
-ghost use Rattle.hs_texts.specs.ErrLines.{as_line, usage_line, cannot_read_line, too_long_line, kiss_line, conflict_line, more_line, unspecified_line, part_length_line, part_place_line, not_apart_line, code_bits_line, no_split_line};
+ghost use Rattle.std.specs.List.{flat_map};
+ghost use Rattle.hs_io.specs.Spelling.{spaced};
+ghost use Rattle.hs_texts.specs.ErrLines.{as_line, usage_line, cannot_read_line, too_long_line, kiss_line, net_line, two_drivers_line, undriven_line, cycle_line, bad_start_line, start_unknown_line, symbol_line, conflict_line, more_line, unspecified_line, part_length_line, part_place_line, not_apart_line, code_bits_line, no_split_line};
 
+use hs_io::Name;
 use std::alloc::{AllocError, Global};
 
 /// The line of an answer that wants memory.
@@ -38,13 +41,59 @@ pub fn too_long(alloc: Global, name: &[u8]) -> Result<Vec<u8>, AllocError>
 pub fn kiss(alloc: Global, line: u32, fault: &[u8]) -> Result<Vec<u8>, AllocError>
     ensures { IfOk result (λ text. text.items ≡ kiss_line line fault.now) }
 {
+    fault_line(alloc, b"hsdec: kiss line ", line, fault)
+}
+
+/// The line of a refused text of a network: the number of its line, and what is wrong there.
+pub fn net(alloc: Global, line: u32, fault: &[u8]) -> Result<Vec<u8>, AllocError>
+    ensures { IfOk result (λ text. text.items ≡ net_line line fault.now) }
+{
+    fault_line(alloc, b"hsdec: net line ", line, fault)
+}
+
+/// The line of a signal with two drivers.
+pub fn two_drivers(alloc: Global, name: &[u8]) -> Result<Vec<u8>, AllocError>
+    ensures { IfOk result (λ line. line.items ≡ two_drivers_line name.now) }
+{
+    line_of(alloc, b"hsdec: net two drivers ", name)
+}
+
+/// The line of a signal that nothing drives.
+pub fn undriven(alloc: Global, name: &[u8]) -> Result<Vec<u8>, AllocError>
+    ensures { IfOk result (λ line. line.items ≡ undriven_line name.now) }
+{
+    line_of(alloc, b"hsdec: net undriven ", name)
+}
+
+/// The line of a cycle of gates, by the names of their outputs in order.
+pub fn cycle(alloc: Global, names: &[Name]) -> Result<Vec<u8>, AllocError>
+    ensures { IfOk result (λ line. line.items ≡ cycle_line names.now) }
+{
+    let mut spaced_names = Vec::new(alloc);
+    append_names(&mut spaced_names, names)?;
+    line_of(alloc, b"hsdec: net cycle", spaced_names.as_slice())
+}
+
+/// The line of first values that are no bits, or not one for each latch.
+pub fn bad_start(alloc: Global) -> Result<Vec<u8>, AllocError>
+    ensures { IfOk result (λ line. line.items ≡ bad_start_line) }
+{
+    line_of(alloc, b"hsdec: bad start", b"")
+}
+
+/// The line of a latch whose first value is not known.
+pub fn start_unknown(alloc: Global, name: &[u8]) -> Result<Vec<u8>, AllocError>
+    ensures { IfOk result (λ line. line.items ≡ start_unknown_line name.now) }
+{
+    line_of(alloc, b"hsdec: start unknown ", name)
+}
+
+/// The line of a refused text of symbols, with the number of the first line that is wrong.
+pub fn symbols(alloc: Global, line: u32) -> Result<Vec<u8>, AllocError>
+    ensures { IfOk result (λ text. text.items ≡ symbol_line line) }
+{
     let number = line.to_string(alloc)?;
-    let mut text = Vec::from_slice(alloc, b"hsdec: kiss line ")?;
-    text.extend_from_slice(number.as_bytes())?;
-    text.extend_from_slice(b": ")?;
-    text.extend_from_slice(fault)?;
-    text.push(b'\n')?;
-    Ok(text)
+    line_of(alloc, b"hsdec: symbols line ", number.as_bytes())
 }
 
 /// The line of two rows that conflict, counted from 1.
@@ -143,6 +192,29 @@ pub fn no_split(alloc: Global, kind: &[u8]) -> Result<Vec<u8>, AllocError>
     line.extend_from_slice(kind)?;
     line.extend_from_slice(b" decomposition\n")?;
     Ok(line)
+}
+
+/// A line of words, the number of a line, and what is wrong there.
+fn fault_line(alloc: Global, words: &[u8], number: u32, fault: &[u8]) -> Result<Vec<u8>, AllocError>
+    ensures { IfOk result (λ line. line.items ≡ as_line (words.now ++ decimal number ++ codes ": " ++ fault.now)) }
+{
+    let mut text = Vec::new(alloc);
+    append_number(alloc, &mut text, words, u64::from(number))?;
+    text.extend_from_slice(b": ")?;
+    text.extend_from_slice(fault)?;
+    text.push(b'\n')?;
+    Ok(text)
+}
+
+/// Appends names, each after a space.
+fn append_names(text: &mut Vec<u8>, names: &[Name]) -> Result<(), AllocError>
+    ensures { OnOk result (text.new.items ≡ text.old.items ++ flat_map spaced names.now) }
+{
+    for name in names {
+        text.push(b' ')?;
+        text.extend_from_slice(name.bytes())?;
+    }
+    Ok(())
 }
 
 /// Appends words and a number.

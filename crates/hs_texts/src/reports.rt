@@ -1,9 +1,35 @@
 //! Reports that are no lists.
 
-ghost use Rattle.std.specs.Prelude.{◌≡◌, ◌++◌, IfOk, OnOk};
-ghost use Rattle.hs_texts.specs.Reports.{counts_text, named_line};
+ghost use Rattle.std.specs.Prelude.{◌≡◌, ◌∷◌, [], ◌++◌, IfOk, OnOk, codes};
+ghost use Rattle.std.specs.Fmt.{decimal};
+ghost use Rattle.hs_io.specs.Spelling.{spaced};
+ghost use Rattle.hs_texts.specs.Reports.{count_within, counts_text, named_line, spaced_numbers, trial_text};
 
+use hs_list::Items;
 use std::alloc::{AllocError, Global};
+
+/// The figures of a trial of a machine that was made from a seed.
+#[derive(Debug, Drop)]
+pub struct TrialFigures {
+    /// The number that the machine was made from.
+    pub seed: u64,
+    /// How many states its first factor has.
+    pub a: u16,
+    /// How many states its second factor has.
+    pub b: u16,
+    /// How many inputs it has.
+    pub k: u8,
+    /// How many states it has.
+    pub states: usize,
+    /// How many closed partitions it has, if not more than 1,000.
+    pub closed: Option<usize>,
+    /// How many blocks each part of its parallel decomposition has.
+    pub parts: Items<usize>,
+    /// How many latches the network of the decomposition has.
+    pub latches: usize,
+    /// How many bits of its answers in the run are 1.
+    pub ones: usize,
+}
 
 /// The counts of a machine, and the name of its reset state.
 pub fn counts(
@@ -23,6 +49,88 @@ pub fn counts(
     append_line(&mut text, b"rows ", rows.to_string(alloc)?.as_bytes())?;
     append_line(&mut text, b"reset ", reset)?;
     Ok(text)
+}
+
+/// The summary of a trial.
+pub fn trial(alloc: Global, figures: &TrialFigures) -> Result<Vec<u8>, AllocError>
+    ensures { IfOk result (λ text. text.items ≡ trial_text figures.now) }
+{
+    let mut text = Vec::new(alloc);
+    append_seed(alloc, &mut text, figures)?;
+    append_count(alloc, &mut text, b"# states ", figures.states)?;
+    append_closed(alloc, &mut text, figures.closed)?;
+    append_numbers_line(alloc, &mut text, b"# parts", figures.parts.as_slice())?;
+    append_count(alloc, &mut text, b"# latches ", figures.latches)?;
+    append_count(alloc, &mut text, b"# ones ", figures.ones)?;
+    Ok(text)
+}
+
+/// Appends a line of what a machine was made from.
+fn append_seed(alloc: Global, text: &mut Vec<u8>, figures: &TrialFigures) -> Result<(), AllocError>
+    ensures { OnOk result (text.new.items ≡ text.old.items ++ named_line (codes "# trial")
+        (spaced_numbers (figures.now.seed ∷ figures.now.a ∷ figures.now.b ∷ figures.now.k ∷ []))) }
+{
+    text.extend_from_slice(b"# trial")?;
+    append_number(alloc, text, figures.seed)?;
+    append_number(alloc, text, u64::from(figures.a))?;
+    append_number(alloc, text, u64::from(figures.b))?;
+    append_number(alloc, text, u64::from(figures.k))?;
+    Ok(text.push(b'\n')?)
+}
+
+/// Appends the line of the closed partitions.
+fn append_closed(alloc: Global, text: &mut Vec<u8>, closed: Option<usize>) -> Result<(), AllocError>
+    ensures { OnOk result (text.new.items ≡ text.old.items ++ named_line (codes "# closed ") (count_within closed)) }
+{
+    match closed {
+        Some(count) => append_count(alloc, text, b"# closed ", count),
+        None => append_line(text, b"# closed ", b"more than 1000"),
+    }
+}
+
+/// Appends a line of a word and a count.
+fn append_count(
+    alloc: Global,
+    text: &mut Vec<u8>,
+    word: &[u8],
+    count: usize,
+) -> Result<(), AllocError>
+    ensures { OnOk result (text.new.items ≡ text.old.items ++ named_line word.now (decimal count)) }
+{
+    append_line(text, word, count.to_string(alloc)?.as_bytes())
+}
+
+/// Appends a line of a word and numbers.
+fn append_numbers_line(
+    alloc: Global,
+    text: &mut Vec<u8>,
+    word: &[u8],
+    numbers: &[usize],
+) -> Result<(), AllocError>
+    ensures { OnOk result (text.new.items ≡ text.old.items ++ named_line word.now (spaced_numbers numbers.now)) }
+{
+    text.extend_from_slice(word)?;
+    append_numbers(alloc, text, numbers)?;
+    Ok(text.push(b'\n')?)
+}
+
+/// Appends numbers, each after a space.
+fn append_numbers(alloc: Global, text: &mut Vec<u8>, numbers: &[usize]) -> Result<(), AllocError>
+    ensures { OnOk result (text.new.items ≡ text.old.items ++ spaced_numbers numbers.now) }
+{
+    for number in numbers {
+        append_number(alloc, text, *number as u64)?;
+    }
+    Ok(())
+}
+
+/// Appends a number after a space.
+fn append_number(alloc: Global, text: &mut Vec<u8>, number: u64) -> Result<(), AllocError>
+    ensures { OnOk result (text.new.items ≡ text.old.items ++ spaced (decimal number)) }
+{
+    let digits = number.to_string(alloc)?;
+    text.push(b' ')?;
+    text.extend_from_slice(digits.as_bytes())
 }
 
 /// Appends a line of a word and what it names.
