@@ -15,15 +15,11 @@ use Rattle.blif_out.specs.Writable.{IsSignalName, IsWritable}
 use Rattle.blif_out.specs.Law.{NetTextDenotes}
 use Rattle.blif_out.proofs.Grammar.{on_lines, said-on_lines, net_statements, net_said, net_faultless, flat_map-tail, latches_read, gates_read}
 use Rattle.blif_out.proofs.Reading.{numbered, HasNoBackslash, GoesOn, lines_from-comments, joined-numbered, take_while-numbered, statements-comments}
-use Rattle.blif_out.proofs.Words.{AreNames, all_names, all_go_on, all_have_words, name_word}
+use Rattle.blif_out.proofs.Words.{AreNames, each_append, all_names, all_go_on, all_have_words, name_word}
 
 -- the fields of each line, the ending one too
 abbrev pub all_fields : Network → List (List (List ℕ))
 all_fields N = net_fields N ++ (end_word ∷ []) ∷ []
-
-each_append : (P : List (List ℕ) → Type 0) (xs ys : List (List (List ℕ))) → AllByRecursion P xs → AllByRecursion P ys → AllByRecursion P (xs ++ ys)
-each_append P [] ys p q = q
-each_append P (x ∷ xs) ys (h, p) q = (h, each_append P xs ys p q)
 
 each_map : {X : Type 0} (P Q : X → Type 0) → ((x : X) → P x → Q x) → (xs : List X) → AllByRecursion P xs → AllByRecursion Q xs
 each_map P Q f [] p = tt

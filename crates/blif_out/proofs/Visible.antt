@@ -14,7 +14,7 @@ use Rattle.state_codes.specs.declared.split.Part.{Part}
 use Rattle.blif_out.specs.declared.header.Header.{Header}
 use Rattle.blif_out.specs.declared.header.LatchNote.{LatchNote}
 use Rattle.blif_out.specs.Head.{kind_word, kind_fields, classes_fields, numbers_text, part_fields, bits_of, bit_text, state_fields, note_fields, head_fields, head_lines, comment_text}
-use Rattle.blif_out.proofs.Words.{name_word}
+use Rattle.blif_out.proofs.Words.{each_append, name_word}
 
 abbrev pub IsVisible : List ℕ → Type 0
 IsVisible text = AllByRecursion IsFieldByte text
@@ -97,10 +97,6 @@ states_visible bits (name ∷ names) [] p = tt
 states_visible bits (name ∷ names) (word ∷ words) (p, ps) =
     (((name_word (codes "code") (omega arith) refl).field.visible, (p.visible, (bit_text_visible (bits_of bits word) (some_bits_visible word (range_with_len 0 bits)), tt))), states_visible bits names words ps)
 
-lines_append : (xs ys : List (List (List ℕ))) → AllByRecursion AreVisible xs → AllByRecursion AreVisible ys → AllByRecursion AreVisible (xs ++ ys)
-lines_append [] ys p q = q
-lines_append (x ∷ xs) ys (h, p) q = (h, lines_append xs ys p q)
-
 -- the fields of a header
 pub head_visible : (H : Header) → ArePlainFields H.states → AllByRecursion AreVisible (head_fields H)
 head_visible H plain =
@@ -109,9 +105,9 @@ head_visible H plain =
     let notes : List (List (List ℕ)) = map note_fields (enumerate_from 0 H.latches) in
     let classes : List (List (List ℕ)) = classes_fields H.classes in (
       kind_visible H.kind,
-      lines_append (classes ++ parts ++ states) notes
-          (lines_append (classes ++ parts) states
-          (lines_append classes parts (classes_visible H.classes) (each_visible part_fields part_visible (enumerate_from 0 H.parts)))
+      each_append AreVisible (classes ++ parts ++ states) notes
+          (each_append AreVisible (classes ++ parts) states
+          (each_append AreVisible classes parts (classes_visible H.classes) (each_visible part_fields part_visible (enumerate_from 0 H.parts)))
           (states_visible (length H.latches) H.states H.words plain))
           (each_visible note_fields note_visible (enumerate_from 0 H.latches)),
     )

@@ -1,16 +1,21 @@
--- The whole text, as it is appended.
-use Rattle.std.proofs.Common.{◌≡◌, ℕ, List, [], ◌∷◌, ◌++◌, map, length, sym, ap, ◌∙◌, refl, append_assoc, codes}
-use Rattle.std.specs.List.{flat_map, enumerate_from, zip}
+-- The whole text, as it is appended, and what it denotes.
+use Rattle.std.proofs.Common.{◌≡◌, ℕ, List, [], ◌∷◌, ◌++◌, map, length, subst, sym, ap, ◌∙◌, refl, append_assoc, codes}
+use Rattle.std.specs.List.{flat_map, enumerate_from, zip, AllByRecursion}
 use Rattle.std.proofs.lemmas.Grind.{flat_map-append}
 use Rattle.std.proofs.lemmas.List.Folds.{flat_map-map}
-use Rattle.hs_io.specs.Spelling.{ended, line_text}
+use Rattle.hs_io.specs.Spelling.{ended, line_text, ArePlainFields, IsComment}
 use Rattle.net_core.specs.declared.Gate.{Gate}
 use Rattle.net_core.specs.declared.Network.{Network}
+use Rattle.net_core.specs.Denotes.{Denotes}
 use Rattle.net_core.specs.Words.{inputs_word, outputs_word, names_word, end_word}
 use Rattle.blif_out.specs.declared.header.Header.{Header}
 use Rattle.blif_out.specs.Head.{Head, net_text_of, head_lines, head_fields, comment_text, kind_fields, classes_fields, part_fields, state_fields, note_fields}
 use Rattle.blif_out.specs.NetText.{net_text, gate_fields, latch_fields, row_fields}
+use Rattle.blif_out.specs.Writable.{IsWritable}
 use Rattle.blif_out.specs.Inner.Pieces.{row_line, latch_line, gate_lines, part_line, state_line, note_line}
+use Rattle.blif_out.proofs.Denoting.{net_denotes}
+use Rattle.blif_out.proofs.Visible.{head_comments}
+use Rattle.blif_out.proofs.Words.{each_append}
 
 -- a statement as a line
 abbrev line : List (List ℕ) → List ℕ
@@ -78,3 +83,11 @@ pub head_begins : (H : Header) (N : Network) → Head (net_text_of H N) H
 head_begins H N =
     let statements : List (List (List ℕ)) = (inputs_word ∷ N.inputs) ∷ (outputs_word ∷ N.outputs) ∷ (map latch_fields N.latches ++ flat_map gate_fields N.gates) in
     (codes " hsdec\n" ++ flat_map line (statements ++ (end_word ∷ []) ∷ []), refl)
+
+-- the whole text denotes the network, also behind comments
+pub whole_denotes : (N : Network) (H : Header) (comments : List (List ℕ)) → IsWritable N → ArePlainFields H.states → AllByRecursion IsComment comments → Denotes (flat_map ended comments ++ net_text_of H N) N
+whole_denotes N H comments writable plain are =
+    let lines : List (List ℕ) = head_lines H in
+    let same : flat_map ended comments ++ net_text_of H N ≡ flat_map ended (comments ++ lines) ++ net_text N =
+    sym (append_assoc (flat_map ended comments) (flat_map ended lines) (net_text N)) ∙ ap (λ (t : List ℕ). t ++ net_text N) (sym (flat_map-append ended comments lines)) in
+    subst (λ (bytes : List ℕ). Denotes bytes N) (sym same) (net_denotes N (comments ++ lines) writable (each_append IsComment comments lines are (head_comments H plain)))

@@ -66,9 +66,10 @@ row_names (c ∷ cs) inputs p = (name_from_bytes (c ∷ cs) (omega arith) (plane
 latch_names : (latch : Latch) → IsWritableLatch latch → AreNames (latch_fields latch)
 latch_names latch p = (name_word latch_word (omega arith) refl, (p.input, (p.output, (start_name latch.start, tt))))
 
-names_append : (xs ys : List (List ℕ)) → AreNames xs → AreNames ys → AreNames (xs ++ ys)
-names_append [] ys p q = q
-names_append (x ∷ xs) ys (h, p) q = (h, names_append xs ys p q)
+-- what holds of the items of two lists holds of all
+pub each_append : {X : Type 0} (P : X → Type 0) (xs ys : List X) → AllByRecursion P xs → AllByRecursion P ys → AllByRecursion P (xs ++ ys)
+each_append P [] ys p q = q
+each_append P (x ∷ xs) ys (h, p) q = (h, each_append P xs ys p q)
 
 -- what holds of the statements of a row, a gate and a latch
 pub record OfParts (P : List (List ℕ) → Type 0) : Type 0 where
@@ -97,7 +98,7 @@ pub all_names : (N : Network) → IsWritable N → AllByRecursion AreNames (net_
 all_names N w =
     let model : AreNames (model_word ∷ codes "hsdec" ∷ []) = (name_word model_word (omega arith) refl, (name_word (codes "hsdec") (omega arith) refl, tt)) in
     let gate : (g : Gate) → IsWritableGate g → AreNames (names_word ∷ (g.inputs ++ g.output ∷ [])) =
-    λ g p. (name_word names_word (omega arith) refl, names_append g.inputs (g.output ∷ []) p.inputs (p.output, tt)) in (
+    λ g p. (name_word names_word (omega arith) refl, each_append IsSignalName g.inputs (g.output ∷ []) p.inputs (p.output, tt)) in (
       model,
       (
         (name_word inputs_word (omega arith) refl, w.inputs),

@@ -1,12 +1,12 @@
--- A text has one header.
+-- A text has one header, and its lines are comments.
 use Rattle.std.specs.Prelude.{◌≡◌, ℕ, ◌^◌, ◌<◌, List, length, IfSome}
 use Rattle.std.specs.List.{AllByRecursion}
-use Rattle.hs_io.specs.Spelling.{ArePlainFields}
+use Rattle.hs_io.specs.Spelling.{ArePlainFields, IsComment}
 use Rattle.partition.specs.Partition.{IsPartition}
 use Rattle.state_codes.specs.declared.split.Part.{Part}
 use Rattle.blif_out.specs.declared.header.Header.{Header}
 use Rattle.blif_out.specs.declared.header.LatchNote.{LatchNote}
-use Rattle.blif_out.specs.Head.{Head}
+use Rattle.blif_out.specs.Head.{Head, head_lines}
 
 -- labels of some number of states
 abbrev pub IsLawfulPartition : List ℕ → Type 0
@@ -35,3 +35,7 @@ pub record IsLawfulHeader (H : Header) : Type 0 where
 abbrev pub HeadOnce : Type 0
 HeadOnce =
     (bytes : List ℕ) (H H' : Header) → IsLawfulHeader H → IsLawfulHeader H' → Head bytes H → Head bytes H' → H ≡ H'
+
+-- each line of a header is a comment
+abbrev pub HeadIsComments : Type 0
+HeadIsComments = (H : Header) → IsLawfulHeader H → AllByRecursion IsComment (head_lines H)

@@ -10,7 +10,7 @@
 //! spell it.
 #![tactic(auto)]
 
-ghost use Rattle.blif_out.specs.HeadLaw.{HeadOnce};
+ghost use Rattle.blif_out.specs.HeadLaw.{HeadIsComments, HeadOnce};
 ghost use Rattle.blif_out.specs.Law.{NetTextDenotes};
 
 mod fields;
@@ -30,6 +30,11 @@ pub fn net_text_denotes()
 /// No other header can be read out of a text: one that stands at its head is the only one.
 pub fn head_once()
     ensures { HeadOnce }
+{}
+
+/// The lines of a header are comments: a reader of the network skips them.
+pub fn head_is_comments()
+    ensures { HeadIsComments }
 {}
 
 #[cfg(test)]

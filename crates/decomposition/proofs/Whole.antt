@@ -1,11 +1,13 @@
 -- The whole text: what is shown of a split, its codes, their network and its header, put together.
-use Rattle.std.proofs.Common.{◌≡◌, ℕ, ◌<◌, ◌≤◌, Bool, All, IfSome, List, length, get_or, sym, ap, ◌∙◌, subst, arith}
+use Rattle.std.proofs.Common.{◌≡◌, ℕ, ◌<◌, ◌≤◌, Bool, All, IfSome, List, ◌++◌, length, get_or, sym, ap, ◌∙◌, subst, arith}
+use Rattle.std.specs.List.{flat_map}
 use Rattle.std.proofs.lemmas.Option.{slice_get_within}
 use Rattle.blif_out.specs.declared.header.Header.{Header}
 use Rattle.blif_out.specs.Head.{Head, net_text_of}
 use Rattle.blif_out.specs.Order.{HasKnownStarts, HasRowsInOrder}
 use Rattle.blif_out.specs.Writable.{IsWritable}
-use Rattle.hs_io.specs.Spelling.{ArePlainFields}
+use Rattle.blif_out.proofs.Whole.{whole_denotes}
+use Rattle.hs_io.specs.Spelling.{ended, ArePlainFields}
 use Rattle.dependence.specs.declared.sets.ReadSet.{ReadSet}
 use Rattle.dependence.specs.declared.sets.Reads.{Reads}
 use Rattle.dependence.specs.ReadRule.{LatchRuleIsLeast, OutputRuleIsLeast}
@@ -228,6 +230,7 @@ module _ (F : KissFile) (work : WorkMachine) (split : Split) (codes : Codes) (as
               head = head;
               lawful = header_lawful F W is.class split codes sets.latches work.classes H asked.lawful (image reduce is) asked.code asked.parts asked.few header.reads by_rule.latch_count header printed reduce is.classes;
               denotes = denotes;
+              behind = λ comments are. subst (λ (bytes : List ℕ). Denotes (flat_map ended comments ++ bytes) N) (sym whole) (whole_denotes N H comments net_writable states_written are);
               sound = flat_sound N flat;
               starts = net_starts;
               answers = carried_answers F N (words_by work.classes codes.words) asked.lawful.reset stays_of_file carries;

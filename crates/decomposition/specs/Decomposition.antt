@@ -1,5 +1,6 @@
 -- The headline: what is said of a text that is written as a decomposition of a file's machine.
-use Rattle.std.specs.Prelude.{◌≡◌, ℕ, ◌<◌, Bool, List, length, slice_get, slice_index, Some}
+use Rattle.std.specs.Prelude.{◌≡◌, ℕ, ◌<◌, ◌++◌, Bool, List, length, slice_get, slice_index, Some}
+use Rattle.std.specs.List.{flat_map, AllByRecursion}
 use Rattle.blif_out.specs.declared.header.Header.{Header}
 use Rattle.blif_out.specs.declared.header.LatchNote.{LatchNote}
 use Rattle.blif_out.specs.Head.{Head, net_text_of}
@@ -7,6 +8,7 @@ use Rattle.blif_out.specs.HeadLaw.{IsLawfulHeader}
 use Rattle.blif_out.specs.Order.{HasKnownStarts}
 use Rattle.dependence.specs.declared.sets.Reads.{Reads}
 use Rattle.dependence.specs.Reads.{AreReads}
+use Rattle.hs_io.specs.Spelling.{ended, IsComment}
 use Rattle.kiss2.specs.declared.kiss_file.KissFile.{KissFile}
 use Rattle.net_core.specs.declared.Network.{Network}
 use Rattle.net_core.specs.declared.SignalNames.{SignalNames}
@@ -41,16 +43,17 @@ pub record HasGates (F W : KissFile) (parts : List Part) (codes : Codes) (N : Ne
   pub own : AreNames F codes.bits names
   pub realised : IsRealised W codes.bits codes.words sets names N
 
--- The text is that of a network behind its header, and denotes the network. The network is sound, starts at known values
--- and answers every word as the machine of the file does from its reset state. The header has the names, the classes, and
--- the codes that carry every step of the file's machine. The codes are those that the parts give to the states of the work
--- machine W, and each gate of a latch reads only what its own pair and its part permit. The header is the only lawful one
--- that the text has, as HeadOnce of blif_out says.
+-- The text is that of a network behind its header, and denotes the network; comments in front of the text change nothing of
+-- what it denotes. The network is sound, starts at known values and answers every word as the machine of the file does from
+-- its reset state. The header has the names, the classes, and the codes that carry every step of the file's machine. The
+-- codes are those that the parts give to the states of the work machine W, and each gate of a latch reads only what its own
+-- pair and its part permit. The header is the only lawful one that the text has, as HeadOnce of blif_out says.
 pub record IsDecomposition (reduce : Bool) (F W : KissFile) (class : ℕ → ℕ) (codes : Codes) (text : List ℕ) (N : Network) (H : Header) : Type 0 where
   pub whole : text ≡ net_text_of H N
   pub head : Head text H
   pub lawful : IsLawfulHeader H
   pub denotes : Denotes text N
+  pub behind : (comments : List (List ℕ)) → AllByRecursion IsComment comments → Denotes (flat_map ended comments ++ text) N
   pub sound : Sound N
   pub starts : HasKnownStarts N
   pub answers : AnswersAs F N
