@@ -149,7 +149,7 @@ starts_known latches bits name are first =
     ] known
 
 -- where there is a start, nothing tells of it
-start_none : (N : Network) (start : Option (List ℕ)) (state : List Bool) (symbols : List ℕ) → IsStart N start state → (IsCause N start symbols BadStart → ⊥) × ((latch : List ℕ) → IsCause N start symbols (UnknownStart latch) → ⊥)
+pub start_none : (N : Network) (start : Option (List ℕ)) (state : List Bool) (symbols : List ℕ) → IsStart N start state → (IsCause N start symbols BadStart → ⊥) × ((latch : List ℕ) → IsCause N start symbols (UnknownStart latch) → ⊥)
 start_none N None state symbols is = (λ (text, same, none). none-some text same, λ latch (same, first). starts_known N.latches state latch is first)
 start_none N (Some text) state symbols is =
     (λ (given, same, none). none state (subst (λ t. IsBitText (length N.latches) t state) (same_Some text given same) is), λ latch (same, first). none-some text (sym same))

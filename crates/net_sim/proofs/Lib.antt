@@ -9,5 +9,6 @@ pub mod Progress
 pub mod Beginning
 pub mod Exclusive
 pub mod Binary
-pub mod TableValues
+pub mod FormValues
 pub mod ReadSymbols
+pub mod WorkedRuns

@@ -4,7 +4,7 @@ use Rattle.std.specs.List.{AllZip}
 use Rattle.std.proofs.lemmas.Bool.{false≢true}
 use Rattle.std.proofs.lemmas.Grind.{flat_map-append}
 use Rattle.hs_io.specs.declared.lines.Line.{Line}
-use Rattle.hs_io.specs.Lines.{line_of, lines_of, physical_lines}
+use Rattle.hs_io.specs.Lines.{line_of, physical_lines}
 use Rattle.hs_io.specs.Spelling.{ended}
 use Rattle.net_core.specs.declared.Network.{Network}
 use Rattle.net_core.specs.declared.ordering.Order.{Order}

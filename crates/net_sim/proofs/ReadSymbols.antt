@@ -1,5 +1,5 @@
 -- The numbers of the symbols of a file, taken line by line, and that there is one list of them.
-use Rattle.std.proofs.Common.{◌≡◌, ℕ, ◌+◌, ◌^◌, ◌<◌, ◌⊎◌, inl, inr, Bool, not, List, [], ◌∷◌, ◌++◌, Result, Ok, Err, IfErr, IfOk, IsErrAnd, MatchResult, All, filter, map, refl, sym, ◌∙◌, ap, subst, arith}
+use Rattle.std.proofs.Common.{◌≡◌, ℕ, ◌+◌, ◌^◌, ◌<◌, ◌⊎◌, inl, inr, Bool, not, List, [], ◌∷◌, ◌++◌, Result, Ok, Err, IfErr, IfOk, MatchResult, All, filter, map, refl, sym, ◌∙◌, ap, subst}
 use Rattle.std.specs.List.{AllZip}
 use Rattle.std.proofs.lemmas.Bool.{false≢true}
 use Rattle.std.proofs.lemmas.List.{map-append}
@@ -13,7 +13,7 @@ use Rattle.net_sim.specs.declared.symbols.SymbolFail.TheVariants.{NoMemory, Refu
 use Rattle.net_sim.specs.Symbols.{IsRefusedLine, IsSymbolFault, IsSymbolFile, SaysSymbol, SayWord, TellsRefused, is_skipped}
 use Rattle.net_sim.specs.Inner.Numbers.{AddedLine, HasReadTo, TellsRefusedLine}
 use Rattle.net_sim.proofs.Exclusive.{none_refused, refused_once, word_once}
-use Rattle.net_sim.proofs.Taking.{more_taken, none_taken, said_skipped, said_symbol, symbol_said}
+use Rattle.net_sim.proofs.Taking.{more_taken, said_skipped, said_symbol, symbol_said}
 
 module _ (width : ℕ) where
   added_line : (line : Line) (old new : List ℕ) → AddedLine width line old new → IsRefusedLine width line → ⊥

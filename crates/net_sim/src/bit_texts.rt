@@ -47,8 +47,8 @@ fn bit_of(character: u8) -> Option<bool>
     }
 }
 
-/// Adds the text of the bits as a line.
-pub(crate) fn push_bits(text: &mut Vec<u8>, bits: &[bool]) -> Result<(), AllocError>
+/// Adds an answer to a text: its bits as a line.
+pub fn append_answer(text: &mut Vec<u8>, bits: &[bool]) -> Result<(), AllocError>
     ensures { OnOk result (text.new.items ≡ text.old.items ++ ended (bit_text bits.now)) }
 {
     if bits.is_empty() {

@@ -1,41 +1,96 @@
-//! The values of gates, by their rows and by tables.
+//! The values of gates, by their rows, by cubes and by tables.
 
-ghost use Rattle.std.specs.Prelude.{◌≡◌, ◌+◌, ◌*◌, ◌<◌, ◌≤◌, ◌^◌, All, Bool, List, false, true, length, slice_index_or};
-ghost use Rattle.cubes.specs.Symbol.{number_of};
+ghost use Rattle.std.specs.Prelude.{◌≡◌, ◌+◌, ◌*◌, ◌<◌, ◌≤◌, ◌^◌, All, Bool, List, Some, false, true, length, slice_get, slice_index_or};
+ghost use Rattle.std.specs.List.{list_any};
+ghost use Rattle.cubes.specs.Cube.{holds as cube_holds};
+ghost use Rattle.cubes.specs.Symbol.{number_of, symbol_of};
 ghost use Rattle.net_core.specs.Step.{character_holds, row_holds};
+ghost use Rattle.net_sim.specs.declared.forms.GateForm.{GateForm};
 ghost use Rattle.net_sim.specs.Inner.Evaluated.{bits_at, value_at, value_for};
-ghost use Rattle.net_sim.specs.Inner.Tables.{IsTable};
+ghost use Rattle.net_sim.specs.Inner.Forms.{IsCubes, IsForm};
 
+use crate::forms::GateForm;
+use cubes::Cube;
 use net_core::NumberedGate;
 
-/// The value of a gate at the signals, with its table if it has one.
-pub(crate) fn value_by(table: &[bool], gate: &NumberedGate, signals: &[bool]) -> bool
+/// The value of a gate at the signals, by the form at a place if there is one.
+pub(crate) fn value_by_any(
+    forms: &[GateForm],
+    place: usize,
+    gate: &NumberedGate,
+    signals: &[bool],
+) -> bool
     requires within { All (λ s. s < length signals.now) gate.now.inputs.items }
-    requires table { IsTable gate.now table.now }
+    requires form { (form : GateForm) → slice_get forms.now place ≡ Some form → IsForm gate.now form }
     ensures { result ≡ value_at signals.now gate.now }
 {
-    if table.is_empty() {
-        value_of(gate, &gate.inputs, signals)
-    } else {
-        table[index_of(&gate.inputs, signals)]
+    match forms.get(place) {
+        Some(form) => value_by(form, gate, signals),
+        None => value_of(gate, &gate.inputs, signals),
+    }
+}
+
+/// The value of a gate at the signals, by its form.
+fn value_by(form: &GateForm, gate: &NumberedGate, signals: &[bool]) -> bool
+    requires within { All (λ s. s < length signals.now) gate.now.inputs.items }
+    requires form { IsForm gate.now form.now }
+    ensures { result ≡ value_at signals.now gate.now }
+{
+    match form {
+        GateForm::Table(table) => table.as_slice()[number_at(&gate.inputs, signals) as usize],
+        GateForm::Cubes(cubes) => {
+            value_of_cubes(gate, cubes.as_slice(), number_at(&gate.inputs, signals))
+        }
+        GateForm::Rows => value_of(gate, &gate.inputs, signals),
     }
 }
 
 /// The number that the signals of these numbers write, the first bit the most significant.
-fn index_of(numbers: &[usize], signals: &[bool]) -> usize
-    requires few { length numbers.now ≤ 10 }
+fn number_at(numbers: &[usize], signals: &[bool]) -> u32
+    requires few { length numbers.now ≤ 32 }
     requires within { All (λ s. s < length signals.now) numbers.now }
     ensures { result ≡ number_of (bits_at signals.now numbers.now) }
 {
-    let mut index = 0;
+    let mut bits = 0;
     for number in numbers {
-        index = index * 2 + usize::from(signals[*number]);
+        bits = bits * 2 + u32::from(signals[*number]);
     }
-    index
+    bits
+}
+
+/// The value of a gate for the bits that a number writes, by its cubes.
+pub(crate) fn value_of_cubes(gate: &NumberedGate, cubes: &[Cube], number: u32) -> bool
+    requires cubes { IsCubes gate.now cubes.now }
+    requires number { number < 2 ^ length gate.now.inputs.items }
+    ensures { result ≡ value_for gate.now (symbol_of (length gate.now.inputs.items) number) }
+{
+    let held = is_held(cubes, number);
+    if held { gate.on } else { !gate.on }
+}
+
+/// Whether some cube holds the bits that a number writes.
+fn is_held(cubes: &[Cube], number: u32) -> bool
+    requires { All (λ cube. number < 2 ^ cube.width) cubes.now }
+    ensures { result ≡ list_any (λ cube. cube_holds cube (symbol_of cube.width number)) cubes.now }
+{
+    for cube in cubes {
+        if is_held_by(cube, number) {
+            return true;
+        }
+    }
+    false
+}
+
+/// Whether the cube holds the bits that a number writes.
+fn is_held_by(cube: &Cube, number: u32) -> bool
+    requires { number < 2 ^ cube.now.width }
+    ensures { result ≡ cube_holds cube.now (symbol_of cube.now.width number) }
+{
+    cube.holds(number)
 }
 
 /// The value of a gate whose inputs are the signals of these numbers, by its rows.
-pub(crate) fn value_of(gate: &NumberedGate, numbers: &[usize], signals: &[bool]) -> bool
+fn value_of(gate: &NumberedGate, numbers: &[usize], signals: &[bool]) -> bool
     requires { All (λ s. s < length signals.now) numbers.now }
     ensures { result ≡ value_for gate.now (bits_at signals.now numbers.now) }
 {

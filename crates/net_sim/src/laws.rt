@@ -1,9 +1,10 @@
-//! Worked texts, the contract of a function that does nothing.
+//! Worked texts and worked runs, the contracts of functions that do nothing.
 
-ghost use Rattle.std.specs.Prelude.{◌≡◌, [], ◌∷◌, codes, false, true};
+ghost use Rattle.std.specs.Prelude.{◌≡◌, [], ◌∷◌, None, Some, codes, false, true};
 ghost use Rattle.net_sim.specs.BitTexts.{bit_text};
 ghost use Rattle.net_sim.specs.Run.{answers_text};
 ghost use Rattle.net_sim.specs.Symbols.{IsSymbolFile};
+ghost use Rattle.net_sim.specs.Worked.{RunsOnlyTo, behind_buffer, latched, shifted};
 
 /// The texts of bits, of answers, and of a file of two symbols.
 pub fn worked_texts()
@@ -11,4 +12,15 @@ pub fn worked_texts()
     ensures no_bits { bit_text [] ≡ codes "-" }
     ensures answers { answers_text ((true ∷ false ∷ []) ∷ (false ∷ true ∷ []) ∷ []) ≡ codes "10\n01\n" }
     ensures symbols { IsSymbolFile 2 (codes "10 # a\n\n01") ((true ∷ false ∷ []) ∷ (false ∷ true ∷ []) ∷ []) }
+{}
+
+/// The text of a run of small networks, and that there is no other one: an inverter that lists its on-set, and
+/// one that lists its off-set; a latch whose value before the step is answered, and which begins by itself
+/// or is given its start; and two latches that are given theirs, the first bit to the first one.
+pub fn worked_runs()
+    ensures on_set { RunsOnlyTo (behind_buffer (codes "0" ∷ []) true) None (codes "0\n1\n") (codes "1\n0\n") }
+    ensures off_set { RunsOnlyTo (behind_buffer (codes "1" ∷ []) false) None (codes "0\n1\n") (codes "1\n0\n") }
+    ensures own_start { RunsOnlyTo latched None (codes "1\n1\n1\n") (codes "0\n1\n0\n") }
+    ensures given_start { RunsOnlyTo latched (Some (codes "1")) (codes "1\n1\n1\n") (codes "1\n0\n1\n") }
+    ensures first_bit_first { RunsOnlyTo shifted (Some (codes "10")) (codes "0\n0\n") (codes "0\n1\n") }
 {}

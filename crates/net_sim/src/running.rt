@@ -14,11 +14,11 @@ ghost use Rattle.net_sim.specs.Inner.Ran.{Fits, Goes, HasAnswered, TookLine};
 ghost use Rattle.net_sim.specs.Inner.Told.{TellsLine, TellsSymbol};
 
 use crate::SimFail;
-use crate::bit_texts::push_bits;
+use crate::bit_texts::append_answer;
+use crate::forms::{GateForm, forms_of};
 use crate::lines::{Said, first_line, read_line};
 use crate::starting::start_of;
 use crate::stepping::step_by;
-use crate::tables::tables_of;
 use hs_list::Items;
 use net_core::{Network, Order};
 use std::alloc::{AllocError, Global};
@@ -92,8 +92,8 @@ fn answers_from(
 /// A network that runs.
 #[derive(Drop)]
 struct Runner {
-    /// Tables of its gates.
-    tables: Items<Items<bool>>,
+    /// What its gates are evaluated by.
+    forms: Items<GateForm>,
     /// The latch values.
     state: Vec<bool>,
     /// The symbol in turn, the answer to it, and room for the signals.
@@ -112,7 +112,7 @@ impl Runner {
         ensures text { IfOk result (λ runner. runner.text.items ≡ []) }
     {
         Ok(Runner {
-            tables: tables_of(alloc, &order.gates)?,
+            forms: forms_of(alloc, &order.gates)?,
             state,
             symbol: vec![in alloc; false; order.input_count]?,
             answer: vec![in alloc; false; order.output_signals.len()]?,
@@ -143,13 +143,13 @@ impl Runner {
         ensures text { OnOk result (self.new.text.items ≡ self.old.text.items ++ ended (bit_text self.new.answer.items)) }
     {
         step_by(
-            self.tables.as_slice(),
+            self.forms.as_slice(),
             order,
             &mut self.state,
             &self.symbol,
             &mut self.answer,
             &mut self.scratch,
         );
-        push_bits(&mut self.text, &self.answer)
+        append_answer(&mut self.text, &self.answer)
     }
 }

@@ -1,16 +1,15 @@
 //! One step of a network.
 
-ghost use Rattle.std.specs.Prelude.{◌≡◌, ◌+◌, ◌<◌, ◌≤◌, All, List, Some, ◌++◌, length, slice_get, take, drop};
+ghost use Rattle.std.specs.Prelude.{◌≡◌, ◌+◌, ◌<◌, ◌≤◌, All, ◌++◌, length, take, drop};
 ghost use Rattle.net_core.specs.declared.Network.{Network};
 ghost use Rattle.net_core.specs.Order.{IsOrderOf};
 ghost use Rattle.net_core.specs.Sound.{Sound};
 ghost use Rattle.net_core.specs.Step.{Step};
-ghost use Rattle.net_core.specs.declared.ordering.NumberedGate.{NumberedGate};
 ghost use Rattle.net_sim.specs.Inner.Evaluated.{bits_at, evaluated};
-ghost use Rattle.net_sim.specs.Inner.Tables.{AreTables, IsTable};
+ghost use Rattle.net_sim.specs.Inner.Forms.{AreForms};
 
-use crate::gate_values::value_by;
-use hs_list::Items;
+use crate::forms::GateForm;
+use crate::gate_values::value_by_any;
 use net_core::Order;
 
 /// One step of each network that the order is of: `z` becomes the output at the symbol `x`, and `state` the
@@ -31,16 +30,16 @@ pub fn step_into(
     step_by(&[], order, state, x, z, scratch);
 }
 
-/// The same step, with tables of the gates as far as they go.
+/// The same step, by the forms of the gates as far as they go.
 pub(crate) fn step_by(
-    tables: &[Items<bool>],
+    forms: &[GateForm],
     order: &Order,
     state: &mut [bool],
     x: &[bool],
     z: &mut [bool],
     scratch: &mut [bool],
 )
-    requires tables { AreTables order.now.gates.items tables.now }
+    requires forms { AreForms order.now.gates.items forms.now }
     requires latches { length state.old ≡ order.now.latch_count }
     requires inputs { length x.now ≡ order.now.input_count }
     requires outputs { length z.old ≡ length order.now.output_signals.items }
@@ -49,7 +48,7 @@ pub(crate) fn step_by(
 {
     put(scratch, 0, x);
     put(scratch, x.len(), state);
-    evaluate(tables, order, scratch);
+    evaluate(forms, order, scratch);
     read_signals(&order.output_signals, scratch, z);
     read_signals(&order.latch_signals, scratch, state);
 }
@@ -63,25 +62,15 @@ fn put(signals: &mut [bool], from: usize, bits: &[bool])
 }
 
 /// Gives the gates their values in the order of evaluation.
-fn evaluate(tables: &[Items<bool>], order: &Order, signals: &mut [bool])
-    requires tables { AreTables order.now.gates.items tables.now }
+fn evaluate(forms: &[GateForm], order: &Order, signals: &mut [bool])
+    requires forms { AreForms order.now.gates.items forms.now }
     requires signals { length signals.old ≡ order.now.signal_count }
     ensures { signals.new ≡ evaluated (order.now.input_count + order.now.latch_count) order.now.gates.items order.now.sequence.items signals.old }
 {
     let base = order.input_count + order.latch_count;
     for place in &order.sequence {
         let gate = &order.gates[*place];
-        signals[base + *place] = value_by(table_at(tables, *place), gate, signals);
-    }
-}
-
-/// The table of the gate at a place, or the empty one.
-fn table_at(tables: &[Items<bool>], place: usize) -> &[bool]
-    ensures { (gates : List NumberedGate) (gate : NumberedGate) → AreTables gates tables.now → slice_get gates place ≡ Some gate → IsTable gate result.now }
-{
-    match tables.get(place) {
-        Some(table) => table.as_slice(),
-        None => &[],
+        signals[base + *place] = value_by_any(forms, *place, gate, signals);
     }
 }
 

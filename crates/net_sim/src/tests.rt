@@ -164,12 +164,34 @@ const EMPTY: Case = Case {
     answer: "-\n-\n",
 };
 
+/// A gate of more inputs than a table has.
+const WIDE: Case = Case {
+    inputs: "abcdefghijklm",
+    outputs: "z",
+    latches: "",
+    gates: "zabcdefghijklm=,1------------,------------1",
+    start: None,
+    symbols: "0111111111110\n1000000000000\n0000000000001\n",
+    answer: "0\n1\n1\n",
+};
+
 /// Networks, and what they answer.
-const NETWORKS: [Case; 9] = [
+const NETWORKS: [Case; 12] = [
     INVERTER,
     COUNTER,
     SHIFT,
     EMPTY,
+    WIDE,
+    Case {
+        gates: "zabcdefghijklm!,1------------,------------1",
+        answer: "1\n0\n0\n",
+        ..WIDE
+    },
+    Case {
+        gates: "z=,",
+        answer: "1\n1\n",
+        ..INVERTER
+    },
     Case {
         gates: "za!,1",
         ..INVERTER

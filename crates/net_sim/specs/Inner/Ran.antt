@@ -12,11 +12,11 @@ use Rattle.net_sim.specs.declared.running.Runner.{Runner}
 use Rattle.net_sim.specs.BitTexts.{bit_text}
 use Rattle.net_sim.specs.Symbols.{IsRefusedLine, SaysSymbol, SayWord, is_skipped}
 use Rattle.net_sim.specs.Run.{answers_text}
-use Rattle.net_sim.specs.Inner.Tables.{AreTables}
+use Rattle.net_sim.specs.Inner.Forms.{AreForms}
 
--- the tables are those of the gates, and the lists have the lengths that a step asks for
+-- the forms are those of the gates, and the lists have the lengths that a step asks for
 pub record Fits (order : Order) (runner : Runner) : Type 0 where
-  pub tables : AreTables order.gates.items runner.tables
+  pub forms : AreForms order.gates.items runner.forms
   pub state : length runner.state.items ≡ order.latch_count
   pub symbol : length runner.symbol.items ≡ order.input_count
   pub answer : length runner.answer.items ≡ length order.output_signals.items

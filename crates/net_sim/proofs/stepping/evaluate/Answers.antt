@@ -16,4 +16,4 @@ loop-place-preserved c =
     c.loop-place.invariant
     ∙ (evaluated_next base order.gates.items places i c.loop-place.signals gate c.loop-place-test.true
     (slice_get-get_or order.gates.items (get_or places i 0) gate within ∙ ap Some (sym c.index-gate.ensures))
-    ∙ ap (λ v. evaluated base order.gates.items (drop (i + 1) places) (set c.loop-place.signals (base + get_or places i 0) v)) (sym c.value_by.ensures))
+    ∙ ap (λ v. evaluated base order.gates.items (drop (i + 1) places) (set c.loop-place.signals (base + get_or places i 0) v)) (sym c.value_by_any.ensures))

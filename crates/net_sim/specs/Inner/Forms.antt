@@ -1,0 +1,33 @@
+-- What gates are evaluated by.
+use Rattle.std.specs.Prelude.{◌≡◌, ℕ, ◌^◌, ◌<◌, ◌≤◌, ⊤, All, Bool, false, List, Some, length, slice_get, slice_index_or}
+use Rattle.std.specs.List.{list_any}
+use Rattle.cubes.specs.declared.cube.Cube.{Cube}
+use Rattle.cubes.specs.Cube.{holds}
+use Rattle.cubes.specs.Symbol.{symbol_of}
+use Rattle.net_core.specs.declared.ordering.NumberedGate.{NumberedGate}
+use Rattle.net_core.specs.Step.{row_holds}
+use Rattle.net_sim.specs.declared.forms.GateForm.{GateForm}
+use Rattle.net_sim.specs.declared.forms.GateForm.TheVariants.{Table, Cubes, Rows}
+use Rattle.net_sim.specs.Inner.Evaluated.{value_for}
+
+-- at the number of some bits stands the value of the gate for them
+pub record IsTable (gate : NumberedGate) (table : List Bool) : Type 0 where
+  pub few : length gate.inputs.items ≤ 12
+  pub whole : length table ≡ 2 ^ length gate.inputs.items
+  pub values : (k : ℕ) → k < length table → slice_index_or table k false ≡ value_for gate (symbol_of (length gate.inputs.items) k)
+
+-- the cubes are as wide as the gate, and hold the symbols that its rows hold
+pub record IsCubes (gate : NumberedGate) (cubes : List Cube) : Type 0 where
+  pub few : length gate.inputs.items ≤ 32
+  pub widths : All (λ cube. cube.width ≡ length gate.inputs.items) cubes
+  pub held : (symbol : List Bool) → length symbol ≡ length gate.inputs.items → list_any (λ cube. holds cube symbol) cubes ≡ list_any (λ row. row_holds row symbol) gate.rows
+
+-- the form tells the values of the gate
+abbrev pub IsForm : NumberedGate → GateForm → Type 0
+IsForm gate (Table table) = IsTable gate table
+IsForm gate (Cubes cubes) = IsCubes gate cubes
+IsForm gate Rows = ⊤
+
+-- forms of gates, one each as far as they go
+abbrev pub AreForms : List NumberedGate → List GateForm → Type 0
+AreForms gates forms = (place : ℕ) (gate : NumberedGate) (form : GateForm) → slice_get gates place ≡ Some gate → slice_get forms place ≡ Some form → IsForm gate form

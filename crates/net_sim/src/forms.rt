@@ -1,0 +1,109 @@
+//! Makes what gates are evaluated by.
+
+ghost use Rattle.std.specs.Prelude.{◌≡◌, ◌<◌, ◌≤◌, ◌||◌, true, All, Bool, List, IfOk, OnOk, length};
+ghost use Rattle.std.specs.List.{list_any};
+ghost use Rattle.cubes.specs.Cube.{holds};
+ghost use Rattle.net_core.specs.Step.{row_holds};
+ghost use Rattle.net_sim.specs.Inner.Forms.{AreForms, IsCubes, IsForm, IsTable};
+
+use crate::gate_values::value_of_cubes;
+use cubes::Cube;
+use hs_list::Items;
+use net_core::NumberedGate;
+use std::alloc::{AllocError, Global};
+
+/// What a gate is evaluated by.
+#[derive(Drop)]
+pub(crate) enum GateForm {
+    /// Its values, by the numbers that the bits of its inputs write.
+    Table(Items<bool>),
+    /// Its rows as cubes.
+    Cubes(Items<Cube>),
+    /// Its rows as they stand.
+    Rows,
+}
+
+/// A gate with a table has no more inputs.
+const MOST_TABLE: usize = 12;
+
+/// A gate with cubes has no more inputs.
+const MOST_CUBES: usize = 32;
+
+/// A table is shorter than so many times the text of the gate's rows and one row more.
+const MOST_SPREAD: usize = 16;
+
+/// What each gate is evaluated by.
+pub(crate) fn forms_of(alloc: Global, gates: &[NumberedGate]) -> Result<Items<GateForm>, AllocError>
+    ensures { IfOk result (AreForms gates.now) }
+{
+    let mut forms = Items::new(alloc);
+    for gate in gates {
+        forms.push(form_of(alloc, gate)?)?;
+    }
+    Ok(forms)
+}
+
+/// What a gate is evaluated by.
+fn form_of(alloc: Global, gate: &NumberedGate) -> Result<GateForm, AllocError>
+    ensures { IfOk result (IsForm gate.now) }
+{
+    let inputs = gate.inputs.len();
+    if inputs == 0 || inputs > MOST_CUBES {
+        return Ok(GateForm::Rows);
+    }
+    let cubes = cubes_of(alloc, gate, inputs as u8)?;
+    if has_table(gate) {
+        Ok(GateForm::Table(table_of(alloc, gate, cubes.as_slice())?))
+    } else {
+        Ok(GateForm::Cubes(cubes))
+    }
+}
+
+/// Whether the gate is given a table: it has few inputs, and the table is not much longer than its rows.
+fn has_table(gate: &NumberedGate) -> bool
+    ensures { result ≡ true → length gate.now.inputs.items ≤ 12 }
+{
+    let inputs = gate.inputs.len();
+    inputs <= MOST_TABLE
+        && (1 << inputs) / (MOST_SPREAD * (inputs + 1)) <= gate.rows.as_slice().len()
+}
+
+/// The rows of a gate as cubes. One that is no cube of the width holds nothing, and is left out.
+fn cubes_of(alloc: Global, gate: &NumberedGate, width: u8) -> Result<Items<Cube>, AllocError>
+    requires width { width ≡ length gate.now.inputs.items }
+    requires positive { 0 < width }
+    requires bound { width ≤ 32 }
+    ensures { IfOk result (IsCubes gate.now) }
+{
+    let mut cubes = Items::new(alloc);
+    for row in gate.rows.as_slice() {
+        push_row(&mut cubes, row.bytes(), width)?;
+    }
+    Ok(cubes)
+}
+
+/// Adds the cube of a row, if it is one.
+fn push_row(cubes: &mut Items<Cube>, row: &[u8], width: u8) -> Result<(), AllocError>
+    requires positive { 0 < width }
+    requires bound { width ≤ 32 }
+    ensures widths { OnOk result (All (λ cube. cube.width ≡ width) cubes.old → All (λ cube. cube.width ≡ width) cubes.new) }
+    ensures held { OnOk result ((symbol : List Bool) → length symbol ≡ width → list_any (λ cube. holds cube symbol) cubes.new ≡ (list_any (λ cube. holds cube symbol) cubes.old || row_holds row.now symbol)) }
+{
+    match Cube::parse(row, width) {
+        Ok(cube) => cubes.push(cube),
+        Err(_) => Ok(()),
+    }
+}
+
+/// The values of a gate, by the numbers that the bits of its inputs write.
+fn table_of(alloc: Global, gate: &NumberedGate, cubes: &[Cube]) -> Result<Items<bool>, AllocError>
+    requires few { length gate.now.inputs.items ≤ 12 }
+    requires cubes { IsCubes gate.now cubes.now }
+    ensures { IfOk result (IsTable gate.now) }
+{
+    let mut table = Items::new(alloc);
+    for number in 0..1 << gate.inputs.len() {
+        table.push(value_of_cubes(gate, cubes, number))?;
+    }
+    Ok(table)
+}
