@@ -20,6 +20,8 @@ Exit status:
   7   there are more than the limit
   8   a partition is refused, or two states are together in all
   9   the codes have more than 64 bits
+  10  the text of the network is refused
+  11  a start or a symbol is refused
   12  a file cannot be read
   13  a file is longer than 4,194,304 bytes
   14  the text could not be written whole

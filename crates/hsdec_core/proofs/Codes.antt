@@ -1,22 +1,20 @@
 -- The split of a kind, the length of its codes, and the answer that the machine calls for, are one.
-use Rattle.std.proofs.Common.{◌≡◌, ℕ, ◌<◌, ◌≤◌, ◌⊎◌, inl, inr, List, [], ◌∷◌, length, refl, sym, ap, ◌∙◌, subst, arith}
+use Rattle.std.proofs.Common.{◌≡◌, ℕ, inl, inr, List, length, refl, sym, ap, ◌∙◌, subst, arith}
 use Rattle.feedback_split.proofs.Chosen as feedbacks
 use Rattle.job_words.specs.declared.jobs.Job.{Job}
 use Rattle.kiss2.specs.declared.kiss_file.KissFile.{KissFile}
 use Rattle.parallel_split.proofs.Chosen.{choice_is_one}
-use Rattle.partition.specs.declared.PartFail.{PartFail}
 use Rattle.serial_split.proofs.Chosen.{cascade_choice_is_one, serial_choice_is_one}
 use Rattle.state_codes.specs.declared.split.Kind.{Kind}
 use Rattle.state_codes.specs.declared.split.Kind.TheVariants.{Code, Assign, Parallel, Serial, Cascade, Feedback}
 use Rattle.state_codes.specs.declared.split.Part.{Part}
 use Rattle.state_codes.specs.Code.{IsLength, places_of}
-use Rattle.state_codes.specs.Fault.{AreApart, FirstTogether}
+use Rattle.state_codes.specs.Fault.{AreApart}
 use Rattle.state_codes.specs.Laws.Places.{AreInside-once}
 use Rattle.state_codes.specs.Split.{given_parts}
 use Rattle.hsdec_core.specs.declared.answers.Answer.{Answer}
 use Rattle.hsdec_core.specs.declared.answers.Answer.TheVariants.{Done, NoSplit, PartRefused, CodeTooLong}
 use Rattle.hsdec_core.specs.Cause.{HasLongCode, HasShortCode, RefusesParts, WorkCallsFor}
-use Rattle.hsdec_core.specs.PartTexts.{ArePartTexts}
 use Rattle.hsdec_core.specs.Splits.{AreGivenParts, AreParts, HasCodeOf, HasNoSplit}
 use Rattle.hsdec_core.proofs.PartTexts.{none_bad, partitions_once}
 

@@ -31,7 +31,7 @@ use Rattle.hsdec_core.specs.Inner.Made.{IsRefusal, finished}
 use Rattle.hsdec_core.specs.Inner.Planned.{IsPlanFor, IsSplitFor, IsWorkRefusal}
 use Rattle.hsdec_core.specs.Inner.RightFor.{IsRightOf}
 use Rattle.hsdec_core.specs.Line.{IsNotApartLine, IsFileLine, IsLineBy}
-use Rattle.hsdec_core.specs.Promise.{IsPromised, IsPromisedBy}
+use Rattle.hsdec_core.specs.Promise.{IsPromisedBy}
 use Rattle.hsdec_core.specs.Splits.{AreGivenParts, AreParts, HasCodeOf, kind_of}
 use Rattle.hsdec_core.specs.Work.{IsWorkOf}
 use Rattle.hsdec_core.specs.Written.{IsWritten}

@@ -1,8 +1,8 @@
 -- Information flows through the parts of each kind of split as the parts say.
-use Rattle.std.proofs.Common.{◌≡◌, ℕ, zero, suc, ◌+◌, ◌<◌, ◌≤◌, ◌==◌, not, inl, inr, All, Bool, true, false, Contains, List, [], ◌∷◌, Some, length, get_or, refl, sym, ap, ◌∙◌, subst, arith}
+use Rattle.std.proofs.Common.{◌≡◌, ℕ, zero, suc, ◌+◌, ◌<◌, ◌≤◌, ◌==◌, not, inl, inr, All, Bool, Contains, List, [], ◌∷◌, Some, length, get_or, refl, sym, ap, ◌∙◌, subst, arith}
 use Rattle.std.specs.List.{range_with_len, slice_get}
 use Rattle.std.proofs.lemmas.Bool.{cases_eq, ne_eqb}
-use Rattle.std.proofs.lemmas.List.Elements.{All-cons, All-map, All-nil, All-weaker}
+use Rattle.std.proofs.lemmas.List.Elements.{All-cons, All-nil}
 use Rattle.std.proofs.lemmas.List.FromFn.{get_or-range_with_len, length-range_with_len}
 use Rattle.std.proofs.lemmas.Option.{none-some, same_Some, slice_get-get_or, slice_get_within}
 use Rattle.closed_lattice.specs.Closed.{IsClosedPartition}
@@ -20,7 +20,7 @@ use Rattle.realise.proofs.Gates.{all_at}
 use Rattle.serial_split.specs.Kind.{Descends, IsCascade, IsSerial}
 use Rattle.state_codes.specs.declared.split.Part.{Part}
 use Rattle.state_codes.specs.Kinds.{IsOwnCarrier, PartsMeetInZero}
-use Rattle.state_codes.specs.Split.{IsPart, TogetherInAll, given_parts, lone_part, others}
+use Rattle.state_codes.specs.Split.{IsPart, given_parts, lone_part, others}
 use Rattle.state_codes.specs.Laws.Splits.{given_parts-lawful, given_parts-length}
 use Rattle.state_reduce.proofs.Members.{has_filter}
 

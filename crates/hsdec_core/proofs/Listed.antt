@@ -12,7 +12,7 @@ use Rattle.kiss2.specs.declared.kiss_file.KissFile.{KissFile}
 use Rattle.kiss2.specs.Machine.{Accepted}
 use Rattle.mm_lattice.specs.declared.worlds.MmPair.{MmPair}
 use Rattle.mm_lattice.specs.MmPairs.{IsMmPair, RightBefore}
-use Rattle.mm_lattice.specs.Sides.{Sides, sides_of}
+use Rattle.mm_lattice.specs.Sides.{sides_of}
 use Rattle.output_consistent.specs.Outputs.{IsClosedAndConsistent}
 use Rattle.partition.specs.Before.{Before}
 use Rattle.hsdec_core.specs.declared.outcomes.Outcome.{Outcome}

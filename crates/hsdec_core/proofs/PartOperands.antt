@@ -1,5 +1,5 @@
 -- What is made of the operand PART is right.
-use Rattle.std.proofs.Common.{◌≡◌, ◌≢◌, ℕ, List, None, ◌⊎◌, inl, inr, length, refl, sym, subst}
+use Rattle.std.proofs.Common.{◌≡◌, ◌≢◌, ℕ, List, None, ◌⊎◌, inl, inr, length, refl, subst}
 use Rattle.job_words.specs.declared.command.Command.{Command}
 use Rattle.job_words.specs.declared.command.Command.TheVariants as commands
 use Rattle.job_words.specs.declared.jobs.Job.{Job}

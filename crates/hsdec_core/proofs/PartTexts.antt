@@ -11,7 +11,7 @@ use Rattle.partition.specs.declared.PartFail.{PartFail}
 use Rattle.partition.specs.declared.PartFail.TheVariants.{NoMemory}
 use Rattle.partition.specs.Partition.{IsPartition}
 use Rattle.partition.specs.Laws.Labels.{IsPartition-of}
-use Rattle.partition.specs.Text.{TextFault, labels_text}
+use Rattle.partition.specs.Text.{TextFault}
 use Rattle.partition.proofs.Faults.{no_fault_of_partition}
 use Rattle.hsdec_core.specs.declared.outcomes.Outcome.{Outcome}
 use Rattle.hsdec_core.specs.Inner.PartOperand.{IsPartRefusal}

@@ -1,5 +1,5 @@
 -- The split that a job asks for is right for its kind, or its refusal has its cause.
-use Rattle.std.proofs.Common.{◌≡◌, ◌≢◌, ℕ, ◌<◌, ◌≤◌, ◌↔◌, All, List, [], ◌∷◌, Option, Some, None, Result, Ok, Err, IfOk, IfSome, IsNone, inl, inr, length, refl, sym, ap, ◌∙◌, subst, arith}
+use Rattle.std.proofs.Common.{◌≡◌, ℕ, ◌<◌, ◌≤◌, ◌↔◌, All, List, [], ◌∷◌, Option, Some, None, Result, Ok, Err, IfOk, IfSome, IsNone, inl, inr, length, refl, sym, ap, ◌∙◌, subst, arith}
 use Rattle.std.proofs.lemmas.List.Elements.{All-head}
 use Rattle.std.proofs.Common.{Global, Vec}
 use Rattle.std.specs.Vec.{vec_len}
@@ -35,10 +35,8 @@ use Rattle.hsdec_core.specs.declared.outcomes.Outcome.{Outcome}
 use Rattle.hsdec_core.specs.declared.part_operand.PartsOperand.{PartsOperand}
 use Rattle.hsdec_core.specs.declared.part_operand.PartsOperand.TheVariants as several
 use Rattle.hsdec_core.specs.declared.plans.Plan.{Plan}
-use Rattle.hsdec_core.specs.Cause.{WorkCallsFor}
 use Rattle.hsdec_core.specs.Inner.PartOperand.{ArePartsRead}
 use Rattle.hsdec_core.specs.Inner.Planned.{IsPlanFor, IsPlanOf, IsSplitFor, IsWorkRefusal}
-use Rattle.hsdec_core.specs.Kind.{IsSplitOf}
 use Rattle.hsdec_core.specs.PartTexts.{ArePartTexts}
 use Rattle.hsdec_core.specs.Splits.{AreGivenParts, HasNoSplit, code_parts, kind_of}
 use Rattle.hsdec_core.proofs.Apart.{apart_of_zero, zero_of_apart}

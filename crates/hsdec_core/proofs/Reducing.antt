@@ -19,7 +19,7 @@ use Rattle.hsdec_core.specs.declared.outcomes.Outcome.{Outcome}
 use Rattle.hsdec_core.specs.Fill.{fill_of}
 use Rattle.hsdec_core.specs.Inner.Made.{finished}
 use Rattle.hsdec_core.specs.Inner.RightFor.{IsRightOf}
-use Rattle.hsdec_core.specs.ReducedText.{IsReduced, IsReducedText}
+use Rattle.hsdec_core.specs.ReducedText.{IsReduced}
 use Rattle.hsdec_core.proofs.Right.{right_report}
 
 module _ (F : KissFile) (p : List ℕ) (lawful : IsLawful F) (alike : IsEquivalence F p) where

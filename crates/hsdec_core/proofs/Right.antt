@@ -1,8 +1,8 @@
--- What is made of a machine, of the bytes of a file and for a job is right.
-use Rattle.std.proofs.Common.{◌≡◌, ◌≢◌, ℕ, List, Option, Some, None, Result, Ok, Err, IfOk, IfSome, ◌⊎◌, inl, inr, refl, sym, ap, ◌∙◌, subst}
+-- What is made of a machine, and of the bytes of one, is right.
+use Rattle.std.proofs.Common.{◌≡◌, ◌≢◌, ℕ, List, Option, Some, None, Result, Ok, Err, IfOk, refl, sym, ap, ◌∙◌, subst}
 use Rattle.std.specs.Prelude.{⊤}
 use Rattle.std.specs.declared.alloc.AllocError.{AllocError}
-use Rattle.hs_texts.specs.ErrLines.{kiss_line, more_line, usage_line}
+use Rattle.hs_texts.specs.ErrLines.{kiss_line, more_line}
 use Rattle.job_words.specs.declared.command.Command.{Command}
 use Rattle.job_words.specs.declared.jobs.Job.{Job}
 use Rattle.kiss2.specs.declared.fault.KissKind.{KissKind}
@@ -12,18 +12,15 @@ use Rattle.kiss2.specs.Lawful.{IsLawful}
 use Rattle.kiss2.specs.Machine.{Accepted}
 use Rattle.state_codes.specs.declared.split.Kind.{Kind}
 use Rattle.hsdec_core.specs.declared.answers.Answer.{Answer}
-use Rattle.hsdec_core.specs.declared.answers.Answer.TheVariants.{Done, NoSplit, Usage, KissRefused, More, PartRefused, CodeTooLong, ReadFault, TooLong, WriteFault, NoMemory}
-use Rattle.hsdec_core.specs.declared.loading.Loaded.{Loaded}
-use Rattle.hsdec_core.specs.declared.loading.Loaded.TheVariants.{Text}
+use Rattle.hsdec_core.specs.declared.answers.Answer.TheVariants.{Done, NoSplit, Usage, KissRefused, More, PartRefused, CodeTooLong, ReadFault, TooLong, WriteFault}
 use Rattle.hsdec_core.specs.declared.outcomes.Outcome.{Outcome}
-use Rattle.hsdec_core.specs.Cause.{CallsFor, CallsForBy, CanServe, CommandCallsFor, FileCallsFor, ListsMore, RefusesPart, ReportCallsFor, WorkCallsFor}
+use Rattle.hsdec_core.specs.Cause.{CallsForBy, CanServe, CommandCallsFor, FileCallsFor, ListsMore, MachineCallsFor, RefusesPart, ReportCallsFor, WorkCallsFor}
 use Rattle.hsdec_core.specs.Fill.{fill_of}
-use Rattle.hsdec_core.specs.Inner.Load.{IsLoadRefusal, IsLoaded}
 use Rattle.hsdec_core.specs.Inner.Made.{IsRefusal, exceeded, finished, refusal}
-use Rattle.hsdec_core.specs.Inner.RightFor.{IsRightFor, IsRightOf, IsRightOn}
+use Rattle.hsdec_core.specs.Inner.RightFor.{IsRightOf, IsRightOn}
 use Rattle.hsdec_core.specs.KissTexts.{kind_text}
-use Rattle.hsdec_core.specs.Line.{IsFileLine, IsLineBy, IsLineOf, IsReportLine, IsTextLine, IsWorkLine}
-use Rattle.hsdec_core.specs.Loading.{IsText, IsWithin}
+use Rattle.hsdec_core.specs.Line.{IsFileLine, IsLineBy, IsReportLine, IsTextLine, IsWorkLine}
+use Rattle.hsdec_core.specs.Loading.{IsWithin}
 use Rattle.hsdec_core.specs.Promise.{IsPromised, IsPromisedBy, IsReport, IsShown}
 use Rattle.hsdec_core.specs.Splits.{kind_of}
 use Rattle.hsdec_core.proofs.KissLaws.{machine_or_fault}
@@ -121,13 +118,13 @@ no_work_line PartRefused kind job W line foreign is = foreign
 no_work_line CodeTooLong kind job W line foreign is = foreign
 no_work_line _ kind job W line foreign is = absurd is
 
-no_line : (o : Option Kind) (answer : Answer) (job : Job) (F : KissFile) (line : List ℕ) → IsForeign answer → IsLineBy o job F answer line → ⊥
+pub no_line : (o : Option Kind) (answer : Answer) (job : Job) (F : KissFile) (line : List ℕ) → IsForeign answer → IsLineBy o job F answer line → ⊥
 no_line None answer job F line foreign is = no_report_line answer job F line foreign is
 no_line (Some kind) answer job F line foreign (W, work, is) = no_work_line answer kind job W line foreign is
 
 -- ---- of bytes
 -- what a machine calls for, its bytes call for
-calls_on : (job : Job) (bytes : List ℕ) (F : KissFile) (answer : Answer) → IsWithin bytes → Kiss bytes F → FileCallsFor job F answer → CallsFor job bytes answer
+calls_on : (job : Job) (bytes : List ℕ) (F : KissFile) (answer : Answer) → IsWithin bytes → Kiss bytes F → FileCallsFor job F answer → MachineCallsFor job bytes answer
 calls_on job bytes F TooLong within kiss calls = absurd (no_file_call TooLong job F tt calls)
 calls_on job bytes F KissRefused within kiss calls = absurd (no_file_call KissRefused job F tt calls)
 calls_on job bytes F _ within kiss calls = (within, (F, kiss, calls))
@@ -163,107 +160,7 @@ right_fault job bytes number kind made within fault (line, is_line, is) =
       own = (λ e. cc, λ e. cc, λ e. cc);
     })
 
--- ---- for a job
--- refused words
-pub right_usage : (word : ℕ) (holds : List ℕ → Option (List ℕ)) (Faulted : Type 0) (made : Outcome) → made ≡ refusal Usage (usage_line word) → IsRightFor (Err word) holds Faulted made
-right_usage word holds Faulted made is =
-    subst (IsRightFor (Err word) holds Faulted) (sym is)
-    (record {
-      usage = λ _. refl;
-      no_usage = λ _. refl;
-      read_fault = λ e. absurd cc;
-      cause = tt;
-      text = λ e. tt;
-      shown = λ e. tt;
-      no_text = λ _ _. refl;
-      line = λ _. refl;
-      in_memory = λ e. cc;
-    })
-
--- what holds of told bytes
-each : (held : Option (List ℕ)) (P Q : List ℕ → Type 0) → ((bytes : List ℕ) → P bytes → Q bytes) → IfSome held P → IfSome held Q
-each None P Q f h = tt
-each (Some bytes) P Q f h = f bytes h
-
-told : (held : Option (List ℕ)) (P : List ℕ → Type 0) (bytes : List ℕ) → IfSome held (λ other. bytes ≡ other) → P bytes → IfSome held P
-told None P bytes same h = tt
-told (Some other) P bytes same h = subst P same h
-
-any : (held : Option (List ℕ)) (P : List ℕ → Type 0) → ((bytes : List ℕ) → P bytes) → IfSome held P
-any None P all = tt
-any (Some bytes) P all = all bytes
-
--- an operand that gave no text
-pub right_load : (job : Job) (holds : List ℕ → Option (List ℕ)) (Faulted : Type 0) (made : Outcome) → IsLoadRefusal (holds job.file) Faulted job.file made → IsRightFor (Ok job) holds Faulted made
-right_load job holds Faulted made (inl (faulted, is)) =
-    subst (IsRightFor (Ok job) holds Faulted) (sym is)
-    (record {
-      usage = λ h. absurd cc;
-      no_usage = λ e. absurd cc;
-      read_fault = λ _. faulted;
-      cause = any (holds job.file) (λ bytes. (ReadFault ≡ ReadFault) ⊎ CallsFor job bytes ReadFault) (λ bytes. inl refl);
-      text = λ e. absurd cc;
-      shown = λ e. absurd cc;
-      no_text = λ _ _. refl;
-      line = λ _. refl;
-      in_memory = λ e. cc;
-    })
-right_load job holds Faulted made (inr (long, is)) =
-    subst (IsRightFor (Ok job) holds Faulted) (sym is)
-    (record {
-      usage = λ h. absurd cc;
-      no_usage = λ e. absurd cc;
-      read_fault = λ e. absurd cc;
-      cause = each (holds job.file) (λ bytes. CallsFor job bytes TooLong) (λ bytes. (TooLong ≡ ReadFault) ⊎ CallsFor job bytes TooLong) (λ bytes h. inr h) long;
-      text = λ e. absurd cc;
-      shown = λ e. absurd cc;
-      no_text = λ _ _. refl;
-      line = λ _. refl;
-      in_memory = λ e. cc;
-    })
-
--- what a command makes of the text of the operand
-line_for : (job : Job) (held : Option (List ℕ)) (bytes : List ℕ) (answer : Answer) (line : List ℕ) → IsText held bytes → (answer ≢ ReadFault) × (answer ≢ WriteFault) → IsTextLine job bytes answer line → IsLineOf job held answer line
-line_for job held bytes ReadFault line is_text own is = absurd (own.0 refl)
-line_for job held bytes WriteFault line is_text own is = absurd (own.1 refl)
-line_for job held bytes TooLong line is_text own (F, kiss, is) = absurd (no_line (kind_of job.command) TooLong job F line tt is)
-line_for job held bytes NoMemory line is_text own (F, kiss, is) = absurd (no_line (kind_of job.command) NoMemory job F line tt is)
-line_for job held bytes _ line is_text own is = (bytes, is_text, is)
-
-pub right_text : (job : Job) (holds : List ℕ → Option (List ℕ)) (Faulted : Type 0) (bytes : List ℕ) (made : Outcome) → IsText (holds job.file) bytes → IsRightOn job bytes made → IsRightFor (Ok job) holds Faulted made
-right_text job holds Faulted bytes made is_text right = record {
-  usage = λ h. absurd cc;
-  no_usage = λ e. absurd (right.own.0 e);
-  read_fault = λ e. absurd (right.own.1 e);
-  cause = told (holds job.file) (λ other. (made.answer ≡ ReadFault) ⊎ CallsFor job other made.answer) bytes is_text.1 (inr right.cause);
-  text = λ e. let t = right.text e in (bytes, t.0, record { text = is_text; kiss = t.1; lawful = t.2; accepted = t.3 }, t.4);
-  shown = λ e. let t = right.shown e in (bytes, t.0, record { text = is_text; kiss = t.1; lawful = t.2; accepted = t.3 }, t.4);
-  no_text = right.no_text;
-  line = λ undone. line_for job (holds job.file) bytes made.answer made.line is_text (right.own.1, right.own.2) (right.line undone);
-  in_memory = right.own.2;
-}
-
 -- the same of what may want memory
-pub right_result : (job : Job) (holds : List ℕ → Option (List ℕ)) (Faulted : Type 0) (bytes : List ℕ) (result : Result Outcome AllocError) → IsText (holds job.file) bytes → IfOk result (IsRightOn job bytes) → IfOk result (IsRightFor (Ok job) holds Faulted)
-right_result job holds Faulted bytes (Ok made) is_text right = right_text job holds Faulted bytes made is_text right
-right_result job holds Faulted bytes (Err wanting) is_text right = tt
-
--- the text of a load
-pub text_of_load : (holds : List ℕ → Option (List ℕ)) (Faulted : Type 0) (name file : List ℕ) (loaded : Loaded) (text bytes : List ℕ) → IsLoaded (holds name) Faulted name loaded → loaded ≡ Text text → name ≡ file → bytes ≡ text → IsText (holds file) bytes
-text_of_load holds Faulted name file loaded text bytes is is_text same read =
-    let here : IsText (holds name) text = subst (IsLoaded (holds name) Faulted name) is_text is in
-    subst (λ (n : List ℕ). IsText (holds n) bytes) same (subst (IsText (holds name)) (sym read) here)
-
--- the same of the job of words
-pub right_results : (words : Result Job ℕ) (job : Job) (holds : List ℕ → Option (List ℕ)) (Faulted : Type 0) (bytes : List ℕ) (result : Result Outcome AllocError) → words ≡ Ok job → IsText (holds job.file) bytes → IfOk result (IsRightOn job bytes)
-    → IfOk result (IsRightFor words holds Faulted)
-right_results words job holds Faulted bytes result is is_text right =
-    subst (λ (w : Result Job ℕ). IfOk result (IsRightFor w holds Faulted)) (sym is) (right_result job holds Faulted bytes result is_text right)
-
-pub right_machines : (job : Job) (bytes : List ℕ) (F : KissFile) (result : Result Outcome AllocError) → IsWithin bytes → Kiss bytes F → IsLawful F → IfOk result (IsRightOf job F) → IfOk result (IsRightOn job bytes)
-right_machines job bytes F (Ok made) within kiss lawful right = right_machine job bytes F made within kiss lawful right
-right_machines job bytes F (Err wanting) within kiss lawful right = tt
-
 pub right_faults : (job : Job) (bytes : List ℕ) (number : ℕ) (kind : KissKind) (result : Result Outcome AllocError) → IsWithin bytes → IsKissFault bytes number kind → IfOk result (IsRefusal KissRefused (λ line. line ≡ kiss_line number (kind_text kind))) → IfOk result (IsRightOn job bytes)
 right_faults job bytes number kind (Ok made) within fault right = right_fault job bytes number kind made within fault right
 right_faults job bytes number kind (Err wanting) within fault right = tt

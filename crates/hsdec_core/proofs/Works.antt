@@ -1,12 +1,12 @@
 -- A job works on one machine.
-use Rattle.std.proofs.Common.{◌≡◌, ℕ, ◌<◌, Bool, true, false, List, Option, length, sym, ap, ◌∙◌, subst, arith}
+use Rattle.std.proofs.Common.{◌≡◌, ℕ, ◌<◌, Bool, true, false, List, Option, length, sym, ◌∙◌, subst, arith}
 use Rattle.job_words.specs.declared.jobs.Job.{Job}
 use Rattle.kiss2.specs.declared.kiss_file.KissFile.{KissFile}
 use Rattle.kiss2.specs.declared.kiss_file.KissRow.{KissRow}
 use Rattle.partition.specs.Partition.{Together}
 use Rattle.partition.specs.Laws.Labels.{same_labels}
-use Rattle.state_reduce.specs.Alike.{Alike, IsEquivalence}
-use Rattle.state_reduce.specs.Quotient.{IsQuotient, block_names, block_number, kept_rows, row_of_blocks}
+use Rattle.state_reduce.specs.Alike.{IsEquivalence}
+use Rattle.state_reduce.specs.Quotient.{IsQuotient}
 use Rattle.state_reduce.specs.WorkMachine.{IsWorkMachine}
 use Rattle.hsdec_core.specs.Work.{IsWorkOf}
 

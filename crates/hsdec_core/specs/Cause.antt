@@ -1,9 +1,8 @@
--- What the bytes of a job's file have to be for each answer. Of two answers no bytes call for both.
-use Rattle.std.specs.Prelude.{◌≡◌, ◌≢◌, ◌<◌, ◌≤◌, ◌⊎◌, ℕ, ⊤, List, Option, Some, None, IfOk, IfSome, length}
+-- What the bytes of a machine have to be for each answer. Of two answers no bytes call for both.
+use Rattle.std.specs.Prelude.{◌≡◌, ◌<◌, ◌≤◌, ◌⊎◌, ℕ, ⊤, List, Option, Some, None, length}
 use Rattle.job_words.specs.declared.command.Command.{Command}
 use Rattle.job_words.specs.declared.command.Command.TheVariants as commands
 use Rattle.job_words.specs.declared.jobs.Job.{Job}
-use Rattle.job_words.specs.Job.{JobOf}
 use Rattle.kiss2.specs.declared.fill.Fill.TheVariants.{Refuse}
 use Rattle.kiss2.specs.declared.kiss_file.KissFile.{KissFile}
 use Rattle.kiss2.specs.Kiss.{Kiss}
@@ -126,22 +125,6 @@ FileCallsFor job F Conflict = Conflicting F
 FileCallsFor job F Unspecified = IsOpen job F
 FileCallsFor job F answer = Accepted F (fill_of job) × CommandCallsFor answer job.command job F
 
--- a machine is accepted, and its command refuses a text of partitions, or two states that these leave together
-abbrev pub HasPartRefused : Job → KissFile → Type 0
-HasPartRefused job F = Accepted F (fill_of job) × CommandCallsFor PartRefused job.command job F
-
--- a machine is accepted, and has no decomposition of the command's kind
-abbrev pub LacksSplit : Job → KissFile → Type 0
-LacksSplit job F = Accepted F (fill_of job) × CommandCallsFor NoSplit job.command job F
-
--- a machine is accepted, and the codes of its split have too many bits
-abbrev pub HasCodeTooLong : Job → KissFile → Type 0
-HasCodeTooLong job F = Accepted F (fill_of job) × CommandCallsFor CodeTooLong job.command job F
-
--- a machine is accepted, and more than the limit stand to be listed
-abbrev pub HasMoreThanLimit : Job → KissFile → Type 0
-HasMoreThanLimit job F = Accepted F (fill_of job) × CommandCallsFor More job.command job F
-
 -- the bytes say no machine
 abbrev pub IsNoMachine : List ℕ → Type 0
 IsNoMachine bytes = IsWithin bytes × ((F : KissFile) → Kiss bytes F → ⊥)
@@ -150,16 +133,8 @@ IsNoMachine bytes = IsWithin bytes × ((F : KissFile) → Kiss bytes F → ⊥)
 abbrev pub SaysMachine : List ℕ → (KissFile → Type 0) → Type 0
 SaysMachine bytes P = IsWithin bytes × ((F : KissFile) × Kiss bytes F × P F)
 
--- the bytes call for an answer; for an answer that no command gives so far, none do
-abbrev pub CallsFor : Job → List ℕ → Answer → Type 0
-CallsFor job bytes TooLong = IsTooLong bytes
-CallsFor job bytes KissRefused = IsNoMachine bytes
-CallsFor job bytes answer = SaysMachine bytes (λ F. FileCallsFor job F answer)
-
--- the bytes call for no refusal
-abbrev pub IsUnrefused : Job → List ℕ → Type 0
-IsUnrefused job bytes = (answer : Answer) → answer ≢ Done → CallsFor job bytes answer → ⊥
-
--- something is said of the words' job and the bytes of its file, where the words are a job and the shelf tells the bytes
-abbrev pub IfTold : List (List ℕ) → (List ℕ → Option (List ℕ)) → (Job → List ℕ → Type 0) → Type 0
-IfTold words holds P = IfOk (JobOf words) (λ job. IfSome (holds job.file) (P job))
+-- the bytes of a machine call for an answer; for an answer that no such command gives, none do
+abbrev pub MachineCallsFor : Job → List ℕ → Answer → Type 0
+MachineCallsFor job bytes TooLong = IsTooLong bytes
+MachineCallsFor job bytes KissRefused = IsNoMachine bytes
+MachineCallsFor job bytes answer = SaysMachine bytes (λ F. FileCallsFor job F answer)

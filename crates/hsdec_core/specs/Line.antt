@@ -1,8 +1,8 @@
--- Which line goes to err with an answer.
-use Rattle.std.specs.Prelude.{◌≡◌, ℕ, ◌++◌, ◌⊎◌, List, Option, Some, None, Result, Ok, Err, [], codes, length, map, slice_get}
+-- Which line goes to err with an answer to the bytes of a machine.
+use Rattle.std.specs.Prelude.{◌≡◌, ℕ, ◌++◌, ◌⊎◌, List, Option, Some, None, [], codes, length, map, slice_get}
 use Rattle.std.specs.Fmt.{decimal}
 use Rattle.cubes.specs.Symbol.{symbol_of}
-use Rattle.hs_texts.specs.ErrLines.{cannot_read_line, cannot_write_line, code_bits_line, conflict_line, kiss_line, more_line, no_memory_line, no_split_line, not_apart_line, part_length_line, part_place_line, too_long_line, unspecified_line, usage_line}
+use Rattle.hs_texts.specs.ErrLines.{code_bits_line, conflict_line, kiss_line, more_line, no_split_line, not_apart_line, part_length_line, part_place_line, unspecified_line}
 use Rattle.job_words.specs.Command.{command_word}
 use Rattle.job_words.specs.declared.jobs.Job.{Job}
 use Rattle.kiss2.specs.declared.fault.KissKind.{KissKind}
@@ -19,10 +19,9 @@ use Rattle.state_codes.specs.declared.split.Kind.{Kind}
 use Rattle.state_codes.specs.declared.split.Part.{Part}
 use Rattle.state_codes.specs.Fault.{FirstTogether}
 use Rattle.hsdec_core.specs.declared.answers.Answer.{Answer}
-use Rattle.hsdec_core.specs.declared.answers.Answer.TheVariants.{NoSplit, Usage, KissRefused, Conflict, Unspecified, More, PartRefused, CodeTooLong, ReadFault, TooLong, WriteFault, NoMemory}
+use Rattle.hsdec_core.specs.declared.answers.Answer.TheVariants.{NoSplit, KissRefused, Conflict, Unspecified, More, PartRefused, CodeTooLong}
 use Rattle.hsdec_core.specs.Digits.{digit}
 use Rattle.hsdec_core.specs.KissTexts.{kind_text}
-use Rattle.hsdec_core.specs.Loading.{IsText}
 use Rattle.hsdec_core.specs.PartTexts.{IsFirstBadPart}
 use Rattle.hsdec_core.specs.Splits.{AreGivenParts, HasCodeOf, kind_of}
 use Rattle.hsdec_core.specs.Work.{OnWork}
@@ -85,26 +84,7 @@ IsFileLine job F Conflict line = (row other : ℕ) × IsFirstConflict F row othe
 IsFileLine job F Unspecified line = (s x : ℕ) × (part : Missing) × IsFirstOpen F s x part × IsOpenLine F s x part line
 IsFileLine job F answer line = IsLineBy (kind_of job.command) job F answer line
 
--- the line of an answer to the bytes of a file: it names the first fault of bytes that say no machine
+-- the line of an answer to the bytes of a machine: it names the first fault of bytes that say none
 abbrev pub IsTextLine : Job → List ℕ → Answer → List ℕ → Type 0
 IsTextLine job bytes KissRefused line = (number : ℕ) × (kind : KissKind) × IsKissFault bytes number kind × (line ≡ kiss_line number (kind_text kind))
 IsTextLine job bytes answer line = (F : KissFile) × Kiss bytes F × IsFileLine job F answer line
-
--- the line of an answer to a job whose file is held so
-abbrev pub IsLineOf : Job → Option (List ℕ) → Answer → List ℕ → Type 0
-IsLineOf job held ReadFault line = line ≡ cannot_read_line job.file
-IsLineOf job held TooLong line = line ≡ too_long_line job.file
-IsLineOf job held WriteFault line = line ≡ cannot_write_line
-IsLineOf job held NoMemory line = line ≡ no_memory_line
-IsLineOf job held answer line = (bytes : List ℕ) × IsText held bytes × IsTextLine job bytes answer line
-
--- the line of an answer to refused words, the first of which has this number
-abbrev pub IsRefusalLine : ℕ → Answer → List ℕ → Type 0
-IsRefusalLine word Usage line = line ≡ usage_line word
-IsRefusalLine word NoMemory line = line ≡ no_memory_line
-IsRefusalLine word _ line = ⊥
-
--- the line of an answer to a job, or to refused words
-abbrev pub IsLineFor : Result Job ℕ → (List ℕ → Option (List ℕ)) → Answer → List ℕ → Type 0
-IsLineFor (Ok job) holds answer line = IsLineOf job (holds job.file) answer line
-IsLineFor (Err word) holds answer line = IsRefusalLine word answer line

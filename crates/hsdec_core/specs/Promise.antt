@@ -1,5 +1,5 @@
--- What each command promises of the text that it puts: one relation for each command or family, over the machine of its file.
-use Rattle.std.specs.Prelude.{ℕ, ◌⊎◌, List, Option, Some, None}
+-- What each command promises of the text that it puts: one relation for each command or family.
+use Rattle.std.specs.Prelude.{◌≡◌, ℕ, ◌⊎◌, Bool, List, Option, Some, None}
 use Rattle.job_words.specs.declared.command.Command.{Command}
 use Rattle.job_words.specs.declared.command.Command.TheVariants as commands
 use Rattle.job_words.specs.declared.jobs.Job.{Job}
@@ -7,15 +7,20 @@ use Rattle.kiss2.specs.declared.fill.Fill.{Fill}
 use Rattle.kiss2.specs.declared.kiss_file.KissFile.{KissFile}
 use Rattle.kiss2.specs.Kiss.{Kiss}
 use Rattle.kiss2.specs.Lawful.{IsLawful}
-use Rattle.kiss2.specs.Machine.{Accepted}
+use Rattle.kiss2.specs.Machine.{Accepted, answers}
 use Rattle.state_codes.specs.declared.split.Kind.{Kind}
 use Rattle.closed_lattice.specs.Closed.{IsClosedPartition}
 use Rattle.mm_lattice.specs.MmPairs.{IsMmPair, RightBefore}
+use Rattle.net_core.specs.declared.Network.{Network}
+use Rattle.net_core.specs.Blif.{Blif}
+use Rattle.net_sim.specs.Run.{IsRun, answers_text}
+use Rattle.net_sim.specs.Symbols.{IsSymbolFile}
 use Rattle.output_consistent.specs.Outputs.{IsClosedAndConsistent}
 use Rattle.partition.specs.Before.{Before}
 use Rattle.hsdec_core.specs.CheckReport.{IsChecked}
 use Rattle.hsdec_core.specs.ExtremeTexts.{IsHighText, IsLowText}
 use Rattle.hsdec_core.specs.Fill.{fill_of}
+use Rattle.hsdec_core.specs.Generated.{IsNumbersText}
 use Rattle.hsdec_core.specs.ListTexts.{IsEvidenceText, IsListText, pair_line, partition_line}
 use Rattle.hsdec_core.specs.Loading.{IsText}
 use Rattle.hsdec_core.specs.ReducedText.{IsReducedText}
@@ -57,10 +62,30 @@ pub record HoldsMachine (held : Option (List ℕ)) (fill : Fill) (bytes : List �
   pub lawful : IsLawful F
   pub accepted : Accepted F fill
 
--- the text that a job asks for, of what the shelf holds under its file
+-- the bytes that a shelf holds say a network
+abbrev pub HoldsNetwork : Option (List ℕ) → List ℕ → Network → Type 0
+HoldsNetwork held bytes N = IsText held bytes × Blif bytes N
+
+-- the text is that of the answers of a file's machine, from its reset state on, to the symbols of a file
+abbrev pub IsWalkText : KissFile → List ℕ → List ℕ → Type 0
+IsWalkText F symbols text =
+    (word : List (List Bool)) × IsSymbolFile F.inputs symbols word × (text ≡ answers_text (answers F F.reset word))
+
+-- the text that a job asks for, of what the shelf holds under its names
+abbrev pub IsAskedOf : Command → Job → (List ℕ → Option (List ℕ)) → List ℕ → Type 0
+IsAskedOf commands.Walk job holds text =
+    (bytes : List ℕ) × (F : KissFile) × (symbols : List ℕ)
+    × HoldsMachine (holds job.file) (fill_of job) bytes F × IsText (holds job.second) symbols × IsWalkText F symbols text
+IsAskedOf commands.Sim job holds text =
+    (bytes : List ℕ) × (N : Network) × (symbols : List ℕ)
+    × HoldsNetwork (holds job.file) bytes N × IsText (holds job.second) symbols × IsRun N job.start symbols text
+IsAskedOf commands.Gen job holds text = IsNumbersText commands.Gen job text
+IsAskedOf commands.Trial job holds text = IsNumbersText commands.Trial job text
+IsAskedOf command job holds text =
+    (bytes : List ℕ) × (F : KissFile) × HoldsMachine (holds job.file) (fill_of job) bytes F × IsPromised command job F text
+
 abbrev pub IsAsked : Job → (List ℕ → Option (List ℕ)) → List ℕ → Type 0
-IsAsked job holds text =
-    (bytes : List ℕ) × (F : KissFile) × HoldsMachine (holds job.file) (fill_of job) bytes F × IsPromised job.command job F text
+IsAsked job holds text = IsAskedOf job.command job holds text
 
 -- the text of evidence that a job shows, of what the shelf holds under its file
 abbrev pub IsEvidence : Job → (List ℕ → Option (List ℕ)) → List ℕ → Type 0

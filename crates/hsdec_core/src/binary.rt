@@ -26,7 +26,7 @@ fn digit_of(bit: bool) -> u8
 }
 
 /// Whether a bit of a number is 1.
-fn bit(value: u64, place: usize) -> bool
+pub fn bit(value: u64, place: usize) -> bool
     requires { place < 64 }
     ensures { result ≡ symbols.bit value place }
 {

@@ -28,9 +28,14 @@ mod binary;
 mod check_command;
 mod delivery;
 mod extreme_commands;
+mod gen_command;
 mod kiss_texts;
+mod laws;
 mod list_commands;
 mod loading;
+mod machine_commands;
+mod net_texts;
+mod opening;
 mod outcomes;
 mod part_operand;
 mod performing;
@@ -38,9 +43,13 @@ mod plans;
 mod reduce_command;
 mod refusals;
 mod running;
+mod sim_command;
 mod split_commands;
+mod trial_command;
+mod walk_command;
 
 pub use answers::Answer;
+pub use laws::one_text;
 pub(crate) use outcomes::{Bytes, Outcome};
 pub use running::run;
 

@@ -2,16 +2,19 @@
 
 ghost use Rattle.std.specs.Prelude.{◌≡◌, ℕ, ◌<◌, ◌≤◌, ◌^◌, Bool, IfOk, Some, length, map, slice_get};
 ghost use Rattle.cubes.specs.Symbol.{symbol_of};
-ghost use Rattle.hs_texts.specs.ErrLines.{code_bits_line, conflict_line, kiss_line};
+ghost use Rattle.hs_texts.specs.ErrLines.{bad_start_line, code_bits_line, conflict_line, kiss_line, start_unknown_line, symbol_line};
 ghost use Rattle.decomposition.specs.Work.{IsWork};
 ghost use Rattle.hsdec_core.specs.Digits.{digit};
 ghost use Rattle.hsdec_core.specs.Inner.Made.{IsRefusal};
 ghost use Rattle.hsdec_core.specs.KissTexts.{kind_text};
 ghost use Rattle.hsdec_core.specs.Line.{IsNotApartLine, IsOpenLine, missing_text};
+ghost use Rattle.hsdec_core.specs.NetTexts.{fault_line};
 
 use crate::binary::append_symbol;
 use crate::kiss_texts::text_of_kind;
+use crate::net_texts::line_of_fault;
 use crate::{Answer, Outcome};
+use blif_in::BlifFault;
 use decomposition::{WorkMachine, state_name};
 use hs_texts::err_lines;
 use kiss2::{KissFault, KissFile};
@@ -25,6 +28,38 @@ pub fn kiss_refused(alloc: Global, fault: KissFault) -> Result<Outcome, AllocErr
     let text = text_of_kind(alloc, fault.kind)?;
     let line = err_lines::kiss(alloc, fault.line, text.as_slice())?;
     Ok(Outcome::refused(alloc, Answer::KissRefused, line))
+}
+
+/// The refusal of a text that says no network.
+pub fn net_refused(alloc: Global, fault: &BlifFault) -> Result<Outcome, AllocError>
+    ensures { IfOk result (IsRefusal Answer.NetRefused (λ line. line ≡ fault_line fault.now)) }
+{
+    let line = line_of_fault(alloc, fault)?;
+    Ok(Outcome::refused(alloc, Answer::NetRefused, line))
+}
+
+/// The refusal of a start that is given and is no text of so many bits.
+pub fn bad_start(alloc: Global) -> Result<Outcome, AllocError>
+    ensures { IfOk result (IsRefusal Answer.SymbolRefused (λ line. line ≡ bad_start_line)) }
+{
+    let line = err_lines::bad_start(alloc)?;
+    Ok(Outcome::refused(alloc, Answer::SymbolRefused, line))
+}
+
+/// The refusal of a network that has a latch whose start is not known, by the latch's output.
+pub fn start_unknown(alloc: Global, latch: &[u8]) -> Result<Outcome, AllocError>
+    ensures { IfOk result (IsRefusal Answer.SymbolRefused (λ line. line ≡ start_unknown_line latch.now)) }
+{
+    let line = err_lines::start_unknown(alloc, latch)?;
+    Ok(Outcome::refused(alloc, Answer::SymbolRefused, line))
+}
+
+/// The refusal of a file of symbols, by the number of its first line that is refused.
+pub fn symbol_refused(alloc: Global, number: u32) -> Result<Outcome, AllocError>
+    ensures { IfOk result (IsRefusal Answer.SymbolRefused (λ line. line ≡ symbol_line number)) }
+{
+    let line = err_lines::symbols(alloc, number)?;
+    Ok(Outcome::refused(alloc, Answer::SymbolRefused, line))
 }
 
 /// The refusal of a machine with two rows that conflict, counted from 1.

@@ -1,4 +1,5 @@
 mod decompositions;
+mod generated;
 mod machines;
 mod partitions;
 mod stepping;
@@ -105,6 +106,9 @@ fn refuses_words(rt: HostRuntime) -> Result<(), Fail> {
         ("code f g", "hsdec: usage word 3\n"),
         ("code f --limit 5", "hsdec: usage word 3\n"),
         ("check f --fill keep", "hsdec: usage word 4\n"),
+        ("walk f g --start 0", "hsdec: usage word 4\n"),
+        ("gen 1 2", "hsdec: usage word 4\n"),
+        ("trial 1 16 17 1", "hsdec: usage word 4\n"),
         ("closed f --limit 0", "hsdec: usage word 4\n"),
     ];
     for (line, refusal) in lines {

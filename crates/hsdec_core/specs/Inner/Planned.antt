@@ -8,7 +8,6 @@ use Rattle.job_words.specs.Command.{command_word}
 use Rattle.kiss2.specs.declared.kiss_file.KissFile.{KissFile}
 use Rattle.state_codes.specs.declared.split.Kind.{Kind}
 use Rattle.state_codes.specs.declared.split.Kind.TheVariants.{Assign}
-use Rattle.state_codes.specs.declared.split.Part.{Part}
 use Rattle.state_codes.specs.declared.split.Split.{Split}
 use Rattle.state_codes.specs.Fault.{AreApart}
 use Rattle.state_codes.specs.Split.{IsPart}

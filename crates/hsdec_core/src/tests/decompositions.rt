@@ -57,7 +57,7 @@ const PARALLEL_PRODUCT: &[u8] = b"# hsdec parallel
 .end
 ";
 
-const PARALLEL_DRAWN: &[u8] = b"# hsdec parallel
+pub const PARALLEL_DRAWN: &[u8] = b"# hsdec parallel
 # part 0 0,0,1,1 carrier 0,0,1,1 reads -
 # part 1 0,1,0,1 carrier 0,1,0,1 reads -
 # code s0 00
@@ -111,7 +111,7 @@ const PARALLEL_STILL: &[u8] = b"# hsdec parallel
 .end
 ";
 
-const SERIAL_COUNTER: &[u8] = b"# hsdec serial
+pub const SERIAL_COUNTER: &[u8] = b"# hsdec serial
 # part 0 0,1,0,1 carrier 0,1,0,1 reads -
 # part 1 0,0,1,1 carrier 0,0,1,1 reads 0
 # code c0 00

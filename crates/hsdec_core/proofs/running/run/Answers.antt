@@ -1,5 +1,6 @@
-use Rattle.hsdec_core.specs.declared.answers.Answer.TheVariants.{CodeTooLong, Conflict, KissRefused, NoSplit, PartRefused, TooLong, Unspecified}
-use Rattle.hsdec_core.proofs.Runs.{IsAnswered, answered, complete_of, evidence_of, exact_of, front_of, headline_of, line_is, made_in_memory, more_of, no_text_of, put_fault_of, read_fault_of, text_of_done, usage_of}
+use Rattle.hsdec_core.specs.declared.answers.Answer.TheVariants.{CodeTooLong, Conflict, KissRefused, NetRefused, NoSplit, PartRefused, SymbolRefused, TooLong, Unspecified}
+use Rattle.hsdec_core.proofs.OneAnswer.{its_sizes}
+use Rattle.hsdec_core.proofs.Runs.{IsAnswered, all_of, answered, complete_of, evidence_of, first_of, front_of, headline_of, line_is, loads_of, made_in_memory, more_of, no_text_of, put_fault_of, read_fault_of, text_of_done, usage_of}
 use Rattle.job_words.specs.Job.{JobOf}
 use Rattle.hsdec_core.proofs.running.run.Goals as goal
 
@@ -13,52 +14,60 @@ returns-clause-read_fault g c =
     let a : IsAnswered c.perform-made.result c.deliver.result = answered _ _ _ _ _ _ c.deliver.ensures.text c.deliver.ensures.no_text in
     read_fault_of (JobOf c.args.words.now) _ _ c.perform-made.result _ c.perform-made.ensures.right a
 
+pub returns-clause-operand : goal.returns-clause-operand
+returns-clause-operand g c =
+    let a : IsAnswered c.perform-made.result c.deliver.result = answered _ _ _ _ _ _ c.deliver.ensures.text c.deliver.ensures.no_text in
+    loads_of (JobOf c.args.words.now) _ _ c.perform-made.result _ c.perform-made.ensures.right a
+
 pub returns-clause-too_long : goal.returns-clause-too_long
 returns-clause-too_long g c =
     let a : IsAnswered c.perform-made.result c.deliver.result = answered _ _ _ _ _ _ c.deliver.ensures.text c.deliver.ensures.no_text in
-    exact_of (JobOf c.args.words.now) _ _ c.perform-made.result _ TooLong c.perform-made.ensures.right a
-    (record { undone = λ e. cc; few = λ e. cc; unread = λ e. cc; unput = λ e. cc; unwanting = λ e. cc })
+    all_of _ _ (JobOf c.args.words.now) c.perform-made.result _ TooLong (its_sizes c.args.words.now) c.perform-made.ensures.right a tt
 
 pub returns-clause-kiss_refused : goal.returns-clause-kiss_refused
 returns-clause-kiss_refused g c =
     let a : IsAnswered c.perform-made.result c.deliver.result = answered _ _ _ _ _ _ c.deliver.ensures.text c.deliver.ensures.no_text in
-    exact_of (JobOf c.args.words.now) _ _ c.perform-made.result _ KissRefused c.perform-made.ensures.right a
-    (record { undone = λ e. cc; few = λ e. cc; unread = λ e. cc; unput = λ e. cc; unwanting = λ e. cc })
+    first_of _ _ (JobOf c.args.words.now) c.perform-made.result _ KissRefused (its_sizes c.args.words.now) c.perform-made.ensures.right a tt (λ h. h)
+
+pub returns-clause-net_refused : goal.returns-clause-net_refused
+returns-clause-net_refused g c =
+    let a : IsAnswered c.perform-made.result c.deliver.result = answered _ _ _ _ _ _ c.deliver.ensures.text c.deliver.ensures.no_text in
+    first_of _ _ (JobOf c.args.words.now) c.perform-made.result _ NetRefused (its_sizes c.args.words.now) c.perform-made.ensures.right a tt (λ h. h)
 
 pub returns-clause-conflict : goal.returns-clause-conflict
 returns-clause-conflict g c =
     let a : IsAnswered c.perform-made.result c.deliver.result = answered _ _ _ _ _ _ c.deliver.ensures.text c.deliver.ensures.no_text in
-    exact_of (JobOf c.args.words.now) _ _ c.perform-made.result _ Conflict c.perform-made.ensures.right a
-    (record { undone = λ e. cc; few = λ e. cc; unread = λ e. cc; unput = λ e. cc; unwanting = λ e. cc })
+    first_of _ _ (JobOf c.args.words.now) c.perform-made.result _ Conflict (its_sizes c.args.words.now) c.perform-made.ensures.right a tt (λ h. h)
 
 pub returns-clause-unspecified : goal.returns-clause-unspecified
 returns-clause-unspecified g c =
     let a : IsAnswered c.perform-made.result c.deliver.result = answered _ _ _ _ _ _ c.deliver.ensures.text c.deliver.ensures.no_text in
-    exact_of (JobOf c.args.words.now) _ _ c.perform-made.result _ Unspecified c.perform-made.ensures.right a
-    (record { undone = λ e. cc; few = λ e. cc; unread = λ e. cc; unput = λ e. cc; unwanting = λ e. cc })
+    first_of _ _ (JobOf c.args.words.now) c.perform-made.result _ Unspecified (its_sizes c.args.words.now) c.perform-made.ensures.right a tt (λ h. h)
 
 pub returns-clause-part_refused : goal.returns-clause-part_refused
 returns-clause-part_refused g c =
     let a : IsAnswered c.perform-made.result c.deliver.result = answered _ _ _ _ _ _ c.deliver.ensures.text c.deliver.ensures.no_text in
-    exact_of (JobOf c.args.words.now) _ _ c.perform-made.result _ PartRefused c.perform-made.ensures.right a
-    (record { undone = λ e. cc; few = λ e. cc; unread = λ e. cc; unput = λ e. cc; unwanting = λ e. cc })
+    first_of _ _ (JobOf c.args.words.now) c.perform-made.result _ PartRefused (its_sizes c.args.words.now) c.perform-made.ensures.right a tt (λ h. h)
+
+pub returns-clause-symbol_refused : goal.returns-clause-symbol_refused
+returns-clause-symbol_refused g c =
+    let a : IsAnswered c.perform-made.result c.deliver.result = answered _ _ _ _ _ _ c.deliver.ensures.text c.deliver.ensures.no_text in
+    all_of _ _ (JobOf c.args.words.now) c.perform-made.result _ SymbolRefused (its_sizes c.args.words.now) c.perform-made.ensures.right a tt
 
 pub returns-clause-no_split : goal.returns-clause-no_split
 returns-clause-no_split g c =
     let a : IsAnswered c.perform-made.result c.deliver.result = answered _ _ _ _ _ _ c.deliver.ensures.text c.deliver.ensures.no_text in
-    exact_of (JobOf c.args.words.now) _ _ c.perform-made.result _ NoSplit c.perform-made.ensures.right a
-    (record { undone = λ e. cc; few = λ e. cc; unread = λ e. cc; unput = λ e. cc; unwanting = λ e. cc })
+    first_of _ _ (JobOf c.args.words.now) c.perform-made.result _ NoSplit (its_sizes c.args.words.now) c.perform-made.ensures.right a tt (λ h. h)
 
 pub returns-clause-code_too_long : goal.returns-clause-code_too_long
 returns-clause-code_too_long g c =
     let a : IsAnswered c.perform-made.result c.deliver.result = answered _ _ _ _ _ _ c.deliver.ensures.text c.deliver.ensures.no_text in
-    exact_of (JobOf c.args.words.now) _ _ c.perform-made.result _ CodeTooLong c.perform-made.ensures.right a
-    (record { undone = λ e. cc; few = λ e. cc; unread = λ e. cc; unput = λ e. cc; unwanting = λ e. cc })
+    first_of _ _ (JobOf c.args.words.now) c.perform-made.result _ CodeTooLong (its_sizes c.args.words.now) c.perform-made.ensures.right a tt (λ h. h)
 
 pub returns-clause-more : goal.returns-clause-more
 returns-clause-more g c =
     let a : IsAnswered c.perform-made.result c.deliver.result = answered _ _ _ _ _ _ c.deliver.ensures.text c.deliver.ensures.no_text in
-    more_of (JobOf c.args.words.now) _ _ c.perform-made.result _ c.perform-made.ensures.right a
+    more_of _ _ (JobOf c.args.words.now) c.perform-made.result _ (its_sizes c.args.words.now) c.perform-made.ensures.right a
 
 pub returns-clause-write_fault : goal.returns-clause-write_fault
 returns-clause-write_fault g c =
@@ -67,7 +76,8 @@ returns-clause-write_fault g c =
 pub returns-clause-complete : goal.returns-clause-complete
 returns-clause-complete g c =
     let a : IsAnswered c.perform-made.result c.deliver.result = answered _ _ _ _ _ _ c.deliver.ensures.text c.deliver.ensures.no_text in
-    complete_of (JobOf c.args.words.now) _ _ _ c.perform-made.result _ c.perform-made.ensures.right a (put_fault_of c.perform-made.result _ _ _ _ _ c.deliver.ensures.text (made_in_memory (JobOf c.args.words.now) _ _ c.perform-made.result c.perform-made.ensures.right))
+    complete_of _ _ _ (JobOf c.args.words.now) c.perform-made.result _ (its_sizes c.args.words.now) c.perform-made.ensures.right a
+    (put_fault_of c.perform-made.result _ _ _ _ _ c.deliver.ensures.text (made_in_memory (JobOf c.args.words.now) _ _ c.perform-made.result c.perform-made.ensures.right))
 
 pub returns-clause-headline : goal.returns-clause-headline
 returns-clause-headline g c =

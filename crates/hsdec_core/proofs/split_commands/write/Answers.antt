@@ -1,4 +1,4 @@
-use Rattle.std.proofs.Common.{sym, subst, arith}
+use Rattle.std.proofs.Common.{arith}
 use Rattle.hsdec_core.proofs.Apart.{apart_of_encoded}
 use Rattle.hsdec_core.proofs.Decomposing.{first_together, right_encoded, right_long_code, right_not_encoded}
 use Rattle.hsdec_core.proofs.split_commands.write.Goals as goal
