@@ -165,7 +165,7 @@ right_load job holds Faulted made loads (inr (long, is)) =
     refused_for job holds Faulted TooLong (too_long_line job.file) made tt
     (subst (λ (held : Option (List ℕ)). IfSome held (λ b. (TooLong ≡ ReadFault) ⊎ IsCalledFor job b (symbols_held job holds) TooLong)) (sym (file_loads job holds loads))
     (each (holds job.file) IsTooLong (λ b. (TooLong ≡ ReadFault) ⊎ IsCalledFor job b (symbols_held job holds) TooLong) (λ b h. inr (inl (long_calls (source_of job.command) job b loads h))) long))
-    (inl (first_line (source_of job.command) job (holds job.file) TooLong (too_long_line job.file) loads refl)) is
+    (inl (first_line (source_of job.command) job (holds job.file) TooLong (too_long_line job.file) loads (long, refl))) is
 
 -- ---- of a machine
 -- what a command makes of the text of FILE

@@ -51,7 +51,7 @@ module _ (job : Job) (holds : List ℕ → Option (List ℕ)) (Faulted : Type 0)
       fault_for job holds Faulted (cannot_read_line job.second) made faulted loads (inr (bytes, width, is_text, awaits, refl)) is
   right_second_load made (inr (long, is)) =
       refused_for job holds Faulted TooLong (too_long_line job.second) made tt
-      (cause_of_symbols TooLong tt (each (holds job.second) IsTooLong (λ s. SymbolsCallFor width s TooLong) (λ s h. h) long)) (inr (bytes, width, is_text, awaits, refl)) is
+      (cause_of_symbols TooLong tt (each (holds job.second) IsTooLong (λ s. SymbolsCallFor width s TooLong) (λ s h. h) long)) (inr (bytes, width, is_text, awaits, (long, refl))) is
 
   -- and what is made of its text
   pub right_symbols : (symbols : List ℕ) (IsRight : List ℕ → Type 0) (made : Outcome) → IsText (holds job.second) symbols → ((text : List ℕ) → IsRight text → IsAsked job holds text) → IsMadeOf width IsRight symbols made → IsRightFor (Ok job) holds Faulted made

@@ -1,5 +1,5 @@
 -- Which line goes to err with an answer, whatever the command works on.
-use Rattle.std.specs.Prelude.{◌≡◌, ℕ, ◌⊎◌, List, Option, Some, None, Result, Ok, Err}
+use Rattle.std.specs.Prelude.{◌≡◌, ℕ, ◌⊎◌, List, Option, Some, None, Result, Ok, Err, IfSome}
 use Rattle.blif_in.specs.declared.fault.BlifFault.{BlifFault}
 use Rattle.blif_in.specs.Text.{IsBlifFault}
 use Rattle.hs_texts.specs.ErrLines.{bad_start_line, cannot_read_line, cannot_write_line, code_bits_line, no_memory_line, start_unknown_line, symbol_line, too_long_line, usage_line}
@@ -14,7 +14,7 @@ use Rattle.hsdec_core.specs.declared.answers.Answer.TheVariants.{Usage, CodeTooL
 use Rattle.hsdec_core.specs.Calls.{AwaitsSymbols}
 use Rattle.hsdec_core.specs.Generated.{OfGenerated}
 use Rattle.hsdec_core.specs.Line.{IsTextLine}
-use Rattle.hsdec_core.specs.Loading.{IsText}
+use Rattle.hsdec_core.specs.Loading.{IsText, IsTooLong}
 use Rattle.hsdec_core.specs.NetTexts.{fault_line}
 use Rattle.hsdec_core.specs.Operands.{OfMachine, OfNetwork, OfNumbers, Source, source_of}
 use Rattle.hsdec_core.specs.Splits.{HasCodeOf}
@@ -37,10 +37,10 @@ IsBytesLine OfMachine job bytes answer line = IsTextLine job bytes answer line
 IsBytesLine OfNetwork job bytes answer line = IsNetworkLine job bytes answer line
 IsBytesLine OfNumbers job bytes answer line = ⊥
 
--- the line of an answer that comes of the load of FILE or NET, or of its bytes
+-- the line of an answer that comes of the load of FILE or NET, or of its bytes; it names the operand that is too long
 abbrev pub IsOperandLine : Source → Job → Option (List ℕ) → Answer → List ℕ → Type 0
 IsOperandLine source job held ReadFault line = line ≡ cannot_read_line job.file
-IsOperandLine source job held TooLong line = line ≡ too_long_line job.file
+IsOperandLine source job held TooLong line = IfSome held IsTooLong × (line ≡ too_long_line job.file)
 IsOperandLine source job held answer line = (bytes : List ℕ) × IsText held bytes × IsBytesLine source job bytes answer line
 
 -- the line of an answer to the numbers of a job
@@ -57,7 +57,7 @@ IsFirstLine source job held answer line = IsOperandLine source job held answer l
 -- the line of an answer that comes of the load of the symbols, or of their bytes
 abbrev pub IsSymbolsLine : Job → ℕ → Option (List ℕ) → Answer → List ℕ → Type 0
 IsSymbolsLine job width held ReadFault line = line ≡ cannot_read_line job.second
-IsSymbolsLine job width held TooLong line = line ≡ too_long_line job.second
+IsSymbolsLine job width held TooLong line = IfSome held IsTooLong × (line ≡ too_long_line job.second)
 IsSymbolsLine job width held SymbolRefused line =
     (symbols : List ℕ) × (number : ℕ) × IsText held symbols × IsSymbolFault width symbols number × (line ≡ symbol_line number)
 IsSymbolsLine job width held _ line = ⊥
