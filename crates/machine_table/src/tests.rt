@@ -1,5 +1,9 @@
+//! Refusals of worked files, and answers of small machines.
+
 ghost use Rattle.std.specs.Prelude.{IfOk};
 ghost use Rattle.kiss2.specs.Lawful.{IsLawful};
+
+mod questions;
 
 use crate::{BuildFail, Machine, Missing};
 use kiss2::{Fill, KissFile, read};
