@@ -14,8 +14,8 @@ use Rattle.machine_table.specs.declared.covering.Piece.{Piece}
 use Rattle.dependence.specs.declared.effects.Effect.{Effect}
 use Rattle.dependence.specs.declared.gate.Gate.{Gate}
 use Rattle.dependence.specs.declared.gate.Gate.TheVariants.{Latch, Output}
-use Rattle.dependence.specs.Inner.Effects.{ActsBy, Adds, IsActed, Show, ShowAmong, ShowBefore, acts_in, acts_on, piece_value}
-use Rattle.dependence.proofs.Symbols.{one_place}
+use Rattle.dependence.specs.Inner.Effects.{ActsBy, Adds, IsActed, Show, acts_in, acts_on, piece_value}
+use Rattle.dependence.proofs.Symbols.{clash_turned, one_place}
 
 -- ---- what is added in turn
 pub adds_none : (effects : List Effect) (Shown : ℕ → Gate → Type 0) → ((a : ℕ) (gate : Gate) → Shown a gate → ⊥) → Adds effects effects Shown
@@ -109,6 +109,12 @@ none_acts inputs d no_latch no_output a gate acts =
       by_gate (Output b) acts = false≢true (sym (ap (λ n. bit n b) no_output ∙ bit-zero b) ∙ acts)
 
 -- ---- what two pieces show
+pub turned : (inputs : ℕ) (words : List ℕ) (one other : Piece) (a : ℕ) (gate : Gate) → Show inputs words one other a gate → Show inputs words other one a gate
+turned inputs words one other a gate show = record {
+  differ = record { place = show.differ.place; of_input = show.differ.of_input; clash = clash_turned other.cube one.cube ∙ show.differ.clash };
+  values = λ same. show.values (sym same);
+}
+
 differs_from : (a b : Bool) → not (beq a b) ≡ true → a ≢ b
 differs_from true true is same = false≢true is
 differs_from true false is same = false≢true (sym same)
@@ -137,64 +143,3 @@ module _ (words : List ℕ) (one other : Piece) where
   shows_acted inputs place clash a gate show =
       let at : show.differ.place ≡ place = one_place show.differ.place place (sym show.differ.clash ∙ clash) in
       (omega (arith, at, show.differ.of_input), acts_by_values gate ∙ differs_to (piece_value words gate one) (piece_value words gate other) show.values)
-
--- ---- what a piece and those before it show
-module _ (inputs : ℕ) (words : List ℕ) (others : List Piece) (count : ℕ) (piece : Piece) (a : ℕ) (gate : Gate) where
-  pub before_more : ShowBefore inputs words others count piece a gate → ShowBefore inputs words others (count + 1) piece a gate
-  before_more shown = record { at = shown.at; other = shown.other; before = omega (arith, shown.before); there = shown.there; show = shown.show }
-
-  pub before_last : (other : Piece) → slice_get others count ≡ Some other → Show inputs words other piece a gate → ShowBefore inputs words others (count + 1) piece a gate
-  before_last other there show = record { at = count; other = other; before = omega arith; there = there; show = show }
-
-  pub before_cases : (other : Piece) → slice_get others count ≡ Some other → ShowBefore inputs words others (count + 1) piece a gate → ShowBefore inputs words others count piece a gate ⊎ Show inputs words other piece a gate
-  before_cases other there shown =
-      elim (cases_eq shown.at count) [
-        | inl at ↦
-            let same : shown.other ≡ other = same_some shown.other other (sym shown.there ∙ ap (slice_get others) at ∙ there) in
-            inr (subst (λ (it : Piece). Show inputs words it piece a gate) same shown.show)
-        | inr apart ↦ inl (record { at = shown.at; other = shown.other; before = omega (arith, apart, shown.before); there = shown.there; show = shown.show })
-      ] where
-        same_some : (p q : Piece) → Some p ≡ Some q → p ≡ q
-        same_some p q is = same_Some p q is
-
--- the first so many are a list of their own
-pub before_taken : (inputs : ℕ) (words : List ℕ) (pieces : List Piece) (count : ℕ) (piece : Piece) (a : ℕ) (gate : Gate) → count ≤ length pieces → ShowBefore inputs words (take count pieces) (length (take count pieces)) piece a gate → ShowBefore inputs words pieces count piece a gate
-before_taken inputs words pieces count piece a gate few shown =
-    let size : length (take count pieces) ≡ count = length-take-le count pieces few in
-    let within : shown.at < count = omega (arith, size, shown.before) in
-    record {
-      at = shown.at;
-      other = shown.other;
-      before = within;
-      there = slice_get-get_or pieces shown.at shown.other (omega (arith, within, few)) ∙ ap Some (sym (get_or-take count pieces shown.at shown.other within) ∙ get_or_from_slice_get (take count pieces) shown.at shown.other shown.other shown.there);
-      show = shown.show;
-    }
-
-pub taken_before : (inputs : ℕ) (words : List ℕ) (pieces : List Piece) (count : ℕ) (piece : Piece) (a : ℕ) (gate : Gate) → count ≤ length pieces → ShowBefore inputs words pieces count piece a gate → ShowBefore inputs words (take count pieces) (length (take count pieces)) piece a gate
-taken_before inputs words pieces count piece a gate few shown =
-    let size : length (take count pieces) ≡ count = length-take-le count pieces few in
-    record {
-      at = shown.at;
-      other = shown.other;
-      before = omega (arith, size, shown.before);
-      there = slice_get-get_or (take count pieces) shown.at shown.other (omega (arith, size, shown.before)) ∙ ap Some (get_or-take count pieces shown.at shown.other shown.before ∙ get_or_from_slice_get pieces shown.at shown.other shown.other shown.there);
-      show = shown.show;
-    }
-
--- ---- what two of the first pieces show
-module _ (inputs : ℕ) (words : List ℕ) (pieces : List Piece) (count : ℕ) (a : ℕ) (gate : Gate) where
-  pub among_more : ShowAmong inputs words pieces count a gate → ShowAmong inputs words pieces (count + 1) a gate
-  among_more shown = record { at = shown.at; piece = shown.piece; before = omega (arith, shown.before); there = shown.there; shown = shown.shown }
-
-  pub among_last : (piece : Piece) → slice_get pieces count ≡ Some piece → ShowBefore inputs words pieces count piece a gate → ShowAmong inputs words pieces (count + 1) a gate
-  among_last piece there shown = record { at = count; piece = piece; before = omega arith; there = there; shown = shown }
-
-  pub among_cases : (piece : Piece) → slice_get pieces count ≡ Some piece → ShowAmong inputs words pieces (count + 1) a gate → ShowAmong inputs words pieces count a gate ⊎ ShowBefore inputs words pieces count piece a gate
-  among_cases piece there shown =
-      elim (cases_eq shown.at count) [
-        | inl at ↦
-            let same : shown.piece ≡ piece = same_Some shown.piece piece (sym shown.there ∙ ap (slice_get pieces) at ∙ there) in
-            let here : ShowBefore inputs words pieces count shown.piece a gate = subst (λ (k : ℕ). ShowBefore inputs words pieces k shown.piece a gate) at shown.shown in
-            inr (subst (λ (it : Piece). ShowBefore inputs words pieces count it a gate) same here)
-        | inr apart ↦ inl (record { at = shown.at; piece = shown.piece; before = omega (arith, apart, shown.before); there = shown.there; shown = shown.shown })
-      ]

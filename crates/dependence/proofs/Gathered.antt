@@ -2,6 +2,8 @@
 use Rattle.std.proofs.Common.{◌≡◌, ◌↔◌, ◌∙◌, ℕ, ◌+◌, ◌-◌, ◌^◌, ◌<◌, ◌≤◌, ◌/◌, All, Bool, Contains, List, [], ◌∷◌, ◌++◌, length, get_or, Some, inl, inr, ap, sym, subst, arith}
 use Rattle.std.proofs.lemmas.Bool.{cases_eq, cases_lt}
 use Rattle.std.proofs.lemmas.List.Elements.{All-weaker}
+use Rattle.std.proofs.lemmas.List.Sorted.{All-permutation, Contains-permutation}
+use Rattle.std.specs.List.Sorted.{IsPermutation}
 use Rattle.std.proofs.lemmas.List.{get_or_append_left, get_or_push, length_push}
 use Rattle.std.proofs.lemmas.Nat.Bits.{bit_at_ones, bit_at_ones_above, ones_shr}
 use Rattle.std.proofs.lemmas.Option.{get_or_from_slice_get, slice_get-get_or, slice_get_within}
@@ -14,7 +16,7 @@ use Rattle.dependence.specs.declared.effects.Effect.{Effect}
 use Rattle.dependence.specs.declared.gate.Gate.{Gate}
 use Rattle.dependence.specs.declared.sets.ReadSet.{ReadSet}
 use Rattle.dependence.specs.Inputs.{Matters}
-use Rattle.dependence.specs.Inner.Effects.{ActsBy, Adds, AreEffects, MattersAt, MattersBelow, ShowAmong}
+use Rattle.dependence.specs.Inner.Effects.{ActsBy, Adds, AreEffects, MattersAt, MattersBelow, ShowAcross}
 use Rattle.dependence.specs.Inner.Gates.{IsGate, value_of}
 use Rattle.dependence.specs.Inner.Judging.{AreListed}
 use Rattle.dependence.specs.Permits.{InWord}
@@ -22,7 +24,7 @@ use Rattle.dependence.specs.ReadRule.{Beside, IsReadRule}
 use Rattle.dependence.specs.Reads.{IsReadSet}
 use Rattle.dependence.proofs.Adding.{acts_within}
 use Rattle.dependence.proofs.Judged.{permits_more}
-use Rattle.dependence.proofs.Showing.{among_matters, matters_among, piece_stays}
+use Rattle.dependence.proofs.Showing.{across_matters, matters_across, piece_stays}
 use Rattle.dependence.proofs.Words.{bit_within}
 
 -- the rule is one of which bits are candidates and which are read
@@ -115,9 +117,13 @@ pub nexts_within : (F : KissFile) (s : ℕ) (pieces : List Piece) (count : ℕ) 
 nexts_within F s pieces count stays within size right =
     All-weaker (IsPiece F s) (λ (piece : Piece). piece.next < count) (λ piece is. omega (arith, size, piece_stays F s piece stays within is)) pieces right
 
+-- the cube of each piece has a place for each input
+pub widths_of : (F : KissFile) (s : ℕ) (pieces : List Piece) (count : ℕ) → count ≡ F.inputs → All (IsPiece F s) pieces → All (λ (piece : Piece). piece.cube.width ≡ count) pieces
+widths_of F s pieces count size right = All-weaker (IsPiece F s) (λ (piece : Piece). piece.cube.width ≡ count) (λ piece is. is.width ∙ sym size) pieces right
+
 -- one more state
 pub effects_more : (F : KissFile) (words : List ℕ) (old new : List Effect) (s : ℕ) (pieces : List Piece) → AreEffects F words old s → ((x : ℕ) → x < 2 ^ F.inputs → IsHeldByPiece pieces x) → All (IsPiece F s) pieces
-    → Adds old new (ShowAmong (length old) words pieces (length pieces)) → AreEffects F words new (s + 1)
+    → Adds old new (ShowAcross (length old) words pieces pieces) → AreEffects F words new (s + 1)
 effects_more F words old new s pieces before each right added = record {
   size = added.size ∙ before.size;
   few = omega (arith, added.size, before.few);
@@ -127,15 +133,19 @@ effects_more F words old new s pieces before each right added = record {
           let matters : MattersBelow F (value_of F words gate) s a = (before.each a gate of_gate).0 known in
           record { state = matters.state; below = omega (arith, matters.below); there = matters.there }
       | inr shown ↦
-          let of_inputs : ShowAmong F.inputs words pieces (length pieces) a gate = subst (λ (n : ℕ). ShowAmong n words pieces (length pieces) a gate) before.size shown in
-          record { state = s; below = omega arith; there = among_matters F words gate of_gate s pieces each right a of_inputs }
+          let of_inputs : ShowAcross F.inputs words pieces pieces a gate = subst (λ (n : ℕ). ShowAcross n words pieces pieces a gate) before.size shown in
+          record { state = s; below = omega arith; there = across_matters F words gate of_gate s pieces each right a of_inputs }
     ]),
     (λ matters. elim (cases_eq matters.state s) [
       | inl at ↦
           let here : MattersAt F (value_of F words gate) s a = subst (λ (t : ℕ). MattersAt F (value_of F words gate) t a) at matters.there in
-          let shown : ShowAmong F.inputs words pieces (length pieces) a gate = matters_among F words gate of_gate s pieces each right a here in
-          added.adds a gate (subst (λ (n : ℕ). ShowAmong n words pieces (length pieces) a gate) (sym before.size) shown)
+          let shown : ShowAcross F.inputs words pieces pieces a gate = matters_across F words gate of_gate s pieces each right a here in
+          added.adds a gate (subst (λ (n : ℕ). ShowAcross n words pieces pieces a gate) (sym before.size) shown)
       | inr other ↦ added.keeps a gate ((before.each a gate of_gate).1 (record { state = matters.state; below = omega (arith, matters.below, other); there = matters.there }))
     ]),
   );
 }
+
+-- the pieces in another order
+pub held_reordered : (pieces other : List Piece) → IsPermutation pieces other → (x : ℕ) → IsHeldByPiece pieces x → IsHeldByPiece other x
+held_reordered pieces other same x held = (held.0, Contains-permutation pieces other held.0 same held.1, held.2)

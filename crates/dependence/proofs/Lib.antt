@@ -1,9 +1,12 @@
 pub mod Words
 pub mod Agreeing
+pub mod Firsts
 pub mod Judged
 pub mod Least
 pub mod Listed
 pub mod Symbols
 pub mod Adding
+pub mod Across
+pub mod Shared
 pub mod Showing
 pub mod Gathered

@@ -20,9 +20,9 @@ use Rattle.machine_table.proofs.SharedCubes.{value_below}
 use Rattle.dependence.specs.declared.gate.Gate.{Gate}
 use Rattle.dependence.specs.declared.gate.Gate.TheVariants.{Latch, Output}
 use Rattle.dependence.specs.Inputs.{DifferAlone}
-use Rattle.dependence.specs.Inner.Effects.{MattersAt, Show, ShowAmong, piece_value}
+use Rattle.dependence.specs.Inner.Effects.{MattersAt, Show, ShowAcross, piece_value}
 use Rattle.dependence.specs.Inner.Gates.{IsGate, value_of}
-use Rattle.dependence.proofs.Symbols.{clash_of-differing, clash_turned, differ_alone, parted}
+use Rattle.dependence.proofs.Symbols.{clash_of-differing, differ_alone, parted}
 
 -- a piece of a state goes to a state
 pub piece_stays : (F : KissFile) (s : ℕ) (piece : Piece) → NeverLeaves F → s < length F.states → IsPiece F s piece → piece.next < length F.states
@@ -108,46 +108,23 @@ module _ (F : KissFile) (words : List ℕ) (gate : Gate) (of_gate : IsGate F gat
             let size : length meets.0 ≡ F.inputs = length_of_held one.cube meets.0 meets.1 ∙ of_one.width in
             sym (gives_at one of_one meets.0 size meets.1) ∙ gives_at other of_other meets.0 size meets.2
 
-  turned : (one other : Piece) (a : ℕ) → Show F.inputs words one other a gate → Show F.inputs words other one a gate
-  turned one other a show = record {
-    differ = record { place = show.differ.place; of_input = show.differ.of_input; clash = clash_turned other.cube one.cube ∙ show.differ.clash };
-    values = λ same. show.values (sym same);
-  }
-
   module _ (pieces : List Piece) (each : (x : ℕ) → x < 2 ^ F.inputs → IsHeldByPiece pieces x) (right : All (IsPiece F s) pieces) where
-    of_piece : (k : ℕ) (piece : Piece) → slice_get pieces k ≡ Some piece → IsPiece F s piece
-    of_piece k piece there =
-        let within : k < length pieces = slice_get_within pieces k piece there in
-        All-contains (IsPiece F s) pieces piece right (k, within, get_or_from_slice_get pieces k piece piece there)
+    of_piece : (piece : Piece) → Contains pieces piece → IsPiece F s piece
+    of_piece piece is = All-contains (IsPiece F s) pieces piece right is
 
-    pub among_matters : (a : ℕ) → ShowAmong F.inputs words pieces (length pieces) a gate → MattersAt F (value_of F words gate) s a
-    among_matters a shown =
-        shown_matters shown.shown.other shown.piece a (of_piece shown.shown.at shown.shown.other shown.shown.there) (of_piece shown.at shown.piece shown.there) shown.shown.show
-
-    -- pieces of these numbers that hold two such symbols
-    held_among : (a : ℕ) (matters : MattersAt F (value_of F words gate) s a) (k l : ℕ) (one other : Piece) → slice_get pieces k ≡ Some one → slice_get pieces l ≡ Some other → HoldsNumber one.cube (number_of matters.x) → HoldsNumber other.cube (number_of matters.y) → ShowAmong F.inputs words pieces (length pieces) a gate
-    held_among a matters k l one other at_k at_l first second =
-        let show : Show F.inputs words one other a gate = matters_shown a matters one other (of_piece k one at_k) (of_piece l other at_l) first second in
-        elim (cases_order k l) [
-          | inl at ↦
-              let same : one ≡ other = same_Some one other (sym at_k ∙ ap (slice_get pieces) at ∙ at_l) in
-              absurd (show.values (ap (piece_value words gate) same))
-          | inr apart ↦ elim apart [
-            | inl below ↦ record { at = l; piece = other; before = slice_get_within pieces l other at_l; there = at_l; shown = record { at = k; other = one; before = below; there = at_k; show = show } }
-            | inr above ↦ record { at = k; piece = one; before = slice_get_within pieces k one at_k; there = at_k; shown = record { at = l; other = other; before = above; there = at_l; show = turned one other a show } }
-          ]
-        ]
-
-    numbered : (piece : Piece) → Contains pieces piece → (k : ℕ) × (slice_get pieces k ≡ Some piece)
-    numbered piece is = (is.0, slice_get-get_or pieces is.0 piece is.1 ∙ ap Some is.2)
+    pub across_matters : (a : ℕ) → ShowAcross F.inputs words pieces pieces a gate → MattersAt F (value_of F words gate) s a
+    across_matters a shown =
+        shown_matters shown.shown.other shown.piece a (of_piece shown.shown.other shown.shown.among) (of_piece shown.piece shown.among) shown.shown.show
 
     below_inputs : (x : List Bool) → length x ≡ F.inputs → number_of x < 2 ^ F.inputs
     below_inputs x size = subst (λ (k : ℕ). number_of x < 2 ^ k) size (number_below x)
 
-    pub matters_among : (a : ℕ) → MattersAt F (value_of F words gate) s a → ShowAmong F.inputs words pieces (length pieces) a gate
-    matters_among a matters =
+    pub matters_across : (a : ℕ) → MattersAt F (value_of F words gate) s a → ShowAcross F.inputs words pieces pieces a gate
+    matters_across a matters =
         let of_x = each (number_of matters.x) (below_inputs matters.x matters.symbol) in
         let of_y = each (number_of matters.y) (below_inputs matters.y (sym matters.differ.lengths ∙ matters.symbol)) in
-        let at_x = numbered of_x.0 of_x.1 in
-        let at_y = numbered of_y.0 of_y.1 in
-        held_among a matters at_x.0 at_y.0 of_x.0 of_y.0 at_x.1 at_y.1 of_x.2 of_y.2
+        record {
+          piece = of_y.0;
+          among = of_y.1;
+          shown = record { other = of_x.0; among = of_x.1; show = matters_shown a matters of_x.0 of_y.0 (of_piece of_x.0 of_x.1) (of_piece of_y.0 of_y.1) of_x.2 of_y.2 };
+        }

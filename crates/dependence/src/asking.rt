@@ -1,14 +1,18 @@
 //! Whether a set of state bits is enough for a gate.
 
-ghost use Rattle.std.specs.Prelude.{◌≡◌, ◌↔◌, ◌<◌, ◌≤◌, IsTrue, length};
+ghost use Rattle.std.specs.Prelude.{◌≡◌, ◌↔◌, ◌<◌, ◌≤◌, ◌+◌, ◌%◌, IsTrue, length};
 ghost use Rattle.dependence.specs.Permits as permitted;
 ghost use Rattle.dependence.specs.Permits.{InWord, PermitsValue};
-ghost use Rattle.dependence.specs.Inner.Asking.{IsFirstLike};
+ghost use Rattle.dependence.specs.Inner.Asking.{AreFirsts, IsFirstLike};
 ghost use Rattle.dependence.specs.Inner.Gates.{IsGate, value_of};
 
 use crate::gate::Gate;
 use machine_table::Machine;
 use state_codes::Codes;
+
+/// The places of a table of states. Their number is a prime that leaves each power of 2 below 2^64 a place of
+/// its own.
+const PLACES: usize = 509;
 
 /// Whether the bits of the set permit latch i: any two states whose codes agree on the set have, for each
 /// symbol, next states whose codes agree at bit i. Bit c of the set stands for state bit c.
@@ -37,8 +41,9 @@ pub(crate) fn permits_gate(m: &Machine, words: &[u64], set: u64, gate: Gate) -> 
     requires gate { IsGate m.now gate }
     ensures { IsTrue result ↔ PermitsValue m.now words.now (InWord set) (value_of m.now words.now gate) }
 {
+    let mut firsts = [None; PLACES];
     for s in 0..m.states() {
-        let first = first_like(words, set, s);
+        let first = first_like(&mut firsts, words, set, s);
         if first < s && !gate.gives_the_same(m, words, first, s) {
             return false;
         }
@@ -46,8 +51,42 @@ pub(crate) fn permits_gate(m: &Machine, words: &[u64], set: u64, gate: Gate) -> 
     true
 }
 
-/// The first state whose word has the same bits of the set as that of s.
-fn first_like(words: &[u64], set: u64, s: usize) -> usize
+/// The first state whose word has the same bits of the set as that of s. The table has such first states
+/// among the ones before s, each at the place of its bits. Where another one stands there, it is searched.
+fn first_like(firsts: &mut [Option<u16>; PLACES], words: &[u64], set: u64, s: usize) -> usize
+    requires state { s < length words.now }
+    requires few { length words.now ≤ 256 }
+    requires firsts { AreFirsts words.now set firsts.old s }
+    ensures first { IsFirstLike words.now set s result }
+    ensures firsts { AreFirsts words.now set firsts.new (s + 1) }
+{
+    let bits = words[s] & set;
+    let place = place_of(bits);
+    match firsts[place] {
+        None => {
+            firsts[place] = Some(s as u16);
+            s
+        }
+        Some(first) => {
+            let first = usize::from(first);
+            if words[first] & set == bits {
+                first
+            } else {
+                searched_like(words, set, s)
+            }
+        }
+    }
+}
+
+/// The place of these bits in a table.
+fn place_of(bits: u64) -> usize
+    ensures { result ≡ bits % 509 }
+{
+    (bits % PLACES as u64) as usize
+}
+
+/// The same state as `first_like` gives, sought among all before s.
+fn searched_like(words: &[u64], set: u64, s: usize) -> usize
     requires { s < length words.now }
     ensures { IsFirstLike words.now set s result }
 {

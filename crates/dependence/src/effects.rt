@@ -1,9 +1,9 @@
 //! For which gates each input matters.
 
-ghost use Rattle.std.specs.Prelude.{◌≡◌, ◌≢◌, ◌↔◌, ◌+◌, ◌<◌, ◌≤◌, ◌^◌, ℕ, All, IfNone, IfOk, IfSome, OnOk, length};
+ghost use Rattle.std.specs.Prelude.{◌≡◌, ◌≢◌, ◌↔◌, ◌+◌, ◌<◌, ◌≤◌, ◌^◌, ℕ, All, IfNone, IfOk, IfSome, IsTrue, OnOk, length};
 ghost use Rattle.dependence.specs.Permits.{InWord};
 ghost use Rattle.dependence.specs.Inner.Gates.{HasPlace};
-ghost use Rattle.dependence.specs.Inner.Effects.{ActsBy, Adds, AreEffects, IsActed, Show, ShowAmong, ShowBefore, acts_on};
+ghost use Rattle.dependence.specs.Inner.Effects.{ActsBy, Adds, AreEffects, DifferMore, HasBits, IsActed, Show, ShowAcross, ShowBeside, acts_on};
 
 use crate::gate::Gate;
 use crate::judging::{has, with};
@@ -15,6 +15,16 @@ use std::alloc::{AllocError, Global};
 pub(crate) struct Effect {
     pub(crate) latches: u64,
     pub(crate) outputs: u64,
+}
+
+/// Lists of no more pieces than this are compared piece by piece.
+const FEW: usize = 8;
+
+/// Places at which all of some pieces have a 1, and at which all have a 0.
+#[derive(Clone, Copy)]
+struct SharedBits {
+    ones: u32,
+    zeros: u32,
 }
 
 /// The effects of the inputs in order.
@@ -66,19 +76,84 @@ fn add_of_state(
     ensures { OnOk result (AreEffects m.now words.now effects.new (s + 1)) }
 {
     m.keeps_its_states();
-    let pieces = m.pieces(alloc, s)?;
-    add_of_pieces(effects, words, pieces.as_slice());
+    let mut pieces = m.pieces(alloc, s)?;
+    pieces.sort_by_key(|piece| piece.cube.value)?;
+    add_within(effects, words, pieces.as_slice());
     Ok(())
 }
 
-/// Adds what the pieces show, each beside each earlier one.
-fn add_of_pieces(effects: &mut [Effect], words: &[u64], pieces: &[Piece])
+/// Adds what the pieces show beside one another.
+fn add_within(effects: &mut [Effect], words: &[u64], pieces: &[Piece])
     requires next { All (λ piece. piece.next < length words.now) pieces.now }
     requires inputs { All (λ piece. piece.cube.width ≡ length effects.old) pieces.now }
-    ensures { Adds effects.old effects.new (ShowAmong (length effects.old) words.now pieces.now (length pieces.now)) }
+    ensures { Adds effects.old effects.new (ShowAcross (length effects.old) words.now pieces.now pieces.now) }
 {
-    for (j, piece) in pieces.iter().enumerate() {
-        add_of_piece(effects, words, &pieces[..j], piece);
+    if pieces.len() < 2 {
+        return;
+    }
+    let (front, back) = pieces.split_at(pieces.len() / 2);
+    add_within(effects, words, front);
+    add_within(effects, words, back);
+    add_across(effects, words, front, back);
+}
+
+/// Adds what the pieces show beside the others. Lists of pieces that all differ at two places or more are passed
+/// over as a whole, and longer ones are halved.
+fn add_across(effects: &mut [Effect], words: &[u64], pieces: &[Piece], others: &[Piece])
+    requires next { All (λ piece. piece.next < length words.now) pieces.now }
+    requires other_next { All (λ piece. piece.next < length words.now) others.now }
+    requires inputs { All (λ piece. piece.cube.width ≡ length effects.old) pieces.now }
+    requires other_inputs { All (λ piece. piece.cube.width ≡ length effects.old) others.now }
+    ensures { Adds effects.old effects.new (ShowAcross (length effects.old) words.now pieces.now others.now) }
+{
+    if pieces.len() <= FEW && others.len() <= FEW {
+        add_each(effects, words, pieces, others);
+    } else if !differ_more(pieces, others) {
+        if pieces.len() < others.len() {
+            let (front, back) = others.split_at(others.len() / 2);
+            add_across(effects, words, front, pieces);
+            add_across(effects, words, back, pieces);
+        } else {
+            let (front, back) = pieces.split_at(pieces.len() / 2);
+            add_across(effects, words, front, others);
+            add_across(effects, words, back, others);
+        }
+    }
+}
+
+/// Whether it is seen from the bits that all pieces of a list have that each piece of the one list differs from
+/// each of the other at two places or more.
+fn differ_more(pieces: &[Piece], others: &[Piece]) -> bool
+    ensures { IsTrue result → DifferMore pieces.now others.now }
+{
+    let first = shared_bits(pieces);
+    let second = shared_bits(others);
+    let clash = (first.ones & second.zeros) | (first.zeros & second.ones);
+    clash != 0 && lone_place(clash).is_none()
+}
+
+/// The places at which all pieces have a 1, and those at which all have a 0.
+fn shared_bits(pieces: &[Piece]) -> SharedBits
+    ensures { All (HasBits result.ones result.zeros) pieces.now }
+{
+    let mut ones = u32::MAX;
+    let mut zeros = u32::MAX;
+    for piece in pieces {
+        ones &= piece.cube.value;
+        zeros &= piece.cube.care ^ piece.cube.value;
+    }
+    SharedBits { ones, zeros }
+}
+
+/// Adds what the pieces show beside the others, piece by piece.
+fn add_each(effects: &mut [Effect], words: &[u64], pieces: &[Piece], others: &[Piece])
+    requires next { All (λ piece. piece.next < length words.now) pieces.now }
+    requires other_next { All (λ piece. piece.next < length words.now) others.now }
+    requires other_inputs { All (λ piece. piece.cube.width ≡ length effects.old) others.now }
+    ensures { Adds effects.old effects.new (ShowAcross (length effects.old) words.now pieces.now others.now) }
+{
+    for piece in pieces {
+        add_of_piece(effects, words, others, piece);
     }
 }
 
@@ -87,7 +162,7 @@ fn add_of_piece(effects: &mut [Effect], words: &[u64], others: &[Piece], piece: 
     requires next { All (λ piece. piece.next < length words.now) others.now }
     requires inputs { All (λ piece. piece.cube.width ≡ length effects.old) others.now }
     requires own_next { piece.now.next < length words.now }
-    ensures { Adds effects.old effects.new (ShowBefore (length effects.old) words.now others.now (length others.now) piece.now) }
+    ensures { Adds effects.old effects.new (ShowBeside (length effects.old) words.now others.now piece.now) }
 {
     for other in others {
         add_of_two(effects, words, other, piece);

@@ -1,5 +1,5 @@
 -- States that are asked about one another.
-use Rattle.std.specs.Prelude.{◌≡◌, ◌≢◌, ℕ, ◌<◌, ◌≤◌, Bool, List, bit_and, length, slice_index}
+use Rattle.std.specs.Prelude.{◌≡◌, ◌≢◌, ℕ, ◌<◌, ◌≤◌, ◌%◌, Bool, List, Option, Some, None, bit_and, length, slice_get, slice_index}
 use Rattle.kiss2.specs.declared.kiss_file.KissFile.{KissFile}
 
 -- a value is the same at two states, for each symbol
@@ -11,3 +11,12 @@ pub record IsFirstLike (words : List ℕ) (set s t : ℕ) : Type 0 where
   pub among : t ≤ s
   pub like : bit_and (slice_index words t) set ≡ bit_and (slice_index words s) set
   pub before : (u : ℕ) → u < t → bit_and (slice_index words u) set ≢ bit_and (slice_index words s) set
+
+-- the place of a state in a table, by the bits of a set in its word
+abbrev pub place_in : List ℕ → ℕ → ℕ → ℕ
+place_in words set s = bit_and (slice_index words s) set % 509
+
+-- a table over the states below count: each that stands in it is the first one like itself, and at the place of each state one stands
+pub record AreFirsts (words : List ℕ) (set : ℕ) (firsts : List (Option ℕ)) (count : ℕ) : Type 0 where
+  pub each : (place first : ℕ) → slice_get firsts place ≡ Some (Some first) → first < count × IsFirstLike words set first first
+  pub taken : (s : ℕ) → s < count → (first : ℕ) × (slice_get firsts (place_in words set s) ≡ Some (Some first))

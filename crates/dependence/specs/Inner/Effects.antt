@@ -1,5 +1,6 @@
 -- For which gates each input matters.
-use Rattle.std.specs.Prelude.{◌≡◌, ◌≢◌, ◌⊎◌, ◌↔◌, ℕ, ◌+◌, ◌^◌, ◌<◌, ◌≤◌, Bool, true, List, length, slice_get, slice_index, Some}
+use Rattle.std.specs.Prelude.{◌≡◌, ◌≢◌, ◌⊎◌, ◌↔◌, ℕ, ◌+◌, ◌^◌, ◌<◌, ◌≤◌, Bool, true, Contains, List, length, slice_get, slice_index, Some, bit_xor}
+use Rattle.std.specs.Int.{bit_at}
 use Rattle.cubes.specs.Symbol.{bit}
 use Rattle.cubes.specs.Inner.Region.{clash_of}
 use Rattle.kiss2.specs.declared.kiss_file.KissFile.{KissFile}
@@ -37,21 +38,26 @@ pub record Show (inputs : ℕ) (words : List ℕ) (one other : Piece) (a : ℕ) 
   pub differ : DifferAt inputs one other a
   pub values : piece_value words gate one ≢ piece_value words gate other
 
--- a piece and one of the first so many others do
-pub record ShowBefore (inputs : ℕ) (words : List ℕ) (others : List Piece) (count : ℕ) (piece : Piece) (a : ℕ) (gate : Gate) : Type 0 where
-  pub at : ℕ
+-- a piece and one of the others do
+pub record ShowBeside (inputs : ℕ) (words : List ℕ) (others : List Piece) (piece : Piece) (a : ℕ) (gate : Gate) : Type 0 where
   pub other : Piece
-  pub before : at < count
-  pub there : slice_get others at ≡ Some other
+  pub among : Contains others other
   pub show : Show inputs words other piece a gate
 
--- two of the first so many pieces do
-pub record ShowAmong (inputs : ℕ) (words : List ℕ) (pieces : List Piece) (count : ℕ) (a : ℕ) (gate : Gate) : Type 0 where
-  pub at : ℕ
+-- one of some pieces and one of the others do
+pub record ShowAcross (inputs : ℕ) (words : List ℕ) (pieces others : List Piece) (a : ℕ) (gate : Gate) : Type 0 where
   pub piece : Piece
-  pub before : at < count
-  pub there : slice_get pieces at ≡ Some piece
-  pub shown : ShowBefore inputs words pieces at piece a gate
+  pub among : Contains pieces piece
+  pub shown : ShowBeside inputs words others piece a gate
+
+-- the piece has a 1 at each place of ones, and a 0 at each of zeros
+pub record HasBits (ones zeros : ℕ) (piece : Piece) : Type 0 where
+  pub has_ones : (place : ℕ) → bit_at ones place ≡ 1 → bit_at piece.cube.value place ≡ 1
+  pub has_zeros : (place : ℕ) → bit_at zeros place ≡ 1 → bit_at (bit_xor piece.cube.care piece.cube.value) place ≡ 1
+
+-- no piece of the first list and one of the second differ at one place alone
+abbrev pub DifferMore : List Piece → List Piece → Type 0
+DifferMore pieces others = (piece other : Piece) (place : ℕ) → Contains pieces piece → Contains others other → clash_of other.cube piece.cube ≢ 2 ^ place
 
 -- the gate is of one of these latches or outputs, each written as bits of a word
 abbrev pub acts_in : ℕ → ℕ → Gate → Bool

@@ -1,6 +1,10 @@
+use Rattle.dependence.specs.Inner.Asking.{AreFirsts}
 use Rattle.dependence.specs.Inner.Gates.{value_of}
 use Rattle.dependence.proofs.Agreeing.{FirstsGive}
 use Rattle.dependence.proofs.asking.permits_gate.Given as goal
 
 abbrev pub invariant-loop-s : goal.invariant-loop-s
-invariant-loop-s l = FirstsGive l.m l.words l.set (value_of l.m l.words l.gate) l.s
+invariant-loop-s l = record {
+  give : FirstsGive l.m l.words l.set (value_of l.m l.words l.gate) l.s;
+  firsts : AreFirsts l.words l.set l.firsts l.s;
+}
