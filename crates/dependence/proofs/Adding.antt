@@ -1,12 +1,11 @@
 -- Effects that are added to the list.
-use Rattle.std.proofs.Common.{◌≡◌, ◌≢◌, ◌∙◌, ◌⊎◌, ℕ, ◌+◌, ◌-◌, ◌^◌, ◌<◌, ◌≤◌, Bool, true, false, not, ◌||◌, List, length, get_or, set, take, replicate, Some, inl, inr, ap, sym, subst, refl, arith, bit_or}
+use Rattle.std.proofs.Common.{◌≡◌, ◌≢◌, ◌∙◌, ◌⊎◌, ℕ, ◌-◌, ◌^◌, ◌<◌, Bool, true, false, not, ◌||◌, List, length, get_or, set, replicate, inl, inr, ap, sym, subst, refl, arith, bit_or}
 use Rattle.std.proofs.Math.ListN.{length-set}
 use Rattle.std.proofs.lemmas.Bool.{cases_eq, false≢true, or_cases, or_left, or_right}
-use Rattle.std.proofs.lemmas.List.{get_or-replicate, get_or-set_other, get_or-set_same, get_or-take, length-replicate, length-take-le}
-use Rattle.std.proofs.lemmas.Option.{get_or_from_slice_get, same_Some, slice_get-get_or, slice_get_within}
+use Rattle.std.proofs.lemmas.List.{get_or-replicate, get_or-set_other, get_or-set_same, length-replicate}
+use Rattle.std.proofs.lemmas.Option.{get_or_from_slice_get, slice_get-get_or, slice_get_within}
 use Rattle.std.specs.Bool.{beq}
 use Rattle.std.specs.Int.RustNames.{bit_xor}
-use Rattle.std.specs.List.{slice_get}
 use Rattle.cubes.specs.Symbol.{bit}
 use Rattle.cubes.specs.Inner.Region.{clash_of}
 use Rattle.cubes.proofs.Bits.{bit-or, bit-xor, bit-zero}

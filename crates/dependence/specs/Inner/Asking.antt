@@ -1,5 +1,5 @@
 -- States that are asked about one another.
-use Rattle.std.specs.Prelude.{◌≡◌, ◌≢◌, ℕ, ◌<◌, ◌≤◌, ◌%◌, Bool, List, Option, Some, None, bit_and, length, slice_get, slice_index}
+use Rattle.std.specs.Prelude.{◌≡◌, ◌≢◌, ℕ, ◌<◌, ◌≤◌, ◌%◌, Bool, List, Option, Some, bit_and, length, slice_get, slice_index}
 use Rattle.kiss2.specs.declared.kiss_file.KissFile.{KissFile}
 
 -- a value is the same at two states, for each symbol

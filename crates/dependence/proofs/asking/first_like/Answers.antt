@@ -1,4 +1,4 @@
-use Rattle.std.proofs.Common.{◌≡◌, ◌+◌, ◌∙◌, ℕ, List, Option, Some, None, ap, set, sym, subst, arith, bit_and, get_or}
+use Rattle.std.proofs.Common.{◌≡◌, ◌+◌, ◌∙◌, ℕ, Some, None, ap, set, sym, subst, arith, bit_and, get_or}
 use Rattle.std.specs.List.{slice_get}
 use Rattle.dependence.specs.Inner.Asking.{AreFirsts, IsFirstLike, place_in}
 use Rattle.dependence.proofs.Firsts.{first_alone, first_there, firsts_placed, firsts_taken, read_at}

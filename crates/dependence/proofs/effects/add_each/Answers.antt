@@ -1,4 +1,4 @@
-use Rattle.std.proofs.Common.{◌+◌, ℕ, List, ◌∷◌, [], ◌++◌, length, subst, take}
+use Rattle.std.proofs.Common.{ℕ, List, length, subst, take}
 use Rattle.machine_table.specs.declared.covering.Piece.{Piece}
 use Rattle.dependence.specs.Inner.Effects.{Adds, ShowAcross, ShowBeside}
 use Rattle.dependence.proofs.Across.{adds_across_none, adds_across_piece, one_more}

@@ -1,5 +1,4 @@
-use Rattle.std.proofs.Common.{◌+◌, ℕ, List, ◌∷◌, [], ◌++◌, length, subst, take}
-use Rattle.std.proofs.Math.Seq.{take-length}
+use Rattle.std.proofs.Common.{ℕ, List, length, subst, take}
 use Rattle.machine_table.specs.declared.covering.Piece.{Piece}
 use Rattle.dependence.specs.Inner.Effects.{Adds, Show, ShowBeside}
 use Rattle.dependence.proofs.Across.{adds_beside, adds_beside_none, one_more}

@@ -1,4 +1,4 @@
-use Rattle.std.proofs.Common.{◌+◌, ℕ, All, List, length, subst, take, arith, bit_and}
+use Rattle.std.proofs.Common.{ℕ, All, List, subst, take, arith, bit_and}
 use Rattle.std.proofs.lemmas.List.{take_all}
 use Rattle.std.proofs.lemmas.List.Elements.{All-push, All-weaker}
 use Rattle.std.specs.Int.RustNames.{bit_xor}
