@@ -9,7 +9,8 @@
 //! - `wide` has 16 states and that many inputs, of which its rows look at eight, and `long` has one state with a
 //!   row for each symbol of that many inputs, in order; in `mixed` they stand in another order.
 //! - `reads` is the call. `plain` asks each two states for each bit that is judged, and compares each two pieces of
-//!   a state. `none` makes the case alone.
+//!   a state; `search` asks each state about the first one like it alone, which is searched, and compares the same
+//!   pieces. `none` makes the case alone.
 #![tactic(auto)]
 
 ghost use Rattle.std.specs.Prelude.{◌≡◌, ◌<◌, ◌≤◌, All, IfOk, length};
@@ -88,9 +89,10 @@ fn done(
             let (more, others) = counted(&found.outputs);
             Ok((bits.wrapping_add(more), inputs.wrapping_add(others)))
         }
-        "plain" => Ok(plain::reads(alloc, m, codes)?),
+        "plain" => Ok(plain::reads(alloc, m, codes, plain::Way::Pairs)?),
+        "search" => Ok(plain::reads(alloc, m, codes, plain::Way::Search)?),
         "none" => Ok((0, 0)),
-        _ => bail!("the work is reads, plain or none"),
+        _ => bail!("the work is reads, plain, search or none"),
     }
 }
 

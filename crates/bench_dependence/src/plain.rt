@@ -1,5 +1,5 @@
-//! The plain way: each two states are asked for each bit that is judged, and each two pieces of a state are
-//! compared. Each gate may read all bits.
+//! Plain ways: for each bit that is judged each two states are asked, or each state and the first one like it, which
+//! is searched; and each two pieces of a state are compared. Each gate may read all bits.
 
 ghost use Rattle.std.specs.Prelude.{◌≡◌, ◌<◌, ◌≤◌, length};
 
@@ -42,14 +42,43 @@ fn permits(m: &Machine, words: &[u64], set: u64, gate: Gate) -> bool
     true
 }
 
+/// Whether the set permits the gate, where each state is asked about the first one like it.
+fn permits_by_search(m: &Machine, words: &[u64], set: u64, gate: Gate) -> bool
+    requires { length words.now ≡ length m.now.states }
+{
+    for t in 0..m.states() {
+        for s in 0..t {
+            if (words[s] ^ words[t]) & set == 0 {
+                if !gives_the_same(m, words, gate, s, t) {
+                    return false;
+                }
+                break;
+            }
+        }
+    }
+    true
+}
+
+/// How states are asked.
+#[derive(Clone, Copy)]
+pub enum Way {
+    Pairs,
+    Search,
+}
+
 /// How many of these bits the gate reads.
-fn bits_read(m: &Machine, words: &[u64], candidates: u64, gate: Gate) -> u64
+fn bits_read(m: &Machine, words: &[u64], candidates: u64, gate: Gate, way: Way) -> u64
     requires { length words.now ≡ length m.now.states }
 {
     let mut set = candidates;
     for c in (0..64u32).rev() {
         let rest = set & !(1 << c);
-        if rest != set && permits(m, words, rest, gate) {
+        let permitted = match way {
+            _ if rest == set => false,
+            Way::Pairs => permits(m, words, rest, gate),
+            Way::Search => permits_by_search(m, words, rest, gate),
+        };
+        if permitted {
             set = rest;
         }
     }
@@ -97,7 +126,7 @@ fn inputs_read(alloc: Global, m: &Machine, words: &[u64]) -> Result<u64, AllocEr
 }
 
 /// How many bits and how many inputs all gates read.
-pub fn reads(alloc: Global, m: &Machine, codes: &Codes) -> Result<(u64, u64), AllocError>
+pub fn reads(alloc: Global, m: &Machine, codes: &Codes, way: Way) -> Result<(u64, u64), AllocError>
     requires words { length codes.now.words ≡ length m.now.states }
     requires short { codes.now.bits ≤ 64 }
 {
@@ -109,10 +138,10 @@ pub fn reads(alloc: Global, m: &Machine, codes: &Codes) -> Result<(u64, u64), Al
     };
     let mut bits = 0u64;
     for i in 0..codes.bits {
-        bits = bits.wrapping_add(bits_read(m, words, candidates, Gate::Latch(i)));
+        bits = bits.wrapping_add(bits_read(m, words, candidates, Gate::Latch(i), way));
     }
     for b in 0..m.outputs() {
-        bits = bits.wrapping_add(bits_read(m, words, candidates, Gate::Output(b)));
+        bits = bits.wrapping_add(bits_read(m, words, candidates, Gate::Output(b), way));
     }
     Ok((bits, inputs_read(alloc, m, words)?))
 }
