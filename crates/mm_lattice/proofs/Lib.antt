@@ -1,4 +1,6 @@
 pub mod Found
 pub mod Generating
+pub mod Holds
 pub mod Listed
+pub mod Reached
 pub mod Topmost

@@ -5,20 +5,19 @@ use Rattle.std.proofs.lemmas.List.Recursion.{max_least}
 use Rattle.kiss2.specs.declared.kiss_file.KissFile.{KissFile}
 use Rattle.kiss2.specs.Machine.{next}
 use Rattle.partition.specs.Partition.{blocks_of, IsOne, IsPartition, IsStateCount, IsZero, Together, Le, zero_of}
-use Rattle.partition.specs.MeetAndJoin.{IsJoin, IsLeastAbove}
-use Rattle.partition.specs.Laws.Chains.{join_is_least, together_turned}
+use Rattle.partition.specs.Laws.Chains.{together_turned}
 use Rattle.partition.specs.Laws.Extremes.{zero_of_is_partition, zero_of_is_zero}
-use Rattle.partition.specs.Laws.Labels.{IsPartition-of, label-lt-blocks_of}
-use Rattle.partition.specs.Laws.World.{join_fits}
+use Rattle.partition.specs.Laws.Labels.{label-lt-blocks_of}
 use Rattle.pair_operators.specs.Extremes.{IsHigh, MmPair}
 use Rattle.pair_operators.specs.Growth.{IsGrowth, NoneFits, pairs_of}
 use Rattle.pair_operators.specs.Laws.Growth.{grown_keeps, grown_meets, growth_is_full}
 use Rattle.pair_operators.specs.Laws.Pairs.{pair_monotone}
 use Rattle.pair_operators.specs.Pair.{Pair}
 use Rattle.mm_lattice.specs.Generators.{IsRightOf}
-use Rattle.mm_lattice.specs.Laws.{zero_below}
+use Rattle.mm_lattice.specs.Inner.Collected.{IsReached}
 use Rattle.mm_lattice.specs.Top.{IsBelowOne, IsGreatestRight, IsRightSide, RightsAreTrivial}
 use Rattle.mm_lattice.proofs.Generating.{hold_below}
+use Rattle.mm_lattice.proofs.Reached.{reached_join, reached_pair, reached_two, reached_zero}
 
 -- the states of one block are all together
 pub one_block : (p : List ℕ) → blocks_of p ≤ 1 → IsOne p
@@ -37,41 +36,6 @@ below_one_down n p q one two le below is_one =
     below (λ s t in_s in_t. le s t (is_one s t (omega (arith, in_s, one.length, two.length)) (omega (arith, in_t, one.length, two.length))))
 
 module _ (F : KissFile) (count : IsStateCount (length F.states)) where
-  n : ℕ
-  n = length F.states
-
-  -- a partition above each right side of two states that is below q is above q
-  abbrev IsReached : List ℕ → Type 0
-  IsReached q =
-      IsPartition (length F.states) q
-      × ((other : List ℕ) → IsPartition (length F.states) other → ((s t : ℕ) (g : List ℕ) → IsRightOf F s t g → Le g q → Le g other) → Le q other)
-
-  reached_zero : IsReached (zero_of (length F.states))
-  reached_zero = (zero_of_is_partition (length F.states) count, (λ other lawful above. zero_below (length F.states) other lawful))
-
-  reached_joined : (p : List ℕ) (s t : ℕ) (g joined : List ℕ) → IsReached p → IsRightOf F s t g → IsJoin p g joined → IsReached joined
-  reached_joined p s t g joined so_far right joins =
-      let least : IsLeastAbove p g joined = join_is_least p g joined (right.low.lawful.length ∙ sym so_far.0.length) joins in (
-        join_fits (length F.states) p g joined so_far.0 joins,
-        (λ other lawful above.
-            least.least other (IsPartition-of (sym so_far.0.length) lawful)
-            (so_far.1 other lawful (λ a b h is below. above a b h is (λ u v held. least.left u v (below u v held))))
-            (above s t g right least.right)),
-      )
-
-  -- what is reached makes an Mm pair with M of it
-  reached_right : (q p : List ℕ) → IsReached q → IsHigh F q p → MmPair F p q
-  reached_right q p reached high = record {
-    low = record {
-      lawful = reached.0;
-      pair = high.pair;
-      least = λ other lawful pair. reached.1 other lawful (λ s t g is below.
-          let hold : Le is.hold p = high.greatest is.hold is.holds.lawful (pair_monotone F is.hold g is.hold q (λ u v held. held) below is.low.pair) in
-          is.low.least other lawful (pair_monotone F p other is.hold other hold (λ u v held. held) pair));
-    };
-    high = high;
-  }
-
   -- where no right side of two states fits any more, no right side stands above
   none_above : (q : List ℕ) → IsPartition (length F.states) q → NoneFits (length F.states) (IsRightOf F) IsBelowOne q → (other : List ℕ) → IsRightSide F other → IsBelowOne other → Le q other → Le other q
   none_above q lawful full other (p, pair) below above = pair.low.least q lawful goes
@@ -100,14 +64,16 @@ module _ (F : KissFile) (count : IsStateCount (length F.states)) where
   pub grown_greatest : (q p : List ℕ) → IsGrowth (IsRightOf F) IsBelowOne (length F.states) (zero_of (length F.states)) q → IsHigh F q p → IsGreatestRight F q
   grown_greatest q p growth high =
       let zero = zero_of (length F.states) in
-      let reached : IsReached q = grown_keeps (length F.states) (IsRightOf F) IsBelowOne IsReached reached_joined zero q (pairs_of (length F.states)) reached_zero growth in
+      let reached : IsReached F q =
+      grown_keeps (length F.states) (IsRightOf F) IsBelowOne (IsReached F) (λ r s t g joined so_far is joins. reached_join F r g joined so_far (reached_two F s t g is) joins)
+      zero q (pairs_of (length F.states)) (reached_zero F count) growth in
       record {
-        right = (p, reached_right q p reached high);
+        right = (p, reached_pair F q p reached high);
         below = elim (cases_lt 1 (length F.states)) [
           | inl more ↦ inl (grown_meets (length F.states) (IsRightOf F) IsBelowOne zero q (pairs_of (length F.states)) (zero_below_one more) growth)
-          | inr one ↦ inr (λ s t held. omega (arith, held.0, held.1, reached.0.length))
+          | inr one ↦ inr (λ s t held. omega (arith, held.0, held.1, reached.lawful.length))
         ];
-        greatest = none_above q reached.0 (growth_is_full (length F.states) (IsRightOf F) IsBelowOne (λ s t g is. is.low.lawful) (below_one_down (length F.states)) zero q reached_zero.0 growth);
+        greatest = none_above q reached.lawful (growth_is_full (length F.states) (IsRightOf F) IsBelowOne (λ s t g is. is.low.lawful) (below_one_down (length F.states)) zero q (zero_of_is_partition (length F.states) count) growth);
       }
     where
       zero_below_one : 1 < length F.states → IsBelowOne (zero_of (length F.states))

@@ -1,19 +1,58 @@
 //! All Mm pairs, in order.
 //!
 //! An Mm pair is decided by its right side, and each right side m(p) is the join of the right sides
-//! m(hold(s, t)) of the states s and t that are together in p. So the joins of the Mm pairs of two states are
-//! all of them.
+//! m(hold(s, t)) of the states s and t that are together in p. So the right sides are listed as joins of
+//! partitions, and then the left side of each is made, once.
 
-ghost use Rattle.std.specs.Prelude.{◌≤◌, IfOk, List, length, map};
-ghost use Rattle.hs_lattice.specs.Listing.{Evidence, IfMore, IfWhole, Lists};
+ghost use Rattle.std.specs.Prelude.{◌≤◌, All, IfOk, List, ℕ, length, map};
+ghost use Rattle.hs_lattice.specs.Listing.{Evidence, IfMore, IfWhole, Lists, items_of};
+ghost use Rattle.mm_lattice.specs.Inner.Collected.{HaveLefts, IsReached, ListsRights};
 ghost use Rattle.mm_lattice.specs.MmPairs.{IsMmPair, RightBefore};
 ghost use Rattle.mm_lattice.specs.Sides.{Sides, sides_of};
+ghost use Rattle.mm_lattice.specs.Top.{IsRightSide};
+ghost use Rattle.partition.specs.Before.{Before};
+ghost use Rattle.partition.specs.Partition.{IsPartition};
 
-use crate::collecting::generators;
-use crate::{MmPair, MmWorld};
+use crate::MmPair;
+use crate::collecting::rights;
+use crate::worlds::with_right;
 use hs_lattice::{Listing, join_closure};
+use hs_list::Items;
 use machine_table::Machine;
+use partition::{PartWorld, Partition};
 use std::alloc::{AllocError, Global};
+
+/// The right sides in ascending order, or where there are more than the limit, limit + 1 of them.
+fn right_sides(alloc: Global, m: &Machine, limit: usize) -> Result<Listing<Partition>, AllocError>
+    requires positive { 1 ≤ limit }
+    requires bounded { limit ≤ 10000 }
+    ensures whole { IfOk result (λ listing. IfWhole listing (ListsRights m.now)) }
+    ensures within { IfOk result (λ listing. IfWhole listing (λ items. length items ≤ limit)) }
+    ensures no_more { IfOk result (λ listing. IfWhole listing (λ _. (rights : List (List ℕ))
+        → Evidence Before (IsRightSide m.now) limit rights → ⊥)) }
+    ensures more { IfOk result (λ listing. IfMore listing (Evidence Before (IsReached m.now) limit)) }
+    ensures fit { IfOk result (λ listing. All (IsPartition (length m.now.states)) (items_of listing)) }
+{
+    let found = rights(alloc, m)?;
+    let world = PartWorld { n: m.states() };
+    join_closure(alloc, &world, found.as_slice(), limit)
+}
+
+/// The partitions in their order as right sides, each with M of it as its left side.
+fn with_lefts(
+    alloc: Global,
+    m: &Machine,
+    rights: Items<Partition>,
+) -> Result<Items<MmPair>, AllocError>
+    requires { All (IsPartition (length m.now.states)) rights }
+    ensures { IfOk result (λ pairs. HaveLefts m.now rights (map sides_of pairs)) }
+{
+    let mut pairs = Vec::new(alloc);
+    for right in rights.into_vec() {
+        pairs.push(with_right(alloc, m, right)?)?;
+    }
+    Ok(Items::from(pairs))
+}
 
 /// The Mm pairs in ascending order of their right sides, or where there are more than the limit, limit + 1
 /// of them.
@@ -30,7 +69,8 @@ pub fn all(alloc: Global, m: &Machine, limit: usize) -> Result<Listing<MmPair>, 
     ensures more { IfOk result (λ listing. IfMore listing (λ items.
         Evidence RightBefore (IsMmPair m.now) limit (map sides_of items))) }
 {
-    let found = generators(alloc, m)?;
-    let world = MmWorld { machine: m };
-    join_closure(alloc, &world, found.as_slice(), limit)
+    match right_sides(alloc, m, limit)? {
+        Listing::Whole(rights) => Ok(Listing::Whole(with_lefts(alloc, m, rights)?)),
+        Listing::More(rights) => Ok(Listing::More(with_lefts(alloc, m, rights)?)),
+    }
 }

@@ -1,19 +1,37 @@
--- Lists of Mm pairs of two states.
-use Rattle.std.specs.Prelude.{ℕ, ◌<◌, All, Contains, List, map}
+-- Right sides of two states and their joins, and lists of right sides without and with their left sides.
+use Rattle.std.specs.Prelude.{◌≡◌, ℕ, ◌<◌, All, AllPairs, Contains, List, length, map}
 use Rattle.kiss2.specs.declared.kiss_file.KissFile.{KissFile}
-use Rattle.mm_lattice.specs.declared.worlds.MmPair.{MmPair}
+use Rattle.partition.specs.Before.{Before}
+use Rattle.partition.specs.Partition.{IsPartition, Le}
+use Rattle.pair_operators.specs.Extremes.{IsHigh}
 use Rattle.mm_lattice.specs.Generators.{IsRightOf}
-use Rattle.mm_lattice.specs.MmPairs.{IsMmPair}
-use Rattle.mm_lattice.specs.Sides.{Sides, sides_of}
+use Rattle.mm_lattice.specs.Sides.{Sides}
+use Rattle.mm_lattice.specs.Top.{IsRightSide}
 
--- each is an Mm pair
-abbrev pub AreMmPairs : KissFile → List MmPair → Type 0
-AreMmPairs F found = All (λ pair. IsMmPair F (sides_of pair)) found
+-- each is m of a partition that holds two states together and nothing else
+abbrev pub AreRights : KissFile → List (List ℕ) → Type 0
+AreRights F found = All (λ q. (s : ℕ) × (t : ℕ) × IsRightOf F s t q) found
 
--- a pair whose right side is m of the partition that holds the two states together stands in the list
-abbrev pub HasGenerator : KissFile → List Sides → (s t : ℕ) → Type 0
-HasGenerator F values s t = (x : Sides) × Contains values x × IsRightOf F s t x.1
+-- m of the partition that holds the two states together stands in the list
+abbrev pub HasRight : KissFile → List (List ℕ) → (s t : ℕ) → Type 0
+HasRight F found s t = (q : List ℕ) × Contains found q × IsRightOf F s t q
 
 -- so it is for each two of the first states
-abbrev pub HaveGenerators : KissFile → ℕ → List MmPair → Type 0
-HaveGenerators F count found = (s t : ℕ) → s < t → t < count → HasGenerator F (map sides_of found) s t
+abbrev pub HaveRights : KissFile → ℕ → List (List ℕ) → Type 0
+HaveRights F count found = (s t : ℕ) → s < t → t < count → HasRight F found s t
+
+-- a partition above each right side of two states that is below q is above q: q is the join of these
+pub record IsReached (F : KissFile) (q : List ℕ) : Type 0 where
+  pub lawful : IsPartition (length F.states) q
+  pub least : (other : List ℕ) → IsPartition (length F.states) other → ((s t : ℕ) (g : List ℕ) → IsRightOf F s t g → Le g q → Le g other) → Le q other
+
+-- joins of right sides of two states in ascending order, and each right side of an Mm pair is among them
+pub record ListsRights (F : KissFile) (rights : List (List ℕ)) : Type 0 where
+  pub ascending : AllPairs Before rights
+  pub reached : All (IsReached F) rights
+  pub complete : (q : List ℕ) → IsRightSide F q → Contains rights q
+
+-- these are the right sides, and each left side is M of its right side
+pub record HaveLefts (F : KissFile) (rights : List (List ℕ)) (values : List Sides) : Type 0 where
+  pub same : map (λ (x : Sides). x.1) values ≡ rights
+  pub high : All (λ (x : Sides). IsHigh F x.1 x.0) values
