@@ -1,12 +1,13 @@
-//! Lists the closed partitions of a machine of one kind, so that a script can time the listing from outside,
-//! and prints counts alone. The words are the kind of machine, its size, the limit, and the work.
+//! Lists lattices of partitions of a machine of one kind, so that a script can time the listing from outside,
+//! and prints counts alone. The words are the kind of machine, its size, the limit, and the works to be done.
 //!
 //! - `cycle` is a counter modulo the size, which stays at 0 and goes on at 1; `still` has so many states
 //!   that never move; `grid` is a product of two chains of so many states, of which 0 moves the one and 1 the
-//!   other.
-//! - `list` lists the closed partitions up to the limit. `ask` asks of each two states whether they go to
-//!   equal states, as often as there are states, since so many pairs are what closing each pair alone may
-//!   come to. `none` makes the machine and does nothing.
+//!   other; `shift` is a shift register of so many bits. No machine has an output that is ever 1.
+//! - `list` lists the closed partitions up to the limit, `pairs` the Mm pairs, and `output` the closed
+//!   partitions that the outputs respect. `ask` asks of each two states whether they go to equal states, as
+//!   often as there are states, since so many pairs are what closing each pair alone may come to. With no
+//!   work the program makes the machine and does nothing.
 #![tactic(auto)]
 
 ghost use Rattle.std.specs.Prelude.{◌≡◌, ◌<◌, ◌≤◌, length};
@@ -14,7 +15,6 @@ ghost use Rattle.std.specs.Prelude.{◌≡◌, ◌<◌, ◌≤◌, length};
 mod texts;
 
 use anyhow::{Context, bail};
-use closed_lattice::all;
 use hs_lattice::Listing;
 use kiss2::{Fill, read};
 use machine_table::Machine;
@@ -42,14 +42,29 @@ fn equal_pairs(alloc: Global, m: &Machine) -> Result<usize, AllocError> {
     Ok(count)
 }
 
-/// How many closed partitions are listed, and whether they are all.
-fn listed(alloc: Global, m: &Machine, limit: usize) -> Result<(&'static str, usize), AllocError>
+/// Whether a listing is of all, and how many it has.
+fn counted<T>(listing: &Listing<T>) -> (&'static str, usize) {
+    match listing {
+        Listing::Whole(list) => ("whole", list.as_slice().len()),
+        Listing::More(list) => ("more", list.as_slice().len()),
+    }
+}
+
+/// What comes of a listing of that name.
+fn listed(
+    alloc: Global,
+    m: &Machine,
+    limit: usize,
+    work: &str,
+) -> anyhow::Result<(&'static str, usize)>
     requires positive { 1 ≤ limit }
     requires bounded { limit ≤ 10000 }
 {
-    match all(alloc, m, limit)? {
-        Listing::Whole(list) => Ok(("whole", list.as_slice().len())),
-        Listing::More(list) => Ok(("more", list.as_slice().len())),
+    match work {
+        "list" => Ok(counted(&closed_lattice::all(alloc, m, limit)?)),
+        "pairs" => Ok(counted(&mm_lattice::all(alloc, m, limit)?)),
+        "output" => Ok(counted(&output_consistent::all(alloc, m, limit)?)),
+        _ => bail!("no such work"),
     }
 }
 
@@ -74,15 +89,15 @@ fn answer(
     m: &Machine,
     limit: usize,
     work: &str,
-) -> anyhow::Result<()> {
-    match work {
-        "list" if 1 <= limit && limit <= 10000 => {
-            let (kind, count) = listed(alloc, m, limit)?;
-            println!(rt; "{kind} {count}")?;
-        }
-        "ask" => println!(rt; "equal {}", equal_pairs(alloc, m)?)?,
-        "none" => {}
-        _ => bail!("no such work at this limit"),
+) -> anyhow::Result<()>
+    requires positive { 1 ≤ limit }
+    requires bounded { limit ≤ 10000 }
+{
+    if work == "ask" {
+        println!(rt; "equal {}", equal_pairs(alloc, m)?)?;
+    } else {
+        let (kind, count) = listed(alloc, m, limit, work)?;
+        println!(rt; "{kind} {count}")?;
     }
     Ok(())
 }
@@ -93,9 +108,14 @@ fn main(rt: HostRuntime) -> anyhow::Result<()> {
     let kind = words.next().context("a kind of machine is missing")?;
     let size: usize = words.next().context("a size is missing")?.parse()?;
     let limit: usize = words.next().context("a limit is missing")?.parse()?;
-    let work = words.next().context("the work is missing")?;
+    if limit == 0 || limit > 10000 {
+        bail!("no such limit");
+    }
     let text = texts::text_of(alloc, kind.as_str(), size)?;
     let m = machine(alloc, text.as_slice())?;
     println!(rt; "states {}", m.states())?;
-    answer(&rt, alloc, &m, limit, work.as_str())
+    for work in words {
+        answer(&rt, alloc, &m, limit, work.as_str())?;
+    }
+    Ok(())
 }

@@ -1,5 +1,5 @@
 //! KISS2 texts of machines of several kinds.
-ghost use Rattle.std.specs.Prelude.{◌≤◌, vec_len, IfOk};
+ghost use Rattle.std.specs.Prelude.{◌<◌, ◌≤◌, vec_len, IfOk};
 
 use anyhow::{Error, bail};
 use std::alloc::{AllocError, Global};
@@ -58,6 +58,7 @@ pub fn text_of(alloc: Global, kind: &str, size: usize) -> Result<Vec<u8>, Error>
         "cycle" => add_cycle(&mut text, size)?,
         "still" => add_still(&mut text, size)?,
         "grid" if size <= 16 => add_grid(&mut text, size)?,
+        "shift" if size <= 8 => add_shift(&mut text, 1 << size)?,
         _ => bail!("no such machine"),
     }
     text.add(b".e\n")?;
@@ -88,6 +89,17 @@ fn add_grid(text: &mut Text, size: usize) -> Result<(), AllocError>
             text.add_row(b"0", a * 16 + b, up * 16 + b)?;
             text.add_row(b"1", a * 16 + b, a * 16 + right)?;
         }
+    }
+    Ok(())
+}
+
+fn add_shift(text: &mut Text, states: usize) -> Result<(), AllocError>
+    requires some { 0 < states }
+    requires few { states ≤ 256 }
+{
+    for s in 0..states {
+        text.add_row(b"0", s, 2 * s % states)?;
+        text.add_row(b"1", s, (2 * s + 1) % states)?;
     }
     Ok(())
 }

@@ -33,17 +33,20 @@ zero_own n k count within = own n k within
 
 -- some partition holds two states together and nothing else
 pub hold_exists : (n s t : ℕ) → IsStateCount n → s < t → t < n → (hold : List ℕ) × IsHold n s t hold
-hold_exists n s t count order within = (labels, record {
-  lawful = IsPartition-of lawful.length merged.lawful;
-  held = merged_held zeros labels s t in_s in_t merged;
-  nothing_else = λ u v held. elim ((merged.together u v).0 held) [
-    | inl same ↦ inl (apart u v same)
-    | inr two ↦ elim two [
-      | inl both ↦ inr (inl (apart u s both.0, sym (apart t v both.1)))
-      | inr both ↦ inr (inr (apart u t both.0, sym (apart s v both.1)))
-    ]
-  ];
-})
+hold_exists n s t count order within = (
+  labels,
+  record {
+    lawful = IsPartition-of lawful.length merged.lawful;
+    held = merged_held zeros labels s t in_s in_t merged;
+    nothing_else = λ u v held. elim ((merged.together u v).0 held) [
+      | inl same ↦ inl (apart u v same)
+      | inr two ↦ elim two [
+        | inl both ↦ inr (inl (apart u s both.0, sym (apart t v both.1)))
+        | inr both ↦ inr (inr (apart u t both.0, sym (apart s v both.1)))
+      ]
+    ];
+  },
+)
   where
     zeros : List ℕ
     zeros = zero_of n
