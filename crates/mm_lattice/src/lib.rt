@@ -3,8 +3,8 @@
 //! (p, q) is an Mm pair where q is m(p), the least partition that p makes a pair with, and p is M(q), the
 //! greatest one that makes a pair with q. So either side decides the other, and Mm pairs stand in the order of
 //! their right sides. The join of two right sides is a right side again, since m keeps joins: so Mm pairs are
-//! values of a world that can be joined, [`MmWorld`], and [`all`] lists them as the joins of those whose right
-//! side is m of a partition that holds two states together and nothing else.
+//! values of a world that can be joined, [`MmWorld`]. [`all`] lists the right sides, as joins of those that are m
+//! of a partition that holds two states together and nothing else, and makes M of each that is listed.
 //!
 //! [`top_right`] joins the right sides of two states as far as some states stay apart, so that no right side
 //! stands strictly between what it gives and one.
@@ -14,8 +14,7 @@
 //!
 //! `specs/Sides` says how contracts see an [`MmPair`], `specs/MmPairs` has the Mm pairs, their order, their least
 //! one and their joins, `specs/Generators` the right sides of two states, and `specs/Top` the greatest right
-//! sides strictly below one. What stands in `specs/Inner`
-//! serves private functions alone.
+//! sides strictly below one. What stands in `specs/Inner` serves private functions alone.
 #![tactic(auto)]
 
 mod collecting;
