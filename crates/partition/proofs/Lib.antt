@@ -16,4 +16,5 @@ pub mod RowLabels
 pub mod Counting
 pub mod Reaching
 pub mod FlatRows
+pub mod Beside
 pub mod Relabelling

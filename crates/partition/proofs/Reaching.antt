@@ -1,11 +1,13 @@
 -- How the block of a state in a join is found on rows of bits.
-use Rattle.std.proofs.Common.{◌≡◌, ◌≢◌, ℕ, ◌+◌, ◌-◌, ◌<◌, ◌≤◌, ◌↔◌, ◌⊎◌, min, max, List, [], ◌∷◌, ◌++◌, length, set, refl, sym, ap, ◌∙◌, subst, inl, inr, arith}
+use Rattle.std.proofs.Common.{◌≡◌, ◌≢◌, ℕ, ◌+◌, ◌-◌, ◌<◌, ◌≤◌, ◌↔◌, ◌⊎◌, min, max, List, [], ◌∷◌, ◌++◌, length, get_or, set, refl, sym, ap, ◌∙◌, subst, inl, inr, arith}
 use Rattle.std.proofs.lemmas.Bool.{cases_eq, cases_lt}
 use Rattle.std.proofs.lemmas.List.{get_or-set_same, get_or-set_other}
-use Rattle.partition.specs.MeetAndJoin.{Leads, Chain}
+use Rattle.partition.specs.Partition.{IsPartition, Together}
+use Rattle.partition.specs.MeetAndJoin.{Leads, Chain, IsJoin}
 use Rattle.partition.specs.Bits.{bit_of}
 use Rattle.partition.specs.Inner.Rows.{Has, row_of, IsRows, AreBlocks, ReachesBy, Reaches}
-use Rattle.partition.specs.Laws.Chains.{chain_on, chain_turned}
+use Rattle.partition.specs.Laws.Chains.{chain_within, chain_none, chain_link, chain_on, chain_turned, chain_keeps}
+use Rattle.partition.proofs.RowLabels.{rows_are_blocks}
 use Rattle.partition.proofs.Words.{bit_of-lt}
 use Rattle.partition.proofs.Counting.{ones, ones-le, ones_kept, ones_grow}
 
@@ -177,51 +179,106 @@ filling_step block before rows left left' t within so_far on off others = record
   ];
 }
 
--- The rows of the join as far as the first s states: each row is empty or right.
+-- Rows that are made those of the join: they hold what p holds, and what q holds of the first s states.
 pub record IsJoining (p q : List ℕ) (rows : List (List ℕ)) (s : ℕ) : Type 0 where
-  pub right : (t : ℕ) → t < length p → ((u : ℕ) → bit_of (row_of rows t) u ≡ 0) ⊎ ((u : ℕ) → Has (row_of rows t) u ↔ Chain p q t u)
-  pub own : (t : ℕ) → t < s → Has (row_of rows t) t
+  pub are : AreBlocks rows
+  pub size : length rows ≡ length p
+  pub above : (t u : ℕ) → Together p t u → Has (row_of rows t) u
+  pub within : (t u : ℕ) → Has (row_of rows t) u → Chain p q t u
+  pub done : (t u : ℕ) → t < s → Together q t u → Has (row_of rows t) u
 
-pub joining_kept : (p q : List ℕ) (rows : List (List ℕ)) (s : ℕ) → IsJoining p q rows s → Has (row_of rows s) s → IsJoining p q rows (s + 1)
-joining_kept p q rows s so_far on = record {
-  right = so_far.right;
-  own = λ t below. elim (cases_eq t s) [
-    | inl at ↦ subst (λ (u : ℕ). Has (row_of rows u) u) (sym at) on
-    | inr other ↦ so_far.own t (omega arith)
-  ];
+-- the rows of p, where those of the first states of q are within them
+pub joining_first : (p q : List ℕ) (rows : List (List ℕ)) (s : ℕ) → IsPartition (length p) p → IsRows p rows → ((t u : ℕ) → t < s → Together q t u → Together p t u) → IsJoining p q rows s
+joining_first p q rows s lawful is below = record {
+  are = rows_are_blocks p rows lawful is;
+  size = is.size;
+  above = λ t u held. (is.bits t u).1 held;
+  within = λ t u on. let held = (is.bits t u).0 on in chain_link p q t u held.0 (inl held);
+  done = λ t u before held. (is.bits t u).1 (below t u before held);
 }
 
-pub joining_filled : (p q : List ℕ) (rows rows' : List (List ℕ)) (block : List ℕ) (s : ℕ) → length q ≡ length p → s < length p → IsJoining p q rows s → ((t : ℕ) → Has block t ↔ Chain p q s t) → ((t : ℕ) → Has block t → row_of rows' t ≡ block) → ((t : ℕ) → bit_of block t ≡ 0 → row_of rows' t ≡ row_of rows t) → IsJoining p q rows' (s + 1)
-joining_filled p q rows rows' block s lengths within so_far is filled others = record {
-  right = λ t inside. elim (cases_lt (bit_of block t) 1) [
-    | inl out ↦ subst (λ (row : List ℕ). ((u : ℕ) → bit_of row u ≡ 0) ⊎ ((u : ℕ) → Has row u ↔ Chain p q t u)) (sym (others t (omega arith))) (so_far.right t inside)
-    | inr on ↦ let in_block : Has block t = omega (arith, bit_of-lt block t) in
-        inr (subst (λ (row : List ℕ). (u : ℕ) → Has row u ↔ Chain p q t u) (sym (filled t in_block)) (λ u. moved t u ((is t).0 in_block)))
+-- with the block of s as the row of each of its states, and with states after s whose rows of q are within theirs
+pub joining_filled : (p q : List ℕ) (rows rows' : List (List ℕ)) (block : List ℕ) (s s' : ℕ) → length q ≡ length p → s < length p → IsJoining p q rows s → ((t : ℕ) → Has block t ↔ Chain p q s t) → length rows' ≡ length rows
+    → ((t : ℕ) → Has block t → row_of rows' t ≡ block) → ((t : ℕ) → bit_of block t ≡ 0 → row_of rows' t ≡ row_of rows t) → ((t u : ℕ) → s + 1 ≤ t → t < s' → Together q t u → Has (row_of rows' t) u) → IsJoining p q rows' s'
+joining_filled p q rows rows' block s s' lengths inside so_far is size filled others later = record {
+  are = record {
+    count = (omega (arith, so_far.are.count.0, size), omega (arith, so_far.are.count.1, size));
+    within = λ t u on. elim (in_block t) [
+      | inl here ↦ omega (arith, chain_within p q s u lengths ((is u).0 (to_block t u here on)), so_far.size, size)
+      | inr out ↦ omega (arith, so_far.are.within t u (to_row t u out on), size)
+    ];
+    own = λ t low. elim (in_block t) [ inl here ↦ from_block t t here here | inr out ↦ from_row t t out (so_far.are.own t (omega (arith, low, size))) ];
+    alike = λ t u v one two. elim (in_block t) [
+      | inl here ↦ from_block u v (to_block t u here one) (to_block t v here two)
+      | inr out ↦ elim (in_block u) [
+        | inl there ↦ absurd (omega (arith, out, (is t).1 (chain_on p q s u t ((is u).0 there) (chain_turned p q t u lengths (so_far.within t u (to_row t u out one))))))
+        | inr apart ↦ from_row u v apart (so_far.are.alike t u v (to_row t u out one) (to_row t v out two))
+      ]
+    ];
+  };
+  size = size ∙ so_far.size;
+  above = λ t u held. elim (in_block t) [
+    | inl here ↦ from_block t u here ((is u).1 (chain_on p q s t u ((is t).0 here) (chain_link p q t u held.0 (inl held))))
+    | inr out ↦ from_row t u out (so_far.above t u held)
   ];
-  own = λ t below. elim (cases_lt (bit_of block t) 1) [
-    | inl out ↦ subst (λ (row : List ℕ). Has row t) (sym (others t (omega arith))) (so_far.own t (earlier t below (omega arith)))
-    | inr on ↦ let in_block : Has block t = omega (arith, bit_of-lt block t) in subst (λ (row : List ℕ). Has row t) (sym (filled t in_block)) in_block
+  within = λ t u on. elim (in_block t) [
+    | inl here ↦ chain_on p q t s u (chain_turned p q s t lengths ((is t).0 here)) ((is u).0 (to_block t u here on))
+    | inr out ↦ so_far.within t u (to_row t u out on)
+  ];
+  done = λ t u below held. elim (cases_lt t (s + 1)) [
+    | inr after ↦ later t u after below held
+    | inl early ↦ elim (in_block t) [
+      | inl here ↦ from_block t u here ((is u).1 (chain_on p q s t u ((is t).0 here) (chain_link p q t u (omega (arith, held.0, lengths)) (inr held))))
+      | inr out ↦ from_row t u out (so_far.done t u (earlier t early out) held)
+    ]
   ];
 }
   where
-    moved : (t u : ℕ) → Chain p q s t → Has block u ↔ Chain p q t u
-    moved t u chain =
-        ((λ on. chain_on p q t s u (chain_turned p q s t lengths chain) ((is u).0 on)), (λ on. (is u).1 (chain_on p q s t u chain on)))
+    in_block : (t : ℕ) → Has block t ⊎ (bit_of block t ≡ 0)
+    in_block t = elim (cases_lt (bit_of block t) 1) [ inl out ↦ inr (omega arith) | inr here ↦ inl (omega (arith, bit_of-lt block t)) ]
+
+    to_block : (t u : ℕ) → Has block t → Has (row_of rows' t) u → Has block u
+    to_block t u here on = subst (λ (row : List ℕ). Has row u) (filled t here) on
+
+    from_block : (t u : ℕ) → Has block t → Has block u → Has (row_of rows' t) u
+    from_block t u here on = subst (λ (row : List ℕ). Has row u) (sym (filled t here)) on
+
+    to_row : (t u : ℕ) → bit_of block t ≡ 0 → Has (row_of rows' t) u → Has (row_of rows t) u
+    to_row t u out on = subst (λ (row : List ℕ). Has row u) (others t out) on
+
+    from_row : (t u : ℕ) → bit_of block t ≡ 0 → Has (row_of rows t) u → Has (row_of rows' t) u
+    from_row t u out on = subst (λ (row : List ℕ). Has row u) (sym (others t out)) on
 
     earlier : (t : ℕ) → t < s + 1 → bit_of block t ≡ 0 → t < s
     earlier t below out =
         elim (cases_eq t s) [
-          | inl at ↦ absurd (omega (arith, out, ap (bit_of block) at, (is s).1 (within, ([], refl))))
+          | inl at ↦ absurd (omega (arith, out, ap (bit_of block) at, (is s).1 (chain_none p q s inside)))
           | inr other ↦ omega arith
         ]
 
 -- all rows are right
 pub joining_all : (p q : List ℕ) (rows : List (List ℕ)) → IsJoining p q rows (length p) → (s t : ℕ) → s < length p → Has (row_of rows s) t ↔ Chain p q s t
-joining_all p q rows all s t within =
-    elim (all.right s within) [
-      | inl none ↦ absurd (omega (arith, none s, all.own s within))
-      | inr right ↦ right t
-    ]
+joining_all p q rows all s t within = ((λ on. all.within s t on), (λ chain. leads_in s t chain.1.0 within chain.1.1))
+  where
+    leads_in : (s t : ℕ) (us : List ℕ) → s < length p → Leads p q s us t → Has (row_of rows s) t
+    leads_in s t [] within here = subst (Has (row_of rows s)) here (all.are.own s (omega (arith, all.size)))
+    leads_in s t (u ∷ us) within first =
+        let step : Has (row_of rows s) u = elim first.0 [ inl left ↦ all.above s u left | inr right ↦ all.done s u within right ] in
+        row_in_row rows s u t all.are (omega (arith, all.size)) step (leads_in u t us (omega (arith, all.are.within s u step, all.size)) first.1)
+
+-- where the rows of the first states of q are within those of p, so is what they hold
+pub below_by_rows : (p q : List ℕ) (p_rows q_rows : List (List ℕ)) (first : ℕ) → IsRows p p_rows → IsRows q q_rows → ((s : ℕ) → 0 ≤ s → s < first → (t : ℕ) → Has (row_of q_rows s) t → Has (row_of p_rows s) t) → (t u : ℕ) → t < first → Together q t u → Together p t u
+below_by_rows p q p_rows q_rows first p_is q_is within t u low held = (p_is.bits t u).0 (within t (omega arith) low u ((q_is.bits t u).1 held))
+
+-- Where q is below p, p is the join.
+pub join_of_below : (p q : List ℕ) → IsPartition (length p) p → length q ≡ length p → ((t u : ℕ) → Together q t u → Together p t u) → IsJoin p q p
+join_of_below p q lawful lengths below = record {
+  lawful = lawful;
+  together = λ s t. (
+    (λ held. chain_link p q s t held.0 (inl held)),
+    (λ chain. (chain.0, chain_within p q s t lengths chain, chain_keeps p q (λ u. get_or p u 0) (λ u v held. held.2) (λ u v held. (below u v held).2) s t chain)),
+  );
+}
 
 -- the block of a state on the rows of two partitions, where their slices are those rows
 pub block_is : (p q : List ℕ) (p_rows q_rows p_slice q_slice : List (List ℕ)) (s : ℕ) (block : List ℕ) → IsRows p p_rows → IsRows q q_rows → p_slice ≡ p_rows → q_slice ≡ q_rows → s < length p → ((t : ℕ) → Has block t ↔ Reaches p_slice q_slice s t) → (t : ℕ) → Has block t ↔ Chain p q s t

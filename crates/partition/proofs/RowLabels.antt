@@ -168,11 +168,15 @@ row_first rows s are within =
       | inr some ↦ (first_below row (s + 1), first.found (omega (arith, first.low)), first.least)
     ]
 
--- one state more, whose rows are the same
-pub alike_same : (p_rows q_rows : List (List ℕ)) (p q : List ℕ) (s : ℕ) → AreBlocks p_rows → IsNumbered p → IsNumbered q → IsRows p p_rows → IsRows q q_rows → length q ≡ length p → s < length p_rows → Alike p q s → ((u : ℕ) → bit_of (row_of p_rows s) u ≡ bit_of (row_of q_rows s) u) → Alike p q (s + 1)
+-- one state more, whose rows are the same below it
+pub alike_same : (p_rows q_rows : List (List ℕ)) (p q : List ℕ) (s : ℕ) → AreBlocks p_rows → IsNumbered p → IsNumbered q → IsRows p p_rows → IsRows q q_rows → length q ≡ length p → s < length p_rows → Alike p q s → ((u : ℕ) → u < s → bit_of (row_of p_rows s) u ≡ bit_of (row_of q_rows s) u) → Alike p q (s + 1)
 alike_same p_rows q_rows p q s are p_numbered q_numbered p_is q_is lengths within alike same =
     let first = row_first p_rows s are within in
-    alike_more p_rows q_rows p q s first.0 p_numbered q_numbered p_is q_is lengths (omega (arith, p_is.size)) alike first.1 first.2 (sym (same first.0) ∙ first.1) (λ u below. sym (same u) ∙ first.2 u below)
+    let inside : s < length p = omega (arith, p_is.size) in
+    let low = (label_by_first p_rows p s first.0 p_numbered p_is inside first.1 first.2).0 in
+    let own : Has (row_of q_rows s) s = (q_is.bits s s).1 (omega (arith, lengths), omega (arith, lengths), refl) in
+    let there : Has (row_of q_rows s) first.0 = elim (cases_eq first.0 s) [ inl at ↦ subst (Has (row_of q_rows s)) (sym at) own | inr other ↦ sym (same first.0 (omega (arith, low))) ∙ first.1 ] in
+    alike_more p_rows q_rows p q s first.0 p_numbered q_numbered p_is q_is lengths inside alike first.1 first.2 there (λ u below. sym (same u (omega (arith, low))) ∙ first.2 u below)
 
 -- the row of p has the earlier first state
 pub smaller_by_first : (p_rows q_rows : List (List ℕ)) (p q : List ℕ) (s t u : ℕ) → IsNumbered p → IsNumbered q → IsRows p p_rows → IsRows q q_rows → length q ≡ length p → s < length p → Alike p q s
@@ -196,3 +200,14 @@ not_smaller p q s alike greater less =
 -- and equal lists are not smaller
 pub alike_not_smaller : (p q : List ℕ) (s : ℕ) → length p ≤ s → Alike p q s → IsSmaller p q → ⊥
 alike_not_smaller p q s whole alike less = absurd (omega (arith, less.smaller, alike less.first (omega (arith, less.within))))
+
+-- the states up to one before which the rows of s and of the states after it are the same below those
+pub alike_until : (p_rows q_rows : List (List ℕ)) (p q : List ℕ) (s n : ℕ) → AreBlocks p_rows → IsNumbered p → IsNumbered q → IsRows p p_rows → IsRows q q_rows → length q ≡ length p → s ≤ n → n ≤ length p_rows → Alike p q s → ((k : ℕ) → s ≤ k → k < n → (u : ℕ) → u < k → bit_of (row_of p_rows k) u ≡ bit_of (row_of q_rows k) u) → Alike p q n
+alike_until p_rows q_rows p q s zero are p_numbered q_numbered p_is q_is lengths low high alike same = λ t below. absurd (omega arith)
+alike_until p_rows q_rows p q s (suc n) are p_numbered q_numbered p_is q_is lengths low high alike same =
+    elim (cases_eq s (suc n)) [
+      | inl at ↦ subst (λ (k : ℕ). Alike p q k) at alike
+      | inr other ↦
+          let before : Alike p q n = alike_until p_rows q_rows p q s n are p_numbered q_numbered p_is q_is lengths (omega arith) (omega arith) alike (λ k from below. same k from (omega arith)) in
+          subst (λ (k : ℕ). Alike p q k) (add-one n) (alike_same p_rows q_rows p q n are p_numbered q_numbered p_is q_is lengths (omega arith) before (same n (omega arith) (omega arith)))
+    ]

@@ -1,11 +1,11 @@
 -- Bits in four words.
-use Rattle.std.proofs.Common.{◌≡◌, ◌≢◌, ℕ, zero, suc, ◌+◌, ◌-◌, ◌*◌, ◌/◌, ◌%◌, ◌^◌, ◌<◌, ◌≤◌, ◌↔◌, Bool, true, false, not, Option, Some, None, IfSome, IfNone, min, max, List, [], ◌∷◌, length, get_or, set, refl, sym, ap, ◌∙◌, inl, inr, arith}
-use Rattle.std.specs.Option.{is_some}
-use Rattle.std.proofs.lemmas.Bool.{cases_eq, cases_lt, true≢false, false≢true}
+use Rattle.std.proofs.Common.{◌≡◌, ◌≢◌, ℕ, zero, suc, ◌+◌, ◌-◌, ◌*◌, ◌/◌, ◌%◌, ◌^◌, ◌<◌, ◌≤◌, Option, Some, None, IfSome, IfNone, min, max, List, [], ◌∷◌, length, get_or, set, refl, sym, ap, ◌∙◌, inl, inr, arith}
+use Rattle.std.specs.Option.{unwrap_or}
+use Rattle.std.proofs.lemmas.Bool.{cases_eq, cases_lt}
 use Rattle.std.proofs.lemmas.List.{get_or_past, get_or-set_same, get_or-set_other}
-use Rattle.std.proofs.lemmas.Nat.Bits.{bit_at-zero, bit_at_and, bit_at_or, bit_at_xor, bit_at_not, bit_at_set_same, bit_at_set_other, bit_at_clear_same, bit_at_clear_other, bit_at-trailing_zeros, bit_at-lt}
+use Rattle.std.proofs.lemmas.Nat.Bits.{bit_at-zero, bit_at_and, bit_at_or, bit_at_not, bit_at_set_same, bit_at_set_other, bit_at_clear_same, bit_at_clear_other, bit_at-trailing_zeros, bit_at-lt}
 use Rattle.std.specs.Int.{bit_at, bit_not, trailing_zeros, w64}
-use Rattle.std.specs.Int.RustNames.{bit_and, bit_or, bit_xor}
+use Rattle.std.specs.Int.RustNames.{bit_and, bit_or}
 use Rattle.partition.specs.Bits.{bit_of}
 use Rattle.partition.specs.Inner.Rows.{Has}
 
@@ -47,19 +47,10 @@ bits_of_and xs ys xs_size ys_size = bits_by_four bit_and min xs ys xs_size ys_si
 pub bits_of_or : (xs ys : List ℕ) → length xs ≡ 4 → length ys ≡ 4 → (t : ℕ) → bit_of (four_by bit_or xs ys) t ≡ max (bit_of xs t) (bit_of ys t)
 bits_of_or xs ys xs_size ys_size = bits_by_four bit_or max xs ys xs_size ys_size refl (λ i _ k _. bit_at_or (get_or xs i 0) (get_or ys i 0) k)
 
-pub bits_of_xor : (xs ys : List ℕ) → length xs ≡ 4 → length ys ≡ 4 → (t : ℕ) → bit_of (four_by bit_xor xs ys) t ≡ (bit_of xs t + bit_of ys t) % 2
-bits_of_xor xs ys xs_size ys_size = bits_by_four bit_xor (λ x y. (x + y) % 2) xs ys xs_size ys_size refl (λ i _ k _. bit_at_xor (get_or xs i 0) (get_or ys i 0) k)
-
--- bits are the same where neither is without the other
-pub same_bits : (a b : ℕ) → a < 2 → b < 2 → ((a + b) % 2 ≡ 0) ↔ (a ≡ b)
-same_bits a b in_a in_b = ((λ even. omega arith), (λ same. omega arith))
-
--- what is said of a set by whether a state was found in it
-pub none_found : (words : List ℕ) (found : Option ℕ) (empty : Bool) → is_some found ≡ not empty → IfSome found (λ t. Has words t) → IfNone found ((t : ℕ) → bit_of words t ≡ 0) → (empty ≡ true) ↔ ((t : ℕ) → bit_of words t ≡ 0)
-none_found words (Some t) true is on none = absurd (true≢false is)
-none_found words (Some t) false is on none = ((λ yes. absurd (false≢true yes)), (λ off. absurd (omega (arith, on, off t))))
-none_found words None true is on none = ((λ _. none), (λ _. refl))
-none_found words None false is on none = absurd (false≢true is)
+-- the first bit of words with the bits of a row that has the bit s
+pub first_found : (row words : List ℕ) (s result : ℕ) (first : Option ℕ) → ((t : ℕ) → bit_of words t ≡ bit_of row t) → Has row s → IfSome first (λ t. Has words t) → IfSome first (λ t. (u : ℕ) → u < t → bit_of words u ≡ 0) → IfNone first ((t : ℕ) → bit_of words t ≡ 0) → result ≡ unwrap_or first s → Has row result × ((u : ℕ) → u < result → bit_of row u ≡ 0)
+first_found row words s result (Some t) same own some least none is = rw is (sym (same t) ∙ some, λ u below. sym (same u) ∙ least u below)
+first_found row words s result None same own some least none is = absurd (omega (arith, own, same s, none s))
 
 -- the words without the bits of others
 abbrev pub without : ℕ → ℕ → ℕ

@@ -82,16 +82,6 @@ impl StateSet {
         }
     }
 
-    /// The states that are in one of the sets and not in both.
-    pub fn symmetric_difference(&self, other: &StateSet) -> StateSet
-        ensures { (t : ℕ) → bit_of result t ≡ (bit_of self.now t + bit_of other.now t) % 2 }
-    {
-        let (a, b) = (&self.words, &other.words);
-        StateSet {
-            words: [a[0] ^ b[0], a[1] ^ b[1], a[2] ^ b[2], a[3] ^ b[3]],
-        }
-    }
-
     /// Puts a state into the set.
     pub fn insert(&mut self, t: usize)
         requires { t < 256 }
@@ -110,34 +100,13 @@ impl StateSet {
         self.words[t / 64] &= !(1 << (t % 64));
     }
 
-    /// Whether the other set has the same states.
-    pub fn equal(&self, other: &StateSet) -> bool
-        ensures { IsTrue result ↔ ((t : ℕ) → bit_of self.now t ≡ bit_of other.now t) }
-    {
-        self.symmetric_difference(other).first().is_none()
-    }
-
     /// The least state of the set.
     pub fn first(&self) -> Option<usize>
         ensures some { IfSome result (λ t. Has self.now t) }
         ensures least { IfSome result (λ t. (u : ℕ) → u < t → bit_of self.now u ≡ 0) }
         ensures none { IfNone result ((t : ℕ) → bit_of self.now t ≡ 0) }
     {
-        for (i, word) in self.words.iter().enumerate() {
-            if *word != 0 {
-                return Some(i * 64 + word.trailing_zeros() as usize);
-            }
-        }
-        None
-    }
-
-    /// The least state of a set that has the state s.
-    pub fn first_with(&self, s: usize) -> usize
-        requires { Has self.now s }
-        ensures in_set { Has self.now result }
-        ensures least { (u : ℕ) → u < result → bit_of self.now u ≡ 0 }
-    {
-        self.first().unwrap_or(s)
+        first_bit(self.words.as_slice())
     }
 
     /// The first words, in which the states below 64 times their number are.
@@ -151,6 +120,21 @@ impl StateSet {
         let words = self.words.as_slice();
         &words[..count]
     }
+}
+
+/// The least bit that is 1 in up to four words.
+pub fn first_bit(words: &[u64]) -> Option<usize>
+    requires { length words.now ≤ 4 }
+    ensures some { IfSome result (λ t. Has words.now t) }
+    ensures least { IfSome result (λ t. (u : ℕ) → u < t → bit_of words.now u ≡ 0) }
+    ensures none { IfNone result ((t : ℕ) → bit_of words.now t ≡ 0) }
+{
+    for (i, word) in words.iter().enumerate() {
+        if *word != 0 {
+            return Some(i * 64 + word.trailing_zeros() as usize);
+        }
+    }
+    None
 }
 
 /// A word, and 0 past the last one.

@@ -1,11 +1,16 @@
 -- For private functions and proofs alone: rows of bits, and the labels that they denote.
 use Rattle.std.specs.Prelude.{◌≡◌, ℕ, zero, suc, ◌+◌, ◌-◌, ◌*◌, ◌/◌, ◌<◌, ◌==◌, if◌then◌else◌, ◌↔◌, ◌⊎◌, List, [], ◌∷◌, ◌++◌, length, take, drop, slice_index, slice_index_or}
+use Rattle.std.specs.Int.{bit_at}
 use Rattle.partition.specs.Partition.{IsStateCount, Together, blocks_of}
 use Rattle.partition.specs.Bits.{bit_of}
 
 -- the bit is set: a set of states, kept so, has this member
 abbrev pub Has : List ℕ → ℕ → Type 0
 Has words t = bit_of words t ≡ 1
+
+-- the bits of the other word are set in the word
+abbrev pub Covers : ℕ → ℕ → Type 0
+Covers word other = (i : ℕ) → i < 64 → bit_at other i ≡ 1 → bit_at word i ≡ 1
 
 -- the row of a state
 abbrev pub row_of : List (List ℕ) → ℕ → List ℕ

@@ -15,8 +15,7 @@ pub fn begun_blocks(rows: &Rows) -> usize
 {
     let mut blocks = 0;
     for s in 0..rows.len() {
-        let row = rows.row(s);
-        if row.first_with(s) == s {
+        if rows.first_of(s) == s {
             blocks += 1;
         }
     }
@@ -28,37 +27,24 @@ pub fn same_rows(p: &Rows, q: &Rows) -> bool
     ensures { IsTrue result ↔ ((length q.now ≡ length p.now) × ((s : ℕ) → s < length p.now
         → (t : ℕ) → bit_of (row_of p.now s) t ≡ bit_of (row_of q.now s) t)) }
 {
-    if p.len() != q.len() {
-        return false;
-    }
-    for s in 0..p.len() {
-        let row = p.row(s);
-        let other = q.row(s);
-        if !row.equal(&other) {
-            return false;
-        }
-    }
-    true
+    p.len() == q.len() && p.first_difference(q, 0) == p.len()
 }
 
 /// Whether p has the smaller label where the labels first differ, which is where the first states of two
-/// rows first differ. Rows with the same states have the same first state.
+/// rows first differ. Rows with the same states before their own have the same first state.
 pub fn is_smaller(p: &Rows, q: &Rows) -> bool
     requires p { AreBlocks p.now }
     requires q { AreBlocks q.now }
     requires length { length q.now ≡ length p.now }
     ensures { IsTrue result ↔ IsSmaller (labels_of p.now) (labels_of q.now) }
 {
-    for s in 0..p.len() {
-        let row = p.row(s);
-        let other = q.row(s);
-        if row.equal(&other) {
-            continue;
-        }
-        let (first, second) = (row.first_with(s), other.first_with(s));
+    let mut s = p.first_difference_below(q, 0);
+    while s < p.len() {
+        let (first, second) = (p.first_of(s), q.first_of(s));
         if first != second {
             return first < second;
         }
+        s = p.first_difference_below(q, s + 1);
     }
     false
 }

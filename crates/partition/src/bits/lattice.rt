@@ -4,7 +4,7 @@ ghost use Rattle.std.specs.Prelude.{◌≡◌, ℕ, ◌<◌, ◌≤◌, ◌↔�
 ghost use Rattle.partition.specs.Partition.{IsPartition, Together};
 ghost use Rattle.partition.specs.MeetAndJoin.{IsMeet, IsJoin, IsGreatestBelow, IsLeastAbove, Chain};
 ghost use Rattle.partition.specs.Bits.{bit_of};
-ghost use Rattle.partition.specs.Inner.Rows.{Has, row_of, AreBlocks, Reaches};
+ghost use Rattle.partition.specs.Inner.Rows.{Has, row_of, IsRows, AreBlocks, Reaches};
 
 use super::BitPart;
 use super::comparing::begun_blocks;
@@ -30,39 +30,60 @@ impl BitPart {
         ensures join { IfOk result (λ r. IsJoin self.now q.now r) }
         ensures least { IfOk result (λ r. IsLeastAbove self.now q.now r) }
     {
-        let rows = self.joined_rows(alloc, q)?;
+        if self.blocks < q.blocks {
+            self.join_onto(alloc, q)
+        } else {
+            q.join_onto(alloc, self)
+        }
+    }
+
+    /// The join, made from a copy of this partition.
+    fn join_onto(&self, alloc: Global, q: &BitPart) -> Result<BitPart, AllocError>
+        requires { length q.now ≡ length self.now }
+        ensures { IfOk result (λ r. IsJoin self.now q.now r) }
+    {
+        let first = self.rows.first_outside(&q.rows, 0);
+        if first == self.rows.len() {
+            return self.copy(alloc);
+        }
+        let rows = self.joined_rows(alloc, q, first)?;
         let blocks = begun_blocks(&rows);
         Ok(BitPart { rows, blocks })
     }
 
-    /// The rows of the states between which a chain leads.
-    fn joined_rows(&self, alloc: Global, q: &BitPart) -> Result<Rows, AllocError>
-        requires { length q.now ≡ length self.now }
+    /// The rows of the states between which a chain leads, where the states before `first` have their rows of q
+    /// within those here.
+    fn joined_rows(&self, alloc: Global, q: &BitPart, first: usize) -> Result<Rows, AllocError>
+        requires length { length q.now ≡ length self.now }
+        requires first { first ≤ length self.now }
+        requires below { (s t : ℕ) → s < first → Together q.now s t → Together self.now s t }
         ensures length { IfOk result (λ v. length v ≡ length self.now) }
         ensures lawful { IsPartition (length self.now) self.now }
         ensures chains { IfOk result (λ v. (s t : ℕ) → s < length self.now
             → Has (row_of v s) t ↔ Chain self.now q.now s t) }
     {
-        let mut rows = Rows::empty(alloc, self.rows.len())?;
-        self.join_into(q, &mut rows);
+        let mut rows = self.rows.copy(alloc)?;
+        self.join_into(q, first, &mut rows);
         Ok(rows)
     }
 
-    /// Makes each of these empty rows the row of its state in the join.
-    fn join_into(&self, q: &BitPart, rows: &mut Rows)
+    /// Makes the rows of this partition those of the join: where the row of a state in q is not within its
+    /// row, the block of the state becomes the row of each state in it.
+    fn join_into(&self, q: &BitPart, first: usize, rows: &mut Rows)
+        requires lawful { IsPartition (length self.now) self.now }
         requires length { length q.now ≡ length self.now }
-        requires rows { length rows.old ≡ length self.now }
-        requires small { length rows.old ≤ 256 }
-        requires empty { (s t : ℕ) → s < length self.now → bit_of (row_of rows.old s) t ≡ 0 }
+        requires first { first ≤ length self.now }
+        requires below { (s t : ℕ) → s < first → Together q.now s t → Together self.now s t }
+        requires rows { IsRows self.now rows.old }
         ensures length { length rows.new ≡ length self.now }
         ensures chains { (s t : ℕ) → s < length self.now
             → Has (row_of rows.new s) t ↔ Chain self.now q.now s t }
     {
-        for s in 0..self.rows.len() {
-            if !rows.row(s).contains(s) {
-                let block = self.joined_block(q, s);
-                fill(rows, &block);
-            }
+        let mut s = first;
+        while s < rows.len() {
+            let block = self.joined_block(q, s);
+            fill(rows, &block);
+            s = rows.first_outside(&q.rows, s + 1);
         }
     }
 

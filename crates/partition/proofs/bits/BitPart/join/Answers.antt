@@ -1,28 +1,17 @@
-use Rattle.std.proofs.Common.{List, ℕ}
-use Rattle.partition.specs.Inner.Rows.{labels_of}
+use Rattle.std.proofs.Common.{sym}
 use Rattle.partition.specs.Laws.Chains.{join_is_least}
-use Rattle.partition.proofs.RowNumbering.{join_blocks, join_by_rows}
-use Rattle.partition.proofs.RowLabels.{rows_stand, rows_hold}
+use Rattle.partition.specs.Laws.Joins.{join_turned}
+use Rattle.partition.proofs.Outcomes.{IfOk-from_both}
 use Rattle.partition.proofs.bits.BitPart.join.Goals as goal
 
-pub begun_blocks-blocks-requires : goal.begun_blocks-blocks-requires
-begun_blocks-blocks-requires c =
-    (join_blocks c.args.self.now c.args.q.now c.in_ok-rows.rows c.in_ok-rows.ensures.lawful c.requires c.in_ok-rows.ensures.length c.in_ok-rows.ensures.chains)
+pub returns-then-self-q-clause-least : goal.returns-then-self-q-clause-least
+returns-then-self-q-clause-least c =
+    IfOk-from_both c.join_onto.result c.join_onto.ensures c.join_onto.ensures (λ r joined _. join_is_least c.args.self.now c.args.q.now r c.requires joined)
 
-pub invariant_of-result : goal.invariant_of-result
-invariant_of-result c =
-    let rows : List (List ℕ) = c.in_ok-rows.rows in
-    let hold = rows_hold rows (join_blocks c.args.self.now c.args.q.now rows c.in_ok-rows.ensures.lawful c.requires c.in_ok-rows.ensures.length c.in_ok-rows.ensures.chains) in
-    (hold.0, hold.1, c.begun_blocks-blocks.ensures)
+pub returns-else-self-q-clause-join : goal.returns-else-self-q-clause-join
+returns-else-self-q-clause-join c =
+    IfOk-from_both c.join_onto-else-self-q.result c.join_onto-else-self-q.ensures c.join_onto-else-self-q.ensures (λ r joined _. join_turned c.args.q.now c.args.self.now r (sym c.requires) joined)
 
-pub returns-clause-join : goal.returns-clause-join
-returns-clause-join c =
-    let rows : List (List ℕ) = c.in_ok-rows.rows in
-    let stand = rows_stand rows (join_blocks c.args.self.now c.args.q.now rows c.in_ok-rows.ensures.lawful c.requires c.in_ok-rows.ensures.length c.in_ok-rows.ensures.chains) in
-    join_by_rows c.args.self.now c.args.q.now (labels_of rows) rows c.requires c.in_ok-rows.ensures.length c.in_ok-rows.ensures.chains stand.0 stand.1
-
-pub returns-clause-least : goal.returns-clause-least
-returns-clause-least c =
-    let rows : List (List ℕ) = c.in_ok-rows.rows in
-    let stand = rows_stand rows (join_blocks c.args.self.now c.args.q.now rows c.in_ok-rows.ensures.lawful c.requires c.in_ok-rows.ensures.length c.in_ok-rows.ensures.chains) in
-    join_is_least _ _ _ c.requires (join_by_rows c.args.self.now c.args.q.now (labels_of rows) rows c.requires c.in_ok-rows.ensures.length c.in_ok-rows.ensures.chains stand.0 stand.1)
+pub returns-else-self-q-clause-least : goal.returns-else-self-q-clause-least
+returns-else-self-q-clause-least c =
+    IfOk-from_both c.join_onto-else-self-q.result c.join_onto-else-self-q.ensures c.join_onto-else-self-q.ensures (λ r joined _. join_is_least c.args.self.now c.args.q.now r c.requires (join_turned c.args.q.now c.args.self.now r (sym c.requires) joined))

@@ -1,31 +1,25 @@
-use Rattle.std.proofs.Common.{◌≡◌, ◌<◌, ℕ, List, length, sym, ap, ◌∙◌, subst, arith}
+use Rattle.std.proofs.Common.{◌≡◌, ◌<◌, ℕ, List, length, ap, ◌∙◌, arith}
 use Rattle.std.proofs.lemmas.List.{take_all}
 use Rattle.partition.specs.Partition.{blocks_of}
 use Rattle.partition.specs.Bits.{bit_of}
 use Rattle.partition.specs.Inner.Rows.{Has, row_of, labels_of}
 use Rattle.partition.proofs.RowLabels.{rows_stand, begins, continues}
 use Rattle.partition.proofs.bits.comparing.begun_blocks.Goals as goal
-use Rattle.partition.proofs.bits.comparing.begun_blocks.Goals.{then-first_with-s, else-first_with-s}
-
-pub first_with-requires : goal.first_with-requires
-first_with-requires c =
-    let rows : List (List ℕ) = c.args.rows.now in
-    subst (λ (r : List ℕ). Has r c.loop-s.s) (sym (c.row-row.ensures)) (c.requires.own c.loop-s.s (omega arith))
+use Rattle.partition.proofs.bits.comparing.begun_blocks.Goals.{then-first_of-s, else-first_of-s}
 
 pub loop-s-preserved : goal.loop-s-preserved
 loop-s-preserved c =
     let rows : List (List ℕ) = c.args.rows.now in
     let s : ℕ = c.loop-s.s in
-    let t : ℕ = c.first_with.result in
+    let t : ℕ = c.first_of.result in
     let p : List ℕ = labels_of rows in
     let stand = rows_stand rows c.requires in
-    let row : c.row-row.result ≡ row_of rows s = c.row-row.ensures in
-    let first : Has (row_of rows s) t = subst (λ (r : List ℕ). Has r t) row c.first_with.ensures.in_set in
-    let least : (u : ℕ) → u < t → bit_of (row_of rows s) u ≡ 0 = subst (λ (r : List ℕ). (u : ℕ) → u < t → bit_of r u ≡ 0) row c.first_with.ensures.least in
+    let first : Has (row_of rows s) t = c.first_of.ensures.in_row in
+    let least : (u : ℕ) → u < t → bit_of (row_of rows s) u ≡ 0 = c.first_of.ensures.least in
     let within : s < length p = omega (arith, stand.0.length) in
-    elim c.if-first_with-s.branch [
-      | then-first_with-s w ↦ record { count = omega (arith, w.blocks-is, c.loop-s.invariant.count, begins rows p s t stand.0.numbered stand.1 within w.if-first_with-s.true first least); few = omega (arith, w.blocks-is, c.loop-s.invariant.few) }
-      | else-first_with-s w ↦ record { count = omega (arith, w.blocks-is, c.loop-s.invariant.count, continues rows p s t stand.0.numbered stand.1 within w.if-first_with-s.false first least); few = omega (arith, w.blocks-is, c.loop-s.invariant.few) }
+    elim c.if-first_of-s.branch [
+      | then-first_of-s w ↦ record { count = omega (arith, w.blocks-is, c.loop-s.invariant.count, begins rows p s t stand.0.numbered stand.1 within w.if-first_of-s.true first least); few = omega (arith, w.blocks-is, c.loop-s.invariant.few) }
+      | else-first_of-s w ↦ record { count = omega (arith, w.blocks-is, c.loop-s.invariant.count, continues rows p s t stand.0.numbered stand.1 within w.if-first_of-s.false first least); few = omega (arith, w.blocks-is, c.loop-s.invariant.few) }
     ]
 
 pub returns : goal.returns

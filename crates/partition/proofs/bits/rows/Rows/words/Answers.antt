@@ -52,3 +52,13 @@ returns-clause-row c =
     ∙ ap (λ (w : ℕ). four_of (words_at words w s)) c.word_count-width.ensures.count
     ∙ sym (row_of-rows_in words (words_for states) states s (omega (arith, long, c.requires)))
     ∙ ap (λ (rows : List (List ℕ)). row_of rows s) c.self.view_is
+
+pub returns-clause-few : goal.returns-clause-few
+returns-clause-few c =
+    let words : List ℕ = c.self.inside.words.items in
+    let states : ℕ = c.self.inside.states in
+    let width : ℕ = c.word_count-width.result in
+    let s : ℕ = c.args.s in
+    let long : length c.args.self.now ≡ states = states_of c.args.self.now words states c.self.view_is in
+    let size : length words ≡ states * width = c.self.invariant.1 ∙ ap (λ (w : ℕ). states * w) (sym c.word_count-width.ensures.count) in
+    omega (arith, ap (λ (ws : List ℕ). length (take (s * width + width - s * width) (drop (s * width) ws))) c.deref.ensures.value, ap length (words_between words width s), length-words_at words width states s (omega (arith, long, c.requires)) size, c.word_count-width.ensures.few)
