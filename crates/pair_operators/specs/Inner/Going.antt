@@ -1,12 +1,19 @@
 -- For private functions and proofs alone: two states whose next states are together.
-use Rattle.std.specs.Prelude.{ℕ, List, length}
+use Rattle.std.specs.Prelude.{ℕ, ◌≡◌, ◌<◌, List, length, slice_index}
+use Rattle.cubes.specs.Symbol.{symbol_of}
 use Rattle.kiss2.specs.declared.kiss_file.KissFile.{KissFile}
+use Rattle.kiss2.specs.Machine.{next}
 use Rattle.machine_table.specs.Pairs.{AtEachSymbol, GoInto}
 use Rattle.partition.specs.Partition.{IsPartition, Together, Le}
 
 -- the two states go, at each symbol, to states that are together in q
 abbrev pub Goes : KissFile → List ℕ → (s t : ℕ) → Type 0
 Goes F q s t = AtEachSymbol F.inputs (GoInto (Together q) F s t)
+
+-- for each state the label in q of its next state at symbol 0
+pub record AreLabelsAhead (F : KissFile) (q labels : List ℕ) : Type 0 where
+  pub each : length labels ≡ length F.states
+  pub label : (s : ℕ) → s < length F.states → slice_index labels s ≡ slice_index q (next F s (symbol_of F.inputs 0))
 
 -- states that are together in p go together
 abbrev pub AllGo : KissFile → (p q : List ℕ) → Type 0

@@ -3,7 +3,7 @@ use Rattle.std.proofs.lemmas.Bool.{true≢false}
 use Rattle.kiss2.specs.declared.kiss_file.KissFile.{KissFile}
 use Rattle.pair_operators.proofs.Classes.{IsSearched, searched_first, searched_later}
 use Rattle.pair_operators.proofs.greatest.goes_with.Goals as goal
-use Rattle.pair_operators.proofs.greatest.goes_with.Goals.{then-from-blocks+else-pair_goes, else-from-blocks}
+use Rattle.pair_operators.proofs.greatest.goes_with.Goals.{then-from-blocks+else-go_together, else-from-blocks}
 
 pub loop-t-preserved : goal.loop-t-preserved
 loop-t-preserved c =
@@ -13,8 +13,8 @@ loop-t-preserved c =
     let s : ℕ = c.args.s in
     let t : ℕ = c.loop-t.t in
     elim c.if-from-blocks.branch [
-      | then-from-blocks+else-pair_goes w ↦
-          subst (λ (n : ℕ). IsSearched F p q s (t + 1) n) (sym w.blocks-is) (searched_first F p q s t c.loop-t.blocks (omega (arith, c.requires.left.length)) (sym c.label.ensures ∙ sym c.from.ensures ∙ w.if-from-blocks.true) (λ goes. true≢false (sym (w.pair_goes.ensures.1 goes) ∙ w.if-pair_goes.false)) c.loop-t.invariant)
+      | then-from-blocks+else-go_together w ↦
+          subst (λ (n : ℕ). IsSearched F p q s (t + 1) n) (sym w.blocks-is) (searched_first F p q s t c.loop-t.blocks (omega (arith, c.requires.left.length)) (sym c.label.ensures ∙ sym c.from.ensures ∙ w.if-from-blocks.true) (λ goes. true≢false (sym (w.go_together.ensures.1 goes) ∙ w.if-go_together.false)) c.loop-t.invariant)
       | else-from-blocks w ↦
           subst (λ (n : ℕ). IsSearched F p q s (t + 1) n) (sym w.blocks-is) (searched_later F p q s t c.loop-t.blocks c.requires.left c.requires.together (omega (arith, c.requires.left.length)) (λ same. w.if-from-blocks.false (c.from.ensures ∙ c.label.ensures ∙ same)) c.loop-t.invariant)
     ]
