@@ -15,8 +15,7 @@ use Rattle.partition.specs.Laws.Extremes.{zero_of_is_zero, zero_of_is_partition}
 use Rattle.partition.specs.Laws.Labels.{same_labels}
 use Rattle.partition.specs.Laws.World.{join_fits}
 use Rattle.partition.proofs.Nesting.{least_of-le, least_of-same}
-use Rattle.closed_lattice.specs.Closed.{IsClosedPartition, IsPrincipal}
-use Rattle.closed_lattice.specs.Inner.Generators.{HasPrincipal, HavePrincipals}
+use Rattle.closed_lattice.specs.Closed.{HasPrincipal, IsClosedPartition, IsPrincipal}
 use Rattle.closed_lattice.proofs.Blocks.{least_holds}
 use Rattle.machine_table.specs.Staying.{NeverLeaves}
 use Rattle.closed_lattice.proofs.Growing.{together_itself, together_on}
@@ -130,7 +129,7 @@ module _ (F : KissFile) (generators : List (List ℕ)) (z : List ℕ) (closed : 
           together_on y s (least_of z s) t (together_turned y (least_of z s) s one) (subst (λ (k : ℕ). Together y k t) (sym (least_of-same z s t held.2)) two)
 
 -- a closed partition is the join of least closed ones
-pub closed_made : (F : KissFile) (generators : List (List ℕ)) → HavePrincipals F (length F.states) generators → (z : List ℕ) → IsClosedPartition F z → IsStateCount (length F.states) → HaveJoins (IsZeroOf F) IsJoin generators → IsMade F generators z
+pub closed_made : (F : KissFile) (generators : List (List ℕ)) → ((s t : ℕ) → s < t → t < length F.states → HasPrincipal F generators s t) → (z : List ℕ) → IsClosedPartition F z → IsStateCount (length F.states) → HaveJoins (IsZeroOf F) IsJoin generators → IsMade F generators z
 closed_made F generators have z closed count joins = made_by_pairs F generators z closed (λ s t order below held. have s t order below) count joins
 
 -- a list of the values with one property is one of those with another where the two are one

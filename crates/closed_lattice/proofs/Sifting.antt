@@ -10,7 +10,7 @@ use Rattle.partition.specs.Partition.{Le}
 use Rattle.partition.specs.Before.{Before}
 use Rattle.partition.specs.Laws.Labels.{same_labels}
 use Rattle.closed_lattice.specs.Closed.{HoldsSome, IsAtom, IsClosedPartition}
-use Rattle.closed_lattice.specs.Inner.Generators.{AreClosed, HavePrincipals, IsLeastAmong}
+use Rattle.closed_lattice.specs.Inner.Generators.{AreGenerators, IsLeastAmong}
 
 -- What is known after the first i of the found ones.
 pub record IsSifting (F : KissFile) (found list : List (List ℕ)) (i : ℕ) : Type 0 where
@@ -27,14 +27,14 @@ sifting_none F found = record {
   kept = λ k d below least. absurd (omega arith);
 }
 
-module _ (F : KissFile) (found : List (List ℕ)) (closed : AreClosed F found) (have : HavePrincipals F (length F.states) found) where
+module _ (F : KissFile) (found : List (List ℕ)) (found_all : AreGenerators F found) where
   -- what no found one is strictly below, no closed one is strictly below
   atom_of : (p : List ℕ) → IsClosedPartition F p → HoldsSome p → IsLeastAmong found p → IsAtom F p
   atom_of p is some least = record {
     closed = is;
     some = some;
     least = λ q q_is (s, t, order, held) below.
-        let has = have s t order (omega (arith, held.1, q_is.0.length)) in
+        let has = found_all.each s t order (omega (arith, held.1, q_is.0.length)) in
         let under : Le has.0 q = has.2.least q q_is held in
         let above : Le p has.0 = All-contains (λ x. Le x p → Le p x) found has.0 least has.1 (λ u v both. below u v (under u v both)) in
         λ u v both. under u v (above u v both);
@@ -46,18 +46,18 @@ module _ (F : KissFile) (found : List (List ℕ)) (closed : AreClosed F found) (
       let s = atom.some.0 in
       let t = atom.some.1 in
       let held = atom.some.3 in
-      let has = have s t atom.some.2 (omega (arith, held.1, atom.closed.0.length)) in
+      let has = found_all.each s t atom.some.2 (omega (arith, held.1, atom.closed.0.length)) in
       let under : Le has.0 p = has.2.least p atom.closed held in
       let above : Le p has.0 = atom.least has.0 (has.2.lawful, has.2.closed) (s, t, atom.some.2, has.2.together) under in
       let same : has.0 ≡ p = same_labels has.0 p has.2.lawful.numbered atom.closed.0.numbered (has.2.lawful.length ∙ sym atom.closed.0.length) (λ u v. (under u v, above u v)) in
-      (subst (Contains found) same has.1, (λ k d within. atom.least (get_or found k d) (closed.closed k d within) (closed.some k d within)))
+      (subst (Contains found) same has.1, (λ k d within. atom.least (get_or found k d) (found_all.closed k d within) (found_all.some k d within)))
 
   pub sifting_taken : (list : List (List ℕ)) (i : ℕ) (p : List ℕ) → IsSifting F found list i → i < length found → p ≡ get_or found i p → IsLeastAmong found p → IsSifting F found (list ++ p ∷ []) (i + 1)
   sifting_taken list i p so_far within read least = record {
-    atoms = All-push (IsAtom F) list p so_far.atoms (atom_of p (subst (IsClosedPartition F) (sym read) (closed.closed i p within)) (subst HoldsSome (sym read) (closed.some i p within)) least);
+    atoms = All-push (IsAtom F) list p so_far.atoms (atom_of p (subst (IsClosedPartition F) (sym read) (found_all.closed i p within)) (subst HoldsSome (sym read) (found_all.some i p within)) least);
     ascending = all_pairs_push Before list p so_far.ascending (λ k d inside.
         let before = so_far.earlier k d inside in
-        subst (λ (x : List ℕ). Before x p) (sym before.2) (subst (λ (x : List ℕ). Before (get_or found before.0 d) x) (sym (here d)) (closed.ascending before.0 i d before.1 within)));
+        subst (λ (x : List ℕ). Before x p) (sym before.2) (subst (λ (x : List ℕ). Before (get_or found before.0 d) x) (sym (here d)) (found_all.ascending before.0 i d before.1 within)));
     earlier = λ k d inside. elim (cases_lt k (length list)) [
       | inl old ↦ let before = so_far.earlier k d old in (before.0, omega (arith, before.1), get_or_append_left list (p ∷ []) d k old ∙ before.2)
       | inr new ↦ let at : length list ≡ k = omega (arith, length_push list p) in (i, omega arith, get_or_push list p d k at ∙ here d)

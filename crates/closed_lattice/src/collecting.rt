@@ -1,11 +1,12 @@
-//! The least closed partitions that hold two states together, of all pairs of states.
+//! The least closed partitions of the pairs of states that a partition holds together.
 
-ghost use Rattle.std.specs.Prelude.{◌≡◌, ◌+◌, ◌<◌, ◌≤◌, All, AllPairs, Contains, IfNone, IfOk, IfSome, OnOk, length};
-ghost use Rattle.closed_lattice.specs.Inner.Generators.{AreClosed, HavePrincipals, Keeps};
+ghost use Rattle.std.specs.Prelude.{◌≡◌, ◌+◌, ◌<◌, ◌≤◌, ℕ, All, AllPairs, Contains, IfNone, IfOk, IfSome, OnOk, length};
+ghost use Rattle.closed_lattice.specs.Closed.{HasPrincipal, IsPrincipalWithin};
+ghost use Rattle.closed_lattice.specs.Inner.Generators.{ArePrincipals, HavePrincipals, Keeps};
 ghost use Rattle.closed_lattice.specs.Inner.Known.{AreKnown};
 ghost use Rattle.hs_lattice.specs.Inner.Places.{IsInsertionPlace};
 ghost use Rattle.partition.specs.Before.{Before};
-ghost use Rattle.partition.specs.Partition.{IsPartition};
+ghost use Rattle.partition.specs.Partition.{IsPartition, Together};
 
 use crate::closing::learn;
 use crate::known::Known;
@@ -51,57 +52,53 @@ fn keep(found: &mut Vec<Partition>, p: Partition) -> Result<(), AllocError>
     Ok(())
 }
 
-/// Adds the least closed partitions that hold the state together with one before it.
+/// Adds the least closed partitions of the state and those before it that are together with it in top.
 fn add_principals(
     alloc: Global,
     m: &Machine,
+    top: &Partition,
     t: usize,
     known: &mut Known,
     found: &mut Vec<Partition>,
 ) -> Result<(), AllocError>
+    requires states { length top.now ≡ length m.now.states }
     requires t { t < length m.now.states }
     requires known { AreKnown m.now known.old.items.items }
-    requires found { AreClosed m.now found.old.items }
-    requires before { HavePrincipals m.now t found.old.items }
+    requires found { ArePrincipals m.now top.now found.old.items }
+    requires before { HavePrincipals m.now top.now t found.old.items }
     ensures known { OnOk result (AreKnown m.now known.new.items.items) }
-    ensures found { OnOk result (AreClosed m.now found.new.items) }
-    ensures each { OnOk result (HavePrincipals m.now (t + 1) found.new.items) }
+    ensures found { OnOk result (ArePrincipals m.now top.now found.new.items) }
+    ensures each { OnOk result (HavePrincipals m.now top.now (t + 1) found.new.items) }
 {
     for s in 0..t {
-        let p = learn(alloc, m, known, s, t)?;
-        keep(found, p)?;
+        if top.same(s, t) {
+            let p = learn(alloc, m, known, s, t)?;
+            keep(found, p)?;
+        }
     }
     Ok(())
 }
 
-/// The least closed partitions that hold two states together, each once, in ascending order.
-pub(crate) fn principals(alloc: Global, m: &Machine) -> Result<Vec<Partition>, AllocError>
-    ensures found { IfOk result (λ found. AreClosed m.now found.items) }
-    ensures each { IfOk result (λ found. HavePrincipals m.now (length m.now.states) found.items) }
-{
-    let mut known = Known::new(alloc)?;
-    let mut found = Vec::new(alloc);
-    for t in 0..m.states() {
-        add_principals(alloc, m, t, &mut known, &mut found)?;
-    }
-    Ok(found)
-}
-
-/// The least closed partitions that hold two states together, each once, in ascending order, or more of them
-/// than the limit.
-pub(crate) fn principals_within(
+/// The least closed partitions of the pairs of states that are together in top, each once, in ascending order,
+/// or more of them than the limit.
+///
+/// Where there are more than the limit, which ones are given is left open.
+pub fn principals_within(
     alloc: Global,
     m: &Machine,
+    top: &Partition,
     limit: usize,
 ) -> Result<Vec<Partition>, AllocError>
-    ensures found { IfOk result (λ found. AreClosed m.now found.items) }
-    ensures each { IfOk result (λ found. length found.items ≤ limit
-        → HavePrincipals m.now (length m.now.states) found.items) }
+    requires { length top.now ≡ length m.now.states }
+    ensures ascending { IfOk result (λ found. AllPairs Before found.items) }
+    ensures members { IfOk result (λ found. All (IsPrincipalWithin m.now top.now) found.items) }
+    ensures each { IfOk result (λ found. length found.items ≤ limit → (s t : ℕ) → s < t → Together top.now s t
+        → HasPrincipal m.now found.items s t) }
 {
     let mut known = Known::new(alloc)?;
     let mut found = Vec::new(alloc);
     for t in 0..m.states() {
-        add_principals(alloc, m, t, &mut known, &mut found)?;
+        add_principals(alloc, m, top, t, &mut known, &mut found)?;
         if found.len() > limit {
             return Ok(found);
         }

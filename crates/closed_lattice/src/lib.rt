@@ -3,6 +3,7 @@
 //! A partition is closed where states that are together go, for each symbol, to states that are together.
 //! [`principal`] gives the least closed partition that holds two states together. [`all`] lists the closed
 //! partitions in order, as the joins of these least ones, and [`atoms`] the least of them other than zero.
+//! [`principals_within`] gives the least ones of the pairs of states that another partition holds together.
 //! [`below`], [`apart`] and [`separating`] join the least ones of pairs of states, one pair after another, as
 //! far as a condition lets them; one pass is enough, since each condition that a partition meets, each
 //! smaller one meets too.
@@ -25,6 +26,7 @@ mod listing;
 mod tests;
 
 pub use closing::principal;
+pub use collecting::principals_within;
 pub use growth::{apart, below, separating};
 pub use laws::{closed_are_joins, one_is_principal};
 pub use listing::{all, atoms};

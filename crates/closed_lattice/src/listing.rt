@@ -6,11 +6,11 @@
 
 ghost use Rattle.std.specs.Prelude.{ℕ, ◌≡◌, ◌↔◌, ◌≤◌, All, IfOk, IsTrue, List, length};
 ghost use Rattle.closed_lattice.specs.Closed.{IsAtom, IsClosedPartition};
-ghost use Rattle.closed_lattice.specs.Inner.Generators.{AreClosed, HavePrincipals, IsLeastAmong};
+ghost use Rattle.closed_lattice.specs.Inner.Generators.{AreGenerators, IsLeastAmong};
 ghost use Rattle.hs_lattice.specs.Listing.{Evidence, IfMore, IfWhole, Lists};
 ghost use Rattle.partition.specs.Before.{Before};
 
-use crate::collecting::{principals, principals_within};
+use crate::collecting::principals_within;
 use hs_lattice::{Listing, join_closure};
 use hs_list::Items;
 use machine_table::Machine;
@@ -35,8 +35,7 @@ fn joins_of(
     found: &[Partition],
     limit: usize,
 ) -> Result<Listing<BitPart>, AllocError>
-    requires closed { AreClosed m.now found.now }
-    requires each { HavePrincipals m.now (length m.now.states) found.now }
+    requires found { AreGenerators m.now found.now }
     requires positive { 1 ≤ limit }
     requires bounded { limit ≤ 10000 }
     ensures whole { IfOk result (λ listing. IfWhole listing (Lists Before (IsClosedPartition m.now))) }
@@ -64,7 +63,8 @@ pub fn all(alloc: Global, m: &Machine, limit: usize) -> Result<Listing<BitPart>,
     ensures more { IfOk result (λ listing. IfMore listing
         (Evidence Before (IsClosedPartition m.now) limit)) }
 {
-    let found = principals_within(alloc, m, limit)?;
+    let one = Partition::one(alloc, m.states())?;
+    let found = principals_within(alloc, m, &one, limit)?;
     let partitions = found.as_slice();
     if partitions.len() > limit {
         let rows = in_rows(alloc, &partitions[..limit + 1])?;
@@ -90,7 +90,8 @@ fn is_least(found: &[Partition], p: &Partition) -> bool
 pub fn atoms(alloc: Global, m: &Machine) -> Result<Vec<Partition>, AllocError>
     ensures { IfOk result (λ list. Lists Before (IsAtom m.now) list.items) }
 {
-    let found = principals(alloc, m)?;
+    let one = Partition::one(alloc, m.states())?;
+    let found = principals_within(alloc, m, &one, usize::MAX)?;
     let candidates = found.as_slice();
     let mut list = Vec::new(alloc);
     for p in candidates {

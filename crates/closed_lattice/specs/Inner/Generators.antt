@@ -1,23 +1,25 @@
 -- Lists of least closed partitions.
-use Rattle.std.specs.Prelude.{◌≡◌, ℕ, ◌<◌, ◌⊎◌, All, AllPairs, Contains, List}
+use Rattle.std.specs.Prelude.{◌≡◌, ℕ, ◌<◌, ◌⊎◌, All, AllPairs, Contains, List, length}
 use Rattle.kiss2.specs.declared.kiss_file.KissFile.{KissFile}
-use Rattle.partition.specs.Partition.{Le}
+use Rattle.partition.specs.Partition.{Le, Together}
 use Rattle.partition.specs.Before.{Before}
-use Rattle.closed_lattice.specs.Closed.{HoldsSome, IsClosedPartition, IsPrincipal}
+use Rattle.closed_lattice.specs.Closed.{HasPrincipal, HoldsSome, IsClosedPartition, IsPrincipalWithin}
 
--- closed partitions other than zero, each once, in ascending order
-pub record AreClosed (F : KissFile) (found : List (List ℕ)) : Type 0 where
+-- least closed partitions of pairs of states that are together in top, each once, in ascending order
+pub record ArePrincipals (F : KissFile) (top : List ℕ) (found : List (List ℕ)) : Type 0 where
+  pub members : All (IsPrincipalWithin F top) found
+  pub ascending : AllPairs Before found
+
+-- those of each two of the first states that are together in top stand in the list
+abbrev pub HavePrincipals : KissFile → List ℕ → ℕ → List (List ℕ) → Type 0
+HavePrincipals F top count found = (s t : ℕ) → s < t → t < count → Together top s t → HasPrincipal F found s t
+
+-- closed partitions other than zero, each once, in ascending order, and among them the least one of each two states
+pub record AreGenerators (F : KissFile) (found : List (List ℕ)) : Type 0 where
   pub closed : All (IsClosedPartition F) found
   pub some : All HoldsSome found
   pub ascending : AllPairs Before found
-
--- the least closed partition that holds the two states together stands in the list
-abbrev pub HasPrincipal : KissFile → List (List ℕ) → (s t : ℕ) → Type 0
-HasPrincipal F found s t = (p : List ℕ) × Contains found p × IsPrincipal F s t p
-
--- so it is for each two of the first states
-abbrev pub HavePrincipals : KissFile → ℕ → List (List ℕ) → Type 0
-HavePrincipals F count found = (s t : ℕ) → s < t → t < count → HasPrincipal F found s t
+  pub each : (s t : ℕ) → s < t → t < length F.states → HasPrincipal F found s t
 
 -- the partition stands in the list too, and nothing else was added
 pub record Keeps (old : List (List ℕ)) (p : List ℕ) (new : List (List ℕ)) : Type 0 where
