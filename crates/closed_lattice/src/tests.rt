@@ -2,7 +2,7 @@
 
 ghost use Rattle.std.specs.Prelude.{◌<◌, ◌≤◌, ◌^◌, length};
 
-use crate::{all, apart, atoms, below, principal, separating};
+use crate::{all, apart, atoms, below, principal, principals_within, separating};
 use hs_lattice::Listing;
 use kiss2::{Fill, read};
 use machine_table::Machine;
@@ -63,14 +63,27 @@ fn listed(alloc: Global, m: &Machine, limit: usize) -> Result<(bool, Vec<u8>), A
     Ok((whole, text))
 }
 
-/// The texts of the atoms, with a semicolon after each.
-fn least_of_all(alloc: Global, m: &Machine) -> Result<Vec<u8>, AllocError> {
+/// The texts of partitions, with a semicolon after each.
+fn texts(alloc: Global, list: &[Partition]) -> Result<Vec<u8>, AllocError> {
     let mut text = Vec::new(alloc);
-    for p in &atoms(alloc, m)? {
+    for p in list {
         p.show(alloc, &mut text)?;
         text.push(b';')?;
     }
     Ok(text)
+}
+
+/// The texts of the atoms.
+fn least_of_all(alloc: Global, m: &Machine) -> Result<Vec<u8>, AllocError> {
+    let list = atoms(alloc, m)?;
+    texts(alloc, list.as_slice())
+}
+
+/// The texts of the least closed partitions of the pairs of states that a partition holds together.
+fn within(alloc: Global, m: &Machine, top: &str) -> Result<Vec<u8>, PartFail> {
+    let top = Partition::parse(alloc, top.as_bytes(), m.states())?;
+    let list = principals_within(alloc, m, &top, 1000)?;
+    Ok(texts(alloc, list.as_slice())?)
 }
 
 /// The text of the least closed partition that holds two states together.
@@ -124,6 +137,26 @@ fn atoms_in_order(rt: HostRuntime) -> Result<(), Fail> {
         assert!(rt; text.len() < 1000);
         let m = machine(alloc, text).ok_or("the text says a machine")?;
         let found = least_of_all(alloc, &m)?;
+        assert_eq!(rt; found.as_slice(), wanted.as_bytes());
+    }
+    Ok(())
+}
+
+#[test]
+fn least_closed_partitions_within_another(rt: HostRuntime) -> Result<(), Fail> {
+    let alloc = rt.alloc();
+    let cases = [
+        (PRODUCT, "0,0,0,0", "0,0,1,1;0,1,0,1;0,1,1,0;"),
+        (PRODUCT, "0,1,0,1", "0,1,0,1;"),
+        (PRODUCT, "0,1,2,3", ""),
+        (FOUR, "0,0,1,1", "0,0,0,0;"),
+        (STILL, "0,0,0,1", "0,0,1,2;0,1,0,2;0,1,1,2;"),
+        (ALONE, "0", ""),
+    ];
+    for (text, top, wanted) in cases {
+        assert!(rt; text.len() < 1000);
+        let m = machine(alloc, text).ok_or("the text says a machine")?;
+        let found = within(alloc, &m, top).ok().ok_or("a partition is read")?;
         assert_eq!(rt; found.as_slice(), wanted.as_bytes());
     }
     Ok(())
