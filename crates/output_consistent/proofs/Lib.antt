@@ -1,4 +1,3 @@
 pub mod Agreeing
 pub mod Splitting
-pub mod Gathered
 pub mod Listed

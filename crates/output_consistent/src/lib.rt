@@ -11,7 +11,6 @@
 #![tactic(auto)]
 
 mod bits;
-mod collecting;
 mod deciding;
 mod listing;
 #[cfg(test)]

@@ -1,18 +1,21 @@
 //! All partitions that are closed and consistent, in order.
 //!
-//! Joins of such partitions are closed and consistent. Each of them is the join of the least closed
-//! partitions of the pairs of states that it holds together, and these are below it, so they are consistent
-//! too. So the joins of the consistent ones among the least closed partitions are all of them.
+//! States that are together in such a partition are alike, and the partition of alike states is closed and
+//! consistent itself. So a closed partition is consistent exactly where it is below that one. Joins of such
+//! partitions are such partitions, and each is the join of the least closed partitions of the pairs of states
+//! that it holds together. So the joins of the least closed partitions of pairs of alike states are all of them.
 
 ghost use Rattle.std.specs.Prelude.{ℕ, ◌≤◌, IfOk, List, length};
 ghost use Rattle.hs_lattice.specs.Listing.{Evidence, IfMore, IfWhole, Lists};
 ghost use Rattle.partition.specs.Before.{Before};
 ghost use Rattle.output_consistent.specs.Outputs.{IsClosedAndConsistent};
 
-use crate::collecting::consistent;
+use closed_lattice::principals_within;
 use hs_lattice::{Listing, join_closure};
+use hs_list::Items;
 use machine_table::Machine;
 use partition::{PartWorld, Partition};
+use state_reduce::equivalence;
 use std::alloc::{AllocError, Global};
 
 /// The partitions that are closed and consistent, in ascending order, or where there are more than the limit,
@@ -29,7 +32,12 @@ pub fn all(alloc: Global, m: &Machine, limit: usize) -> Result<Listing<Partition
     ensures more { IfOk result (λ listing. IfMore listing
         (Evidence Before (IsClosedAndConsistent m.now) limit)) }
 {
-    let generators = consistent(alloc, m)?;
     let world = PartWorld { n: m.states() };
-    join_closure(alloc, &world, generators.as_slice(), limit)
+    let alike = equivalence(alloc, m)?;
+    let mut found = principals_within(alloc, m, &alike, limit)?;
+    if found.len() > limit {
+        found.truncate(limit + 1);
+        return Ok(Listing::More(Items::from(found)));
+    }
+    join_closure(alloc, &world, found.as_slice(), limit)
 }
