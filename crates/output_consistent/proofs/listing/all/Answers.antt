@@ -1,4 +1,4 @@
-use Rattle.std.proofs.Common.{◌≡◌, ℕ, ◌+◌, ◌<◌, ◌≤◌, All, List, get_or, length, take, sym, ◌∙◌, ap, subst, arith}
+use Rattle.std.proofs.Common.{◌≡◌, ℕ, ◌+◌, ◌<◌, ◌≤◌, All, List, get_or, length, take, sym, ◌∙◌, subst, arith}
 use Rattle.hs_lattice.proofs.Outcomes.{whole-from_three, more-from}
 use Rattle.hs_lattice.specs.JoinWorld.{HaveJoins}
 use Rattle.kiss2.specs.declared.kiss_file.KissFile.{KissFile}
