@@ -29,6 +29,7 @@ mod gap;
 mod index;
 mod primes;
 mod raise;
+mod slices;
 mod spare;
 mod term;
 #[cfg(test)]
@@ -76,6 +77,6 @@ pub fn cover(alloc: Global, on: &[Term], off: &[Term], width: u8) -> Result<Vec<
     let ones = distinct(alloc, on)?;
     let zeros = distinct(alloc, off)?;
     let index = Index::new(alloc, &zeros, width)?;
-    let rows = primes(alloc, &ones, &index, width)?;
+    let rows = primes(alloc, &ones, &zeros, &index, width)?;
     without_spare(alloc, &rows, &ones)
 }

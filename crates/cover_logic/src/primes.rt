@@ -2,10 +2,11 @@ ghost use Rattle.std.specs.Prelude.{◌≡◌, ◌≤◌, All, IfOk, filter, not
 ghost use Rattle.cover_logic.specs.Term.{FitsWidth};
 ghost use Rattle.cover_logic.specs.Inner.Index.{terms_of};
 ghost use Rattle.cover_logic.specs.Inner.Pair.{refines};
-ghost use Rattle.cover_logic.specs.Inner.Rows.{Covers, IsClear, IsPrime};
+ghost use Rattle.cover_logic.specs.Inner.Rows.{Covers, IsClear, IsPrime, IsPrimeRow};
 
 use crate::index::Index;
-use crate::raise::{grow, raise};
+use crate::raise::{grow, raise, widened};
+use crate::slices::Slices;
 use crate::term::Term;
 use std::alloc::{AllocError, Global};
 
@@ -17,8 +18,108 @@ fn drop_included(terms: &mut Vec<Term>, row: Term)
     terms.retain(|term| !row.includes(*term));
 }
 
-/// Rows that hold every value of on and none of off, and that need each of their literals.
-pub fn primes(alloc: Global, on: &[Term], off: &Index, width: u8) -> Result<Vec<Term>, AllocError>
+/// What tells which steps are worth a question to the index, for lists that are long enough.
+#[derive(Drop)]
+struct Guide {
+    on: Slices,
+    off: Slices,
+}
+
+/// The fewest columns and the fewest terms of a list for which a guide is made: below, it costs more than it saves.
+const GUIDED_WIDTH: u8 = 13;
+
+const GUIDED_TERMS: usize = 256;
+
+/// How many terms of off are looked at before the index is asked.
+const NEAREST: usize = 128;
+
+/// A guide, where the lists are long enough for one.
+fn guide_for(
+    alloc: Global,
+    on: &[Term],
+    off: &[Term],
+    width: u8,
+) -> Result<Option<Guide>, AllocError>
+    requires { width ≤ 128 }
+{
+    if width < GUIDED_WIDTH || on.len() < GUIDED_TERMS || off.len() < GUIDED_TERMS {
+        return Ok(None);
+    }
+    Ok(Some(Guide {
+        on: Slices::new(alloc, on, width)?,
+        off: Slices::new(alloc, off, width)?,
+    }))
+}
+
+/// A row that holds the seed and no value of off, and that needs each of its literals.
+fn plain_row(
+    alloc: Global,
+    seed: Term,
+    left: &[Term],
+    off: &Index,
+    width: u8,
+) -> Result<Term, AllocError>
+    requires width { width ≤ 128 }
+    requires fits { FitsWidth width seed }
+    requires clear { IsClear (terms_of off.now) seed }
+    ensures { IfOk result (IsPrimeRow seed (terms_of off.now) width) }
+{
+    let grown = grow(alloc, seed, left, Vec::new(alloc), off)?;
+    Ok(raise(grown, off, width, &[]))
+}
+
+/// The same, by the guide.
+fn guided_row(
+    alloc: Global,
+    seed: Term,
+    guide: &mut Guide,
+    off: &Index,
+    width: u8,
+) -> Result<Term, AllocError>
+    requires width { width ≤ 128 }
+    requires fits { FitsWidth width seed }
+    requires clear { IsClear (terms_of off.now) seed }
+    ensures { IfOk result (IsPrimeRow seed (terms_of off.now) width) }
+{
+    let sets = guide.off.nearest(alloc, seed, NEAREST)?;
+    let others = guide.on.joinable(alloc, seed, &sets)?;
+    let grown = grow(alloc, seed, &others, sets, off)?;
+    let advice = guide.off.advice(alloc, grown)?;
+    let wide = widened(grown, advice.wide, off);
+    let row = raise(wide, off, width, &advice.reasons);
+    guide.on.drop_included(alloc, row)?;
+    Ok(row)
+}
+
+/// The same, by the guide where there is one.
+fn prime_row(
+    alloc: Global,
+    seed: Term,
+    left: &[Term],
+    guide: &mut Option<Guide>,
+    off: &Index,
+    width: u8,
+) -> Result<Term, AllocError>
+    requires width { width ≤ 128 }
+    requires fits { FitsWidth width seed }
+    requires clear { IsClear (terms_of off.now) seed }
+    ensures { IfOk result (IsPrimeRow seed (terms_of off.now) width) }
+{
+    match guide {
+        Some(guide) => guided_row(alloc, seed, guide, off, width),
+        None => plain_row(alloc, seed, left, off, width),
+    }
+}
+
+/// Rows that hold every value of on and none of off, and that need each of their literals. `zeros` has the terms
+/// of `off`.
+pub fn primes(
+    alloc: Global,
+    on: &[Term],
+    zeros: &[Term],
+    off: &Index,
+    width: u8,
+) -> Result<Vec<Term>, AllocError>
     requires width { width ≤ 128 }
     requires fits { All (FitsWidth width) on.now }
     requires clear { All (IsClear (terms_of off.now)) on.now }
@@ -27,11 +128,11 @@ pub fn primes(alloc: Global, on: &[Term], off: &Index, width: u8) -> Result<Vec<
     ensures prime { IfOk result (λ rows. All (IsPrime (terms_of off.now)) rows.items) }
     ensures fits { IfOk result (λ rows. All (FitsWidth width) rows.items) }
 {
+    let mut guide = guide_for(alloc, on, zeros, width)?;
     let mut left = Vec::from_slice(alloc, on)?;
     let mut rows = Vec::new(alloc);
     while let Some(seed) = left.pop() {
-        let grown = grow(alloc, seed, &left, off)?;
-        let row = raise(grown, off, width);
+        let row = prime_row(alloc, seed, &left, &mut guide, off, width)?;
         drop_included(&mut left, row);
         rows.push(row)?;
     }

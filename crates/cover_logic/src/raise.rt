@@ -2,7 +2,7 @@ ghost use Rattle.std.specs.Prelude.{◌≤◌, ◌<◌, ◌↔◌, IfOk, IsTrue}
 ghost use Rattle.cover_logic.specs.Term.{FitsWidth, LooksAt};
 ghost use Rattle.cover_logic.specs.Inner.Index.{terms_of};
 ghost use Rattle.cover_logic.specs.Inner.Pair.{Includes, IsLooser};
-ghost use Rattle.cover_logic.specs.Inner.Rows.{IsClear, IsGrown, IsPrime, NeedsLiteral};
+ghost use Rattle.cover_logic.specs.Inner.Rows.{IsClear, IsGrown, IsPrime, MeetsSome, NeedsLiteral};
 
 use crate::index::Index;
 use crate::term::Term;
@@ -15,22 +15,34 @@ pub fn is_clear(row: Term, terms: &[Term]) -> bool
     !terms.iter().any(|term| row.touches(*term))
 }
 
-/// Widens the seed so that it holds more of the other terms, each whole, and no value of off. The terms of
-/// off that were met on the way are asked first, since they are met again and again.
-pub fn grow(alloc: Global, seed: Term, others: &[Term], off: &Index) -> Result<Term, AllocError>
+/// Whether each set has one of the columns.
+fn has_each(columns: u128, sets: &[u128]) -> bool {
+    sets.iter().all(|set| columns & *set != 0)
+}
+
+/// Widens the seed so that it holds more of the other terms, each whole, and no value of off. A set has the columns
+/// at which a term of off stands against the seed: a row that has none of them touches that term. Those of the
+/// terms that were met on the way are asked first, since they are met again and again.
+pub fn grow(
+    alloc: Global,
+    seed: Term,
+    others: &[Term],
+    known: Vec<u128>,
+    off: &Index,
+) -> Result<Term, AllocError>
     requires { IsClear (terms_of off.now) seed }
     ensures { IfOk result (IsGrown seed (terms_of off.now)) }
 {
     let mut row = seed;
-    let mut met = Vec::new(alloc);
+    let mut sets = known;
     for other in others {
         if row.includes(*other) {
             continue;
         }
         let joined = row.joined(*other);
-        if is_clear(joined, &met) {
+        if has_each(joined.care, &sets) {
             match off.met_by(joined) {
-                Some(term) => met.push(term)?,
+                Some(term) => sets.push(seed.apart(term))?,
                 None => row = joined,
             }
         }
@@ -38,8 +50,31 @@ pub fn grow(alloc: Global, seed: Term, others: &[Term], off: &Index) -> Result<T
     Ok(row)
 }
 
-/// The row with a dash at the column, or the row itself where it would hold a value of off.
-fn dashed(row: Term, column: u32, off: &Index) -> Term
+/// The row widened to hold the other term whole, or the row itself where it would hold a value of off.
+pub fn widened(row: Term, other: Term, off: &Index) -> Term
+    requires { IsClear (terms_of off.now) row }
+    ensures { IsGrown row (terms_of off.now) result }
+{
+    let joined = row.joined(other);
+    match off.met_by(joined) {
+        Some(_) => row,
+        None => joined,
+    }
+}
+
+/// Whether a term of off touches what the row has in common with the other term.
+fn is_met_within(row: Term, other: Term, off: &Index) -> bool
+    ensures { IsTrue result → MeetsSome (terms_of off.now) row }
+{
+    match row.meet(other) {
+        Some(part) => off.met_by(part).is_some(),
+        None => false,
+    }
+}
+
+/// The row with a dash at the column, or the row itself where it would hold a value of off. The term, if there is
+/// one, is asked first: a search for the little that it has in common with the row is short.
+fn dashed(row: Term, column: u32, reason: Option<Term>, off: &Index) -> Term
     requires column { column < 128 }
     requires clear { IsClear (terms_of off.now) row }
     ensures looser { IsLooser result row }
@@ -51,14 +86,19 @@ fn dashed(row: Term, column: u32, off: &Index) -> Term
     if wider.care == row.care {
         return row;
     }
+    if let Some(term) = reason {
+        if is_met_within(wider, term, off) {
+            return row;
+        }
+    }
     match off.met_by(wider) {
         Some(_) => row,
         None => wider,
     }
 }
 
-/// Replaces literals by dashes as long as no value of off is held.
-pub fn raise(row: Term, off: &Index, width: u8) -> Term
+/// Replaces literals by dashes as long as no value of off is held. A term at the place of a column is asked first.
+pub fn raise(row: Term, off: &Index, width: u8, reasons: &[Option<Term>]) -> Term
     requires width { width ≤ 128 }
     requires fits { FitsWidth width row }
     requires clear { IsClear (terms_of off.now) row }
@@ -69,7 +109,8 @@ pub fn raise(row: Term, off: &Index, width: u8) -> Term
 {
     let mut raised = row;
     for column in 0..u32::from(width) {
-        raised = dashed(raised, column, off);
+        let reason = reasons.get(column as usize).copied().flatten();
+        raised = dashed(raised, column, reason, off);
     }
     raised
 }

@@ -42,6 +42,11 @@ impl Term {
         (self.value ^ other.value) & self.care & other.care == 0
     }
 
+    /// The columns at which the terms have different literals.
+    pub(crate) fn apart(self, other: Term) -> u128 {
+        (self.value ^ other.value) & self.care & other.care
+    }
+
     /// Whether each value of the other term is held by this one.
     pub(crate) fn includes(self, other: Term) -> bool
         ensures test { result ≡ refines self other }

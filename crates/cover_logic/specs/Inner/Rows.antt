@@ -2,7 +2,7 @@
 use Rattle.std.specs.Prelude.{ℕ, ◌≤◌, List, ◌++◌, ◌↔◌, All, Contains, EachIndex, Option, MatchOption, remove}
 use Rattle.cover_logic.specs.declared.term.Term.{Term}
 use Rattle.cover_logic.specs.Inner.Pair.{Includes}
-use Rattle.cover_logic.specs.Term.{LooksAt, Holds, HoldsWithDash, IsCovered}
+use Rattle.cover_logic.specs.Term.{FitsWidth, LooksAt, Holds, HoldsWithDash, IsCovered}
 
 -- no value of the term is held by the list
 abbrev pub IsClear : List Term → Term → Type 0
@@ -11,6 +11,10 @@ IsClear terms t = (x : ℕ) → Holds t x → IsCovered terms x → ⊥
 -- with a dash in place of its literal at the column the term holds a value of off
 abbrev pub NeedsLiteral : List Term → Term → ℕ → Type 0
 NeedsLiteral off t column = (x : ℕ) × IsCovered off x × HoldsWithDash t column x
+
+-- some value of the term is held by a term of the list
+abbrev pub MeetsSome : List Term → Term → Type 0
+MeetsSome terms t = (x : ℕ) × IsCovered terms x × Holds t x
 
 -- each literal is needed
 abbrev pub IsPrime : List Term → Term → Type 0
@@ -21,6 +25,13 @@ pub record IsGrown (seed : Term) (off : List Term) (row : Term) : Type 0 where
   pub includes : Includes row seed
   pub clear : IsClear off row
   pub care : row.care ≤ seed.care
+
+-- a term that holds what the seed holds and no value of off, and needs each of its literals
+pub record IsPrimeRow (seed : Term) (off : List Term) (width : ℕ) (row : Term) : Type 0 where
+  pub includes : Includes row seed
+  pub clear : IsClear off row
+  pub prime : IsPrime off row
+  pub fits : FitsWidth width row
 
 -- a value of the term that the list does not hold, or none where it holds each of them
 abbrev pub IsUncovered : Term → List Term → Option ℕ → Type 0

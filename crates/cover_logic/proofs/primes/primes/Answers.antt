@@ -21,12 +21,12 @@ loop-seed-smaller c =
 pub loop-seed-preserved : goal.loop-seed-preserved
 loop-seed-preserved c =
     let popped : c.loop-seed.left.items ≡ c.pop.new.self.items ++ c.in-Some.seed ∷ [] = search rules in
-    let pushed : c.push.new.self.items ≡ c.loop-seed.rows.items ++ c.raise-row.result ∷ [] = search rules in
+    let pushed : c.push.new.self.items ≡ c.loop-seed.rows.items ++ c.in_ok-row.row ∷ [] = search rules in
     let before : ArePrimes c.args.on.now (terms_of c.args.off.now) c.args.width (c.pop.new.self.items ++ c.in-Some.seed ∷ []) c.loop-seed.rows.items =
     subst (λ (left : List Term). ArePrimes c.args.on.now (terms_of c.args.off.now) c.args.width left c.loop-seed.rows.items) popped c.loop-seed.invariant in
-    let raised = c.raise-row.ensures in
+    let row = c.in_ok-row.ensures in
     rw (c.drop_included.ensures.kept, pushed)
-    (primes_more _ _ _ _ _ c.in-Some.seed c.raise-row.result before (λ x p. raised.includes x (c.in_ok-grown.ensures.includes x p)) raised.clear raised.prime raised.fits)
+    (primes_more _ _ _ _ _ c.in-Some.seed c.in_ok-row.row before row.includes row.clear row.prime row.fits)
 
 pub returns-clause-covers : goal.returns-clause-covers
 returns-clause-covers c = λ x h.

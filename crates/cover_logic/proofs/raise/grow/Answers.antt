@@ -4,15 +4,15 @@ use Rattle.cover_logic.specs.Inner.Index.{terms_of}
 use Rattle.cover_logic.specs.Inner.Rows.{IsGrown}
 use Rattle.cover_logic.proofs.Raising.{grown_seed, grown_wider}
 use Rattle.cover_logic.proofs.raise.grow.Goals as goal
-use Rattle.cover_logic.proofs.raise.grow.Goals.{then-is_clear+in-Some+in_ok-push-in-Some, then-is_clear+in-None, else-is_clear}
+use Rattle.cover_logic.proofs.raise.grow.Goals.{then-has_each+in-Some+in_ok-push-in-Some, then-has_each+in-None, else-has_each}
 
 pub loop-other-preserved : goal.loop-other-preserved
 loop-other-preserved c =
     let P : Term → Type 0 = λ row. IsGrown c.args.seed (terms_of c.args.off.now) row in
-    elim c.if-is_clear.branch [
-      | then-is_clear+in-Some+in_ok-push-in-Some w ↦ subst P (sym w.row-is) c.loop-other.invariant
-      | then-is_clear+in-None w ↦
+    elim c.if-has_each.branch [
+      | then-has_each+in-Some+in_ok-push-in-Some w ↦ subst P (sym w.row-is) c.loop-other.invariant
+      | then-has_each+in-None w ↦
           subst P (sym w.row-is)
           (grown_wider _ _ c.loop-other.row _ c.loop-other.invariant c.joined-joined.ensures.left c.joined-joined.ensures.care w.in-None.ensures)
-      | else-is_clear w ↦ subst P (sym w.row-is) c.loop-other.invariant
+      | else-has_each w ↦ subst P (sym w.row-is) c.loop-other.invariant
     ]

@@ -1,0 +1,330 @@
+//! The terms of a list by their columns, so that one step asks 128 terms at once. Nothing is promised of
+//! what is answered: it is advice, and whoever takes it asks an index before a row is changed.
+
+ghost use Rattle.std.specs.Prelude.{◌≤◌};
+
+use crate::term::Term;
+use std::alloc::{AllocError, Global};
+
+/// The column whose bit alone `bit` has, and which terms have a literal 0 and a literal 1 there: term 128 * i + k
+/// of the list stands at bit k of word i.
+#[derive(Drop)]
+struct Column {
+    bit: u128,
+    zeros: Vec<u128>,
+    ones: Vec<u128>,
+}
+
+impl Column {
+    fn is_literal_of(&self, row: Term) -> bool {
+        row.care & self.bit != 0
+    }
+
+    /// The terms with the literal of the row.
+    fn with(&self, row: Term) -> &[u128] {
+        if row.value & self.bit == 0 {
+            &self.zeros
+        } else {
+            &self.ones
+        }
+    }
+
+    /// The terms with the other literal.
+    fn against(&self, row: Term) -> &[u128] {
+        if row.value & self.bit == 0 {
+            &self.ones
+        } else {
+            &self.zeros
+        }
+    }
+}
+
+/// At how many columns each of 128 terms stands against a row: the bits of a number up to 7, or `more`.
+#[derive(Clone, Copy)]
+struct Count {
+    ones: u128,
+    twos: u128,
+    fours: u128,
+    more: u128,
+}
+
+impl Count {
+    /// One more for each term of the set.
+    fn plus(self, set: u128) -> Count {
+        let twos = self.ones & set;
+        let fours = self.twos & twos;
+        Count {
+            ones: self.ones ^ set,
+            twos: self.twos ^ twos,
+            fours: self.fours ^ fours,
+            more: self.more | self.fours & fours,
+        }
+    }
+
+    /// The terms with that number, from 1 to 7.
+    fn at(self, number: u32) -> u128 {
+        let ones = if number & 1 == 0 {
+            !self.ones
+        } else {
+            self.ones
+        };
+        let twos = if number & 2 == 0 {
+            !self.twos
+        } else {
+            self.twos
+        };
+        let fours = if number & 4 == 0 {
+            !self.fours
+        } else {
+            self.fours
+        };
+        ones & twos & fours & !self.more
+    }
+}
+
+/// How far a row may go: a term to widen it to, and for each column a term that stands against a dash there.
+#[derive(Drop)]
+pub struct Advice {
+    pub wide: Term,
+    pub reasons: Vec<Option<Term>>,
+}
+
+#[derive(Drop)]
+pub struct Slices {
+    terms: Vec<Term>,
+    columns: Vec<Column>,
+    /// The terms that are asked for.
+    live: Vec<u128>,
+}
+
+impl Slices {
+    pub fn new(alloc: Global, terms: &[Term], width: u8) -> Result<Slices, AllocError>
+        requires { width ≤ 128 }
+    {
+        let mut columns = Vec::new(alloc);
+        for column in 0..u32::from(width) {
+            let bit = 1u128 << column;
+            columns.push(Column {
+                bit,
+                zeros: places(alloc, terms, bit, 0)?,
+                ones: places(alloc, terms, bit, bit)?,
+            })?;
+        }
+        Ok(Slices {
+            terms: Vec::from_slice(alloc, terms)?,
+            columns,
+            live: places(alloc, terms, 0, 0)?,
+        })
+    }
+
+    /// Asks no longer for the terms that the row holds whole.
+    pub fn drop_included(&mut self, alloc: Global, row: Term) -> Result<(), AllocError> {
+        let mut inside = self.live.clone()?;
+        for column in &self.columns {
+            if column.is_literal_of(row) {
+                keep(&mut inside, column.with(row));
+            }
+        }
+        for (word, gone) in self.live.iter_mut().zip(&inside) {
+            *word &= !*gone;
+        }
+        Ok(())
+    }
+
+    /// The columns at which terms stand against the row, for at most so many terms: those of few columns first,
+    /// and none of more than 7.
+    pub fn nearest(&self, alloc: Global, row: Term, most: usize) -> Result<Vec<u128>, AllocError> {
+        let mut counts = Vec::new(alloc);
+        for word in &self.live {
+            counts.push(Count {
+                ones: 0,
+                twos: 0,
+                fours: 0,
+                more: !*word,
+            })?;
+        }
+        for column in &self.columns {
+            if column.is_literal_of(row) {
+                tally(&mut counts, column.against(row));
+            }
+        }
+        let mut sets = Vec::new(alloc);
+        for number in 1..8 {
+            for (i, count) in counts.iter().enumerate() {
+                self.put_sets(&mut sets, row, i, count.at(number), most)?;
+            }
+        }
+        Ok(sets)
+    }
+
+    /// Puts the columns of the terms of one word behind the others, as long as they are fewer than `most`.
+    fn put_sets(
+        &self,
+        sets: &mut Vec<u128>,
+        row: Term,
+        word: usize,
+        found: u128,
+        most: usize,
+    ) -> Result<(), AllocError> {
+        let mut found = found;
+        for _ in 0..128 {
+            if found == 0 || sets.len() >= most {
+                break;
+            }
+            if let Some(term) = self.term_at(word, found) {
+                sets.push(row.apart(term))?;
+            }
+            found &= found - 1;
+        }
+        Ok(())
+    }
+
+    /// The term at the lowest bit of the word of that number.
+    fn term_at(&self, word: usize, found: u128) -> Option<Term> {
+        let place = word
+            .saturating_mul(128)
+            .saturating_add(found.trailing_zeros() as usize);
+        self.terms.get(place).copied()
+    }
+
+    /// The terms that have the literal of the row at a column of each set.
+    pub fn joinable(
+        &self,
+        alloc: Global,
+        row: Term,
+        sets: &[u128],
+    ) -> Result<Vec<Term>, AllocError> {
+        let mut terms = Vec::new(alloc);
+        for (i, word) in self.live.iter().enumerate() {
+            let mut found = self.joinable_at(i, *word, row, sets);
+            for _ in 0..128 {
+                if found == 0 {
+                    break;
+                }
+                if let Some(term) = self.term_at(i, found) {
+                    terms.push(term)?;
+                }
+                found &= found - 1;
+            }
+        }
+        Ok(terms)
+    }
+
+    /// Those of one word.
+    fn joinable_at(&self, word: usize, live: u128, row: Term, sets: &[u128]) -> u128 {
+        let mut left = live;
+        for set in sets {
+            if left == 0 {
+                break;
+            }
+            left &= self.with_any(word, row, *set);
+        }
+        left
+    }
+
+    /// The terms of one word that have the literal of the row at some column of the set.
+    fn with_any(&self, word: usize, row: Term, set: u128) -> u128 {
+        let mut any = 0;
+        let mut set = set;
+        for _ in 0..128 {
+            if set == 0 {
+                break;
+            }
+            if let Some(column) = self.columns.get(set.trailing_zeros() as usize) {
+                if let Some(with) = column.with(row).get(word) {
+                    any |= *with;
+                }
+            }
+            set &= set - 1;
+        }
+        any
+    }
+
+    /// What the row comes to when each literal in turn becomes a dash as long as it touches no term.
+    pub fn advice(&self, alloc: Global, row: Term) -> Result<Advice, AllocError> {
+        let mut later = self.later(alloc, row)?;
+        let mut kept = Vec::new(alloc);
+        for word in &self.live {
+            kept.push(!*word)?;
+        }
+        let mut dashes = 0;
+        let mut reasons = Vec::new(alloc);
+        for column in &self.columns {
+            let mut reason = None;
+            if column.is_literal_of(row) {
+                let rest = later.pop().unwrap_or(Vec::new(alloc));
+                reason = self.first_open(&kept, &rest);
+                if reason.is_some() {
+                    unite(&mut kept, column.against(row));
+                } else {
+                    dashes |= column.bit;
+                }
+            }
+            reasons.push(reason)?;
+        }
+        Ok(Advice {
+            wide: Term::masked(row.care & !dashes, row.value),
+            reasons,
+        })
+    }
+
+    /// For each literal of the row, from the last to the first, the terms against a literal behind it.
+    fn later(&self, alloc: Global, row: Term) -> Result<Vec<Vec<u128>>, AllocError> {
+        let mut later = Vec::new(alloc);
+        let mut all = Vec::new(alloc);
+        for _ in &self.live {
+            all.push(0)?;
+        }
+        for column in self.columns.iter().rev() {
+            if column.is_literal_of(row) {
+                later.push(all.clone()?)?;
+                unite(&mut all, column.against(row));
+            }
+        }
+        Ok(later)
+    }
+
+    /// The first term in neither set.
+    fn first_open(&self, kept: &[u128], later: &[u128]) -> Option<Term> {
+        for (i, (a, b)) in kept.iter().zip(later).enumerate() {
+            let open = !(*a | *b);
+            if open != 0 {
+                return self.term_at(i, open);
+            }
+        }
+        None
+    }
+}
+
+/// A bit for each term that has at the columns of `mask` the literals of `value`.
+fn places(alloc: Global, terms: &[Term], mask: u128, value: u128) -> Result<Vec<u128>, AllocError> {
+    let mut words = Vec::new(alloc);
+    for chunk in terms.chunks(128) {
+        let mut word = 0;
+        for (i, term) in chunk.iter().enumerate() {
+            if i < 128 && term.care & mask == mask && term.value & mask == value {
+                word |= 1u128 << i;
+            }
+        }
+        words.push(word)?;
+    }
+    Ok(words)
+}
+
+fn unite(all: &mut [u128], set: &[u128]) {
+    for (word, more) in all.iter_mut().zip(set) {
+        *word |= *more;
+    }
+}
+
+fn keep(all: &mut [u128], set: &[u128]) {
+    for (word, more) in all.iter_mut().zip(set) {
+        *word &= *more;
+    }
+}
+
+fn tally(counts: &mut [Count], set: &[u128]) {
+    for (count, more) in counts.iter_mut().zip(set) {
+        *count = count.plus(*more);
+    }
+}
