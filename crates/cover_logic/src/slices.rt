@@ -194,50 +194,44 @@ impl Slices {
         row: Term,
         sets: &[u128],
     ) -> Result<Vec<Term>, AllocError> {
+        let mut left = self.live.clone()?;
+        let mut any = self.live.clone()?;
+        for set in sets {
+            self.gather(&mut any, row, *set);
+            keep(&mut left, &any);
+        }
         let mut terms = Vec::new(alloc);
-        for (i, word) in self.live.iter().enumerate() {
-            let mut found = self.joinable_at(i, *word, row, sets);
-            for _ in 0..128 {
-                if found == 0 {
-                    break;
-                }
-                if let Some(term) = self.term_at(i, found) {
-                    terms.push(term)?;
-                }
-                found &= found - 1;
-            }
+        for (i, word) in left.iter().enumerate() {
+            self.put_terms(&mut terms, i, *word)?;
         }
         Ok(terms)
     }
 
-    /// Those of one word.
-    fn joinable_at(&self, word: usize, live: u128, row: Term, sets: &[u128]) -> u128 {
-        let mut left = live;
-        for set in sets {
-            if left == 0 {
-                break;
-            }
-            left &= self.with_any(word, row, *set);
+    /// Makes `any` the terms that have the literal of the row at some column of the set.
+    fn gather(&self, any: &mut [u128], row: Term, set: u128) {
+        for word in any.iter_mut() {
+            *word = 0;
         }
-        left
+        for column in &self.columns {
+            if set & column.bit != 0 {
+                unite(any, column.with(row));
+            }
+        }
     }
 
-    /// The terms of one word that have the literal of the row at some column of the set.
-    fn with_any(&self, word: usize, row: Term, set: u128) -> u128 {
-        let mut any = 0;
-        let mut set = set;
+    /// Puts the terms of one word behind the others.
+    fn put_terms(&self, terms: &mut Vec<Term>, word: usize, found: u128) -> Result<(), AllocError> {
+        let mut found = found;
         for _ in 0..128 {
-            if set == 0 {
+            if found == 0 {
                 break;
             }
-            if let Some(column) = self.columns.get(set.trailing_zeros() as usize) {
-                if let Some(with) = column.with(row).get(word) {
-                    any |= *with;
-                }
+            if let Some(term) = self.term_at(word, found) {
+                terms.push(term)?;
             }
-            set &= set - 1;
+            found &= found - 1;
         }
-        any
+        Ok(())
     }
 
     /// What the row comes to when each literal in turn becomes a dash as long as it touches no term.
