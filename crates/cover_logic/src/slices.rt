@@ -1,4 +1,4 @@
-//! The terms of a list by their columns, so that one step asks 128 terms at once. Nothing is promised of
+//! The terms of a list by their columns, so that one step asks 64 terms at once. Nothing is promised of
 //! what is answered: it is advice, and whoever takes it asks an index before a row is changed.
 
 ghost use Rattle.std.specs.Prelude.{◌≤◌};
@@ -6,13 +6,13 @@ ghost use Rattle.std.specs.Prelude.{◌≤◌};
 use crate::term::Term;
 use std::alloc::{AllocError, Global};
 
-/// The column whose bit alone `bit` has, and which terms have a literal 0 and a literal 1 there: term 128 * i + k
+/// The column whose bit alone `bit` has, and which terms have a literal 0 and a literal 1 there: term 64 * i + k
 /// of the list stands at bit k of word i.
 #[derive(Drop)]
 struct Column {
     bit: u128,
-    zeros: Vec<u128>,
-    ones: Vec<u128>,
+    zeros: Vec<u64>,
+    ones: Vec<u64>,
 }
 
 impl Column {
@@ -21,7 +21,7 @@ impl Column {
     }
 
     /// The terms with the literal of the row.
-    fn with(&self, row: Term) -> &[u128] {
+    fn with(&self, row: Term) -> &[u64] {
         if row.value & self.bit == 0 {
             &self.zeros
         } else {
@@ -30,7 +30,7 @@ impl Column {
     }
 
     /// The terms with the other literal.
-    fn against(&self, row: Term) -> &[u128] {
+    fn against(&self, row: Term) -> &[u64] {
         if row.value & self.bit == 0 {
             &self.ones
         } else {
@@ -39,18 +39,18 @@ impl Column {
     }
 }
 
-/// At how many columns each of 128 terms stands against a row: the bits of a number up to 7, or `more`.
+/// At how many columns each of 64 terms stands against a row: the bits of a number up to 7, or `more`.
 #[derive(Clone, Copy)]
 struct Count {
-    ones: u128,
-    twos: u128,
-    fours: u128,
-    more: u128,
+    ones: u64,
+    twos: u64,
+    fours: u64,
+    more: u64,
 }
 
 impl Count {
     /// One more for each term of the set.
-    fn plus(self, set: u128) -> Count {
+    fn plus(self, set: u64) -> Count {
         let twos = self.ones & set;
         let fours = self.twos & twos;
         Count {
@@ -62,7 +62,7 @@ impl Count {
     }
 
     /// The terms with that number, from 1 to 7.
-    fn at(self, number: u32) -> u128 {
+    fn at(self, number: u32) -> u64 {
         let ones = if number & 1 == 0 {
             !self.ones
         } else {
@@ -89,12 +89,15 @@ pub struct Advice {
     pub reasons: Vec<Option<Term>>,
 }
 
+/// How many sets are asked of all terms; those that are left are few enough to be asked one by one.
+const ASKED_SETS: usize = 32;
+
 #[derive(Drop)]
 pub struct Slices {
     terms: Vec<Term>,
     columns: Vec<Column>,
     /// The terms that are asked for.
-    live: Vec<u128>,
+    live: Vec<u64>,
 }
 
 impl Slices {
@@ -163,11 +166,11 @@ impl Slices {
         sets: &mut Vec<u128>,
         row: Term,
         word: usize,
-        found: u128,
+        found: u64,
         most: usize,
     ) -> Result<(), AllocError> {
         let mut found = found;
-        for _ in 0..128 {
+        for _ in 0..64 {
             if found == 0 || sets.len() >= most {
                 break;
             }
@@ -180,14 +183,14 @@ impl Slices {
     }
 
     /// The term at the lowest bit of the word of that number.
-    fn term_at(&self, word: usize, found: u128) -> Option<Term> {
+    fn term_at(&self, word: usize, found: u64) -> Option<Term> {
         let place = word
-            .saturating_mul(128)
+            .saturating_mul(64)
             .saturating_add(found.trailing_zeros() as usize);
         self.terms.get(place).copied()
     }
 
-    /// The terms that have the literal of the row at a column of each set.
+    /// The terms that have the literal of the row at a column of each set, as far as the first sets tell.
     pub fn joinable(
         &self,
         alloc: Global,
@@ -196,7 +199,7 @@ impl Slices {
     ) -> Result<Vec<Term>, AllocError> {
         let mut left = self.live.clone()?;
         let mut any = self.live.clone()?;
-        for set in sets {
+        for set in sets.iter().take(ASKED_SETS) {
             self.gather(&mut any, row, *set);
             keep(&mut left, &any);
         }
@@ -208,7 +211,7 @@ impl Slices {
     }
 
     /// Makes `any` the terms that have the literal of the row at some column of the set.
-    fn gather(&self, any: &mut [u128], row: Term, set: u128) {
+    fn gather(&self, any: &mut [u64], row: Term, set: u128) {
         for word in any.iter_mut() {
             *word = 0;
         }
@@ -220,9 +223,9 @@ impl Slices {
     }
 
     /// Puts the terms of one word behind the others.
-    fn put_terms(&self, terms: &mut Vec<Term>, word: usize, found: u128) -> Result<(), AllocError> {
+    fn put_terms(&self, terms: &mut Vec<Term>, word: usize, found: u64) -> Result<(), AllocError> {
         let mut found = found;
-        for _ in 0..128 {
+        for _ in 0..64 {
             if found == 0 {
                 break;
             }
@@ -263,7 +266,7 @@ impl Slices {
     }
 
     /// For each literal of the row, from the last to the first, the terms against a literal behind it.
-    fn later(&self, alloc: Global, row: Term) -> Result<Vec<Vec<u128>>, AllocError> {
+    fn later(&self, alloc: Global, row: Term) -> Result<Vec<Vec<u64>>, AllocError> {
         let mut later = Vec::new(alloc);
         let mut all = Vec::new(alloc);
         for _ in &self.live {
@@ -279,7 +282,7 @@ impl Slices {
     }
 
     /// The first term in neither set.
-    fn first_open(&self, kept: &[u128], later: &[u128]) -> Option<Term> {
+    fn first_open(&self, kept: &[u64], later: &[u64]) -> Option<Term> {
         for (i, (a, b)) in kept.iter().zip(later).enumerate() {
             let open = !(*a | *b);
             if open != 0 {
@@ -291,13 +294,13 @@ impl Slices {
 }
 
 /// A bit for each term that has at the columns of `mask` the literals of `value`.
-fn places(alloc: Global, terms: &[Term], mask: u128, value: u128) -> Result<Vec<u128>, AllocError> {
+fn places(alloc: Global, terms: &[Term], mask: u128, value: u128) -> Result<Vec<u64>, AllocError> {
     let mut words = Vec::new(alloc);
-    for chunk in terms.chunks(128) {
+    for chunk in terms.chunks(64) {
         let mut word = 0;
         for (i, term) in chunk.iter().enumerate() {
-            if i < 128 && term.care & mask == mask && term.value & mask == value {
-                word |= 1u128 << i;
+            if i < 64 && term.care & mask == mask && term.value & mask == value {
+                word |= 1u64 << i;
             }
         }
         words.push(word)?;
@@ -305,19 +308,19 @@ fn places(alloc: Global, terms: &[Term], mask: u128, value: u128) -> Result<Vec<
     Ok(words)
 }
 
-fn unite(all: &mut [u128], set: &[u128]) {
+fn unite(all: &mut [u64], set: &[u64]) {
     for (word, more) in all.iter_mut().zip(set) {
         *word |= *more;
     }
 }
 
-fn keep(all: &mut [u128], set: &[u128]) {
+fn keep(all: &mut [u64], set: &[u64]) {
     for (word, more) in all.iter_mut().zip(set) {
         *word &= *more;
     }
 }
 
-fn tally(counts: &mut [Count], set: &[u128]) {
+fn tally(counts: &mut [Count], set: &[u64]) {
     for (count, more) in counts.iter_mut().zip(set) {
         *count = count.plus(*more);
     }
