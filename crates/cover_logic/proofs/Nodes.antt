@@ -1,14 +1,14 @@
-use Rattle.std.proofs.Common.{◌≡◌, ℕ, ◌+◌, ◌-◌, ◌<◌, ◌≤◌, ◌∙◌, Bool, true, false, not, ◌==◌, ◌&&◌, bit_and, List, [], ◌∷◌, ◌++◌, length, get_or, cond, ap, sym, subst, refl, inl, inr, ◌⊎◌, ⊎_elim, append_assoc, arith, zero, suc}
+use Rattle.std.proofs.Common.{◌≡◌, ℕ, ◌+◌, ◌-◌, ◌<◌, ◌≤◌, ◌∙◌, Bool, true, false, not, ◌==◌, ◌&&◌, bit_and, List, [], ◌∷◌, ◌++◌, length, get_or, cond, ap, sym, subst, refl, ⊎_elim, append_assoc, arith, zero, suc}
 use Rattle.std.specs.List.{All, Contains, filter}
 use Rattle.std.proofs.lemmas.Bool.{false≢true, cases_Bool, cases_lt, cases_eq, cond-true, cond-false}
 use Rattle.std.proofs.lemmas.List.{length-append, get_or_append_left, get_or-append_right, get_or_default, append-nil}
-use Rattle.std.proofs.lemmas.List.Elements.{All-nil, All-append, All-contains, All-weaker, All-push, Contains-append_left, Contains-append_right, Contains-append_cases, Contains-get_or, Contains-push, All-contains_itself}
+use Rattle.std.proofs.lemmas.List.Elements.{All-nil, All-append, All-contains, All-weaker, Contains-append_left, Contains-append_right, Contains-append_cases, Contains-get_or, All-contains_itself}
 use Rattle.cover_logic.specs.declared.index.Node.{Node}
 use Rattle.cover_logic.specs.declared.term.Term.{Term}
 use Rattle.cover_logic.specs.Inner.Nodes.{listed, IsNested, IsAdded}
 use Rattle.cover_logic.specs.Term.{Holds}
 use Rattle.cover_logic.specs.Inner.Pair.{Includes, ShareValue, agree, has_zero, has_one, has_dash}
-use Rattle.cover_logic.specs.Inner.Rows.{HasSameTerms, IsClear}
+use Rattle.cover_logic.specs.Inner.Rows.{HasSameTerms, IsClear, MeetsSome}
 use Rattle.cover_logic.proofs.Terms.{agree_from_shared, shared_from_agree}
 use Rattle.cover_logic.proofs.Lists.{Contains-head, Contains-tail, Contains-nil, Contains-cons_cases, Contains-filter, Contains-from_filter}
 
@@ -209,6 +209,13 @@ met_at row nodes end at n a e is l some = (
   subst (λ (m : Node). Contains (listed nodes) m.term) (sym is) (listed_at nodes at n (let w = a.within in omega arith) (subst (λ (m : Node). m.is_listed ≡ true) is l)),
   shared_from_agree row n.term some,
 )
+
+-- a term of the list at a place
+pub met_there : (row : Term) (nodes : List Node) (at : ℕ) (n : Node) → at < length nodes → n ≡ get_or nodes at n → n.is_listed ≡ true → agree row n.term ≡ true → MeetsSome (listed nodes) row
+met_there row nodes at n below is l some =
+    let x = shared_from_agree row n.term some in
+    let there = subst (λ (m : Node). Contains (listed nodes) m.term) (sym is) (listed_at nodes at n below (subst (λ (m : Node). m.is_listed ≡ true) is l)) in
+    (x.0, (n.term, there, x.2), x.1)
 
 -- each term has a 0, a 1 or a dash at a column
 pub parts_same : (column : ℕ) (terms : List Term) → HasSameTerms terms ((filter (has_zero column) terms ++ filter (has_one column) terms) ++ filter (has_dash column) terms)

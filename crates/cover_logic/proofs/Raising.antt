@@ -1,11 +1,10 @@
-use Rattle.std.proofs.Common.{◌≡◌, ℕ, ◌+◌, ◌<◌, ◌≤◌, ◌∙◌, Bool, true, false, not, IsTrue, refl, List, Option, None, Some, MatchOption, sym, ◌↔◌, ⊎_elim, subst, arith}
+use Rattle.std.proofs.Common.{◌≡◌, ℕ, ◌+◌, ◌<◌, ◌≤◌, ◌∙◌, Bool, true, false, not, IsTrue, refl, List, sym, ◌↔◌, ⊎_elim, subst, arith}
 use Rattle.std.specs.List.{Contains, list_any}
-use Rattle.std.specs.Option.{is_some}
 use Rattle.std.proofs.lemmas.Bool.{false≢true, cases_Bool, cases_eq, not_from_false}
 use Rattle.cover_logic.specs.declared.term.Term.{Term}
 use Rattle.cover_logic.specs.Term.{FitsWidth, Holds, HoldsWithDash, IsCovered, LooksAt}
-use Rattle.cover_logic.specs.Inner.Pair.{Includes, IsIntersection, IsLooser, ShareValue, agree}
-use Rattle.cover_logic.specs.Inner.Rows.{IsClear, IsGrown, IsPrime, IsPrimeRow, MeetsSome, NeedsLiteral}
+use Rattle.cover_logic.specs.Inner.Pair.{Includes, IsLooser, ShareValue, agree}
+use Rattle.cover_logic.specs.Inner.Rows.{IsClear, IsGrown, IsPrime, NeedsLiteral}
 use Rattle.cover_logic.proofs.Bits.{below_width}
 use Rattle.cover_logic.proofs.Terms.{agree_from_shared, shared_from_agree, looser_holds, looser_with_dash}
 use Rattle.cover_logic.proofs.Lists.{passes_from_any, fails_from_none}
@@ -82,8 +81,3 @@ raised_once row off width n t wide r looser clear here care = record {
 -- a term of off that a term with a dash shares a value with is the reason for the literal
 pub needed_from_met : (off : List Term) (t wide met : Term) (column : ℕ) → ((x : ℕ) → Holds wide x ↔ HoldsWithDash t column x) → Contains off met → ShareValue wide met → NeedsLiteral off t column
 needed_from_met off t wide met column dash in' share = (share.0, (met, in', share.2), (dash share.0).0 share.1)
-
--- a term that shares a value with what two terms have in common shares it with the first
-pub met_within : (off : List Term) (row other part : Term) → IsIntersection row other part → (met : Option Term) → MatchOption met (IsClear off part) (λ t. Contains off t × ShareValue part t) → is_some met ≡ true → MeetsSome off row
-met_within off row other part both None clear some = absurd (false≢true some)
-met_within off row other part both (Some t) share some = let x = share.1 in (x.0, (t, share.0, x.2), ((both x.0).0 x.1).0)

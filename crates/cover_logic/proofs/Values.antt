@@ -1,12 +1,12 @@
-use Rattle.std.proofs.Common.{◌≡◌, ℕ, List, [], ◌∷◌, ◌++◌, ⊎_elim, get_or, sym, subst}
+use Rattle.std.proofs.Common.{ℕ, List, [], ◌∷◌, ◌++◌, ⊎_elim, get_or}
 use Rattle.std.specs.List.{All, Contains}
 use Rattle.std.specs.List.Sorted.{IsPermutation}
 use Rattle.std.proofs.lemmas.List.Elements.{All-contains, All-nil, All-push, All-weaker, Contains-append_left, Contains-get_or, Contains-push}
 use Rattle.std.proofs.lemmas.List.Sorted.{Contains-permutation, IsPermutation-sym}
 use Rattle.cover_logic.specs.declared.term.Term.{Term}
-use Rattle.cover_logic.specs.Term.{FitsWidth, Holds, IsCovered}
-use Rattle.cover_logic.specs.Inner.Rows.{Covers, HasSameTerms, HasSameValues, IsWithinOne}
-use Rattle.cover_logic.proofs.Lists.{held_left, held_none, held_push, held_push_cases}
+use Rattle.cover_logic.specs.Term.{IsCovered}
+use Rattle.cover_logic.specs.Inner.Rows.{HasSameTerms, HasSameValues, IsWithinOne}
+use Rattle.cover_logic.proofs.Lists.{held_left, held_push, held_push_cases}
 
 pub values_none : HasSameValues [] []
 values_none = record { among = All-nil (Contains []); covers = λ x h. h }

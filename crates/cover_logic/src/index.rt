@@ -23,10 +23,10 @@ pub struct Index {
 }
 
 impl Index {
-    ghost use Rattle.std.specs.Prelude.{◌≤◌, Contains, IfOk, MatchOption};
+    ghost use Rattle.std.specs.Prelude.{◌≤◌, Contains, IfOk, IsTrue, MatchOption};
     ghost use Rattle.cover_logic.specs.Inner.Index.{terms_of};
     ghost use Rattle.cover_logic.specs.Inner.Pair.{ShareValue};
-    ghost use Rattle.cover_logic.specs.Inner.Rows.{HasSameTerms, IsClear};
+    ghost use Rattle.cover_logic.specs.Inner.Rows.{HasSameTerms, IsClear, MeetsSome};
 
     /// The index of the terms. It is split by columns below the width alone.
     pub fn new(alloc: Global, terms: &[Term], width: u8) -> Result<Index, AllocError>
@@ -56,6 +56,42 @@ impl Index {
             }
         }
         None
+    }
+
+    /// Whether the node at the place stands for a term of the list that shares a value with the row.
+    pub fn is_met_at(&self, place: usize, row: Term) -> bool
+        ensures { IsTrue result → MeetsSome (terms_of self.now) row }
+    {
+        if place >= self.nodes.len() {
+            return false;
+        }
+        let node = self.nodes[place];
+        if !node.is_listed {
+            return false;
+        }
+        row.touches(node.term)
+    }
+
+    /// The terms of the list, in the order of the nodes.
+    pub fn terms(&self, alloc: Global) -> Result<Vec<Term>, AllocError> {
+        let mut terms = Vec::new(alloc);
+        for node in &self.nodes {
+            if node.is_listed {
+                terms.push(node.term)?;
+            }
+        }
+        Ok(terms)
+    }
+
+    /// The places of their nodes.
+    pub fn places(&self, alloc: Global) -> Result<Vec<usize>, AllocError> {
+        let mut places = Vec::new(alloc);
+        for (place, node) in self.nodes.iter().enumerate() {
+            if node.is_listed {
+                places.push(place)?;
+            }
+        }
+        Ok(places)
     }
 }
 

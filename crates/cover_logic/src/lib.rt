@@ -77,6 +77,6 @@ pub fn cover(alloc: Global, on: &[Term], off: &[Term], width: u8) -> Result<Vec<
     let ones = distinct(alloc, on)?;
     let zeros = distinct(alloc, off)?;
     let index = Index::new(alloc, &zeros, width)?;
-    let rows = primes(alloc, &ones, &zeros, &index, width)?;
+    let rows = primes(alloc, &ones, &index, width)?;
     without_spare(alloc, &rows, &ones)
 }

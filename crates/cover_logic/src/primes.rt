@@ -23,6 +23,8 @@ fn drop_included(terms: &mut Vec<Term>, row: Term)
 struct Guide {
     on: Slices,
     off: Slices,
+    /// The places in the index of the terms of off.
+    places: Vec<usize>,
 }
 
 /// The fewest columns and the fewest terms of a list for which a guide is made: below, it costs more than it saves.
@@ -37,18 +39,40 @@ const NEAREST: usize = 128;
 fn guide_for(
     alloc: Global,
     on: &[Term],
-    off: &[Term],
+    off: &Index,
     width: u8,
 ) -> Result<Option<Guide>, AllocError>
     requires { width ≤ 128 }
 {
-    if width < GUIDED_WIDTH || on.len() < GUIDED_TERMS || off.len() < GUIDED_TERMS {
+    if width < GUIDED_WIDTH || on.len() < GUIDED_TERMS {
         return Ok(None);
     }
+    let places = off.places(alloc)?;
+    if places.len() < GUIDED_TERMS {
+        return Ok(None);
+    }
+    let zeros = off.terms(alloc)?;
     Ok(Some(Guide {
         on: Slices::new(alloc, on, width)?,
-        off: Slices::new(alloc, off, width)?,
+        off: Slices::new(alloc, &zeros, width)?,
+        places,
     }))
+}
+
+/// The places of the terms of those numbers.
+fn places_of(
+    alloc: Global,
+    numbers: &[Option<usize>],
+    places: &[usize],
+) -> Result<Vec<Option<usize>>, AllocError> {
+    let mut found = Vec::new(alloc);
+    for number in numbers {
+        match *number {
+            Some(number) => found.push(places.get(number).copied())?,
+            None => found.push(None)?,
+        }
+    }
+    Ok(found)
 }
 
 /// A row that holds the seed and no value of off, and that needs each of its literals.
@@ -86,7 +110,8 @@ fn guided_row(
     let grown = grow(alloc, seed, &others, sets, off)?;
     let advice = guide.off.advice(alloc, grown)?;
     let wide = widened(grown, advice.wide, off);
-    let row = raise(wide, off, width, &advice.reasons);
+    let reasons = places_of(alloc, &advice.reasons, &guide.places)?;
+    let row = raise(wide, off, width, &reasons);
     guide.on.drop_included(alloc, row)?;
     Ok(row)
 }
@@ -111,15 +136,8 @@ fn prime_row(
     }
 }
 
-/// Rows that hold every value of on and none of off, and that need each of their literals. `zeros` has the terms
-/// of `off`.
-pub fn primes(
-    alloc: Global,
-    on: &[Term],
-    zeros: &[Term],
-    off: &Index,
-    width: u8,
-) -> Result<Vec<Term>, AllocError>
+/// Rows that hold every value of on and none of off, and that need each of their literals.
+pub fn primes(alloc: Global, on: &[Term], off: &Index, width: u8) -> Result<Vec<Term>, AllocError>
     requires width { width ≤ 128 }
     requires fits { All (FitsWidth width) on.now }
     requires clear { All (IsClear (terms_of off.now)) on.now }
@@ -128,7 +146,7 @@ pub fn primes(
     ensures prime { IfOk result (λ rows. All (IsPrime (terms_of off.now)) rows.items) }
     ensures fits { IfOk result (λ rows. All (FitsWidth width) rows.items) }
 {
-    let mut guide = guide_for(alloc, on, zeros, width)?;
+    let mut guide = guide_for(alloc, on, off, width)?;
     let mut left = Vec::from_slice(alloc, on)?;
     let mut rows = Vec::new(alloc);
     while let Some(seed) = left.pop() {

@@ -2,7 +2,7 @@ ghost use Rattle.std.specs.Prelude.{◌≤◌, ◌<◌, ◌↔◌, IfOk, IsTrue}
 ghost use Rattle.cover_logic.specs.Term.{FitsWidth, LooksAt};
 ghost use Rattle.cover_logic.specs.Inner.Index.{terms_of};
 ghost use Rattle.cover_logic.specs.Inner.Pair.{Includes, IsLooser};
-ghost use Rattle.cover_logic.specs.Inner.Rows.{IsClear, IsGrown, IsPrime, MeetsSome, NeedsLiteral};
+ghost use Rattle.cover_logic.specs.Inner.Rows.{IsClear, IsGrown, IsPrime, NeedsLiteral};
 
 use crate::index::Index;
 use crate::term::Term;
@@ -62,19 +62,9 @@ pub fn widened(row: Term, other: Term, off: &Index) -> Term
     }
 }
 
-/// Whether a term of off touches what the row has in common with the other term.
-fn is_met_within(row: Term, other: Term, off: &Index) -> bool
-    ensures { IsTrue result → MeetsSome (terms_of off.now) row }
-{
-    match row.meet(other) {
-        Some(part) => off.met_by(part).is_some(),
-        None => false,
-    }
-}
-
-/// The row with a dash at the column, or the row itself where it would hold a value of off. The term, if there is
-/// one, is asked first: a search for the little that it has in common with the row is short.
-fn dashed(row: Term, column: u32, reason: Option<Term>, off: &Index) -> Term
+/// The row with a dash at the column, or the row itself where it would hold a value of off. The term at
+/// the place, if there is one, is asked first.
+fn dashed(row: Term, column: u32, reason: Option<usize>, off: &Index) -> Term
     requires column { column < 128 }
     requires clear { IsClear (terms_of off.now) row }
     ensures looser { IsLooser result row }
@@ -86,8 +76,8 @@ fn dashed(row: Term, column: u32, reason: Option<Term>, off: &Index) -> Term
     if wider.care == row.care {
         return row;
     }
-    if let Some(term) = reason {
-        if is_met_within(wider, term, off) {
+    if let Some(place) = reason {
+        if off.is_met_at(place, wider) {
             return row;
         }
     }
@@ -97,8 +87,9 @@ fn dashed(row: Term, column: u32, reason: Option<Term>, off: &Index) -> Term
     }
 }
 
-/// Replaces literals by dashes as long as no value of off is held. A term at the place of a column is asked first.
-pub fn raise(row: Term, off: &Index, width: u8, reasons: &[Option<Term>]) -> Term
+/// Replaces literals by dashes as long as no value of off is held. The reasons are places
+/// in the index, by columns, of terms that are asked first.
+pub fn raise(row: Term, off: &Index, width: u8, reasons: &[Option<usize>]) -> Term
     requires width { width ≤ 128 }
     requires fits { FitsWidth width row }
     requires clear { IsClear (terms_of off.now) row }

@@ -82,11 +82,11 @@ impl Count {
     }
 }
 
-/// How far a row may go: a term to widen it to, and for each column a term that stands against a dash there.
+/// How far a row may go: a term to widen it to, and for each column the number of a term that stands against a dash.
 #[derive(Drop)]
 pub struct Advice {
     pub wide: Term,
-    pub reasons: Vec<Option<Term>>,
+    pub reasons: Vec<Option<usize>>,
 }
 
 /// How many sets are asked of all terms; those that are left are few enough to be asked one by one.
@@ -184,10 +184,7 @@ impl Slices {
 
     /// The term at the lowest bit of the word of that number.
     fn term_at(&self, word: usize, found: u64) -> Option<Term> {
-        let place = word
-            .saturating_mul(64)
-            .saturating_add(found.trailing_zeros() as usize);
-        self.terms.get(place).copied()
+        self.terms.get(place(word, found)).copied()
     }
 
     /// The terms that have the literal of the row at a column of each set, as far as the first sets tell.
@@ -250,7 +247,7 @@ impl Slices {
             let mut reason = None;
             if column.is_literal_of(row) {
                 let rest = later.pop().unwrap_or(Vec::new(alloc));
-                reason = self.first_open(&kept, &rest);
+                reason = first_open(&kept, &rest);
                 if reason.is_some() {
                     unite(&mut kept, column.against(row));
                 } else {
@@ -280,17 +277,23 @@ impl Slices {
         }
         Ok(later)
     }
+}
 
-    /// The first term in neither set.
-    fn first_open(&self, kept: &[u64], later: &[u64]) -> Option<Term> {
-        for (i, (a, b)) in kept.iter().zip(later).enumerate() {
-            let open = !(*a | *b);
-            if open != 0 {
-                return self.term_at(i, open);
-            }
+/// The number of the first term in neither set.
+fn first_open(kept: &[u64], later: &[u64]) -> Option<usize> {
+    for (i, (a, b)) in kept.iter().zip(later).enumerate() {
+        let open = !(*a | *b);
+        if open != 0 {
+            return Some(place(i, open));
         }
-        None
     }
+    None
+}
+
+/// The number of the term at the lowest bit of a word.
+fn place(word: usize, found: u64) -> usize {
+    word.saturating_mul(64)
+        .saturating_add(found.trailing_zeros() as usize)
 }
 
 /// A bit for each term that has at the columns of `mask` the literals of `value`.

@@ -1,4 +1,4 @@
-use Rattle.std.proofs.Common.{sym, subst, List, []}
+use Rattle.std.proofs.Common.{subst, List, []}
 use Rattle.std.specs.List.{All, Contains}
 use Rattle.std.proofs.lemmas.Result.{IfOk-weaker}
 use Rattle.cover_logic.specs.declared.term.Term.{Term}
@@ -27,7 +27,7 @@ primes-requires-clause-clear c =
 
 pub without_spare-requires : goal.without_spare-requires
 without_spare-requires c =
-    rw (c.deref-4.ensures.value, c.deref-5.ensures.value)
+    rw (c.deref-3.ensures.value, c.deref-4.ensures.value)
     (subst (λ (ts : List Term). Covers c.in_ok-rows.rows.items ts) c.deref-2.ensures.value c.in_ok-rows.ensures.covers)
 
 pub returns-clause-good : goal.returns-clause-good
@@ -43,9 +43,9 @@ returns-clause-good c =
     values_same off c.in_ok-zeros.zeros.items zeros c.in_ok-zeros.ensures
     (subst (λ (ts : List Term). HasSameTerms ts zeros) c.deref.ensures.value c.in_ok-index.ensures) in
     from_three c.without_spare.result _ _ _ _ kept.among kept.covers kept.needed (λ rows among covers needed.
-    let all : All (Contains primes) rows.items = subst (λ (ts : List Term). All (Contains ts) rows.items) c.deref-4.ensures.value among in
-    let covered : Covers rows.items ones = subst (λ (ts : List Term). Covers rows.items ts) c.deref-5.ensures.value covers in
-    let each : EachNeeded ones rows.items [] = subst (λ (ts : List Term). EachNeeded ts rows.items []) c.deref-5.ensures.value needed in
+    let all : All (Contains primes) rows.items = subst (λ (ts : List Term). All (Contains ts) rows.items) c.deref-3.ensures.value among in
+    let covered : Covers rows.items ones = subst (λ (ts : List Term). Covers rows.items ts) c.deref-4.ensures.value covers in
+    let each : EachNeeded ones rows.items [] = subst (λ (ts : List Term). EachNeeded ts rows.items []) c.deref-4.ensures.value needed in
     good_cover width rows.items on off ones zeros c.in_ok-ones.ensures same (kept_all (FitsWidth width) primes rows.items all c.in_ok-rows.ensures.fits)
     c.requires.on_fits c.requires.off_fits covered
     (kept_all (IsClear zeros) primes rows.items all c.in_ok-rows.ensures.clear) (kept_all (IsPrime zeros) primes rows.items all c.in_ok-rows.ensures.prime) each)
@@ -55,5 +55,5 @@ returns-clause-fits c =
     let width = c.args.width in
     let primes = c.in_ok-rows.rows.items in
     IfOk-weaker c.without_spare.result _ _
-    (λ rows among. kept_all (FitsWidth width) primes rows.items (subst (λ (ts : List Term). All (Contains ts) rows.items) c.deref-4.ensures.value among) c.in_ok-rows.ensures.fits)
+    (λ rows among. kept_all (FitsWidth width) primes rows.items (subst (λ (ts : List Term). All (Contains ts) rows.items) c.deref-3.ensures.value among) c.in_ok-rows.ensures.fits)
     c.without_spare.ensures.among

@@ -1,8 +1,7 @@
 use Rattle.std.proofs.Common.{◌≡◌, ◌∙◌, List, ◌∷◌, [], ◌++◌, false, refl, sym, subst, ap, rules}
 use Rattle.cover_logic.specs.declared.index.Node.{Node}
-use Rattle.cover_logic.specs.declared.term.Term.{Term}
 use Rattle.cover_logic.specs.Inner.Nodes.{IsAdded}
-use Rattle.cover_logic.proofs.Nodes.{added_none, added_hull, added_parts}
+use Rattle.cover_logic.proofs.Nodes.{added_hull, added_parts}
 use Rattle.cover_logic.proofs.index.+add.Goals as goal
 use Rattle.cover_logic.proofs.index.+add.Goals.{then-terms-le4+in_ok-add_each, else-terms-le4+in_ok-zeros+in_ok-ones+in_ok-dashes+in_ok-add+in_ok-add-2+in_ok-add-3}
 

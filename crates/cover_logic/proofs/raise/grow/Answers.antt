@@ -2,7 +2,7 @@ use Rattle.std.proofs.Common.{sym, subst}
 use Rattle.cover_logic.specs.declared.term.Term.{Term}
 use Rattle.cover_logic.specs.Inner.Index.{terms_of}
 use Rattle.cover_logic.specs.Inner.Rows.{IsGrown}
-use Rattle.cover_logic.proofs.Raising.{grown_seed, grown_wider}
+use Rattle.cover_logic.proofs.Raising.{grown_wider}
 use Rattle.cover_logic.proofs.raise.grow.Goals as goal
 use Rattle.cover_logic.proofs.raise.grow.Goals.{then-has_each+in-Some+in_ok-push-in-Some, then-has_each+in-None, else-has_each}
 

@@ -1,6 +1,6 @@
-use Rattle.std.proofs.Common.{◌+◌, ◌≡◌, ℕ, subst, arith}
+use Rattle.std.proofs.Common.{◌≡◌, ℕ, subst, arith}
 use Rattle.cover_logic.specs.Inner.Index.{terms_of}
-use Rattle.cover_logic.proofs.Raising.{IsRaised, IsPrimeBelow, raised_once, prime_from_below}
+use Rattle.cover_logic.proofs.Raising.{IsPrimeBelow, raised_once, prime_from_below}
 use Rattle.cover_logic.proofs.raise.raise.Goals as goal
 
 pub loop-column-preserved : goal.loop-column-preserved

@@ -1,4 +1,4 @@
-use Rattle.std.proofs.Common.{◌≡◌, ◌∙◌, ◌-◌, ◌+◌, true, get_or, sym, rules, arith}
+use Rattle.std.proofs.Common.{◌∙◌, ◌-◌, sym, rules, arith}
 use Rattle.cover_logic.proofs.Nodes.{apart_none, apart_all, apart_left_out, met_at}
 use Rattle.cover_logic.proofs.index.Index.met_by.Goals as goal
 

@@ -1,5 +1,3 @@
-use Rattle.std.proofs.Common.{◌≡◌, ℕ, ◌<◌, ◌≤◌, true, false, length, get_or}
-use Rattle.cover_logic.specs.declared.index.Node.{Node}
 use Rattle.cover_logic.proofs.Nodes.{ApartFrom}
 use Rattle.cover_logic.proofs.index.Index.met_by.Given as goal
 

@@ -1,4 +1,4 @@
-use Rattle.std.proofs.Common.{List, sym, subst}
+use Rattle.std.proofs.Common.{List, subst}
 use Rattle.cover_logic.specs.declared.index.Node.{Node}
 use Rattle.cover_logic.specs.Inner.Nodes.{IsAdded}
 use Rattle.cover_logic.proofs.Nodes.{same_terms}
