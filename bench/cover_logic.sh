@@ -40,4 +40,6 @@ terms 1000 20
 terms 2000 4
 terms 4000 1
 terms 8000 1
+terms 16000 1
+terms 32000 1
 CASES
