@@ -10,7 +10,7 @@ use Rattle.partition.specs.Partition.{Together}
 use Rattle.realise.proofs.Gates.{item_at}
 use Rattle.state_codes.specs.declared.Codes.{Codes}
 use Rattle.state_codes.specs.declared.split.Part.{Part}
-use Rattle.state_codes.specs.Agreement.{AgreeAt, AgreeOnPart}
+use Rattle.state_codes.specs.Agreement.{CodesAgreeAt, AgreeOnPart}
 use Rattle.state_codes.specs.Code.{IsCode}
 use Rattle.state_codes.specs.Laws.Codes.{carrier_bits_tell, owner-lt, part_bits_tell}
 use Rattle.state_codes.specs.Split.{IsPart}
@@ -43,7 +43,7 @@ module _ (W : KissFile) (parts : List Part) (codes : Codes) (lawful : All (IsPar
       let tells = part_bits_tell (length W.states) parts codes lawful code owner part found.1 in
       let together : Together part.partition s t = (tells s t in_s in_t).0 on_part in
       let after : Together part.partition (next W s x) (next W t x) = flows owner part s t x found.1 in_s in_t symbol together (in_reads part found.1) in
-      let at : AgreeAt codes.words i (next W s x) (next W t x) = (tells (next W s x) (next W t x) (stays s x in_s symbol) (stays t x in_t symbol)).1 after i below refl in
+      let at : CodesAgreeAt codes.words i (next W s x) (next W t x) = (tells (next W s x) (next W t x) (stays s x in_s symbol) (stays t x in_t symbol)).1 after i below refl in
       same_bits (get_or codes.words (next W s x) 0) (get_or codes.words (next W t x) 0) i i at
 
 pub flow_permits : FlowPermits

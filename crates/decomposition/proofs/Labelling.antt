@@ -12,7 +12,7 @@ use Rattle.dependence.specs.Permits.{InWord}
 use Rattle.partition.specs.Partition.{IsNumbered, IsPartition, IsStateCount}
 use Rattle.partition.specs.Laws.Labels.{IsNumbered-none, IsNumbered-push, blocks_of-le, blocks_of-push, label-lt-blocks_of}
 use Rattle.state_codes.specs.declared.Codes.{Codes}
-use Rattle.state_codes.specs.Agreement.{AgreeAt, IsBitPartition}
+use Rattle.state_codes.specs.Agreement.{CodesAgreeAt, IsBitPartition}
 use Rattle.decomposition.specs.Inner.Headed.{AreNotes, IsNoteOf}
 use Rattle.decomposition.specs.Inner.Labelled.{AreLabelled, IsPartitionOn, IsSeenAt}
 
@@ -224,7 +224,7 @@ partition_of_bit words i p small is = record {
   lawful = is.lawful;
   together = λ s t in_s in_t. (
     (λ held. (is.together s t in_s in_t).0 held i ((word_one i small i).1 refl)),
-    (λ agree. (is.together s t in_s in_t).1 (λ c inside. subst (λ (b : ℕ). AgreeAt words b s t) (sym ((word_one i small c).0 inside)) agree)),
+    (λ agree. (is.together s t in_s in_t).1 (λ c inside. subst (λ (b : ℕ). CodesAgreeAt words b s t) (sym ((word_one i small c).0 inside)) agree)),
   );
 }
 

@@ -7,7 +7,7 @@ use Rattle.net_core.specs.declared.Gate.{Gate}
 use Rattle.net_core.specs.declared.Network.{Network}
 use Rattle.partition.specs.Partition.{Together}
 use Rattle.state_codes.specs.declared.split.Part.{Part}
-use Rattle.state_codes.specs.Agreement.{AgreeAt}
+use Rattle.state_codes.specs.Agreement.{CodesAgreeAt}
 use Rattle.state_codes.specs.Split.{IsPart}
 use Rattle.decomposition.specs.OwnPairs.{Reads}
 
@@ -22,7 +22,7 @@ pub record IsPartOf (states : ℕ) (words : List ℕ) (notes : List LatchNote) (
 
 -- a carrier bit of a part: it is equal for states of one block of the carrier
 abbrev pub IsCarrierBit : List ℕ → Part → ℕ → Type 0
-IsCarrierBit words part c = (s t : ℕ) → Together part.carrier s t → AgreeAt words c s t
+IsCarrierBit words part c = (s t : ℕ) → Together part.carrier s t → CodesAgreeAt words c s t
 
 -- a gate of part j may read the bits of that part, and the carrier bits of the parts that it reads
 abbrev pub MayRead : List ℕ → List LatchNote → List Part → ℕ → Part → ℕ → Type 0

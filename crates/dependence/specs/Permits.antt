@@ -4,7 +4,7 @@ use Rattle.std.specs.Int.{bit_at}
 use Rattle.cubes.specs.Symbol.{bit}
 use Rattle.kiss2.specs.declared.kiss_file.KissFile.{KissFile}
 use Rattle.kiss2.specs.Machine.{next, output_bit}
-use Rattle.state_codes.specs.Agreement.{AgreeAt}
+use Rattle.state_codes.specs.Agreement.{CodesAgreeAt}
 
 -- what the gate of latch i gives at a state and a symbol: that bit of the code of the next state
 abbrev pub next_value : KissFile → List ℕ → ℕ → ℕ → List Bool → Bool
@@ -20,7 +20,7 @@ InWord set c = bit_at set c ≡ 1
 
 -- the codes of two states agree at each bit of a set
 abbrev pub AgreeOn : List ℕ → (ℕ → Type 0) → ℕ → ℕ → Type 0
-AgreeOn words R s t = (c : ℕ) → R c → AgreeAt words c s t
+AgreeOn words R s t = (c : ℕ) → R c → CodesAgreeAt words c s t
 
 -- the set permits a value: where the codes of two states agree on it, both give the same, for each symbol
 abbrev pub PermitsValue : KissFile → List ℕ → (ℕ → Type 0) → (ℕ → List Bool → Bool) → Type 0

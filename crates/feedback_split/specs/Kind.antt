@@ -1,11 +1,11 @@
 -- What a feedback split is (source: Hartmanis and Stearns).
 use Rattle.std.specs.Prelude.{◌≡◌, List, [], ◌∷◌}
 use Rattle.kiss2.specs.declared.kiss_file.KissFile.{KissFile}
-use Rattle.partition.specs.Partition.{Le, blocks_of}
+use Rattle.partition.specs.Partition.{IsNontrivial, Le, blocks_of}
 use Rattle.partition.specs.Inside.{IsLargestSize}
 use Rattle.mm_lattice.specs.Top.{IsRightSide}
 use Rattle.state_codes.specs.declared.split.Part.{Part}
-use Rattle.state_codes.specs.Kinds.{IsNontrivial, PartsMeetInZero}
+use Rattle.state_codes.specs.Kinds.{PartsMeetInZero}
 use Rattle.feedback_split.specs.Carrier.{Suffices}
 
 -- A right side of an Mm pair, and a partition that tells apart the states of each of its blocks, with no more blocks than

@@ -33,7 +33,7 @@ use Rattle.hsdec_core.specs.Cause.{CallsForBy, CanServe, CommandCallsFor, FileCa
 use Rattle.hsdec_core.specs.Fill.{fill_of}
 use Rattle.hsdec_core.specs.Generated.{GenCallsFor, NumbersCallFor, OfGenerated, TrialCallsFor}
 use Rattle.hsdec_core.specs.Inner.RightFor.{IsCalledFor}
-use Rattle.hsdec_core.specs.Loading.{IsTooLong, IsWithin}
+use Rattle.hsdec_core.specs.Loading.{IsTooLong, IsShortText}
 use Rattle.hsdec_core.specs.NetCause.{HasStart, LacksStart, NetworkCallsFor}
 use Rattle.hsdec_core.specs.Operands.{OfMachine, OfNetwork, OfNumbers, Source, source_of}
 use Rattle.hsdec_core.specs.Splits.{kind_of}
@@ -151,7 +151,7 @@ both_say : (job : Job) (bytes : List ℕ) (a b : Answer) → SaysMachine bytes (
 both_say job bytes a b (within, (F, kiss, h)) (within', (G, other, k)) =
     file_calls_for_one job F a b h (subst (λ (H : KissFile). FileCallsFor job H b) (one_file bytes G F other kiss) k)
 
-long_or_within : (bytes : List ℕ) → IsTooLong bytes → IsWithin bytes → ⊥
+long_or_within : (bytes : List ℕ) → IsTooLong bytes → IsShortText bytes → ⊥
 long_or_within bytes long within = absurd (omega (arith, long, within))
 
 none_or_one : (bytes : List ℕ) (P : KissFile → Type 0) → IsNoMachine bytes → SaysMachine bytes P → ⊥

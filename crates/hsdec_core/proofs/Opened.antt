@@ -21,7 +21,7 @@ use Rattle.hsdec_core.specs.Inner.Made.{IsRefusal}
 use Rattle.hsdec_core.specs.Inner.Opened.{IsBuiltOf, IsJudgedStart, IsNetOf, IsNetOpened, IsOpened, IsReadOf}
 use Rattle.hsdec_core.specs.Inner.RightFor.{IsRightFor}
 use Rattle.hsdec_core.specs.LineFor.{IsBytesLine}
-use Rattle.hsdec_core.specs.Loading.{IsText, IsWithin}
+use Rattle.hsdec_core.specs.Loading.{IsText, IsShortText}
 use Rattle.hsdec_core.specs.NetCause.{IsNoNetwork}
 use Rattle.hsdec_core.specs.NetTexts.{fault_line}
 use Rattle.hsdec_core.specs.Operands.{OfMachine, OfNetwork, OfNumbers, Source, source_of}
@@ -30,7 +30,7 @@ use Rattle.hsdec_core.proofs.RightFor.{cause_of_bytes, line_of_bytes, refused_fo
 
 -- ---- a machine
 -- what is made of the record of a file, is made of its bytes
-pub read_of_built : (job : Job) (bytes : List ℕ) (F : KissFile) (opened : OpenedMachine) → IsWithin bytes → Kiss bytes F → IsLawful F → IsBuiltOf job F opened → IsReadOf job bytes opened
+pub read_of_built : (job : Job) (bytes : List ℕ) (F : KissFile) (opened : OpenedMachine) → IsShortText bytes → Kiss bytes F → IsLawful F → IsBuiltOf job F opened → IsReadOf job bytes opened
 read_of_built job bytes F (machines.Machine file machine) within kiss lawful (file_is, machine_is, accepted) =
     (subst (Kiss bytes) (sym file_is) kiss, subst IsLawful (sym file_is) lawful, rw file_is accepted, machine_is ∙ sym file_is)
 read_of_built job bytes F (machines.Refused made) within kiss lawful right = right_machine job bytes F made within kiss lawful right
@@ -68,7 +68,7 @@ module _ (job : Job) (holds : List ℕ → Option (List ℕ)) (Faulted : Type 0)
       (line_of_bytes job holds bytes SymbolRefused line loads (λ e. cc, λ e. cc, λ e. cc, λ e. cc) is_text (subst (λ (s : Source). IsBytesLine s job bytes SymbolRefused line) (sym source) (N, blif, is_line))) is
 
 -- ---- the same of what may want memory
-pub read_of_builts : (job : Job) (bytes : List ℕ) (F : KissFile) (result : Result OpenedMachine AllocError) → IsWithin bytes → Kiss bytes F → IsLawful F → IfOk result (IsBuiltOf job F) → IfOk result (IsReadOf job bytes)
+pub read_of_builts : (job : Job) (bytes : List ℕ) (F : KissFile) (result : Result OpenedMachine AllocError) → IsShortText bytes → Kiss bytes F → IsLawful F → IfOk result (IsBuiltOf job F) → IfOk result (IsReadOf job bytes)
 read_of_builts job bytes F (Ok opened) within kiss lawful built = read_of_built job bytes F opened within kiss lawful built
 read_of_builts job bytes F (Err wanting) within kiss lawful built = tt
 

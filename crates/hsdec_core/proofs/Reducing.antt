@@ -11,7 +11,7 @@ use Rattle.kiss2.proofs.Machine.{next_is_a_state}
 use Rattle.kiss2.proofs.RoundTrip.{says_again}
 use Rattle.state_reduce.specs.declared.judging.QuotientFail.{QuotientFail}
 use Rattle.state_reduce.specs.declared.judging.QuotientFail.TheVariants.{NoMemory}
-use Rattle.state_reduce.specs.Alike.{AreApart, IsEquivalence}
+use Rattle.state_reduce.specs.Alike.{AreUnlike, IsEquivalence}
 use Rattle.state_reduce.specs.Cause.{Caused}
 use Rattle.state_reduce.specs.Quotient.{AnswersAsMembers, AreBlocksInOrder, IsQuotient}
 use Rattle.state_reduce.proofs.Unrefused.{unrefused}
@@ -29,7 +29,7 @@ module _ (F : KissFile) (p : List ℕ) (lawful : IsLawful F) (alike : IsEquivale
       other (unrefused F p alike fail (λ s x inside size. next_is_a_state F s x lawful inside) caused)
 
   -- and the text of the quotient is right
-  pub right_reduced : (job : Job) (Q : KissFile) (text : List ℕ) (made : Outcome) → job.command ≡ commands.Reduce → Accepted F (fill_of job) → IsQuotient F p Q → AreBlocksInOrder F p Q → IsLawful Q → Accepted Q (fill_of job) → AreApart Q → AnswersAsMembers F p Q
+  pub right_reduced : (job : Job) (Q : KissFile) (text : List ℕ) (made : Outcome) → job.command ≡ commands.Reduce → Accepted F (fill_of job) → IsQuotient F p Q → AreBlocksInOrder F p Q → IsLawful Q → Accepted Q (fill_of job) → AreUnlike Q → AnswersAsMembers F p Q
       → text ≡ kiss_text Q → made ≡ finished text → IsRightOf job F made
   right_reduced job Q text made command accepted quotient in_order lawful_Q accepted_Q apart members whole is =
       let reduced : IsReduced F (fill_of job) p Q = record {

@@ -20,7 +20,7 @@ use Rattle.hsdec_core.specs.Inner.Made.{IsRefusal, exceeded, finished, refusal}
 use Rattle.hsdec_core.specs.Inner.RightFor.{IsRightOf, IsRightOn}
 use Rattle.hsdec_core.specs.KissTexts.{kind_text}
 use Rattle.hsdec_core.specs.Line.{IsFileLine, IsLineBy, IsReportLine, IsTextLine, IsWorkLine}
-use Rattle.hsdec_core.specs.Loading.{IsWithin}
+use Rattle.hsdec_core.specs.Loading.{IsShortText}
 use Rattle.hsdec_core.specs.Promise.{IsPromised, IsPromisedBy, IsReport, IsShown}
 use Rattle.hsdec_core.specs.Splits.{kind_of}
 use Rattle.hsdec_core.proofs.KissLaws.{machine_or_fault}
@@ -124,7 +124,7 @@ no_line (Some kind) answer job F line foreign (W, work, is) = no_work_line answe
 
 -- ---- of bytes
 -- what a machine calls for, its bytes call for
-calls_on : (job : Job) (bytes : List ℕ) (F : KissFile) (answer : Answer) → IsWithin bytes → Kiss bytes F → FileCallsFor job F answer → MachineCallsFor job bytes answer
+calls_on : (job : Job) (bytes : List ℕ) (F : KissFile) (answer : Answer) → IsShortText bytes → Kiss bytes F → FileCallsFor job F answer → MachineCallsFor job bytes answer
 calls_on job bytes F TooLong within kiss calls = absurd (no_file_call TooLong job F tt calls)
 calls_on job bytes F KissRefused within kiss calls = absurd (no_file_call KissRefused job F tt calls)
 calls_on job bytes F _ within kiss calls = (within, (F, kiss, calls))
@@ -133,7 +133,7 @@ line_on : (job : Job) (bytes : List ℕ) (F : KissFile) (answer : Answer) (line 
 line_on job bytes F KissRefused line kiss is = absurd (no_line (kind_of job.command) KissRefused job F line tt is)
 line_on job bytes F _ line kiss is = (F, kiss, is)
 
-pub right_machine : (job : Job) (bytes : List ℕ) (F : KissFile) (made : Outcome) → IsWithin bytes → Kiss bytes F → IsLawful F → IsRightOf job F made → IsRightOn job bytes made
+pub right_machine : (job : Job) (bytes : List ℕ) (F : KissFile) (made : Outcome) → IsShortText bytes → Kiss bytes F → IsLawful F → IsRightOf job F made → IsRightOn job bytes made
 right_machine job bytes F made within kiss lawful right = record {
   cause = calls_on job bytes F made.answer within kiss right.cause;
   text = λ e. (F, kiss, lawful, (right.text e).0, (right.text e).1);
@@ -148,7 +148,7 @@ right_machine job bytes F made within kiss lawful right = record {
 }
 
 -- bytes with a fault say no machine
-pub right_fault : (job : Job) (bytes : List ℕ) (number : ℕ) (kind : KissKind) (made : Outcome) → IsWithin bytes → IsKissFault bytes number kind → IsRefusal KissRefused (λ line. line ≡ kiss_line number (kind_text kind)) made → IsRightOn job bytes made
+pub right_fault : (job : Job) (bytes : List ℕ) (number : ℕ) (kind : KissKind) (made : Outcome) → IsShortText bytes → IsKissFault bytes number kind → IsRefusal KissRefused (λ line. line ≡ kiss_line number (kind_text kind)) made → IsRightOn job bytes made
 right_fault job bytes number kind made within fault (line, is_line, is) =
     subst (IsRightOn job bytes) (sym is)
     (record {
@@ -161,6 +161,6 @@ right_fault job bytes number kind made within fault (line, is_line, is) =
     })
 
 -- the same of what may want memory
-pub right_faults : (job : Job) (bytes : List ℕ) (number : ℕ) (kind : KissKind) (result : Result Outcome AllocError) → IsWithin bytes → IsKissFault bytes number kind → IfOk result (IsRefusal KissRefused (λ line. line ≡ kiss_line number (kind_text kind))) → IfOk result (IsRightOn job bytes)
+pub right_faults : (job : Job) (bytes : List ℕ) (number : ℕ) (kind : KissKind) (result : Result Outcome AllocError) → IsShortText bytes → IsKissFault bytes number kind → IfOk result (IsRefusal KissRefused (λ line. line ≡ kiss_line number (kind_text kind))) → IfOk result (IsRightOn job bytes)
 right_faults job bytes number kind (Ok made) within fault right = right_fault job bytes number kind made within fault right
 right_faults job bytes number kind (Err wanting) within fault right = tt

@@ -10,7 +10,7 @@ use Rattle.hsdec_core.specs.declared.answers.Answer.TheVariants.{Done, SymbolRef
 use Rattle.hsdec_core.specs.Cause.{MachineCallsFor, SaysMachine}
 use Rattle.hsdec_core.specs.Fill.{fill_of}
 use Rattle.hsdec_core.specs.Generated.{NumbersCallFor}
-use Rattle.hsdec_core.specs.Loading.{IsTooLong, IsWithin}
+use Rattle.hsdec_core.specs.Loading.{IsTooLong, IsShortText}
 use Rattle.hsdec_core.specs.NetCause.{HasStart, NetworkCallsFor, SaysNetwork}
 use Rattle.hsdec_core.specs.Operands.{OfMachine, OfNetwork, OfNumbers, Source, source_of}
 
@@ -37,8 +37,8 @@ AwaitsSymbols job bytes width = AwaitsFor job.command job bytes width
 -- the bytes of SYMBOLS call for an answer
 abbrev pub SymbolsCallFor : ℕ → List ℕ → Answer → Type 0
 SymbolsCallFor width symbols TooLong = IsTooLong symbols
-SymbolsCallFor width symbols SymbolRefused = IsWithin symbols × ((number : ℕ) × IsSymbolFault width symbols number)
-SymbolsCallFor width symbols Done = IsWithin symbols × ((word : List (List Bool)) × IsSymbolFile width symbols word)
+SymbolsCallFor width symbols SymbolRefused = IsShortText symbols × ((number : ℕ) × IsSymbolFault width symbols number)
+SymbolsCallFor width symbols Done = IsShortText symbols × ((word : List (List Bool)) × IsSymbolFile width symbols word)
 SymbolsCallFor width symbols _ = ⊥
 
 -- ---- whole

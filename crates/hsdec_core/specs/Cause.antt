@@ -21,7 +21,7 @@ use Rattle.state_codes.specs.Fault.{FirstTogether}
 use Rattle.hsdec_core.specs.declared.answers.Answer.{Answer}
 use Rattle.hsdec_core.specs.declared.answers.Answer.TheVariants.{Done, NoSplit, KissRefused, Conflict, Unspecified, More, PartRefused, CodeTooLong, TooLong}
 use Rattle.hsdec_core.specs.Fill.{fill_of}
-use Rattle.hsdec_core.specs.Loading.{IsTooLong, IsWithin}
+use Rattle.hsdec_core.specs.Loading.{IsTooLong, IsShortText}
 use Rattle.hsdec_core.specs.PartTexts.{IsFirstBadPart, IsTextOfPartition}
 use Rattle.hsdec_core.specs.Splits.{AreGivenParts, HasCodeOf, HasNoSplit, kind_of}
 use Rattle.hsdec_core.specs.Work.{OnWork}
@@ -127,11 +127,11 @@ FileCallsFor job F answer = Accepted F (fill_of job) × CommandCallsFor answer j
 
 -- the bytes say no machine
 abbrev pub IsNoMachine : List ℕ → Type 0
-IsNoMachine bytes = IsWithin bytes × ((F : KissFile) → Kiss bytes F → ⊥)
+IsNoMachine bytes = IsShortText bytes × ((F : KissFile) → Kiss bytes F → ⊥)
 
 -- the bytes say a machine of which something holds
 abbrev pub SaysMachine : List ℕ → (KissFile → Type 0) → Type 0
-SaysMachine bytes P = IsWithin bytes × ((F : KissFile) × Kiss bytes F × P F)
+SaysMachine bytes P = IsShortText bytes × ((F : KissFile) × Kiss bytes F × P F)
 
 -- the bytes of a machine call for an answer; for an answer that no such command gives, none do
 abbrev pub MachineCallsFor : Job → List ℕ → Answer → Type 0

@@ -10,9 +10,9 @@ abbrev pub IsTooLong : List ℕ → Type 0
 IsTooLong bytes = most_bytes < length bytes
 
 -- bytes that a text may have
-abbrev pub IsWithin : List ℕ → Type 0
-IsWithin bytes = length bytes ≤ most_bytes
+abbrev pub IsShortText : List ℕ → Type 0
+IsShortText bytes = length bytes ≤ most_bytes
 
 -- a text within the limit, which is what the shelf holds where that is told
 abbrev pub IsText : Option (List ℕ) → List ℕ → Type 0
-IsText held bytes = IsWithin bytes × IfSome held (λ told. bytes ≡ told)
+IsText held bytes = IsShortText bytes × IfSome held (λ told. bytes ≡ told)

@@ -7,15 +7,15 @@ use Rattle.net_sim.specs.BitTexts.{IsBitText}
 use Rattle.net_sim.specs.Starts.{IsFirstUnknown, IsStart}
 use Rattle.hsdec_core.specs.declared.answers.Answer.{Answer}
 use Rattle.hsdec_core.specs.declared.answers.Answer.TheVariants.{NetRefused, SymbolRefused, TooLong}
-use Rattle.hsdec_core.specs.Loading.{IsTooLong, IsWithin}
+use Rattle.hsdec_core.specs.Loading.{IsTooLong, IsShortText}
 
 -- the bytes say no network
 abbrev pub IsNoNetwork : List ℕ → Type 0
-IsNoNetwork bytes = IsWithin bytes × ((N : Network) → Blif bytes N → ⊥)
+IsNoNetwork bytes = IsShortText bytes × ((N : Network) → Blif bytes N → ⊥)
 
 -- the bytes say a network of which something holds
 abbrev pub SaysNetwork : List ℕ → (Network → Type 0) → Type 0
-SaysNetwork bytes P = IsWithin bytes × ((N : Network) × Blif bytes N × P N)
+SaysNetwork bytes P = IsShortText bytes × ((N : Network) × Blif bytes N × P N)
 
 -- a network has values of its latches to begin with: those of the text that is given, or else its own
 abbrev pub HasStart : Network → Option (List ℕ) → Type 0

@@ -6,7 +6,7 @@ use Rattle.kiss2.specs.Kiss.{Kiss}
 use Rattle.kiss2.specs.Lawful.{IsLawful}
 use Rattle.kiss2.specs.Machine.{Accepted, answers}
 use Rattle.kiss2.specs.Written.{kiss_text}
-use Rattle.state_reduce.specs.Alike.{AreApart, IsEquivalence, IsWord}
+use Rattle.state_reduce.specs.Alike.{AreUnlike, IsEquivalence, IsWord}
 use Rattle.state_reduce.specs.Quotient.{AnswersAsMembers, AreBlocksInOrder, IsQuotient}
 
 -- Q is the machine of the classes of alike states of F, in order: no two states of Q are alike, each answers every word as
@@ -17,7 +17,7 @@ pub record IsReduced (F : KissFile) (fill : Fill) (classes : List ℕ) (Q : Kiss
   pub in_order : AreBlocksInOrder F classes Q
   pub lawful : IsLawful Q
   pub accepted : Accepted Q fill
-  pub apart : AreApart Q
+  pub apart : AreUnlike Q
   pub members : AnswersAsMembers F classes Q
   pub reset : (word : List (List Bool)) → IsWord F.inputs word → answers Q Q.reset word ≡ answers F F.reset word
 

@@ -6,7 +6,7 @@ ghost use Rattle.kiss2.specs.Lawful.{IsLawful};
 ghost use Rattle.net_core.specs.Order.{IsOrderOf};
 ghost use Rattle.net_core.specs.Sound.{Sound};
 ghost use Rattle.hsdec_core.specs.Inner.Opened.{IsBuiltOf, IsNetOf, IsNetOpened, IsOpened, IsReadOf};
-ghost use Rattle.hsdec_core.specs.Loading.{IsWithin};
+ghost use Rattle.hsdec_core.specs.Loading.{IsShortText};
 ghost use Rattle.hsdec_core.specs.Operands.{OfMachine, OfNetwork, source_of};
 
 use crate::Outcome;
@@ -61,7 +61,7 @@ pub fn open_machine<F: Shelf>(
 
 /// The machine that a text says.
 fn read_machine(alloc: Global, job: &Job, text: &[u8]) -> Result<OpenedMachine, AllocError>
-    requires { IsWithin text.now }
+    requires { IsShortText text.now }
     ensures { IfOk result (IsReadOf job.now text.now) }
 {
     match read(alloc, text) {
@@ -117,7 +117,7 @@ pub fn open_network<F: Shelf>(
 
 /// The network that a text says.
 fn read_network(alloc: Global, text: &[u8]) -> Result<OpenedNetwork, AllocError>
-    requires { IsWithin text.now }
+    requires { IsShortText text.now }
     ensures { IfOk result (IsNetOf text.now) }
 {
     match blif_in::read(alloc, text) {

@@ -5,10 +5,10 @@ ghost use Rattle.hs_io.specs.Counts.{Rose};
 ghost use Rattle.job_words.specs.declared.command.Command.TheVariants as commands;
 ghost use Rattle.net_core.specs.Order.{IsOrderOf};
 ghost use Rattle.net_core.specs.Sound.{Sound};
-ghost use Rattle.net_sim.specs.Run.{IsCause, IsRun};
+ghost use Rattle.net_sim.specs.Run.{IsRunCause, IsRun};
 ghost use Rattle.hsdec_core.specs.Inner.Opened.{IsJudgedStart, IsMadeOf};
 ghost use Rattle.hsdec_core.specs.Inner.RightFor.{IsRightFor};
-ghost use Rattle.hsdec_core.specs.Loading.{IsWithin};
+ghost use Rattle.hsdec_core.specs.Loading.{IsShortText};
 ghost use Rattle.hsdec_core.specs.NetCause.{HasStart};
 ghost use Rattle.hsdec_core.specs.Operands.{AreGranted};
 ghost use Rattle.hsdec_core.specs.Promise.{HoldsNetwork};
@@ -98,7 +98,7 @@ fn answer(
     requires sound { Sound net.now }
     requires order { IsOrderOf net.now order.now }
     requires start { HasStart net.now start.now }
-    requires within { IsWithin symbols.now }
+    requires within { IsShortText symbols.now }
     ensures { IfOk result (IsMadeOf (length net.now.inputs) (IsRun net.now start.now symbols.now) symbols.now) }
 {
     match run_from(alloc, net, order, start, symbols) {
@@ -122,7 +122,7 @@ fn run_from(
     requires order { IsOrderOf net.now order.now }
     requires short { length symbols.now < 2 ^ 32 }
     ensures ran { IfOk result (λ text. IsRun net.now start.now symbols.now text.items) }
-    ensures cause { IfErr result (IsCause net.now start.now symbols.now) }
+    ensures cause { IfErr result (IsRunCause net.now start.now symbols.now) }
 {
     match start {
         Some(text) => run(alloc, net, order, Some(text.bytes()), symbols),

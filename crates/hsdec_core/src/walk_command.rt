@@ -5,12 +5,12 @@ ghost use Rattle.hs_io.specs.Counts.{Rose};
 ghost use Rattle.hs_io.specs.Spelling.{ended};
 ghost use Rattle.job_words.specs.declared.command.Command.TheVariants as commands;
 ghost use Rattle.machine_table.specs.Walk.{outputs_of};
-ghost use Rattle.net_sim.specs.BitTexts.{bit_text};
+ghost use Rattle.net_sim.specs.BitTexts.{text_of_bits};
 ghost use Rattle.net_sim.specs.Run.{answers_text};
 ghost use Rattle.hsdec_core.specs.Fill.{fill_of};
 ghost use Rattle.hsdec_core.specs.Inner.Opened.{IsMadeOf};
 ghost use Rattle.hsdec_core.specs.Inner.RightFor.{IsRightFor};
-ghost use Rattle.hsdec_core.specs.Loading.{IsWithin};
+ghost use Rattle.hsdec_core.specs.Loading.{IsShortText};
 ghost use Rattle.hsdec_core.specs.Operands.{AreGranted};
 ghost use Rattle.hsdec_core.specs.Promise.{HoldsMachine, IsWalkText};
 
@@ -66,7 +66,7 @@ fn run_machine<F: Shelf>(
 
 /// The answers of a machine to symbols.
 fn answer(alloc: Global, machine: &Machine, symbols: &[u8]) -> Result<Outcome, AllocError>
-    requires { IsWithin symbols.now }
+    requires { IsShortText symbols.now }
     ensures { IfOk result (IsMadeOf machine.now.inputs (IsWalkText machine.now symbols.now) symbols.now) }
 {
     match read_symbols(alloc, machine.inputs(), symbols) {
@@ -101,7 +101,7 @@ fn append_word(
     bits: &mut Vec<bool>,
 ) -> Result<(), AllocError>
     requires { count ≤ 64 }
-    ensures { OnOk result (text.new.items ≡ text.old.items ++ ended (bit_text (outputs_of count word))) }
+    ensures { OnOk result (text.new.items ≡ text.old.items ++ ended (text_of_bits (outputs_of count word))) }
 {
     bits.clear();
     for place in 0..usize::from(count) {

@@ -7,10 +7,10 @@ use Rattle.cubes.specs.Field.{byte_of}
 use Rattle.kiss2.specs.declared.kiss_file.KissFile.{KissFile}
 use Rattle.kiss2.specs.declared.kiss_file.KissRow.{KissRow}
 use Rattle.kiss2.proofs.SameRecord.{same_cube}
-use Rattle.machine_gen.specs.MachineOf.{AreRows, AreSizes, HaveOneMachine, IsRowOf}
+use Rattle.machine_gen.specs.MachineOf.{AreRows, AreSizes, HaveOneMachine, IsDrawnRow}
 use Rattle.machine_gen.proofs.Standing.{row_at_number}
 
-same_row : (b k i j x state : ℕ) (row other : KissRow) → IsRowOf b k i j x state row → IsRowOf b k i j x state other → row ≡ other
+same_row : (b k i j x state : ℕ) (row other : KissRow) → IsDrawnRow b k i j x state row → IsDrawnRow b k i j x state other → row ≡ other
 same_row b k i j x state row other is also =
     make_same row.cube other.cube row.from other.from row.to other.to row.care other.care row.value other.value cube
     (is.from ∙ sym also.from) (is.to ∙ sym also.to) (is.care ∙ sym also.care) (is.value ∙ sym also.value) where

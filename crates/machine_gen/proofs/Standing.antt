@@ -16,7 +16,7 @@ use Rattle.cubes.proofs.Numbers.{bit-above, length-symbol_of, number_below, numb
 use Rattle.cubes.proofs.Places.{length-characters}
 use Rattle.kiss2.specs.declared.kiss_file.KissRow.{KissRow}
 use Rattle.machine_gen.specs.Inner.Drawing.{IsRowAt as IsRowAtPlace, next_of, place_of}
-use Rattle.machine_gen.specs.MachineOf.{AreRows, AreSizes, IsRowOf, next_first, next_second}
+use Rattle.machine_gen.specs.MachineOf.{AreRows, AreSizes, IsDrawnRow, next_first, next_second}
 use Rattle.machine_gen.proofs.Numbered.{StandsAt, first_within, second_within, symbol_within}
 
 -- ---- a field without dashes holds its own symbol and no other
@@ -30,7 +30,7 @@ held_is [] (c ∷ symbol) h = elim h [ ]
 held_is (b ∷ bits) [] h = elim h [ ]
 held_is (b ∷ bits) (c ∷ symbol) (is, rest) = rw (is, held_is bits symbol rest) refl
 
-module _ (b k i j x state : ℕ) (row : KissRow) (is : IsRowOf b k i j x state row) where
+module _ (b k i j x state : ℕ) (row : KissRow) (is : IsDrawnRow b k i j x state row) where
   pub holds_symbol : Holds row.cube (symbol_of k x)
   unfolding Holds
   holds_symbol = subst (λ (field : List (Option Bool)). AllZip Allows field (symbol_of k x)) (sym is.symbol) (holds_itself (symbol_of k x))
@@ -86,7 +86,7 @@ module _ (word : ℕ → ℕ) (a b k : ℕ) (rows : List KissRow) (sizes : AreSi
 
   -- the row of a state and a symbol
   pub row_at_symbol : (s : ℕ) (symbol : List Bool) → s < a * b → length symbol ≡ k → (row : KissRow) × Contains rows row × (row.from ≡ s) × Holds row.cube symbol
-      × IsRowOf b k (s / b) (s % b) (number_of symbol) (next_first word a k (s / b) (number_of symbol) * b + next_second word b k (s % b) (number_of symbol)) row
+      × IsDrawnRow b k (s / b) (s % b) (number_of symbol) (next_first word a k (s / b) (number_of symbol) * b + next_second word b k (s % b) (number_of symbol)) row
   row_at_symbol s symbol within long =
       let x = number_of symbol in
       let low : x < 2 ^ k = subst (λ n. x < 2 ^ n) long (number_below symbol) in

@@ -36,7 +36,7 @@ state_name state = codes "s" ++ decimal state
 
 -- The row of the state with the parts i and j at the symbol of a number, that goes to a state: no dash in the cube, and
 -- both outputs given. Output 0 stands at 1 and is 1 exactly where i is 0, output 1 at 2 and is 1 exactly where j is 0.
-pub record IsRowOf (b k i j x state : ℕ) (row : KissRow) : Type 0 where
+pub record IsDrawnRow (b k i j x state : ℕ) (row : KissRow) : Type 0 where
   pub symbol : field_of row.cube ≡ map Some (symbol_of k x)
   pub from : row.from ≡ i * b + j
   pub to : row.to ≡ Some state
@@ -48,7 +48,7 @@ pub record AreRows (word : ℕ → ℕ) (a b k : ℕ) (rows : List KissRow) : Ty
   pub count : length rows ≡ a * b * 2 ^ k
   pub each : (i j x : ℕ) → i < a → j < b → x < 2 ^ k
       → (row : KissRow) × (slice_get rows ((i * b + j) * 2 ^ k + x) ≡ Some row)
-      × IsRowOf b k i j x (next_first word a k i x * b + next_second word b k j x) row
+      × IsDrawnRow b k i j x (next_first word a k i x * b + next_second word b k j x) row
 
 -- the machine of a * b states, k inputs and two outputs
 pub record IsMachineOf (word : ℕ → ℕ) (a b k : ℕ) (F : KissFile) : Type 0 where

@@ -12,7 +12,7 @@ use Rattle.kiss2.specs.Machine.{Conflicting, Specified}
 use Rattle.kiss2.proofs.Machine.{next_not_said, next_said}
 use Rattle.machine_table.specs.Covering.{IsImage}
 use Rattle.machine_table.specs.Inner.AddedPairs.{AreNamed, AreNamedAtPlaces, AreNamedBy, IsNamedBeside, IsOpenImage, OfSomeRow, to_of}
-use Rattle.machine_table.specs.Inner.Asked.{AlikeBelow, HaveOneLabel, IsOpenAt, IsRowOf}
+use Rattle.machine_table.specs.Inner.Asked.{AlikeBelow, HaveOneLabel, IsOpenAt, IsOfState}
 use Rattle.machine_table.specs.Inner.Places.{IsNumberOf}
 use Rattle.machine_table.specs.Table.{IsTable}
 use Rattle.machine_table.proofs.Asking.{lawful_row, number_of_row}
@@ -21,11 +21,11 @@ use Rattle.machine_table.proofs.Sought.{at_from_held, held_from_at, row_from_at,
 
 -- ---- what rows name
 module _ (F : KissFile) (table : IsTable F) where
-  width_of : (s : ℕ) (row : KissRow) → IsRowOf F s row → row.cube.width ≡ F.inputs
+  width_of : (s : ℕ) (row : KissRow) → IsOfState F s row → row.cube.width ≡ F.inputs
   width_of s row (among, from) = (lawful_row F table among.0 row (number_of_row F row among)).width
 
   -- rows of two states that name a pair do so at a symbol
-  pub named_from_rows : (s t : ℕ) (row other : KissRow) → IsRowOf F s row → IsRowOf F t other → (u v : ℕ) → AreNamedBy row other u v → AreNamed F s t u v
+  pub named_from_rows : (s t : ℕ) (row other : KissRow) → IsOfState F s row → IsOfState F t other → (u v : ℕ) → AreNamedBy row other u v → AreNamed F s t u v
   named_from_rows s t row other of_state of_other u v named =
       let x = named.shared in (
         x.0,

@@ -14,7 +14,7 @@ use Rattle.kiss2.specs.Machine.{Conflicting, IsRowAt, output_bit}
 use Rattle.kiss2.proofs.Machine.{next_said, output_bit_said}
 use Rattle.machine_table.specs.declared.covering.Piece.{Piece}
 use Rattle.machine_table.specs.Covering.{IsPiece}
-use Rattle.machine_table.specs.Inner.Asked.{IsRowOf}
+use Rattle.machine_table.specs.Inner.Asked.{IsOfState}
 use Rattle.machine_table.specs.Inner.OpenSymbol.{SaysAll}
 use Rattle.machine_table.specs.Table.{IsTable}
 use Rattle.machine_table.specs.Walk.{outputs_of}
@@ -45,7 +45,7 @@ below_from_bits n k low = subst (λ (m : ℕ). m < 2 ^ k) (sym same) small where
         | inr above ↦ none_above i above ∙ sym (bit_at_above (n % 2 ^ k) k i small above)
       ])
 
-pub row_is_piece : (F : KissFile) → IsTable F → (Conflicting F → ⊥) → (s : ℕ) → SaysAll F s → (row : KissRow) → IsRowOf F s row → (piece : Piece)
+pub row_is_piece : (F : KissFile) → IsTable F → (Conflicting F → ⊥) → (s : ℕ) → SaysAll F s → (row : KissRow) → IsOfState F s row → (piece : Piece)
     → piece.cube ≡ row.cube → row.to ≡ Some piece.next → piece.outputs ≡ row.value → IsPiece F s piece
 row_is_piece F table no_conflict s all row of_state piece cube names word =
     let lawful = lawful_row F table of_state.0.0 row (number_of_row F row of_state.0) in

@@ -7,7 +7,7 @@ use Rattle.cubes.specs.Symbol.{symbol_of}
 use Rattle.kiss2.specs.declared.kiss_file.KissFile.{KissFile}
 use Rattle.kiss2.specs.declared.kiss_file.KissRow.{KissRow}
 use Rattle.kiss2.specs.Machine.{IsRowAt}
-use Rattle.machine_table.specs.Inner.Asked.{IsAloneAt, IsApartAt, IsMetBy, IsRowOf, IsSearched, MeetsWanted, SayTwo, SaysAlone, lesser_of}
+use Rattle.machine_table.specs.Inner.Asked.{IsAloneAt, IsApartAt, IsMetBy, IsOfState, IsSearched, MeetsWanted, SayTwo, SaysAlone, lesser_of}
 use Rattle.machine_table.specs.Inner.Places.{IsNumberOf}
 use Rattle.machine_table.specs.Table.{IsTable}
 use Rattle.machine_table.proofs.Asking.{lawful_row, looked_at, number_of_row}
@@ -82,28 +82,28 @@ module _ (F : KissFile) (numbers : List ℕ) (count : ℕ) (Wanted : KissRow →
 pub meets_all : (F : KissFile) (s : ℕ) (numbers : List ℕ) (count : ℕ) (Wanted : KissRow → ℕ → Type 0) (found : Option ℕ) (least : Bool)
     → ((i : ℕ) (row : KissRow) → slice_get F.rows i ≡ Some row → row.from ≡ s → Contains numbers i)
     → MeetsWanted F.rows numbers count Wanted found least → length numbers ≤ count
-    → (row : KissRow) → IsRowOf F s row → (y : ℕ) → Wanted row y → IsMetBy found least y
+    → (row : KissRow) → IsOfState F s row → (y : ℕ) → Wanted row y → IsMetBy found least y
 meets_all F s numbers count Wanted found least each known all row (among, from) y wants =
     let at_number = number_of_row F row among in
     let place = each among.0 row at_number from in
     known place.0 among.0 row (omega (arith, place.1)) (subst (λ (n : ℕ). slice_get F.rows n ≡ Some row) (sym place.2) at_number) y wants
 
 -- a row at a number of the state is one of the state
-pub row_of : (F : KissFile) (s i : ℕ) (row : KissRow) → IsNumberOf F s i → slice_get F.rows i ≡ Some row → IsRowOf F s row
+pub row_of : (F : KissFile) (s i : ℕ) (row : KissRow) → IsNumberOf F s i → slice_get F.rows i ≡ Some row → IsOfState F s row
 row_of F s i row (there, at_there, from) at_row =
     let same : there ≡ row = (let both : Some there ≡ Some row = sym at_there ∙ at_row in cc) in
     ((i, slice_get_within F.rows i row at_row, get_or_from_slice_get F.rows i row row at_row), ap (λ (r : KissRow). r.from) (sym same) ∙ from)
 
 module _ (F : KissFile) (table : IsTable F) (s x : ℕ) (row : KissRow) where
   -- a row of the state that holds the symbol is a row there
-  pub at_from_held : IsRowOf F s row → HoldsNumber row.cube x → IsRowAt F s (symbol_of F.inputs x) row
+  pub at_from_held : IsOfState F s row → HoldsNumber row.cube x → IsRowAt F s (symbol_of F.inputs x) row
   at_from_held (among, from) held = record {
     among = among;
     from = from;
     held = subst (λ (w : ℕ). Holds row.cube (symbol_of w x)) ((lawful_row F table among.0 row (number_of_row F row among)).width) held;
   }
 
-  pub row_from_at : IsRowAt F s (symbol_of F.inputs x) row → IsRowOf F s row
+  pub row_from_at : IsRowAt F s (symbol_of F.inputs x) row → IsOfState F s row
   row_from_at at = (at.among, at.from)
 
   pub held_from_at : IsRowAt F s (symbol_of F.inputs x) row → HoldsNumber row.cube x
@@ -112,7 +112,7 @@ module _ (F : KissFile) (table : IsTable F) (s x : ℕ) (row : KissRow) where
 -- ---- what rows say of two states
 module _ (F : KissFile) (table : IsTable F) (said : KissRow → Option ℕ) (s t : ℕ) where
   -- a row of the first state that is apart from one of the second
-  pub two_of_row : (row : KissRow) → IsRowOf F s row → (x : ℕ) → IsApartAt said F t row x → SayTwo said F s t x
+  pub two_of_row : (row : KissRow) → IsOfState F s row → (x : ℕ) → IsApartAt said F t row x → SayTwo said F s t x
   two_of_row row of_state x (other, of_other, apart) =
       let differ = apart.differ in (
         differ.0,
@@ -122,7 +122,7 @@ module _ (F : KissFile) (table : IsTable F) (said : KissRow → Option ℕ) (s t
         differ.4,
       )
 
-  pub apart_wanted : (x : ℕ) → SayTwo said F s t x → (row : KissRow) × IsRowOf F s row × IsApartAt said F t row x
+  pub apart_wanted : (x : ℕ) → SayTwo said F s t x → (row : KissRow) × IsOfState F s row × IsApartAt said F t row x
   apart_wanted x (v, w, (row, at, says), (other, also, tells), two) = (
     row,
     row_from_at F table s x row at,
@@ -138,9 +138,9 @@ module _ (F : KissFile) (table : IsTable F) (said : KissRow → Option ℕ) (s t
   )
 
   -- a row of the first state that says what no row of the second does
-  pub alone_of_row : (label : ℕ) (row : KissRow) → IsRowOf F s row → (x : ℕ) → IsAloneAt said F t label row x → SaysAlone said F s t label x
+  pub alone_of_row : (label : ℕ) (row : KissRow) → IsOfState F s row → (x : ℕ) → IsAloneAt said F t label row x → SaysAlone said F s t label x
   alone_of_row label row of_state x (v, held, says, two, silent) = (v, (row, at_from_held F table s x row of_state held, says), two, silent)
 
-  pub alone_wanted : (label x : ℕ) → SaysAlone said F s t label x → (row : KissRow) × IsRowOf F s row × IsAloneAt said F t label row x
+  pub alone_wanted : (label x : ℕ) → SaysAlone said F s t label x → (row : KissRow) × IsOfState F s row × IsAloneAt said F t label row x
   alone_wanted label x (v, (row, at, says), two, silent) =
       (row, row_from_at F table s x row at, (v, held_from_at F table s x row at, says, two, silent))

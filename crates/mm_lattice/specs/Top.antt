@@ -1,7 +1,7 @@
 -- The right sides of Mm pairs that are greatest strictly below one (source: Hartmanis and Stearns).
 use Rattle.std.specs.Prelude.{◌⊎◌, List, ℕ}
 use Rattle.kiss2.specs.declared.kiss_file.KissFile.{KissFile}
-use Rattle.partition.specs.Partition.{IsOne, IsZero, Le}
+use Rattle.partition.specs.Partition.{IsNontrivial, IsOne, IsZero, Le}
 use Rattle.pair_operators.specs.Extremes.{MmPair}
 
 -- some p makes an Mm pair with q
@@ -11,10 +11,6 @@ IsRightSide F q = (p : List ℕ) × MmPair F p q
 -- not all states are together: the partition is strictly below one
 abbrev pub IsBelowOne : List ℕ → Type 0
 IsBelowOne q = IsOne q → ⊥
-
--- neither zero nor one
-abbrev pub IsNontrivial : List ℕ → Type 0
-IsNontrivial q = (IsZero q → ⊥) × IsBelowOne q
 
 -- a right side strictly below one, or zero, and no right side stands strictly between it and one
 pub record IsGreatestRight (F : KissFile) (q : List ℕ) : Type 0 where

@@ -11,7 +11,7 @@ use Rattle.net_core.specs.declared.Network.{Network}
 use Rattle.net_core.specs.declared.failing.NetFail.{NetFail}
 use Rattle.net_core.specs.declared.failing.NetFail.TheVariants.{TwoDrivers, Undriven, Cycle, NoMemory}
 use Rattle.net_core.specs.declared.ordering.Order.{Order}
-use Rattle.net_core.specs.Causes.{AcceptsSound, AreOnce, CausesAreAlike, IsCause, IsCycle, IsFirstAgain, IsFirstOutside, Reads, ReadsAlong, SoundHasNoCause, uses_of}
+use Rattle.net_core.specs.Causes.{AcceptsSound, AreOnce, CausesAreAlike, IsCause, IsCycle, IsFirstAgain, IsFirstOutside, GateReads, ReadsAlong, SoundHasNoCause, uses_of}
 use Rattle.net_core.specs.Sound.{IsOrdered, Sound, driven_by, drivers_of}
 use Rattle.net_core.proofs.Counted.{once_place, once_right, twice}
 use Rattle.net_core.proofs.Numbered.{stands_at}
@@ -43,15 +43,15 @@ not_again names name once first =
     twice bytes_eq bytes_eq-Decides first.earlier name first.later first.again (subst AreOnce first.is once)
 
 -- a name of the ring reads a name of the ring
-reads_next : (N : Network) (name : List ℕ) (others : List (List ℕ)) (last n : List ℕ) → ReadsAlong N name others last → Contains (name ∷ others) n → (m : List ℕ) × Contains (others ++ last ∷ []) m × Reads N n m
+reads_next : (N : Network) (name : List ℕ) (others : List (List ℕ)) (last n : List ℕ) → ReadsAlong N name others last → Contains (name ∷ others) n → (m : List ℕ) × Contains (others ++ last ∷ []) m × GateReads N n m
 reads_next N name [] last n reads among =
     elim (Contains-cons name n [] among) [
-      | inl is ↦ (last, Contains-here last [], subst (λ k. Reads N k last) is reads)
+      | inl is ↦ (last, Contains-here last [], subst (λ k. GateReads N k last) is reads)
       | inr none ↦ absurd (Contains-none n none)
     ]
 reads_next N name (x ∷ others) last n (reads, along) among =
     elim (Contains-cons name n (x ∷ others) among) [
-      | inl is ↦ (x, Contains-here x (others ++ last ∷ []), subst (λ k. Reads N k x) is reads)
+      | inl is ↦ (x, Contains-here x (others ++ last ∷ []), subst (λ k. GateReads N k x) is reads)
       | inr later ↦ let found = reads_next N x others last n along later in (found.0, Contains-there x found.0 (others ++ last ∷ []) found.1, found.2)
     ]
 
@@ -64,7 +64,7 @@ same_gate gates a b once (i, lt_i, is_a) (j, lt_j, is_b) same =
     same_Some a b (sym at_a ∙ (ap (λ (n : ℕ). slice_get gates n) place ∙ at_b))
 
 module _ (N : Network) (names : List (List ℕ)) (cycle : IsCycle N names) (once : AreOnce (driven_by N.gates)) where
-  next_of : (n : List ℕ) → Contains names n → (m : List ℕ) × Contains names m × Reads N n m
+  next_of : (n : List ℕ) → Contains names n → (m : List ℕ) × Contains names m × GateReads N n m
   next_of n among =
       let found = reads_next N cycle.first cycle.others cycle.first n cycle.reads (subst (λ list. Contains list n) cycle.is among) in (
         found.0,

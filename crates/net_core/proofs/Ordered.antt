@@ -11,7 +11,7 @@ use Rattle.std.proofs.lemmas.Slice.Eq.{bytes_eq-Decides}
 use Rattle.net_core.specs.declared.Gate.{Gate}
 use Rattle.net_core.specs.declared.Network.{Network}
 use Rattle.net_core.specs.declared.ordering.NumberedGate.{NumberedGate}
-use Rattle.net_core.specs.Causes.{AreOnce, Reads, ReadsAlong, IsCycle}
+use Rattle.net_core.specs.Causes.{AreOnce, GateReads, ReadsAlong, IsCycle}
 use Rattle.net_core.specs.Order.{AreAt, IsNumbered}
 use Rattle.net_core.specs.Sound.{IsOrdered, driven_by, drivers_of}
 use Rattle.net_core.specs.Inner.Walk.{read_by, reads_of, Needs, NeedsAlong, StandOnce, IsBehind, IsRing, IsSequence}
@@ -146,7 +146,7 @@ module _ (N : Network) (numbered : List NumberedGate) (once : AreOnce (drivers_o
         ordered places items.0 [] [] items.1 tt s.behind,
       )
 
-  reads_from : (g h : ℕ) (name other : List ℕ) → slice_get (driven_by N.gates) g ≡ Some name → slice_get (driven_by N.gates) h ≡ Some other → Needs (length N.inputs + length N.latches) (reads_of numbered) g h → Reads N name other
+  reads_from : (g h : ℕ) (name other : List ℕ) → slice_get (driven_by N.gates) g ≡ Some name → slice_get (driven_by N.gates) h ≡ Some other → Needs (length N.inputs + length N.latches) (reads_of numbered) g h → GateReads N name other
   reads_from g h name other is_name is_other needs =
       let within : g < length N.gates = omega (arith, slice_get_within (driven_by N.gates) g name is_name, length-map N.gates (λ gate. gate.output)) in
       elim (slice_get_cases N.gates g).1 [

@@ -34,13 +34,13 @@ pub record IsFirstOutside (these names : List (List ℕ)) (name : List ℕ) : Ty
   pub outside : ¬ Contains these name
 
 -- a gate of the network drives the one name and has the other among its inputs
-abbrev pub Reads : Network → List ℕ → List ℕ → Type 0
-Reads N name other = (gate : Gate) × Contains N.gates gate × (gate.output ≡ name) × Contains gate.inputs other
+abbrev pub GateReads : Network → List ℕ → List ℕ → Type 0
+GateReads N name other = (gate : Gate) × Contains N.gates gate × (gate.output ≡ name) × Contains gate.inputs other
 
 -- the gate of each name has the next one among its inputs, from the name through the others to the last
 abbrev pub ReadsAlong : Network → List ℕ → List (List ℕ) → List ℕ → Type 0
-ReadsAlong N name [] last = Reads N name last
-ReadsAlong N name (next ∷ others) last = Reads N name next × ReadsAlong N next others last
+ReadsAlong N name [] last = GateReads N name last
+ReadsAlong N name (next ∷ others) last = GateReads N name next × ReadsAlong N next others last
 
 -- Distinct outputs of gates, each of which reads the next, and the last the first. The gates before that of the first
 -- name drive none of them.

@@ -11,10 +11,10 @@ use Rattle.net_core.specs.Step.{AreStarts, NetAnswers, bit_of_start}
 use Rattle.net_core.proofs.Determined.{same_answers}
 use Rattle.net_sim.specs.declared.failing.SimFail.{SimFail}
 use Rattle.net_sim.specs.declared.failing.SimFail.TheVariants.{BadStart, UnknownStart, BadSymbol, NoMemory}
-use Rattle.net_sim.specs.BitTexts.{IsBitText, bit_text, character_of}
+use Rattle.net_sim.specs.BitTexts.{IsBitText, text_of_bits, character_of}
 use Rattle.net_sim.specs.Symbols.{IsFirstRefused, SaysSymbol, SayWord, is_skipped}
 use Rattle.net_sim.specs.Starts.{IsFirstUnknown, IsStart}
-use Rattle.net_sim.specs.Run.{IsCause, IsOfInput, IsRun, answers_text}
+use Rattle.net_sim.specs.Run.{IsRunCause, IsOfInput, IsRun, answers_text}
 
 character_once : (bit other : Bool) → character_of bit ≡ character_of other → bit ≡ other
 character_once true true e = refl
@@ -32,7 +32,7 @@ characters_once (b ∷ bs) (o ∷ os) e =
     ap (λ x. x ∷ bs) (character_once b o first) ∙ ap (λ xs. o ∷ xs) (characters_once bs os more)
 
 -- a text is of one list of so many bits
-pub bit_text_once : (bits others : List Bool) → length bits ≡ length others → bit_text bits ≡ bit_text others → bits ≡ others
+pub bit_text_once : (bits others : List Bool) → length bits ≡ length others → text_of_bits bits ≡ text_of_bits others → bits ≡ others
 bit_text_once [] [] long e = refl
 bit_text_once [] (o ∷ os) long e = absurd (omega arith)
 bit_text_once (b ∷ bs) [] long e = absurd (omega arith)
@@ -60,8 +60,8 @@ word_once width [] (x ∷ xs) other zip zip' = absurd zip
 word_once width (l ∷ ls) [] other zip zip' = absurd zip
 word_once width (l ∷ ls) (x ∷ xs) [] zip zip' = absurd zip'
 word_once width (l ∷ ls) (x ∷ xs) (y ∷ ys) (says, zip) (says', zip') =
-    let fields : bit_text x ∷ [] ≡ bit_text y ∷ [] = sym says.field ∙ says'.field in
-    let texts : bit_text x ≡ bit_text y = cc in
+    let fields : text_of_bits x ∷ [] ≡ text_of_bits y ∷ [] = sym says.field ∙ says'.field in
+    let texts : text_of_bits x ≡ text_of_bits y = cc in
     let one : x ≡ y = bit_text_once x y (says.as_wide ∙ sym says'.as_wide) texts in
     ap (λ s. s ∷ xs) one ∙ ap (λ w. y ∷ w) (word_once width ls xs ys zip zip')
 
@@ -149,13 +149,13 @@ starts_known latches bits name are first =
     ] known
 
 -- where there is a start, nothing tells of it
-pub start_none : (N : Network) (start : Option (List ℕ)) (state : List Bool) (symbols : List ℕ) → IsStart N start state → (IsCause N start symbols BadStart → ⊥) × ((latch : List ℕ) → IsCause N start symbols (UnknownStart latch) → ⊥)
+pub start_none : (N : Network) (start : Option (List ℕ)) (state : List Bool) (symbols : List ℕ) → IsStart N start state → (IsRunCause N start symbols BadStart → ⊥) × ((latch : List ℕ) → IsRunCause N start symbols (UnknownStart latch) → ⊥)
 start_none N None state symbols is = (λ (text, same, none). none-some text same, λ latch (same, first). starts_known N.latches state latch is first)
 start_none N (Some text) state symbols is =
     (λ (given, same, none). none state (subst (λ t. IsBitText (length N.latches) t state) (same_Some text given same) is), λ latch (same, first). none-some text (sym same))
 
 -- a run has no cause of a refusal
-pub never_both : (N : Network) (start : Option (List ℕ)) (symbols text : List ℕ) (fail : SimFail) → IsOfInput fail → IsRun N start symbols text → IsCause N start symbols fail → ⊥
+pub never_both : (N : Network) (start : Option (List ℕ)) (symbols text : List ℕ) (fail : SimFail) → IsOfInput fail → IsRun N start symbols text → IsRunCause N start symbols fail → ⊥
 never_both N start symbols text BadStart of_input ran cause = (start_none N start ran.state symbols ran.begins).0 cause
 never_both N start symbols text (UnknownStart latch) of_input ran cause = (start_none N start ran.state symbols ran.begins).1 latch cause
 never_both N start symbols text (BadSymbol line) of_input ran (state, begins, fault) =
@@ -163,7 +163,7 @@ never_both N start symbols text (BadSymbol line) of_input ran (state, begins, fa
 never_both N start symbols text NoMemory of_input ran cause = absurd of_input
 
 -- a refusal has one cause
-pub cause_once : (N : Network) (start : Option (List ℕ)) (symbols : List ℕ) (fail other : SimFail) → IsOfInput fail → IsOfInput other → IsCause N start symbols fail → IsCause N start symbols other → fail ≡ other
+pub cause_once : (N : Network) (start : Option (List ℕ)) (symbols : List ℕ) (fail other : SimFail) → IsOfInput fail → IsOfInput other → IsRunCause N start symbols fail → IsRunCause N start symbols other → fail ≡ other
 cause_once N start symbols NoMemory other of_input of_input' cause cause' = absurd of_input
 cause_once N start symbols BadStart NoMemory of_input of_input' cause cause' = absurd of_input'
 cause_once N start symbols BadStart BadStart of_input of_input' cause cause' = refl
@@ -180,7 +180,7 @@ cause_once N start symbols (BadSymbol line) (BadSymbol line') of_input of_input'
 
 module _ {T : Type 0} (items : T → List ℕ) (N : Network) (start : Option (List ℕ)) (symbols : List ℕ) where
   -- where there is a run, nothing else is answered but want of memory
-  pub run_answered : (r : Result T SimFail) → IfOk r (λ v. IsRun N start symbols (items v)) → IfErr r (IsCause N start symbols) → (text : List ℕ) → IsRun N start symbols text → MatchResult r (λ v. items v ≡ text) (λ fail. fail ≡ NoMemory)
+  pub run_answered : (r : Result T SimFail) → IfOk r (λ v. IsRun N start symbols (items v)) → IfErr r (IsRunCause N start symbols) → (text : List ℕ) → IsRun N start symbols text → MatchResult r (λ v. items v ≡ text) (λ fail. fail ≡ NoMemory)
   run_answered (Ok v) ran cause text is = run_once N start symbols (items v) text ran is
   run_answered (Err BadStart) ran cause text is = absurd (never_both N start symbols text BadStart tt is cause)
   run_answered (Err (UnknownStart latch)) ran cause text is = absurd (never_both N start symbols text (UnknownStart latch) tt is cause)
@@ -188,7 +188,7 @@ module _ {T : Type 0} (items : T → List ℕ) (N : Network) (start : Option (Li
   run_answered (Err NoMemory) ran cause text is = refl
 
   -- where there is a cause, it is answered, or want of memory
-  pub cause_answered : (r : Result T SimFail) → IfOk r (λ v. IsRun N start symbols (items v)) → IfErr r (IsCause N start symbols) → (fail : SimFail) → IsOfInput fail → IsCause N start symbols fail → MatchResult r (λ v. ⊥) (λ told. (told ≡ fail) ⊎ (told ≡ NoMemory))
+  pub cause_answered : (r : Result T SimFail) → IfOk r (λ v. IsRun N start symbols (items v)) → IfErr r (IsRunCause N start symbols) → (fail : SimFail) → IsOfInput fail → IsRunCause N start symbols fail → MatchResult r (λ v. ⊥) (λ told. (told ≡ fail) ⊎ (told ≡ NoMemory))
   cause_answered (Ok v) ran cause fail of_input is = never_both N start symbols (items v) fail of_input ran is
   cause_answered (Err BadStart) ran cause fail of_input is = inl (cause_once N start symbols BadStart fail tt of_input cause is)
   cause_answered (Err (UnknownStart latch)) ran cause fail of_input is = inl (cause_once N start symbols (UnknownStart latch) fail tt of_input cause is)

@@ -15,7 +15,7 @@ use Rattle.net_core.proofs.Numbered.{zip_push}
 use Rattle.net_sim.specs.declared.failing.SimFail.{SimFail}
 use Rattle.net_sim.specs.declared.failing.SimFail.TheVariants.{BadStart, UnknownStart, BadSymbol, NoMemory}
 use Rattle.net_sim.specs.declared.running.Runner.{Runner}
-use Rattle.net_sim.specs.BitTexts.{bit_text}
+use Rattle.net_sim.specs.BitTexts.{text_of_bits}
 use Rattle.net_sim.specs.Symbols.{IsRefusedLine, IsSymbolFault, SaysSymbol, is_skipped}
 use Rattle.net_sim.specs.Run.{IsRun, answers_text}
 use Rattle.net_sim.specs.Starts.{IsStart}
@@ -34,11 +34,11 @@ pub leads_answers : (N : Network) (state : List Bool) (word answers : List (List
 leads_answers N state [] answers last (none, same) = none
 leads_answers N state (x ∷ word) answers last (a, n, more, is, first, rest) = (a, n, more, is, first, leads_answers N n word more last rest)
 
-pub answers_more : (answers : List (List Bool)) (answer : List Bool) (text : List ℕ) → text ≡ answers_text answers → text ++ ended (bit_text answer) ≡ answers_text (answers ++ answer ∷ [])
+pub answers_more : (answers : List (List Bool)) (answer : List Bool) (text : List ℕ) → text ≡ answers_text answers → text ++ ended (text_of_bits answer) ≡ answers_text (answers ++ answer ∷ [])
 answers_more answers answer text is =
-    ap (λ t. t ++ ended (bit_text answer)) is
-    ∙ (ap (λ t. answers_text answers ++ t) (sym (append-nil (ended (bit_text answer))))
-    ∙ sym (flat_map-append (λ a. ended (bit_text a)) answers (answer ∷ [])))
+    ap (λ t. t ++ ended (text_of_bits answer)) is
+    ∙ (ap (λ t. answers_text answers ++ t) (sym (append-nil (ended (text_of_bits answer))))
+    ∙ sym (flat_map-append (λ a. ended (text_of_bits a)) answers (answer ∷ [])))
 
 -- what the answer to a line tells
 pub told_line : (width count : ℕ) (symbols : List ℕ) (line : Line) → line.number ≡ count → (IsRefusedLine width line → IsSymbolFault width symbols count) → (fail : SimFail) → TellsLine width line fail → TellsSymbol width symbols fail

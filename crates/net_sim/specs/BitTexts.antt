@@ -6,11 +6,11 @@ abbrev pub character_of : Bool → ℕ
 character_of bit = if bit then 49 else 48
 
 -- the text of bits in order; where there are none it is a dash
-abbrev pub bit_text : List Bool → List ℕ
-bit_text [] = codes "-"
-bit_text (bit ∷ bits) = map character_of (bit ∷ bits)
+abbrev pub text_of_bits : List Bool → List ℕ
+text_of_bits [] = codes "-"
+text_of_bits (bit ∷ bits) = map character_of (bit ∷ bits)
 
 -- the text is that of these bits, which are so many
 pub record IsBitText (count : ℕ) (text : List ℕ) (bits : List Bool) : Type 0 where
   pub as_many : length bits ≡ count
-  pub is : text ≡ bit_text bits
+  pub is : text ≡ text_of_bits bits

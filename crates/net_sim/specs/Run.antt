@@ -6,13 +6,13 @@ use Rattle.net_core.specs.declared.Network.{Network}
 use Rattle.net_core.specs.Step.{NetAnswers}
 use Rattle.net_sim.specs.declared.failing.SimFail.{SimFail}
 use Rattle.net_sim.specs.declared.failing.SimFail.TheVariants.{BadStart, UnknownStart, BadSymbol, NoMemory}
-use Rattle.net_sim.specs.BitTexts.{IsBitText, bit_text}
+use Rattle.net_sim.specs.BitTexts.{IsBitText, text_of_bits}
 use Rattle.net_sim.specs.Starts.{IsStart, IsFirstUnknown}
 use Rattle.net_sim.specs.Symbols.{IsSymbolFile, IsSymbolFault}
 
 -- the text of answers: a line for each
 abbrev pub answers_text : List (List Bool) → List ℕ
-answers_text answers = flat_map (λ answer. ended (bit_text answer)) answers
+answers_text answers = flat_map (λ answer. ended (text_of_bits answer)) answers
 
 -- from its start, given or its own, the network answers the symbols of the file, and this is the text of its answers
 pub record IsRun (N : Network) (start : Option (List ℕ)) (symbols text : List ℕ) : Type 0 where
@@ -25,11 +25,11 @@ pub record IsRun (N : Network) (start : Option (List ℕ)) (symbols text : List 
   pub is : text ≡ answers_text answers
 
 -- each refusal has its cause, in this order
-abbrev pub IsCause : Network → Option (List ℕ) → List ℕ → SimFail → Type 0
-IsCause N start symbols BadStart = (text : List ℕ) × (start ≡ Some text) × ((state : List Bool) → IsBitText (length N.latches) text state → ⊥)
-IsCause N start symbols (UnknownStart latch) = (start ≡ None) × IsFirstUnknown N.latches latch
-IsCause N start symbols (BadSymbol line) = (state : List Bool) × IsStart N start state × IsSymbolFault (length N.inputs) symbols line
-IsCause N start symbols NoMemory = ⊤
+abbrev pub IsRunCause : Network → Option (List ℕ) → List ℕ → SimFail → Type 0
+IsRunCause N start symbols BadStart = (text : List ℕ) × (start ≡ Some text) × ((state : List Bool) → IsBitText (length N.latches) text state → ⊥)
+IsRunCause N start symbols (UnknownStart latch) = (start ≡ None) × IsFirstUnknown N.latches latch
+IsRunCause N start symbols (BadSymbol line) = (state : List Bool) × IsStart N start state × IsSymbolFault (length N.inputs) symbols line
+IsRunCause N start symbols NoMemory = ⊤
 
 -- the answer tells of the start or of the symbols, not of memory
 abbrev pub IsOfInput : SimFail → Type 0

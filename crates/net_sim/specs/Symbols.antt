@@ -5,7 +5,7 @@ use Rattle.hs_io.specs.declared.lines.Line.{Line}
 use Rattle.hs_io.specs.Lines.{lines_of}
 use Rattle.net_sim.specs.declared.symbols.SymbolFail.{SymbolFail}
 use Rattle.net_sim.specs.declared.symbols.SymbolFail.TheVariants.{NoMemory, Refused}
-use Rattle.net_sim.specs.BitTexts.{bit_text}
+use Rattle.net_sim.specs.BitTexts.{text_of_bits}
 
 -- a line without fields says nothing, where it is not bad
 abbrev pub is_skipped : Line → Bool
@@ -14,7 +14,7 @@ is_skipped line = not line.bad && length line.fields == 0
 -- the line has one field, the text of the symbol, which has so many bits
 pub record SaysSymbol (width : ℕ) (line : Line) (symbol : List Bool) : Type 0 where
   pub good : line.bad ≡ false
-  pub field : line.fields ≡ bit_text symbol ∷ []
+  pub field : line.fields ≡ text_of_bits symbol ∷ []
   pub as_wide : length symbol ≡ width
 
 -- the line says something other than a symbol of so many bits

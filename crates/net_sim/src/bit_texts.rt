@@ -2,14 +2,14 @@
 
 ghost use Rattle.std.specs.Prelude.{◌≡◌, ◌≢◌, ℕ, ◌==◌, Bool, List, [], ◌∷◌, ◌++◌, true, false, IfNone, IfSome, OnOk, length, map, codes};
 ghost use Rattle.hs_io.specs.Spelling.{ended};
-ghost use Rattle.net_sim.specs.BitTexts.{bit_text, character_of};
+ghost use Rattle.net_sim.specs.BitTexts.{text_of_bits, character_of};
 
 use std::alloc::AllocError;
 
 /// Whether the text is one of as many bits as there are places, which then hold them.
 pub(crate) fn read_bits(text: &[u8], bits: &mut [bool]) -> bool
-    ensures read { result ≡ true → text.now ≡ bit_text bits.new }
-    ensures refused { result ≡ false → (others : List Bool) → length others ≡ length bits.old → text.now ≢ bit_text others }
+    ensures read { result ≡ true → text.now ≡ text_of_bits bits.new }
+    ensures refused { result ≡ false → (others : List Bool) → length others ≡ length bits.old → text.now ≢ text_of_bits others }
 {
     if bits.is_empty() {
         text == b"-".as_slice()
@@ -49,7 +49,7 @@ fn bit_of(character: u8) -> Option<bool>
 
 /// Adds an answer to a text: its bits as a line.
 pub fn append_answer(text: &mut Vec<u8>, bits: &[bool]) -> Result<(), AllocError>
-    ensures { OnOk result (text.new.items ≡ text.old.items ++ ended (bit_text bits.now)) }
+    ensures { OnOk result (text.new.items ≡ text.old.items ++ ended (text_of_bits bits.now)) }
 {
     if bits.is_empty() {
         text.push(b'-')?;

@@ -1,15 +1,15 @@
 //! Worked texts and worked runs, the contracts of functions that do nothing.
 
 ghost use Rattle.std.specs.Prelude.{◌≡◌, [], ◌∷◌, None, Some, codes, false, true};
-ghost use Rattle.net_sim.specs.BitTexts.{bit_text};
+ghost use Rattle.net_sim.specs.BitTexts.{text_of_bits};
 ghost use Rattle.net_sim.specs.Run.{answers_text};
 ghost use Rattle.net_sim.specs.Symbols.{IsSymbolFile};
 ghost use Rattle.net_sim.specs.Worked.{RunsOnlyTo, behind_buffer, latched, shifted};
 
 /// The texts of bits, of answers, and of a file of two symbols.
 pub fn worked_texts()
-    ensures bits { bit_text (true ∷ false ∷ false ∷ []) ≡ codes "100" }
-    ensures no_bits { bit_text [] ≡ codes "-" }
+    ensures bits { text_of_bits (true ∷ false ∷ false ∷ []) ≡ codes "100" }
+    ensures no_bits { text_of_bits [] ≡ codes "-" }
     ensures answers { answers_text ((true ∷ false ∷ []) ∷ (false ∷ true ∷ []) ∷ []) ≡ codes "10\n01\n" }
     ensures symbols { IsSymbolFile 2 (codes "10 # a\n\n01") ((true ∷ false ∷ []) ∷ (false ∷ true ∷ []) ∷ []) }
 {}

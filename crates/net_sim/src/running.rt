@@ -8,8 +8,8 @@ ghost use Rattle.net_core.specs.Order.{IsOrderOf};
 ghost use Rattle.net_core.specs.Sound.{Sound};
 ghost use Rattle.net_sim.specs.declared.failing.SimFail.{SimFail};
 ghost use Rattle.net_sim.specs.declared.failing.SimFail.TheVariants.{NoMemory};
-ghost use Rattle.net_sim.specs.BitTexts.{bit_text};
-ghost use Rattle.net_sim.specs.Run.{IsCause, IsOfInput, IsRun};
+ghost use Rattle.net_sim.specs.BitTexts.{text_of_bits};
+ghost use Rattle.net_sim.specs.Run.{IsRunCause, IsOfInput, IsRun};
 ghost use Rattle.net_sim.specs.Inner.Ran.{Fits, Goes, HasAnswered, TookLine};
 ghost use Rattle.net_sim.specs.Inner.Told.{TellsLine, TellsSymbol};
 
@@ -37,9 +37,9 @@ pub fn run(
     requires order { IsOrderOf net.now order.now }
     requires short { length symbols.now < 2 ^ 32 }
     ensures ran { IfOk result (λ text. IsRun net.now (option_copied start.entry) symbols.now text.items) }
-    ensures cause { IfErr result (IsCause net.now (option_copied start.entry) symbols.now) }
+    ensures cause { IfErr result (IsRunCause net.now (option_copied start.entry) symbols.now) }
     ensures never_refused { (text : List ℕ) → IsRun net.now (option_copied start.entry) symbols.now text → MatchResult result (λ answer. answer.items ≡ text) (λ fail. fail ≡ NoMemory) }
-    ensures never_run { (fail : SimFail) → IsOfInput fail → IsCause net.now (option_copied start.entry) symbols.now fail → MatchResult result (λ _. ⊥) (λ told. (told ≡ fail) ⊎ (told ≡ NoMemory)) }
+    ensures never_run { (fail : SimFail) → IsOfInput fail → IsRunCause net.now (option_copied start.entry) symbols.now fail → MatchResult result (λ _. ⊥) (λ told. (told ≡ fail) ⊎ (told ≡ NoMemory)) }
 {
     judged(alloc, net, order, start, symbols)
 }
@@ -56,7 +56,7 @@ fn judged(
     requires order { IsOrderOf net.now order.now }
     requires short { length symbols.now < 2 ^ 32 }
     ensures ran { IfOk result (λ text. IsRun net.now (option_copied start.entry) symbols.now text.items) }
-    ensures cause { IfErr result (IsCause net.now (option_copied start.entry) symbols.now) }
+    ensures cause { IfErr result (IsRunCause net.now (option_copied start.entry) symbols.now) }
 {
     let state = start_of(alloc, net, start)?;
     answers_from(alloc, order, state, symbols)
@@ -140,7 +140,7 @@ impl Runner {
         requires { Fits order.now self.old }
         ensures fits { OnOk result (Fits order.now self.new) }
         ensures goes { OnOk result (Goes order.now self.old.state.items self.old.symbol.items self.new.answer.items self.new.state.items) }
-        ensures text { OnOk result (self.new.text.items ≡ self.old.text.items ++ ended (bit_text self.new.answer.items)) }
+        ensures text { OnOk result (self.new.text.items ≡ self.old.text.items ++ ended (text_of_bits self.new.answer.items)) }
     {
         step_by(
             self.forms.as_slice(),

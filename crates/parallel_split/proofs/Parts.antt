@@ -4,11 +4,11 @@ use Rattle.std.specs.List.{remove}
 use Rattle.std.proofs.lemmas.List.{append-nil, length-map, map-append, take-map, drop-map}
 use Rattle.std.proofs.lemmas.List.Elements.{All-cons, All-head, All-map, All-nil, All-tail, All-weaker}
 use Rattle.kiss2.specs.declared.kiss_file.KissFile.{KissFile}
-use Rattle.partition.specs.Partition.{IsZero, Together}
+use Rattle.partition.specs.Partition.{IsNontrivial, IsZero, Together}
 use Rattle.closed_lattice.specs.Closed.{IsClosedPartition}
 use Rattle.state_codes.specs.declared.split.Part.{Part}
 use Rattle.state_codes.specs.Split.{IsPart, TogetherInAll, lone_part}
-use Rattle.state_codes.specs.Kinds.{IsNontrivial, IsOwnCarrier, PartsMeetInZero}
+use Rattle.state_codes.specs.Kinds.{IsOwnCarrier, PartsMeetInZero}
 use Rattle.parallel_split.specs.Kind.{HasNoneInParallel, IsParallel}
 use Rattle.parallel_split.specs.Best.{IsBestParallel, IsNoMeetOfTwo}
 use Rattle.parallel_split.specs.Choice.{AllMeetInZero, IsParallelChoice, LeavesOut}

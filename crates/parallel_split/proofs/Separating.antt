@@ -1,11 +1,10 @@
 -- What is known of a greatest closed partition that holds two states apart.
 use Rattle.std.proofs.Common.{ℕ, ◌<◌, List, length, subst, arith}
 use Rattle.kiss2.specs.declared.kiss_file.KissFile.{KissFile}
-use Rattle.partition.specs.Partition.{IsPartition, IsZero, Together, Le, zero_of}
+use Rattle.partition.specs.Partition.{IsNontrivial, IsPartition, IsZero, Le, Together, zero_of}
 use Rattle.closed_lattice.specs.Closed.{IsClosedPartition}
 use Rattle.closed_lattice.specs.Limits.{HoldsApart, IsGreatestGrown, IsStrictlyBelow}
 use Rattle.closed_lattice.proofs.Growing.{together_itself}
-use Rattle.state_codes.specs.Kinds.{IsNontrivial}
 use Rattle.parallel_split.specs.Kind.{HasNoneInParallel}
 use Rattle.parallel_split.specs.Best.{IsNoMeetOfTwo}
 use Rattle.parallel_split.specs.Inner.Members.{IsMember}

@@ -4,7 +4,8 @@ use Rattle.kiss2.specs.declared.kiss_file.KissFile.{KissFile}
 use Rattle.closed_lattice.specs.Closed.{IsClosedPartition}
 use Rattle.closed_lattice.specs.Limits.{MeetInZero}
 use Rattle.state_codes.specs.declared.split.Part.{Part}
-use Rattle.state_codes.specs.Kinds.{IsNontrivial, IsOwnCarrier, PartsMeetInZero}
+use Rattle.partition.specs.Partition.{IsNontrivial}
+use Rattle.state_codes.specs.Kinds.{IsOwnCarrier, PartsMeetInZero}
 
 -- no two nontrivial closed partitions meet in zero
 abbrev pub HasNoneInParallel : KissFile → Type 0

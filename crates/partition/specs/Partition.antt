@@ -46,6 +46,10 @@ zero_of (suc n) = zero_of n ++ n ∷ []
 abbrev pub IsOne : List ℕ → Type 0
 IsOne p = (s t : ℕ) → s < length p → t < length p → Together p s t
 
+-- neither zero nor one
+abbrev pub IsNontrivial : List ℕ → Type 0
+IsNontrivial p = (IsZero p → ⊥) × (IsOne p → ⊥)
+
 -- The partition of n states that holds s and t together and nothing else.
 pub record IsHold (n s t : ℕ) (p : List ℕ) : Type 0 where
   pub lawful : IsPartition n p

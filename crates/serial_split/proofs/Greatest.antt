@@ -2,11 +2,10 @@
 use Rattle.std.proofs.Common.{◌≡◌, ℕ, ◌⊎◌, inl, inr, List, length, sym, ◌∙◌, subst, arith}
 use Rattle.std.proofs.lemmas.Bool.{cases_eq}
 use Rattle.kiss2.specs.declared.kiss_file.KissFile.{KissFile}
-use Rattle.partition.specs.Partition.{IsOne, IsPartition, IsZero, Together, Le, zero_of}
+use Rattle.partition.specs.Partition.{IsNontrivial, IsOne, IsPartition, IsZero, Le, Together, zero_of}
 use Rattle.partition.specs.Laws.Labels.{same_labels}
 use Rattle.closed_lattice.specs.Limits.{IsGreatestGrown, IsStrictlyBelow}
 use Rattle.closed_lattice.proofs.Growing.{together_itself}
-use Rattle.state_codes.specs.Kinds.{IsNontrivial}
 use Rattle.serial_split.specs.Kind.{HasNoneNontrivial}
 use Rattle.serial_split.specs.Best.{NothingBetween}
 

@@ -4,7 +4,7 @@ use Rattle.std.specs.List.{slice_get}
 use Rattle.std.proofs.lemmas.List.Elements.{All-nil, All-cons, All-head, All-tail}
 use Rattle.std.proofs.lemmas.Option.{same_Some}
 use Rattle.kiss2.specs.declared.kiss_file.KissFile.{KissFile}
-use Rattle.partition.specs.Partition.{IsOne, IsPartition, Together, blocks_of, zero_of}
+use Rattle.partition.specs.Partition.{IsNontrivial, IsOne, IsPartition, Together, blocks_of, zero_of}
 use Rattle.partition.specs.Inside.{IsComplement, IsLargestSize}
 use Rattle.partition.specs.Laws.Extremes.{zero_of_is_zero, zero_of_is_partition}
 use Rattle.partition.specs.Laws.Labels.{IsPartition-of}
@@ -13,7 +13,7 @@ use Rattle.closed_lattice.specs.Limits.{IsGreatestGrown, IsStrictlyBelow}
 use Rattle.closed_lattice.proofs.ZeroBlocks.{zero_le}
 use Rattle.state_codes.specs.declared.split.Part.{Part}
 use Rattle.state_codes.specs.Split.{IsPart}
-use Rattle.state_codes.specs.Kinds.{IsNontrivial, IsOwnCarrier, PartsMeetInZero}
+use Rattle.state_codes.specs.Kinds.{IsOwnCarrier, PartsMeetInZero}
 use Rattle.state_codes.specs.Laws.InnerLabels.{inside_tells}
 use Rattle.serial_split.specs.Kind.{IsSerial}
 use Rattle.serial_split.specs.Best.{IsBestSerial}

@@ -6,14 +6,14 @@ use Rattle.std.proofs.lemmas.List.{length_push, get_or_append_left, get_or_push}
 use Rattle.std.proofs.lemmas.List.Elements.{All-nil, All-cons, All-head, All-tail}
 use Rattle.std.proofs.lemmas.Option.{none-some, same_Some, slice_get-get_or, slice_get_within}
 use Rattle.kiss2.specs.declared.kiss_file.KissFile.{KissFile}
-use Rattle.partition.specs.Partition.{IsOne, IsPartition, IsZero, Together, Le}
+use Rattle.partition.specs.Partition.{IsNontrivial, IsOne, IsPartition, IsZero, Le, Together}
 use Rattle.partition.specs.MeetAndJoin.{IsMeet}
 use Rattle.partition.specs.Laws.Labels.{blocks_of-le, label-lt-blocks_of, IsPartition-of}
 use Rattle.closed_lattice.specs.Closed.{IsClosedPartition}
 use Rattle.closed_lattice.proofs.ZeroBlocks.{strictly_fewer}
 use Rattle.state_codes.specs.declared.split.Part.{Part}
 use Rattle.state_codes.specs.Split.{IsPart, TogetherInAll}
-use Rattle.state_codes.specs.Kinds.{IsNontrivial, IsOwnCarrier, PartsMeetInZero}
+use Rattle.state_codes.specs.Kinds.{IsOwnCarrier, PartsMeetInZero}
 use Rattle.state_codes.specs.Laws.InnerLabels.{inside_tells, inside_same}
 use Rattle.serial_split.specs.Kind.{Descends, HasNoneNontrivial, IsCascade}
 use Rattle.serial_split.specs.Best.{DescendsTightly, IsBestCascade}

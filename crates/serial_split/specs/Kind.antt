@@ -2,13 +2,13 @@
 use Rattle.std.specs.Prelude.{◌≡◌, ℕ, ◌≤◌, All, List, [], ◌∷◌, Some, length, slice_get}
 use Rattle.std.specs.List.{range_with_len}
 use Rattle.kiss2.specs.declared.kiss_file.KissFile.{KissFile}
-use Rattle.partition.specs.Partition.{IsOne, IsPartition, IsZero, blocks_of}
+use Rattle.partition.specs.Partition.{IsNontrivial, IsOne, IsPartition, IsZero, blocks_of}
 use Rattle.partition.specs.MeetAndJoin.{IsMeet}
 use Rattle.partition.specs.Inside.{IsLargestSize}
 use Rattle.closed_lattice.specs.Closed.{IsClosedPartition}
 use Rattle.closed_lattice.specs.Limits.{IsStrictlyBelow}
 use Rattle.state_codes.specs.declared.split.Part.{Part}
-use Rattle.state_codes.specs.Kinds.{IsNontrivial, IsOwnCarrier, PartsMeetInZero}
+use Rattle.state_codes.specs.Kinds.{IsOwnCarrier, PartsMeetInZero}
 
 -- no closed partition is nontrivial
 abbrev pub HasNoneNontrivial : KissFile → Type 0

@@ -8,16 +8,16 @@ use Rattle.state_codes.specs.Split.{IsPart}
 use Rattle.state_codes.specs.Code.{IsCode}
 
 -- the codes of two states have the same bit i
-abbrev pub AgreeAt : List ℕ → ℕ → ℕ → ℕ → Type 0
-AgreeAt words i s t = bit_at (slice_index words s) i ≡ bit_at (slice_index words t) i
+abbrev pub CodesAgreeAt : List ℕ → ℕ → ℕ → ℕ → Type 0
+CodesAgreeAt words i s t = bit_at (slice_index words s) i ≡ bit_at (slice_index words t) i
 
 -- the codes of two states agree on all bits of part j
 abbrev pub AgreeOnPart : Codes → ℕ → ℕ → ℕ → Type 0
-AgreeOnPart codes j s t = (i : ℕ) → i < codes.bits → slice_index codes.owner i ≡ j → AgreeAt codes.words i s t
+AgreeOnPart codes j s t = (i : ℕ) → i < codes.bits → slice_index codes.owner i ≡ j → CodesAgreeAt codes.words i s t
 
 -- the codes of two states agree on the bits of part j that code its carrier
 abbrev pub AgreeOnCarrier : Codes → ℕ → ℕ → ℕ → Type 0
-AgreeOnCarrier codes j s t = (i : ℕ) → i < codes.bits → slice_index codes.owner i ≡ j → slice_get codes.carried i ≡ Some true → AgreeAt codes.words i s t
+AgreeOnCarrier codes j s t = (i : ℕ) → i < codes.bits → slice_index codes.owner i ≡ j → slice_get codes.carried i ≡ Some true → CodesAgreeAt codes.words i s t
 
 -- states with one code are one state
 abbrev pub AreDistinct : ℕ → List ℕ → Type 0
@@ -26,7 +26,7 @@ AreDistinct n words = (s t : ℕ) → s < n → t < n → slice_index words s �
 -- states are together in p where their codes agree at bit i
 pub record IsBitPartition (n : ℕ) (words : List ℕ) (i : ℕ) (p : List ℕ) : Type 0 where
   pub lawful : IsPartition n p
-  pub together : (s t : ℕ) → s < n → t < n → Together p s t ↔ AgreeAt words i s t
+  pub together : (s t : ℕ) → s < n → t < n → Together p s t ↔ CodesAgreeAt words i s t
 
 -- two states agree on all bits of a part exactly where they are together in its partition
 abbrev pub PartBitsTell : Type 0

@@ -1,12 +1,7 @@
 -- Words of which the kinds of splits are told, after Hartmanis and Stearns.
 use Rattle.std.specs.Prelude.{◌≡◌, ℕ, List}
-use Rattle.partition.specs.Partition.{IsZero, IsOne}
 use Rattle.state_codes.specs.declared.split.Part.{Part}
 use Rattle.state_codes.specs.Split.{TogetherInAll}
-
--- neither zero nor one
-abbrev pub IsNontrivial : List ℕ → Type 0
-IsNontrivial p = (IsZero p → ⊥) × (IsOne p → ⊥)
 
 -- the part is its own carrier
 abbrev pub IsOwnCarrier : Part → Type 0

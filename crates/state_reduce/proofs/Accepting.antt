@@ -16,7 +16,7 @@ use Rattle.kiss2.specs.Names.{AreDistinct}
 use Rattle.machine_table.specs.Table.{IsTable}
 use Rattle.partition.proofs.Nesting.{least_of-same}
 use Rattle.partition.specs.Inside.{least_of}
-use Rattle.state_reduce.specs.Alike.{Alike, AreApart, IsEquivalence, IsWord}
+use Rattle.state_reduce.specs.Alike.{Alike, AreUnlike, IsEquivalence, IsWord}
 use Rattle.state_reduce.specs.Inner.Named.{AreAllNamed, currents_of, kept_of, nexts_of}
 use Rattle.state_reduce.specs.Quotient.{AnswersAsMembers, IsQuotient, block_name, block_names, block_number, row_of_blocks}
 use Rattle.state_reduce.proofs.Appearing.{place_at}
@@ -116,7 +116,7 @@ module _ (F : KissFile) (p : List ℕ) (Q : KissFile) (made : IsQuotient F p Q) 
   }
 
   -- blocks of alike states are not alike
-  pub blocks_apart : AnswersAsMembers F p Q → IsEquivalence F p → AreApart Q
+  pub blocks_apart : AnswersAsMembers F p Q → IsEquivalence F p → AreUnlike Q
   blocks_apart as_members alike_blocks c d in_c in_d alike =
       let first = block_at c (subst (λ (names : List (List ℕ)). c < length names) made.states in_c) in
       let second = block_at d (subst (λ (names : List (List ℕ)). d < length names) made.states in_d) in

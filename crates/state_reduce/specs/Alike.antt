@@ -18,5 +18,5 @@ pub record IsEquivalence (F : KissFile) (p : List ℕ) : Type 0 where
   pub together : (s t : ℕ) → s < length F.states → t < length F.states → Together p s t ↔ Alike F s t
 
 -- no two states are alike
-abbrev pub AreApart : KissFile → Type 0
-AreApart F = (s t : ℕ) → s < length F.states → t < length F.states → Alike F s t → s ≡ t
+abbrev pub AreUnlike : KissFile → Type 0
+AreUnlike F = (s t : ℕ) → s < length F.states → t < length F.states → Alike F s t → s ≡ t

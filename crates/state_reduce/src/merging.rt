@@ -9,7 +9,7 @@ ghost use Rattle.machine_table.specs.Table.{IsTable};
 ghost use Rattle.pair_operators.specs.Consistent.{Consistent};
 ghost use Rattle.pair_operators.specs.Pair.{Closed};
 ghost use Rattle.partition.specs.Inside.{least_of};
-ghost use Rattle.state_reduce.specs.Alike.{AreApart, IsEquivalence};
+ghost use Rattle.state_reduce.specs.Alike.{AreUnlike, IsEquivalence};
 ghost use Rattle.state_reduce.specs.Cause.{Caused};
 ghost use Rattle.state_reduce.specs.Inner.Named.{AreAllNamed, currents_of};
 ghost use Rattle.state_reduce.specs.Quotient.{AnswersAsMembers, AreBlocksInOrder, AreNamed, HaveRowsInOrder, IsQuotient, block_name, block_names, block_number, kept_rows, row_of_blocks};
@@ -43,7 +43,7 @@ pub fn quotient(
     ensures lawful { IsLawful file.now → IfOk result IsLawful }
     ensures accepted { (fill : Fill) → Accepted file.now fill → IfOk result (λ q. Accepted q fill) }
     ensures answers { IfOk result (AnswersAsMembers file.now p.now) }
-    ensures apart { IsEquivalence file.now p.now → IfOk result AreApart }
+    ensures apart { IsEquivalence file.now p.now → IfOk result AreUnlike }
     ensures caused { IfErr result (Caused file.now p.now) }
 {
     m.keeps_its_states();

@@ -4,7 +4,7 @@ use Rattle.std.specs.List.{range_with_len}
 use Rattle.kiss2.specs.declared.kiss_file.KissRow.{KissRow}
 use Rattle.machine_gen.specs.declared.drawing.Draw.{Draw}
 use Rattle.machine_gen.specs.declared.rows.Place.{Place}
-use Rattle.machine_gen.specs.MachineOf.{IsRowOf, next_first, next_second}
+use Rattle.machine_gen.specs.MachineOf.{IsDrawnRow, next_first, next_second}
 
 -- what a word says, of a first parts and b second parts
 abbrev pub draw_of : ℕ → ℕ → ℕ → Draw
@@ -20,7 +20,7 @@ place_of b k number = record { first = number / 2 ^ k / b; second = number / 2 ^
 
 -- the row of a place, that goes to a state
 abbrev pub IsRowAt : ℕ → ℕ → Place → ℕ → KissRow → Type 0
-IsRowAt b k place state row = IsRowOf b k place.first place.second place.symbol state row
+IsRowAt b k place state row = IsDrawnRow b k place.first place.second place.symbol state row
 
 -- where the words lead from a place
 abbrev pub next_of : (ℕ → ℕ) → ℕ → ℕ → ℕ → Place → ℕ

@@ -3,7 +3,7 @@ use Rattle.std.specs.Prelude.{ℕ, ◌≡◌, ◌<◌, ◌^◌, ◌↔◌, ◌�
 use Rattle.cubes.specs.Cube.{HoldsNumber}
 use Rattle.kiss2.specs.declared.kiss_file.KissFile.{KissFile}
 use Rattle.kiss2.specs.declared.kiss_file.KissRow.{KissRow}
-use Rattle.machine_table.specs.Inner.Asked.{AreOpenAt, IsLabelAt, IsOpenAt, IsRowOf}
+use Rattle.machine_table.specs.Inner.Asked.{AreOpenAt, IsLabelAt, IsOpenAt, IsOfState}
 
 -- a list with the pairs of a kind beside its own
 abbrev pub AddsPairs : (ℕ → ℕ → Type 0) → List (ℕ × ℕ) → List (ℕ × ℕ) → Type 0
@@ -30,7 +30,7 @@ pub record AreNamedBy (row other : KissRow) (u v : ℕ) : Type 0 where
 
 -- some row of the state does what is told of a row
 abbrev pub OfSomeRow : KissFile → ℕ → (KissRow → ℕ → ℕ → Type 0) → ℕ → ℕ → Type 0
-OfSomeRow F s P u v = (row : KissRow) × IsRowOf F s row × P row u v
+OfSomeRow F s P u v = (row : KissRow) × IsOfState F s row × P row u v
 
 -- the row and some row of the state name these at some symbol
 abbrev pub IsNamedBeside : KissFile → ℕ → KissRow → ℕ → ℕ → Type 0

@@ -56,12 +56,12 @@ pub record AreApartAt (said : KissRow → Option ℕ) (row other : KissRow) (x :
   pub differ : SayApart said row other
 
 -- the row is one of the state
-abbrev pub IsRowOf : KissFile → ℕ → KissRow → Type 0
-IsRowOf F s row = Contains F.rows row × (row.from ≡ s)
+abbrev pub IsOfState : KissFile → ℕ → KissRow → Type 0
+IsOfState F s row = Contains F.rows row × (row.from ≡ s)
 
 -- some row of the state is apart from the row at the symbol of that number
 abbrev pub IsApartAt : (KissRow → Option ℕ) → KissFile → ℕ → KissRow → ℕ → Type 0
-IsApartAt said F t row x = (other : KissRow) × IsRowOf F t other × AreApartAt said row other x
+IsApartAt said F t row x = (other : KissRow) × IsOfState F t other × AreApartAt said row other x
 
 -- the row holds the symbol of that number and says another label than the one given, and no row of the state says any
 abbrev pub IsAloneAt : (KissRow → Option ℕ) → KissFile → (t other : ℕ) → KissRow → ℕ → Type 0

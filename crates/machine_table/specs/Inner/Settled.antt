@@ -6,7 +6,7 @@ use Rattle.kiss2.specs.declared.kiss_file.KissFile.{KissFile}
 use Rattle.kiss2.specs.declared.kiss_file.KissRow.{KissRow}
 use Rattle.machine_table.specs.declared.covering.Piece.{Piece}
 use Rattle.machine_table.specs.Covering.{IsHeldByPiece, IsPiece}
-use Rattle.machine_table.specs.Inner.Asked.{IsRowOf}
+use Rattle.machine_table.specs.Inner.Asked.{IsOfState}
 
 -- the other cube holds each symbol of the cube or none
 abbrev pub IsAllOrNone : Cube → Cube → Type 0
@@ -14,7 +14,7 @@ IsAllOrNone cube other = (y z : ℕ) → HoldsNumber cube y → HoldsNumber cube
 
 -- each row of the state does
 abbrev pub IsSettledIn : KissFile → ℕ → Cube → Type 0
-IsSettledIn F s cube = (row : KissRow) → IsRowOf F s row → IsAllOrNone cube row.cube
+IsSettledIn F s cube = (row : KissRow) → IsOfState F s row → IsAllOrNone cube row.cube
 
 -- a list with pieces for the cube beside its own
 pub record AddsPieces (F : KissFile) (s : ℕ) (cube : Cube) (old more : List Piece) : Type 0 where

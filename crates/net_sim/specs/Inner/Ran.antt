@@ -9,7 +9,7 @@ use Rattle.net_core.specs.Order.{IsOrderOf}
 use Rattle.net_core.specs.Sound.{Sound}
 use Rattle.net_core.specs.Step.{Step}
 use Rattle.net_sim.specs.declared.running.Runner.{Runner}
-use Rattle.net_sim.specs.BitTexts.{bit_text}
+use Rattle.net_sim.specs.BitTexts.{text_of_bits}
 use Rattle.net_sim.specs.Symbols.{IsRefusedLine, SaysSymbol, SayWord, is_skipped}
 use Rattle.net_sim.specs.Run.{answers_text}
 use Rattle.net_sim.specs.Inner.Forms.{AreForms}
@@ -31,7 +31,7 @@ abbrev pub TookLine : Order → Line → Runner → Runner → Type 0
 TookLine order line old new =
     ((is_skipped line ≡ true) × (new.state.items ≡ old.state.items) × (new.text.items ≡ old.text.items))
     ⊎ ((symbol : List Bool) × (answer : List Bool) × SaysSymbol order.input_count line symbol × Goes order old.state.items symbol answer new.state.items
-    × (new.text.items ≡ old.text.items ++ ended (bit_text answer)))
+    × (new.text.items ≡ old.text.items ++ ended (text_of_bits answer)))
 
 -- the word leads from the one state to the other, with these answers
 abbrev pub Leads : Network → List Bool → List (List Bool) → List (List Bool) → List Bool → Type 0

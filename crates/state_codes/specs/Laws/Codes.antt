@@ -14,7 +14,7 @@ use Rattle.state_codes.specs.declared.split.Part.{Part}
 use Rattle.state_codes.specs.declared.Codes.{Codes}
 use Rattle.state_codes.specs.Split.{IsPart, TogetherInAll}
 use Rattle.state_codes.specs.Code.{Place, need, label_places, part_places, places_of, bit_of, state_code, IsLaidOut, IsCode, CodesAreOne}
-use Rattle.state_codes.specs.Agreement.{AgreeAt, AgreeOnPart, AgreeOnCarrier, AreDistinct, PartBitsTell, CarrierBitsTell, BitsHalve}
+use Rattle.state_codes.specs.Agreement.{CodesAgreeAt, AgreeOnPart, AgreeOnCarrier, AreDistinct, PartBitsTell, CarrierBitsTell, BitsHalve}
 use Rattle.state_codes.specs.Fault.{AreApart}
 use Rattle.state_codes.specs.Laws.Need.{need-enough}
 use Rattle.state_codes.specs.Laws.InnerLabels.{inside_tells, inside_same}
@@ -46,7 +46,7 @@ spelled_at n places bits words owner carried written s in_s i d within =
     written.spelled s in_s i ∙ get_or-map (bit_of s) places i d 0 within
 
 -- agreement at place i is agreement of the two bits that stand there
-agree_at : (n : ℕ) (places : List Place) (bits : ℕ) (words owner : List ℕ) (carried : List Bool) → IsLaidOut n places bits words owner carried → (s t : ℕ) → s < n → t < n → (i : ℕ) (d : Place) → i < length places → AgreeAt words i s t ↔ SameBit s t (get_or places i d)
+agree_at : (n : ℕ) (places : List Place) (bits : ℕ) (words owner : List ℕ) (carried : List Bool) → IsLaidOut n places bits words owner carried → (s t : ℕ) → s < n → t < n → (i : ℕ) (d : Place) → i < length places → CodesAgreeAt words i s t ↔ SameBit s t (get_or places i d)
 agree_at n places bits words owner carried written s t in_s in_t i d within =
     let at_s = spelled_at n places bits words owner carried written s in_s i d within in
     let at_t = spelled_at n places bits words owner carried written t in_t i d within in
@@ -190,7 +190,7 @@ bits_halve n words i p bit =
     stands : (block : ℕ) → block < blocks_of p → (s : ℕ) × (s < length p) × (get_or p s 0 ≡ block)
     stands block below = block_stands p bit.lawful.numbered (length p) (omega arith) block (omega (arith, ap blocks_of (take_all (length p) p (omega arith))))
 
-    apart : (s t a b : ℕ) → s < length p → t < length p → get_or p s 0 ≡ a → get_or p t 0 ≡ b → a ≢ b → AgreeAt words i s t → ⊥
+    apart : (s t a b : ℕ) → s < length p → t < length p → get_or p s 0 ≡ a → get_or p t 0 ≡ b → a ≢ b → CodesAgreeAt words i s t → ⊥
     apart s t a b in_s in_t at_s at_t other agree = other (sym at_s ∙ ((bit.together s t (omega (arith, bit.lawful.length)) (omega (arith, bit.lawful.length))).1 agree).2 ∙ at_t)
 
     three : 2 < blocks_of p → ⊥

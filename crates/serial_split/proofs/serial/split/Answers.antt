@@ -1,12 +1,11 @@
 use Rattle.std.proofs.Common.{◌≡◌, ℕ, inl, inr, List, [], ◌∷◌, ◌++◌, length, refl, ap, sym, ◌∙◌, subst, arith}
 use Rattle.std.proofs.lemmas.Bool.{false≢true}
 use Rattle.kiss2.specs.declared.kiss_file.KissFile.{KissFile}
-use Rattle.partition.specs.Partition.{IsOne, IsPartition, IsStateCount, IsZero, blocks_of, zero_of}
+use Rattle.partition.specs.Partition.{IsNontrivial, IsOne, IsPartition, IsStateCount, IsZero, blocks_of, zero_of}
 use Rattle.partition.specs.Laws.Extremes.{zero_of_is_zero, zero_of_is_partition}
 use Rattle.closed_lattice.specs.Limits.{IsGreatestGrown, IsStrictlyBelow}
 use Rattle.closed_lattice.proofs.ZeroBlocks.{zero_blocks, zero_by_blocks}
 use Rattle.state_codes.specs.declared.split.Part.{Part}
-use Rattle.state_codes.specs.Kinds.{IsNontrivial}
 use Rattle.serial_split.specs.Kind.{HasNoneNontrivial}
 use Rattle.serial_split.specs.Inner.Chain.{part_after}
 use Rattle.serial_split.proofs.Greatest.{greatest_nontrivial, none_above_zero, none_of_one_state, one_zero_or_not}

@@ -7,7 +7,7 @@ use Rattle.cubes.proofs.Numbers.{length-symbol_of}
 use Rattle.kiss2.specs.declared.kiss_file.KissRow.{KissRow}
 use Rattle.machine_table.specs.declared.covering.Piece.{Piece}
 use Rattle.machine_table.specs.Covering.{IsHeldByPiece, IsPiece}
-use Rattle.machine_table.specs.Inner.Asked.{IsRowOf}
+use Rattle.machine_table.specs.Inner.Asked.{IsOfState}
 use Rattle.machine_table.proofs.Asking.{looked_at, of_each_row}
 use Rattle.machine_table.proofs.RowPieces.{row_is_piece}
 use Rattle.machine_table.proofs.SettledCubes.{held_by_last, held_still, no_pieces}
@@ -21,7 +21,7 @@ loop-number-init c = record {
   each = λ k d row before at x held. absurd (omega (arith, before));
 }
 
-this_row : (c : After-row) → IsRowOf c.args.self.now c.args.s c.row.result.now
+this_row : (c : After-row) → IsOfState c.args.self.now c.args.s c.row.result.now
 this_row c =
     let place = get_or c.numbers_of-numbers.result.now c.loop-number.number-index 0 in
     row_of c.args.self.now c.args.s place c.row.result.now
