@@ -9,7 +9,7 @@ use Rattle.std.proofs.lemmas.List.Elements.{All-append, All-contains, All-drop, 
 use Rattle.cover_logic.proofs.Bits.{below_width}
 use Rattle.cover_logic.specs.declared.term.Term.{Term}
 use Rattle.cover_logic.specs.Term.{FitsWidth, Holds, HoldsWithDash, IsCovered}
-use Rattle.cover_logic.specs.Cover.{AreApart, GoodCover}
+use Rattle.cover_logic.specs.Cover.{ShareNoValue, GoodCover}
 use Rattle.cover_logic.specs.Inner.Rows.{Covers, EachNeeded, HasSameValues, IsClear, IsPrime}
 use Rattle.cover_logic.proofs.Values.{covered_back}
 
@@ -41,14 +41,14 @@ held_from_low : (width : ℕ) (terms : List Term) → All (FitsWidth width) term
 held_from_low width terms fits x h = (h.0, h.1, holds_from_low width h.0 (All-contains (FitsWidth width) terms h.0 fits h.1) x h.2)
 
 -- each term of on is clear of off
-pub clear_from_apart : (width : ℕ) (on off : List Term) → All (FitsWidth width) on → All (FitsWidth width) off → AreApart width on off → All (IsClear off) on
+pub clear_from_apart : (width : ℕ) (on off : List Term) → All (FitsWidth width) on → All (FitsWidth width) off → ShareNoValue width on off → All (IsClear off) on
 clear_from_apart width on off fits off_fits apart = λ k d h x p held.
     let t = get_or on k d in
     apart (x % 2 ^ width) (low_is_value width x)
     (held_low width on fits x (t, Contains-get_or on k d h, p)) (held_low width off off_fits x held)
 
 -- and then no value is in both
-pub apart_from_clear : (width : ℕ) (on off : List Term) → All (IsClear off) on → AreApart width on off
+pub apart_from_clear : (width : ℕ) (on off : List Term) → All (IsClear off) on → ShareNoValue width on off
 apart_from_clear width on off clear = λ x h held off_held. All-contains (IsClear off) on held.0 clear held.1 x held.2 off_held
 
 -- rows of one width that cover on, are clear of off, prime and each needed are a good cover; on and off may be

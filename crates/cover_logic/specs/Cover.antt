@@ -4,15 +4,15 @@ use Rattle.cover_logic.specs.declared.term.Term.{Term}
 use Rattle.cover_logic.specs.Term.{LooksAt, HoldsWithDash, IsCovered, FitsWidth}
 
 -- no value is held by both lists
-abbrev pub AreApart : ℕ → List Term → List Term → Type 0
-AreApart width on off = (x : ℕ) → x < 2 ^ width → IsCovered on x → IsCovered off x → ⊥
+abbrev pub ShareNoValue : ℕ → List Term → List Term → Type 0
+ShareNoValue width on off = (x : ℕ) → x < 2 ^ width → IsCovered on x → IsCovered off x → ⊥
 
 -- what a cover is asked for: lists of terms of at most 128 columns, with no value in both
 pub record CanCover (width : ℕ) (on off : List Term) : Type 0 where
   pub columns : width ≤ 128
   pub on_fits : All (FitsWidth width) on
   pub off_fits : All (FitsWidth width) off
-  pub apart : AreApart width on off
+  pub apart : ShareNoValue width on off
 
 -- the rows are an irredundant cover of on, over the values of `width` bits; a value of neither list is free
 pub record GoodCover (width : ℕ) (rows on off : List Term) : Type 0 where

@@ -10,7 +10,7 @@ use Rattle.partition.specs.Merging.{IsMerged}
 use Rattle.partition.specs.Laws.Labels.{IsPartition-of}
 use Rattle.partition.specs.Laws.Chains.{together_turned}
 use Rattle.partition.specs.Laws.Merging.{merged_above, merged_held}
-use Rattle.output_consistent.specs.Outputs.{IsBitPartition}
+use Rattle.output_consistent.specs.Outputs.{IsOutputPartition}
 use Rattle.output_consistent.specs.Inner.Agreeing.{AgreeInEach}
 use Rattle.output_consistent.proofs.Agreeing.{at_symbol}
 
@@ -104,7 +104,7 @@ split_alone F bit s p in_s none so_far = record {
               ]
         ]
 
-pub split_all : (F : KissFile) (bit count : ℕ) (p : List ℕ) → length F.states ≡ count → IsSplitSoFar F bit count p → IsBitPartition F bit p
+pub split_all : (F : KissFile) (bit count : ℕ) (p : List ℕ) → length F.states ≡ count → IsSplitSoFar F bit count p → IsOutputPartition F bit p
 split_all F bit count p size so_far = record {
   lawful = so_far.lawful;
   together = λ s t in_s in_t. (

@@ -15,6 +15,6 @@ abbrev pub GiveEqualBits : KissFile → (bit s t : ℕ) → Type 0
 GiveEqualBits F bit s t = (x : List Bool) → length x ≡ F.inputs → output_bit F s x bit ≡ output_bit F t x bit
 
 -- the partition of the states in which two are together exactly where they agree in that output
-pub record IsBitPartition (F : KissFile) (bit : ℕ) (p : List ℕ) : Type 0 where
+pub record IsOutputPartition (F : KissFile) (bit : ℕ) (p : List ℕ) : Type 0 where
   pub lawful : IsPartition (length F.states) p
   pub together : (s t : ℕ) → s < length F.states → t < length F.states → Together p s t ↔ GiveEqualBits F bit s t

@@ -1,7 +1,7 @@
 //! The partition of the states by one output.
 
 ghost use Rattle.std.specs.Prelude.{ℕ, ◌<◌, IfNone, IfOk, IfSome, length};
-ghost use Rattle.output_consistent.specs.Outputs.{IsBitPartition};
+ghost use Rattle.output_consistent.specs.Outputs.{IsOutputPartition};
 ghost use Rattle.output_consistent.specs.Inner.Agreeing.{AgreeInEach};
 
 use machine_table::Machine;
@@ -13,7 +13,7 @@ use std::alloc::{AllocError, Global};
 /// Each state joins the block of the first state that it agrees with.
 pub fn bit_partition(alloc: Global, m: &Machine, bit: u8) -> Result<Partition, AllocError>
     requires { bit < m.now.outputs }
-    ensures { IfOk result (IsBitPartition m.now bit) }
+    ensures { IfOk result (IsOutputPartition m.now bit) }
 {
     let mut p = Partition::zero(alloc, m.states())?;
     for s in 0..m.states() {
