@@ -41,7 +41,7 @@ fn place(symbol: Option<u32>) -> u8 {
 /// The next state and the output of each state at 0 and at 1.
 fn add_steps(text: &mut Vec<u8>, m: &Machine) -> Result<(), AllocError> {
     for s in 0..m.states() {
-        if m.inputs() == 1 {
+        if m.inputs() == 1 && m.outputs() == 1 {
             text.push(digit(m.next(s, 0)))?;
             text.push(b'0' + u8::from(m.output_bit(s, 0, 0)))?;
             text.push(digit(m.next(s, 1)))?;
@@ -90,7 +90,7 @@ fn add_walk(alloc: Global, text: &mut Vec<u8>, m: &Machine) -> Result<(), AllocE
 /// What holds of states 0 and t at all symbols: whether they go together and where not, whether they answer
 /// alike and where not, and whether the one output agrees.
 fn add_answers(text: &mut Vec<u8>, m: &Machine, t: usize, q: &Partition) -> Result<(), AllocError> {
-    if t < m.states() && q.len() == m.states() {
+    if t < m.states() && q.len() == m.states() && m.outputs() == 1 {
         text.push(b'0' + u8::from(m.pair_goes(0, t, q)))?;
         text.push(place(m.first_apart(0, t, q)))?;
         text.push(b'0' + u8::from(m.outputs_agree(0, t)))?;
