@@ -12,7 +12,6 @@ pub mod Sizes
 pub mod Words
 pub mod Rows
 pub mod RowNumbering
-pub mod RowLabels
 pub mod Counting
 pub mod Reaching
 pub mod FlatRows

@@ -7,7 +7,7 @@ use Rattle.partition.specs.MeetAndJoin.{Leads, Chain, IsJoin}
 use Rattle.partition.specs.Bits.{bit_of}
 use Rattle.partition.specs.Inner.Rows.{Has, row_of, IsRows, AreBlocks, ReachesBy, Reaches}
 use Rattle.partition.specs.Laws.Chains.{chain_within, chain_none, chain_link, chain_on, chain_turned, chain_keeps}
-use Rattle.partition.proofs.RowLabels.{rows_are_blocks}
+use Rattle.partition.proofs.RowNumbering.{rows_are_blocks}
 use Rattle.partition.proofs.Words.{bit_of-lt}
 use Rattle.partition.proofs.Counting.{ones, ones-le, ones_kept, ones_grow}
 

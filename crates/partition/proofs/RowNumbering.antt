@@ -157,22 +157,30 @@ join_by_rows p q r rows lengths size chains lawful is = record {
   together = rows_by (length p) rows r (Chain p q) (chain_togetherness p q lengths) chains (lawful.length ∙ size) is;
 }
 
--- what is found for a row: an earlier state of it, or none
-abbrev pub Finds : List ℕ → List ℕ → ℕ → ℕ → ℕ → Type 0
-Finds row labels blocks blocks' x =
-    ((t : ℕ) × (t < length labels) × Has row t × (x ≡ get_or labels t 0) × (blocks' ≡ blocks)) ⊎ (((t : ℕ) → t < length labels → bit_of row t ≡ 0) × (x ≡ blocks) × (blocks' ≡ blocks + 1))
-
--- one row more, with the label of an earlier state of it or the next one
-pub row_numbering_step : (rows : List (List ℕ)) (labels labels' : List ℕ) (blocks blocks' s x : ℕ) (row : List ℕ) → AreBlocks rows → s < length rows → IsRowNumbering rows labels blocks s → row ≡ row_of rows s → labels' ≡ labels → Finds row labels' blocks blocks' x → IsRowNumbering rows (labels ++ x ∷ []) blocks' (s + 1)
-row_numbering_step rows labels labels' blocks blocks' s x row are within so_far row_is same finds =
-    step (subst (λ (xs : List ℕ). Finds row xs blocks blocks' x) same finds)
-  where
-    step : Finds row labels blocks blocks' x → IsRowNumbering rows (labels ++ x ∷ []) blocks' (s + 1)
-    step (inl found) = rw (found.4, found.3) (row_numbering_old rows labels blocks s found.0 are within so_far (omega (arith, found.1, so_far.size)) (subst (λ (r : List ℕ). Has r found.0) row_is found.2))
-    step (inr none) = rw (none.2, none.1) (row_numbering_new rows labels blocks s are within so_far (λ t below. subst (λ (r : List ℕ). bit_of r t ≡ 0) row_is (none.0 t (omega (arith, so_far.size)))))
+-- one row more, by the first state of the row: its label, or the next one where it is no earlier state
+pub row_numbering_step : (rows : List (List ℕ)) (labels labels' : List ℕ) (blocks blocks' s first x : ℕ) → AreBlocks rows → s < length rows → IsRowNumbering rows labels blocks s → labels' ≡ labels
+    → Has (row_of rows s) first → ((u : ℕ) → u < first → bit_of (row_of rows s) u ≡ 0)
+    → (first < length labels' → (x ≡ get_or labels' first 0) × (blocks' ≡ blocks)) → (length labels' ≤ first → (x ≡ blocks) × (blocks' ≡ blocks + 1)) → IsRowNumbering rows (labels ++ x ∷ []) blocks' (s + 1)
+row_numbering_step rows labels labels' blocks blocks' s first x are within so_far same on least earlier next =
+    elim (cases_lt first (length labels')) [
+      | inl before ↦
+          let is = earlier before in
+          let value : x ≡ get_or labels first 0 = is.0 ∙ ap (λ (ls : List ℕ). get_or ls first 0) same in
+          rw (is.1, value) (row_numbering_old rows labels blocks s first are within so_far (omega (arith, before, ap length same, so_far.size)) on)
+      | inr after ↦ let is = next after in rw (is.1, is.0) (row_numbering_new rows labels blocks s are within so_far (λ t below. least t (omega (arith, after, ap length same, so_far.size))))
+    ]
 
 pub meet_blocks : (p q : List ℕ) (rows : List (List ℕ)) → IsPartition (length p) p → length q ≡ length p → length rows ≡ length p → ((s t : ℕ) → s < length p → Has (row_of rows s) t ↔ (Together p s t × Together q s t)) → AreBlocks rows
 meet_blocks p q rows lawful lengths size both = blocks_by (length p) rows (λ s t. Together p s t × Together q s t) lawful.count size (both_togetherness p q lengths) both
 
 pub join_blocks : (p q : List ℕ) (rows : List (List ℕ)) → IsPartition (length p) p → length q ≡ length p → length rows ≡ length p → ((s t : ℕ) → s < length p → Has (row_of rows s) t ↔ Chain p q s t) → AreBlocks rows
 join_blocks p q rows lawful lengths size chains = blocks_by (length p) rows (Chain p q) lawful.count size (chain_togetherness p q lengths) chains
+
+-- the rows of a partition are rows of blocks
+pub rows_are_blocks : (p : List ℕ) (rows : List (List ℕ)) → IsPartition (length p) p → IsRows p rows → AreBlocks rows
+rows_are_blocks p rows lawful is = record {
+  count = (omega (arith, lawful.count.0, is.size), omega (arith, lawful.count.1, is.size));
+  within = λ s t on. omega (arith, ((is.bits s t).0 on).1, is.size);
+  own = λ s inside. (is.bits s s).1 (omega (arith, is.size), omega (arith, is.size), refl);
+  alike = λ s t u one two. let first = (is.bits s t).0 one in let second = (is.bits s u).0 two in (is.bits t u).1 (first.1, second.1, sym first.2 ∙ second.2);
+}

@@ -6,38 +6,35 @@ ghost use Rattle.partition.specs.MeetAndJoin.{IsMeet, IsJoin};
 ghost use Rattle.partition.specs.Before.{Before};
 ghost use Rattle.partition.specs.Bits.{bit_of};
 
-mod comparing;
 mod conversion;
 mod lattice;
 mod rows;
 
-use comparing::{is_smaller, same_rows};
+use crate::Partition;
 use rows::Rows;
 use std::alloc::{AllocError, Global};
 use std::marker::Model;
 
-/// A partition of n states as n rows of n bits, seen by contracts as its list of labels.
+/// A partition of n states as its labels and n rows of n bits, seen by contracts as the list of labels.
 ///
 /// Bit t of row s is 1 exactly where s and t are together. The rows stand in one vector, each in as many
-/// words as n bits need, and the number of blocks beside them.
+/// words as n bits need. Meet and join are made on the rows; what compares or counts reads the labels.
 #[derive(Debug, Drop)]
 pub struct BitPart {
+    partition: Partition,
     rows: Rows,
-    blocks: usize,
 }
 
 impl Model for BitPart {
-    ghost use Rattle.std.specs.Prelude.{◌≡◌, List, ℕ, length};
-    ghost use Rattle.partition.specs.Partition.{IsPartition, blocks_of};
-    ghost use Rattle.partition.specs.Inner.Rows.{IsRows, labels_of};
+    ghost use Rattle.std.specs.Prelude.{List, ℕ, length};
+    ghost use Rattle.partition.specs.Partition.{IsPartition};
+    ghost use Rattle.partition.specs.Inner.Rows.{IsRows};
 
     ghost Value = { List ℕ };
 
-    ghost view = { λ p. labels_of p.rows };
+    ghost view = { λ p. p.partition };
 
-    ghost invariant = { λ p. IsPartition (length (labels_of p.rows)) (labels_of p.rows)
-        × IsRows (labels_of p.rows) p.rows
-        × (p.blocks ≡ blocks_of (labels_of p.rows)) };
+    ghost invariant = { λ p. IsPartition (length p.partition) p.partition × IsRows p.partition p.rows };
 }
 
 impl BitPart {
@@ -46,7 +43,7 @@ impl BitPart {
         ensures len { result ≡ length self.now }
         ensures lawful { IsPartition result self.now }
     {
-        self.rows.len()
+        self.partition.len()
     }
 
     /// Row s: bit t stands at 2^(t modulo 64) of word t / 64, and is 1 exactly where s and t are
@@ -66,7 +63,7 @@ impl BitPart {
         requires t { t < length self.now }
         ensures { IsTrue result ↔ Together self.now s t }
     {
-        self.rows.row(s).contains(t)
+        self.partition.same(s, t)
     }
 
     /// The number of blocks.
@@ -74,14 +71,14 @@ impl BitPart {
         ensures blocks { result ≡ blocks_of self.now }
         ensures lawful { IsPartition (length self.now) self.now }
     {
-        self.blocks
+        self.partition.blocks()
     }
 
     /// Whether q has the same states together.
     pub fn equal(&self, q: &BitPart) -> bool
         ensures { IsTrue result ↔ (self.now ≡ q.now) }
     {
-        same_rows(&self.rows, &q.rows)
+        self.partition.equal(&q.partition)
     }
 
     /// Whether this partition stands before q in a listing, in the order of `Partition::before`.
@@ -89,12 +86,7 @@ impl BitPart {
         requires { length q.now ≡ length self.now }
         ensures { IsTrue result ↔ Before self.now q.now }
     {
-        let (blocks, others) = (self.blocks(), q.blocks());
-        if blocks == others {
-            is_smaller(&self.rows, &q.rows)
-        } else {
-            others < blocks
-        }
+        self.partition.before(&q.partition)
     }
 
     /// The same partition again.
@@ -103,8 +95,8 @@ impl BitPart {
         ensures lawful { IfOk result (λ p. IsPartition (length self.now) p) }
     {
         Ok(BitPart {
+            partition: self.partition.copy(alloc)?,
             rows: self.rows.copy(alloc)?,
-            blocks: self.blocks,
         })
     }
 }

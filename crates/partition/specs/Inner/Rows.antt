@@ -1,7 +1,7 @@
--- For private functions and proofs alone: rows of bits, and the labels that they denote.
-use Rattle.std.specs.Prelude.{◌≡◌, ℕ, zero, suc, ◌+◌, ◌-◌, ◌*◌, ◌/◌, ◌<◌, ◌==◌, if◌then◌else◌, ◌↔◌, ◌⊎◌, List, [], ◌∷◌, ◌++◌, length, take, drop, slice_index, slice_index_or}
+-- For private functions and proofs alone: rows of bits, and how they stand in words.
+use Rattle.std.specs.Prelude.{◌≡◌, ℕ, zero, suc, ◌+◌, ◌*◌, ◌/◌, ◌<◌, ◌↔◌, ◌⊎◌, List, [], ◌∷◌, ◌++◌, length, take, drop, slice_index, slice_index_or}
 use Rattle.std.specs.Int.{bit_at}
-use Rattle.partition.specs.Partition.{IsStateCount, Together, blocks_of}
+use Rattle.partition.specs.Partition.{IsStateCount, Together}
 use Rattle.partition.specs.Bits.{bit_of}
 
 -- the bit is set: a set of states, kept so, has this member
@@ -28,26 +28,6 @@ pub record AreBlocks (rows : List (List ℕ)) : Type 0 where
   pub within : (s t : ℕ) → Has (row_of rows s) t → t < length rows
   pub own : (s : ℕ) → s < length rows → Has (row_of rows s) s
   pub alike : (s t u : ℕ) → Has (row_of rows s) t → Has (row_of rows s) u → Has (row_of rows t) u
-
--- the least state below n in the set, or n where there is none
-abbrev pub first_below : List ℕ → ℕ → ℕ
-first_below set zero = zero
-first_below set (suc n) = if first_below set n == n then n + 1 - bit_of set n else first_below set n
-
--- The label of the state after these labels, whose row this is: that of the least state in it, or the next
--- label where no earlier state is in it.
-abbrev pub next_label : List ℕ → List ℕ → ℕ
-next_label row labels =
-    if first_below row (length labels) == length labels then blocks_of labels else slice_index labels (first_below row (length labels))
-
--- the labels of the first n states
-abbrev pub front_labels : List (List ℕ) → ℕ → List ℕ
-front_labels rows zero = []
-front_labels rows (suc n) = front_labels rows n ++ next_label (row_of rows n) (front_labels rows n) ∷ []
-
--- the labels of the partition whose rows these are
-abbrev pub labels_of : List (List ℕ) → List ℕ
-labels_of rows = front_labels rows (length rows)
 
 -- for each block the set of those of its states that are below t
 pub record AreSets (labels : List ℕ) (sets : List (List ℕ)) (blocks t : ℕ) : Type 0 where

@@ -17,11 +17,9 @@ impl BitPart {
         ensures labels { IfOk result (λ q. q ≡ p.now) }
         ensures lawful { IfOk result (λ q. IsPartition (length p.now) q) }
     {
-        let blocks = p.blocks();
-        Ok(BitPart {
-            rows: label_rows(alloc, p.labels(), blocks)?,
-            blocks,
-        })
+        let partition = p.copy(alloc)?;
+        let rows = label_rows(alloc, p.labels(), p.blocks())?;
+        Ok(BitPart { partition, rows })
     }
 
     /// The labels of the states.
@@ -29,7 +27,17 @@ impl BitPart {
         ensures labels { IfOk result (λ p. p ≡ self.now) }
         ensures lawful { IfOk result (λ p. IsPartition (length self.now) p) }
     {
-        numbered_rows(alloc, &self.rows)
+        self.partition.copy(alloc)
+    }
+
+    /// The partition whose rows these are.
+    pub(super) fn of_rows(alloc: Global, rows: Rows) -> Result<BitPart, AllocError>
+        requires { AreBlocks rows }
+        ensures lawful { IfOk result (λ p. IsPartition (length rows) p) }
+        ensures rows { IfOk result (λ p. IsRows p rows) }
+    {
+        let partition = numbered_rows(alloc, &rows)?;
+        Ok(BitPart { partition, rows })
     }
 }
 
@@ -83,8 +91,7 @@ fn numbered_rows(alloc: Global, rows: &Rows) -> Result<Partition, AllocError>
     let mut labels = Vec::with_capacity(alloc, rows.len())?;
     let mut blocks: u16 = 0;
     for s in 0..rows.len() {
-        let row = rows.row(s);
-        let label = label_of_row(&row, labels.as_slice(), &mut blocks);
+        let label = label_of_first(rows.first_of(s), labels.as_slice(), &mut blocks);
         labels.push(label)?;
     }
     Ok(Partition {
@@ -93,20 +100,16 @@ fn numbered_rows(alloc: Global, rows: &Rows) -> Result<Partition, AllocError>
     })
 }
 
-/// The label of an earlier state of the row, or the next one where there is none.
-fn label_of_row(row: &StateSet, labels: &[u16], blocks: &mut u16) -> u16
+/// The label of an earlier state, or the next one where the state is none of the earlier ones.
+fn label_of_first(first: usize, labels: &[u16], blocks: &mut u16) -> u16
     requires { blocks.old < 256 }
-    ensures { ((t : ℕ) × (t < length labels.now) × Has row.now t
-        × (result ≡ slice_index labels.now t) × (blocks.new ≡ blocks.old))
-        ⊎ (((t : ℕ) → t < length labels.now → bit_of row.now t ≡ 0)
-        × (result ≡ blocks.old) × (blocks.new ≡ blocks.old + 1)) }
+    ensures earlier { first < length labels.now → (result ≡ slice_index labels.now first) × (blocks.new ≡ blocks.old) }
+    ensures next { length labels.now ≤ first → (result ≡ blocks.old) × (blocks.new ≡ blocks.old + 1) }
 {
-    match row.first() {
-        Some(t) if t < labels.len() => labels[t],
-        _ => {
-            let label = *blocks;
-            *blocks += 1;
-            label
-        }
+    if first < labels.len() {
+        return labels[first];
     }
+    let label = *blocks;
+    *blocks += 1;
+    label
 }

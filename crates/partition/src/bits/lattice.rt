@@ -7,7 +7,6 @@ ghost use Rattle.partition.specs.Bits.{bit_of};
 ghost use Rattle.partition.specs.Inner.Rows.{Has, row_of, IsRows, AreBlocks, Reaches};
 
 use super::BitPart;
-use super::comparing::begun_blocks;
 use super::rows::Rows;
 use crate::states::StateSet;
 use std::alloc::{AllocError, Global};
@@ -20,8 +19,7 @@ impl BitPart {
         ensures greatest { IfOk result (λ r. IsGreatestBelow self.now q.now r) }
     {
         let rows = self.common_rows(alloc, q)?;
-        let blocks = begun_blocks(&rows);
-        Ok(BitPart { rows, blocks })
+        BitPart::of_rows(alloc, rows)
     }
 
     /// States are together where a chain of states leads from the one to the other.
@@ -30,7 +28,7 @@ impl BitPart {
         ensures join { IfOk result (λ r. IsJoin self.now q.now r) }
         ensures least { IfOk result (λ r. IsLeastAbove self.now q.now r) }
     {
-        if self.blocks < q.blocks {
+        if self.blocks() < q.blocks() {
             self.join_onto(alloc, q)
         } else {
             q.join_onto(alloc, self)
@@ -47,8 +45,7 @@ impl BitPart {
             return self.copy(alloc);
         }
         let rows = self.joined_rows(alloc, q, first)?;
-        let blocks = begun_blocks(&rows);
-        Ok(BitPart { rows, blocks })
+        BitPart::of_rows(alloc, rows)
     }
 
     /// The rows of the states between which a chain leads, where the states before `first` have their rows of q

@@ -77,46 +77,6 @@ impl Rows {
         first_bit(self.words(s)).unwrap_or(s)
     }
 
-    /// The first state from `from` on whose rows differ, or the number of rows.
-    pub fn first_difference(&self, other: &Rows, from: usize) -> usize
-        requires length { length other.now ≡ length self.now }
-        requires from { from ≤ length self.now }
-        ensures low { from ≤ result }
-        ensures high { result ≤ length self.now }
-        ensures same { (s : ℕ) → from ≤ s → s < result → (t : ℕ)
-            → bit_of (row_of self.now s) t ≡ bit_of (row_of other.now s) t }
-        ensures differs { result < length self.now → ((t : ℕ)
-            → bit_of (row_of self.now result) t ≡ bit_of (row_of other.now result) t) → ⊥ }
-    {
-        let width = word_count(self.states);
-        let (words, others) = (self.words.as_slice(), other.words.as_slice());
-        row_at(
-            unequal_word(words, others, from * width),
-            width,
-            self.states,
-        )
-    }
-
-    /// The first state from `from` on whose rows differ in a state before it, or the number of rows.
-    pub fn first_difference_below(&self, other: &Rows, from: usize) -> usize
-        requires length { length other.now ≡ length self.now }
-        requires from { from ≤ length self.now }
-        ensures low { from ≤ result }
-        ensures high { result ≤ length self.now }
-        ensures same { (s : ℕ) → from ≤ s → s < result → (t : ℕ) → t < s
-            → bit_of (row_of self.now s) t ≡ bit_of (row_of other.now s) t }
-    {
-        let width = word_count(self.states);
-        let (words, others) = (self.words.as_slice(), other.words.as_slice());
-        let start = row_at(past_equal(words, others, from * width), width, self.states);
-        for s in start..self.states {
-            if differ_below(words, others, s * width, s) {
-                return s;
-            }
-        }
-        self.states
-    }
-
     /// The first state from `from` on whose row in the other is not within its row here, or the number of rows.
     pub fn first_outside(&self, other: &Rows, from: usize) -> usize
         requires length { length other.now ≡ length self.now }
@@ -182,67 +142,6 @@ fn row_at(at: usize, width: usize, rows: usize) -> usize
         3 => at / 3,
         _ => at / 4,
     }
-}
-
-/// Whether the bits below s differ, those of words from `at` on.
-fn differ_below(words: &[u64], others: &[u64], at: usize, s: usize) -> bool
-    requires words { at + s / 64 < length words.now }
-    requires others { at + s / 64 < length others.now }
-    ensures { OnFalse result ((t : ℕ) → t < s → bit_at (slice_index words.now (at + t / 64)) (t % 64)
-        ≡ bit_at (slice_index others.now (at + t / 64)) (t % 64)) }
-{
-    for i in 0..s / 64 {
-        if words[at + i] != others[at + i] {
-            return true;
-        }
-    }
-    let difference = words[at + s / 64] ^ others[at + s / 64];
-    (difference.trailing_zeros() as usize) < s % 64
-}
-
-/// The first place from `from` on where the words differ, or their number.
-fn unequal_word(words: &[u64], others: &[u64], from: usize) -> usize
-    requires length { length others.now ≡ length words.now }
-    requires from { from ≤ length words.now }
-    ensures low { from ≤ result }
-    ensures high { result ≤ length words.now }
-    ensures same { (k : ℕ) → from ≤ k → k < result → slice_index words.now k ≡ slice_index others.now k }
-    ensures differs { result < length words.now → ((i : ℕ) → i < 64
-        → bit_at (slice_index words.now result) i ≡ bit_at (slice_index others.now result) i) → ⊥ }
-{
-    let start = past_equal(words, others, from);
-    for k in start..words.len() {
-        if words[k] != others[k] {
-            return k;
-        }
-    }
-    words.len()
-}
-
-/// The place past groups of four words from `from` on that are the same.
-fn past_equal(words: &[u64], others: &[u64], from: usize) -> usize
-    requires length { length others.now ≡ length words.now }
-    requires from { from ≤ length words.now }
-    ensures low { from ≤ result }
-    ensures high { result ≤ length words.now }
-    ensures same { (k : ℕ) → from ≤ k → k < result → slice_index words.now k ≡ slice_index others.now k }
-{
-    let mut at = from;
-    while words.len() - at >= 4 && !four_differ(words, others, at) {
-        at += 4;
-    }
-    at
-}
-
-/// Whether one of the four words from `at` on differs.
-fn four_differ(words: &[u64], others: &[u64], at: usize) -> bool
-    requires words { at + 4 ≤ length words.now }
-    requires others { at + 4 ≤ length others.now }
-    ensures { OnFalse result ((k : ℕ) → at ≤ k → k < at + 4 → slice_index words.now k ≡ slice_index others.now k) }
-{
-    let first = (words[at] ^ others[at]) | (words[at + 1] ^ others[at + 1]);
-    let second = (words[at + 2] ^ others[at + 2]) | (words[at + 3] ^ others[at + 3]);
-    first | second != 0
 }
 
 /// The first place from `from` on where the other word has a bit that the word has not, or their number.

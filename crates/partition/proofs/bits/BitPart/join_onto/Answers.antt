@@ -1,10 +1,9 @@
 use Rattle.std.proofs.Common.{◌≡◌, ℕ, List, length, sym, subst, arith}
 use Rattle.partition.specs.Partition.{IsPartition, Together}
 use Rattle.partition.specs.MeetAndJoin.{IsJoin}
-use Rattle.partition.specs.Inner.Rows.{IsRows, labels_of}
+use Rattle.partition.specs.Inner.Rows.{IsRows}
 use Rattle.partition.proofs.Outcomes.{IfOk-from_both}
 use Rattle.partition.proofs.RowNumbering.{join_blocks, join_by_rows}
-use Rattle.partition.proofs.RowLabels.{rows_stand, rows_hold}
 use Rattle.partition.proofs.Reaching.{join_of_below, below_by_rows}
 use Rattle.partition.proofs.bits.BitPart.join_onto.Goals as goal
 
@@ -25,18 +24,10 @@ joined_rows-requires-clause-below c t u low held =
     let q_is : IsRows c.args.q.now c.q.inside.rows = rw (← c.q.view_is) c.q.invariant.1 in
     below_by_rows c.args.self.now c.args.q.now c.self.inside.rows c.q.inside.rows c.first_outside-first.result p_is q_is c.first_outside-first.ensures.inside t u low held
 
-pub begun_blocks-blocks-requires : goal.begun_blocks-blocks-requires
-begun_blocks-blocks-requires c =
-    (join_blocks c.args.self.now c.args.q.now c.in_ok-rows.rows c.in_ok-rows.ensures.lawful c.requires c.in_ok-rows.ensures.length c.in_ok-rows.ensures.chains)
-
-pub invariant_of-result : goal.invariant_of-result
-invariant_of-result c =
-    let rows : List (List ℕ) = c.in_ok-rows.rows in
-    let hold = rows_hold rows (join_blocks c.args.self.now c.args.q.now rows c.in_ok-rows.ensures.lawful c.requires c.in_ok-rows.ensures.length c.in_ok-rows.ensures.chains) in
-    (hold.0, hold.1, c.begun_blocks-blocks.ensures)
+pub of_rows-requires : goal.of_rows-requires
+of_rows-requires c =
+    join_blocks c.args.self.now c.args.q.now c.in_ok-rows.rows c.in_ok-rows.ensures.lawful c.requires c.in_ok-rows.ensures.length c.in_ok-rows.ensures.chains
 
 pub returns : goal.returns
 returns c =
-    let rows : List (List ℕ) = c.in_ok-rows.rows in
-    let stand = rows_stand rows (join_blocks c.args.self.now c.args.q.now rows c.in_ok-rows.ensures.lawful c.requires c.in_ok-rows.ensures.length c.in_ok-rows.ensures.chains) in
-    join_by_rows c.args.self.now c.args.q.now (labels_of rows) rows c.requires c.in_ok-rows.ensures.length c.in_ok-rows.ensures.chains stand.0 stand.1
+    IfOk-from_both c.of_rows.result c.of_rows.ensures.lawful c.of_rows.ensures.rows (λ r lawful is. join_by_rows c.args.self.now c.args.q.now r c.in_ok-rows.rows c.requires c.in_ok-rows.ensures.length c.in_ok-rows.ensures.chains lawful is)
