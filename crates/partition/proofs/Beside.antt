@@ -1,13 +1,12 @@
 -- Two lists of rows of as many states, word by word.
-use Rattle.std.proofs.Common.{◌≡◌, ℕ, Bool, not, nat_eq, nat_lt, ◌+◌, ◌-◌, ◌*◌, ◌/◌, ◌%◌, ◌<◌, ◌≤◌, ◌⊎◌, ◌^◌, List, length, drop, get_or, sym, ap, ◌∙◌, subst, inl, inr, arith}
-use Rattle.std.proofs.lemmas.Bool.{cases_eq, cases_lt, eq-eqb, ne_eqb, lt-ltb, le-ltb}
+use Rattle.std.proofs.Common.{◌≡◌, ℕ, Bool, not, nat_eq, ◌+◌, ◌-◌, ◌*◌, ◌/◌, ◌%◌, ◌<◌, ◌≤◌, ◌⊎◌, ◌^◌, min, List, length, drop, get_or, sym, ap, ◌∙◌, subst, inl, inr, arith}
+use Rattle.std.proofs.lemmas.Bool.{cases_eq, cases_lt, eq-eqb, ne_eqb}
 use Rattle.std.proofs.lemmas.List.{length-take}
-use Rattle.std.proofs.lemmas.Nat.{mul-le, le_or_l, le_or_r, and_le_l, and_le_r}
-use Rattle.std.proofs.lemmas.Nat.Bits.{bit_at_and, bit_at_not, bit_at_xor, bit_at-trailing_zeros, bit_at-zero, bit_at-lt}
+use Rattle.std.proofs.lemmas.Nat.{mul-le, le_or_l, le_or_r}
+use Rattle.std.proofs.lemmas.Nat.Bits.{bit_at_and, bit_at_not, bit_at-zero, bit_at-lt}
 use Rattle.std.specs.Bool.{OnFalse}
-use Rattle.std.specs.Int.{bit_at, bit_not, trailing_zeros, w64}
-use Rattle.std.specs.Int.Bits.{xor_add_and}
-use Rattle.std.specs.Int.RustNames.{bit_and, bit_or, bit_xor}
+use Rattle.std.specs.Int.{bit_at, bit_not, w64}
+use Rattle.std.specs.Int.RustNames.{bit_and, bit_or}
 use Rattle.partition.specs.Bits.{bit_of}
 use Rattle.partition.specs.Inner.Rows.{Has, Covers, row_of, words_for, words_at, rows_in}
 use Rattle.partition.proofs.Words.{bit_of_past, below_four}
@@ -15,9 +14,6 @@ use Rattle.partition.proofs.FlatRows.{length-rows_in, row_of-rows_in, bits_of_fo
 
 pub or_zero : (a b : ℕ) → bit_or a b ≡ 0 → (a ≡ 0) × (b ≡ 0)
 or_zero a b none = (omega (arith, le_or_l a b, none), omega (arith, le_or_r a b, none))
-
-pub xor_zero : (a b : ℕ) → bit_xor a b ≡ 0 → a ≡ b
-xor_zero a b none = omega (arith, xor_add_and a b, and_le_l a b, and_le_r a b, none)
 
 -- no bit of the other word is out of the word
 pub covers_by : (word other : ℕ) → word < 2 ^ 64 → bit_and other (bit_not w64 word) ≡ 0 → Covers word other
@@ -74,20 +70,6 @@ past_bit ws width s t past = bit_of_past (words_at ws width s) t (omega (arith, 
 word_bit : (ws : List ℕ) (width s t : ℕ) → t / 64 < width → bit_of (words_at ws width s) t ≡ bit_at (get_or ws (s * width + t / 64) 0) (t % 64)
 word_bit ws width s t inside = ap (λ (word : ℕ). bit_at word (t % 64)) (word_read ws width s (t / 64) inside)
 
--- where the words of a row are the same, its bits are
-pub beside_same : (rows others : List (List ℕ)) (ws xs : List ℕ) (states width s : ℕ) → AreBeside rows others ws xs states width → s < states
-    → ((k : ℕ) → s * width ≤ k → k < s * width + width → get_or ws k 0 ≡ get_or xs k 0) → (t : ℕ) → bit_of (row_of rows s) t ≡ bit_of (row_of others s) t
-beside_same rows others ws xs states width s are within same t =
-    ap (λ (r : List (List ℕ)). bit_of (row_of r s) t) (sym are.rows_are)
-    ∙ row_bit ws width states s t within are.narrow
-    ∙ words (cases_lt (t / 64) width)
-    ∙ sym (row_bit xs width states s t within are.narrow)
-    ∙ ap (λ (r : List (List ℕ)). bit_of (row_of r s) t) are.others_are
-  where
-    words : (t / 64 < width) ⊎ (width ≤ t / 64) → bit_of (words_at ws width s) t ≡ bit_of (words_at xs width s) t
-    words (inl inside) = word_bit ws width s t inside ∙ ap (λ (word : ℕ). bit_at word (t % 64)) (same (s * width + t / 64) (omega arith) (omega arith)) ∙ sym (word_bit xs width s t inside)
-    words (inr past) = past_bit ws width s t past ∙ sym (past_bit xs width s t past)
-
 -- where the words of a row cover those of the other, it has its bits
 pub beside_covers : (rows others : List (List ℕ)) (ws xs : List ℕ) (states width s : ℕ) → AreBeside rows others ws xs states width → s < states
     → ((k : ℕ) → s * width ≤ k → k < s * width + width → Covers (get_or ws k 0) (get_or xs k 0)) → (t : ℕ) → Has (row_of others s) t → Has (row_of rows s) t
@@ -101,27 +83,27 @@ beside_covers rows others ws xs states width s are within covers t has =
     words (inl inside) = word_bit ws width s t inside ∙ covers (s * width + t / 64) (omega arith) (omega arith) (t % 64) (omega arith) (sym (word_bit xs width s t inside) ∙ on)
     words (inr past) = absurd (omega (arith, on, past_bit xs width s t past))
 
--- where the bits of a row are the same, those of each of its words are
-pub beside_word : (rows others : List (List ℕ)) (ws xs : List ℕ) (states width s k : ℕ) → AreBeside rows others ws xs states width → s < states → s * width ≤ k → k < s * width + width
-    → ((t : ℕ) → bit_of (row_of rows s) t ≡ bit_of (row_of others s) t) → (i : ℕ) → i < 64 → bit_at (get_or ws k 0) i ≡ bit_at (get_or xs k 0) i
-beside_word rows others ws xs states width s k are within low high same i below =
-    sym (bit ws)
-    ∙ sym (row_bit ws width states s t within are.narrow)
-    ∙ ap (λ (r : List (List ℕ)). bit_of (row_of r s) t) are.rows_are
-    ∙ same t
-    ∙ ap (λ (r : List (List ℕ)). bit_of (row_of r s) t) (sym are.others_are)
-    ∙ row_bit xs width states s t within are.narrow
-    ∙ bit xs
+-- where each word has the bits of both words, a row has those of both rows
+pub beside_common : (rows others : List (List ℕ)) (ws xs new : List ℕ) (states width : ℕ) → AreBeside rows others ws xs states width
+    → ((k : ℕ) → k < length ws → get_or new k 0 ≡ bit_and (get_or ws k 0) (get_or xs k 0)) → (s : ℕ) → s < states → (t : ℕ)
+    → bit_of (row_of (rows_in new width states) s) t ≡ min (bit_of (row_of rows s) t) (bit_of (row_of others s) t)
+beside_common rows others ws xs new states width are common s within t =
+    omega (arith, row_bit new width states s t within are.narrow, left, right, words (cases_lt (t / 64) width))
   where
-    t : ℕ
-    t = (k - s * width) * 64 + i
+    left : bit_of (row_of rows s) t ≡ bit_of (words_at ws width s) t
+    left = ap (λ (r : List (List ℕ)). bit_of (row_of r s) t) (sym are.rows_are) ∙ row_bit ws width states s t within are.narrow
 
-    bit : (ys : List ℕ) → bit_of (words_at ys width s) t ≡ bit_at (get_or ys k 0) i
-    bit ys =
-        let word : t / 64 ≡ k - s * width = omega (arith, low, below) in
-        let place : t % 64 ≡ i = omega (arith, low, below) in
-        let at : s * width + t / 64 ≡ k = omega (arith, word, low) in
-        word_bit ys width s t (omega (arith, word, low, high)) ∙ ap (λ (j : ℕ). bit_at (get_or ys j 0) (t % 64)) at ∙ ap (bit_at (get_or ys k 0)) place
+    right : bit_of (row_of others s) t ≡ bit_of (words_at xs width s) t
+    right = ap (λ (r : List (List ℕ)). bit_of (row_of r s) t) (sym are.others_are) ∙ row_bit xs width states s t within are.narrow
+
+    words : (t / 64 < width) ⊎ (width ≤ t / 64) → bit_of (words_at new width s) t ≡ min (bit_of (words_at ws width s) t) (bit_of (words_at xs width s) t)
+    words (inl inside) =
+        let k : ℕ = s * width + t / 64 in
+        let below : k < length ws = omega (arith, row_end s states width within, are.size) in
+        let bit : bit_of (words_at new width s) t ≡ min (bit_at (get_or ws k 0) (t % 64)) (bit_at (get_or xs k 0) (t % 64)) =
+        word_bit new width s t inside ∙ ap (λ (word : ℕ). bit_at word (t % 64)) (common k below) ∙ bit_at_and (get_or ws k 0) (get_or xs k 0) (t % 64) in
+        omega (arith, bit, word_bit ws width s t inside, word_bit xs width s t inside)
+    words (inr past) = omega (arith, past_bit new width s t past, past_bit ws width s t past, past_bit xs width s t past)
 
 -- the row of a word that is not before the row `from`
 pub row_low : (at width rows from r : ℕ) → from ≤ rows → from * width ≤ at → at ≤ rows * width → (at ≡ rows * width → r ≡ rows)
@@ -167,39 +149,3 @@ four_none f P at holds none =
     let front = or_zero (f at) (f (at + 1)) halves.0 in
     let back = or_zero (f (at + 2)) (f (at + 3)) halves.1 in
     four_from P at (holds at front.0) (holds (at + 1) front.1) (holds (at + 2) back.0) (holds (at + 3) back.1)
-
--- a row that is not past the last has its word
-pub word_inside : (at width rows r : ℕ) → at ≤ rows * width → (at ≡ rows * width → r ≡ rows) → r < rows → at < rows * width
-word_inside at width rows r high end below =
-    elim (cases_eq at (rows * width)) [
-      | inl last ↦ absurd (omega (arith, end last, below))
-      | inr other ↦ omega arith
-    ]
-
--- a bit of a row is that of the other where they are in their words
-pub beside_bit : (rows others : List (List ℕ)) (ws xs : List ℕ) (states width s t : ℕ) → AreBeside rows others ws xs states width → s < states → t / 64 < width
-    → bit_at (get_or ws (s * width + t / 64) 0) (t % 64) ≡ bit_at (get_or xs (s * width + t / 64) 0) (t % 64) → bit_of (row_of rows s) t ≡ bit_of (row_of others s) t
-beside_bit rows others ws xs states width s t are within inside same =
-    ap (λ (r : List (List ℕ)). bit_of (row_of r s) t) (sym are.rows_are)
-    ∙ row_bit ws width states s t within are.narrow
-    ∙ word_bit ws width s t inside
-    ∙ same
-    ∙ sym (word_bit xs width s t inside)
-    ∙ sym (row_bit xs width states s t within are.narrow)
-    ∙ ap (λ (r : List (List ℕ)). bit_of (row_of r s) t) are.others_are
-
--- the bits of two words are the same below the first bit in which they differ
-pub same_below : (a b i : ℕ) → bit_xor a b < 2 ^ 64 → i < trailing_zeros w64 (bit_xor a b) → bit_at a i ≡ bit_at b i
-same_below a b i small below =
-    elim (cases_eq (bit_xor a b) 0) [
-      | inl none ↦ ap (λ (x : ℕ). bit_at x i) (xor_zero a b none)
-      | inr some ↦ omega (arith, bit_at_xor a b i, (bit_at-trailing_zeros w64 (bit_xor a b) (omega arith) small).2 i below, bit_at-lt a i, bit_at-lt b i)
-    ]
-
--- what holds where a number is not less
-pub when_not_less : (x y : ℕ) (P : Type 0) → (y ≤ x → P) → OnFalse (nat_lt x y) P
-when_not_less x y P holds =
-    elim (cases_lt x y) [
-      | inl less ↦ subst (λ (b : Bool). OnFalse b P) (sym (lt-ltb x y less)) tt
-      | inr high ↦ subst (λ (b : Bool). OnFalse b P) (sym (le-ltb x y high)) (holds high)
-    ]

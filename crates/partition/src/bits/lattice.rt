@@ -101,25 +101,8 @@ impl BitPart {
         ensures both { IfOk result (λ v. (s t : ℕ) → s < length self.now
             → Has (row_of v s) t ↔ (Together self.now s t × Together q.now s t)) }
     {
-        common_states(alloc, &self.rows, &q.rows)
+        self.rows.common(alloc, &q.rows)
     }
-}
-
-/// For each state the states that both rows have.
-fn common_states(alloc: Global, p: &Rows, q: &Rows) -> Result<Rows, AllocError>
-    requires length { length q.now ≡ length p.now }
-    requires within { (s t : ℕ) → Has (row_of p.now s) t → t < length p.now }
-    ensures length { IfOk result (λ v. length v ≡ length p.now) }
-    ensures both { IfOk result (λ v. (s : ℕ) → s < length p.now → (t : ℕ)
-        → bit_of (row_of v s) t ≡ min (bit_of (row_of p.now s) t) (bit_of (row_of q.now s) t)) }
-{
-    let mut rows = Rows::empty(alloc, p.len())?;
-    for s in 0..p.len() {
-        let left = p.row(s);
-        let right = q.row(s);
-        rows.set_row(s, &left.intersection(&right));
-    }
-    Ok(rows)
 }
 
 /// The states that are reached from s by the rows of p and q, one after another.

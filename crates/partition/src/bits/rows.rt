@@ -1,6 +1,6 @@
 //! Rows of bits, one after another.
 
-ghost use Rattle.std.specs.Prelude.{◌≡◌, ℕ, ◌+◌, ◌*◌, ◌/◌, ◌%◌, ◌<◌, ◌≤◌, length, slice_index, slice_set, IfOk};
+ghost use Rattle.std.specs.Prelude.{◌≡◌, ℕ, ◌+◌, ◌*◌, ◌/◌, ◌%◌, ◌<◌, ◌≤◌, min, length, slice_index, slice_set, bit_and, IfOk};
 ghost use Rattle.std.specs.Int.{bit_at};
 ghost use Rattle.std.specs.Bool.{OnFalse};
 ghost use Rattle.partition.specs.Bits.{bit_of};
@@ -105,6 +105,21 @@ impl Rows {
         put_words(self.words.as_mut_slice(), s * width, set.words(width));
     }
 
+    /// For each row the states that the other has there too.
+    pub fn common(&self, alloc: Global, other: &Rows) -> Result<Rows, AllocError>
+        requires { length other.now ≡ length self.now }
+        ensures length { IfOk result (λ rows. length rows ≡ length self.now) }
+        ensures both { IfOk result (λ rows. (s : ℕ) → s < length self.now → (t : ℕ)
+            → bit_of (row_of rows s) t ≡ min (bit_of (row_of self.now s) t) (bit_of (row_of other.now s) t)) }
+    {
+        let mut words = self.words.as_slice().to_vec(alloc)?;
+        keep_common(words.as_mut_slice(), other.words.as_slice());
+        Ok(Rows {
+            words,
+            states: self.states,
+        })
+    }
+
     /// The same rows again.
     pub fn copy(&self, alloc: Global) -> Result<Rows, AllocError>
         ensures { IfOk result (λ rows. rows ≡ self.now) }
@@ -196,5 +211,16 @@ fn put_words(words: &mut [u64], at: usize, row: &[u64])
 {
     for (i, word) in row.iter().enumerate() {
         words[at + i] = *word;
+    }
+}
+
+/// Clears the bits that the other words have not.
+fn keep_common(words: &mut [u64], others: &[u64])
+    requires { length others.now ≡ length words.old }
+    ensures { (k : ℕ) → k < length words.old
+        → slice_index words.new k ≡ bit_and (slice_index words.old k) (slice_index others.now k) }
+{
+    for (k, word) in words.iter_mut().enumerate() {
+        *word &= others[k];
     }
 }
