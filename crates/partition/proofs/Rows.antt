@@ -1,22 +1,17 @@
 -- Rows of bits that say which states are together.
-use Rattle.std.proofs.Common.{◌≡◌, ◌≢◌, ℕ, ◌+◌, ◌*◌, ◌/◌, ◌%◌, ◌<◌, ◌≤◌, ◌↔◌, List, [], ◌∷◌, ◌++◌, length, get_or, set, take, min, replicate, sym, ap, ◌∙◌, subst, inl, inr, arith}
+use Rattle.std.proofs.Common.{◌≡◌, ◌≢◌, ℕ, ◌+◌, ◌%◌, ◌<◌, ◌≤◌, ◌↔◌, List, [], length, get_or, set, min, replicate, sym, ap, ◌∙◌, subst, inl, inr, arith}
 use Rattle.std.proofs.lemmas.Bool.{cases_eq, cases_lt}
-use Rattle.std.proofs.lemmas.List.{get_or_read, get_or-take, get_or_past, get_or_append_left, get_or_push, get_or-set_same, get_or-set_other, length-set, get_or-replicate, length-replicate}
+use Rattle.std.proofs.lemmas.List.{get_or_read, get_or_past, get_or-set_same, get_or-set_other, length-set, get_or-replicate, length-replicate}
 use Rattle.std.proofs.lemmas.Nat.Bits.{bit_at-zero}
-use Rattle.std.specs.Int.{bit_at}
 use Rattle.partition.specs.Partition.{blocks_of, Together}
 use Rattle.partition.specs.Bits.{bit_of}
 use Rattle.partition.specs.Inner.Rows.{Has, row_of, IsRows, AreSets}
 use Rattle.partition.specs.Laws.Labels.{label-lt-blocks_of}
-use Rattle.partition.proofs.Words.{bit_of-lt, bit_of_past}
+use Rattle.partition.proofs.Words.{bit_of-lt}
 
 -- a row that was read is the row of its state
 pub row_read : (rows : List (List ℕ)) (s : ℕ) (row : List ℕ) → s < length rows → row ≡ get_or rows s row → row ≡ row_of rows s
 row_read rows s row within is = get_or_read rows s row within is []
-
--- a bit of the first words
-bit_of_front : (words : List ℕ) (count t : ℕ) → t / 64 < count → bit_of (take count words) t ≡ bit_of words t
-bit_of_front words count t inside = ap (λ (word : ℕ). bit_at word (t % 64)) (get_or-take count words (t / 64) 0 inside)
 
 -- bits from n on are not set
 pub bits_above : (p : List ℕ) (rows : List (List ℕ)) (s t : ℕ) → IsRows p rows → length p ≤ t → bit_of (row_of rows s) t ≡ 0
@@ -24,22 +19,6 @@ bits_above p rows s t is above =
     elim (cases_lt (bit_of (row_of rows s) t) 1) [
       | inl none ↦ omega arith
       | inr some ↦ let held = (is.bits s t).0 (omega (arith, bit_of-lt (row_of rows s) t)) in absurd (omega (arith, held.1))
-    ]
-
--- as many words as n bits need say it all
-pub front_bits : (p : List ℕ) (rows : List (List ℕ)) (s t count : ℕ) → IsRows p rows → length p ≤ 64 * count → length (take count (row_of rows s)) ≡ count → bit_of (take count (row_of rows s)) t ≡ bit_of (row_of rows s) t
-front_bits p rows s t count is enough size =
-    elim (cases_lt (t / 64) count) [
-      | inl inside ↦ bit_of_front (row_of rows s) count t inside
-      | inr past ↦ bit_of_past (take count (row_of rows s)) t (omega (arith, size)) ∙ sym (bits_above p rows s t is (omega arith))
-    ]
-
--- one row more
-pub rows_push : (P : ℕ → List ℕ → Type 0) (rows : List (List ℕ)) (s : ℕ) (row : List ℕ) → length rows ≡ s → ((k : ℕ) → k < s → P k (row_of rows k)) → P s row → (k : ℕ) → k < s + 1 → P k (row_of (rows ++ row ∷ []) k)
-rows_push P rows s row size before here k within =
-    elim (cases_eq k s) [
-      | inl at ↦ subst (λ (r : List ℕ). P k r) (sym (get_or_push rows row [] k (size ∙ sym at))) (subst (λ (j : ℕ). P j row) (sym at) here)
-      | inr other ↦ subst (λ (r : List ℕ). P k r) (sym (get_or_append_left rows (row ∷ []) [] k (omega arith))) (before k (omega arith))
     ]
 
 -- a bit that both have
