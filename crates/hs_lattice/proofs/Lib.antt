@@ -1,5 +1,6 @@
 pub mod Places
 pub mod Insert
+pub mod Collections
 pub mod Searches
 pub mod Distinct
 pub mod Exclusion

@@ -1,7 +1,10 @@
 -- What follows of the definitions alone.
-use Rattle.std.specs.Prelude.{List, [], ◌∷◌, All, Contains}
+use Rattle.std.specs.Prelude.{List, [], ◌∷◌, All, Contains, refl}
 use Rattle.std.specs.List.{AllByRecursion}
-use Rattle.std.proofs.Common.{subst}
+use Rattle.std.proofs.Common.{subst, sym}
+use Rattle.std.proofs.Math.Nat.{not-suc-le-zero}
+use Rattle.hs_lattice.specs.declared.collection.Collection.{Collection}
+use Rattle.hs_lattice.specs.Collection.{AreDifferent, IsCollection, IsEmpty, order_in}
 use Rattle.hs_lattice.specs.JoinWorld.{IsJoinOf, IsGenerated}
 
 -- what the least value has and joins keep, the join of values that have it has
@@ -29,3 +32,20 @@ pub IsGenerated-has :
     IsGenerated least joins generators z → P z
 IsGenerated-has least joins P generators z bottom kept all (chosen, each, of) =
     IsJoinOf-has least joins P bottom kept chosen z (AllByRecursion-contained P generators chosen all each) of
+
+-- a collection with no item is one, in any world
+pub IsCollection-none :
+    {X M : Type 0} (meaning : X → M) (fits : M → Type 0) (precedes : M → M → Type 0) (c : Collection X) → IsEmpty c → IsCollection meaning fits precedes c
+IsCollection-none {X} {M} meaning fits precedes c empty =
+    let none : AreDifferent meaning fits precedes [] [] = record {
+      fit = λ k d lt. absurd (not-suc-le-zero lt);
+      different = λ i j d lt inside. absurd (not-suc-le-zero inside);
+      ordered = record {
+        count = refl;
+        places = λ k d lt. absurd (not-suc-le-zero lt);
+        each = λ i lt. absurd (not-suc-le-zero lt);
+        ascending = λ i j d lt inside. absurd (not-suc-le-zero inside);
+      };
+    } in
+    let of_order : AreDifferent meaning fits precedes [] (order_in c) = subst (AreDifferent meaning fits precedes []) (sym empty.order) none in
+    subst (λ (items : List X). AreDifferent meaning fits precedes items (order_in c)) (sym empty.items) of_order

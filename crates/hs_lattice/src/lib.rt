@@ -21,9 +21,11 @@
 #![tactic(auto)]
 
 mod closure;
+mod collection;
 mod world;
 
 pub use closure::join_closure;
+pub use collection::Collection;
 use hs_list::Items;
 pub use world::JoinWorld;
 
