@@ -185,7 +185,7 @@ different_more meaning fits precedes items order item place laws fit different g
 }
 
 -- an element of a list with one more is one of the list or the last one
-Any-push_cases : {X : Type 0} (P : X → Type 0) (xs : List X) (y : X) → Any P (xs ++ y ∷ []) → Any P xs ⊎ P y
+pub Any-push_cases : {X : Type 0} (P : X → Type 0) (xs : List X) (y : X) → Any P (xs ++ y ∷ []) → Any P xs ⊎ P y
 Any-push_cases P xs y (k, x, lt, read, p) =
     elim (cases_lt k (length xs)) [
       | inl low ↦ inl (k, x, low, sym (get_or_append_left xs (y ∷ []) x k low) ∙ read, p)

@@ -9,17 +9,6 @@ pub record Order {X : Type 0} (Q : X → Type 0) (S R : X → X → Type 0) : Ty
   pub transitive : (x y z : X) → Q x → Q y → Q z → R x y → R y z → R x z
   pub total : (x y : X) → Q x → Q y → R x y ⊎ (S x y ⊎ R y x)
 
--- items in the order of their meanings
-pub order_of_meanings :
-    {X M : Type 0} (meaning : X → M) (fits : M → Type 0) (precedes : M → M → Type 0) →
-    ((x y z : M) → fits x → fits y → fits z → precedes x y → precedes y z → precedes x z) →
-    ((x y : M) → fits x → fits y → precedes x y ⊎ ((x ≡ y) ⊎ precedes y x)) →
-    Order (λ x. fits (meaning x)) (λ x y. meaning x ≡ meaning y) (λ x y. precedes (meaning x) (meaning y))
-order_of_meanings meaning fits precedes transitive total = record {
-  transitive = λ x y z. transitive (meaning x) (meaning y) (meaning z);
-  total = λ x y. total (meaning x) (meaning y);
-}
-
 -- what stands below low comes before the item, and nothing from high on does
 pub record IsNarrowed {X : Type 0} (R : X → X → Type 0) (xs : List X) (item : X) (low high : ℕ) : Type 0 where
   pub ordered : low ≤ high

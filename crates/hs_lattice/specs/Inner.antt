@@ -1,3 +1,3 @@
 -- Definitions that only private functions and proofs need.
+pub mod Passes
 pub mod Places
-pub mod Search

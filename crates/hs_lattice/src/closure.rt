@@ -1,129 +1,30 @@
-//! All joins of lists of generators, by a search that keeps what it knows in order.
+//! All joins of lists of generators, by a pass of each generator over the values known before it.
 
-ghost use Rattle.std.specs.Prelude.{◌≡◌, ◌+◌, ◌≤◌, List, length, map, vec_len, IfOk, OnOk, IfSome, IfNone, All, Any};
-ghost use Rattle.std.specs.Bool.{OnTrue, OnFalse};
+ghost use Rattle.std.specs.Prelude.{◌≡◌, ◌+◌, ◌<◌, ◌≤◌, List, length, map, slice_index_or, IfOk, OnOk, All};
+ghost use Rattle.hs_lattice.specs.Collection.{items_in, Adds, IsCollection, Knows};
 ghost use Rattle.hs_lattice.specs.JoinWorld.{IsGenerated, HaveJoins};
 ghost use Rattle.hs_lattice.specs.Listing.{Lists, Evidence, IfWhole, IfMore, items_of};
-ghost use Rattle.hs_lattice.specs.Inner.Places.{IsInsertionPlace};
-ghost use Rattle.hs_lattice.specs.Inner.Search.{Learns, Adds, IsAscending, IsPicked, IsSearch, IsClosed, IsClosedBut, Knows};
+ghost use Rattle.hs_lattice.specs.Inner.Passes.{AddsJoin, Extends, IsPicked, KnowsJoins};
 
-use crate::{JoinWorld, Listing};
-use hs_list::Items;
+use crate::{Collection, JoinWorld, Listing};
 use std::alloc::{AllocError, Global};
 
-/// The place in an ascending list where a value belongs, or None where it stands there already.
-fn place_for<W: JoinWorld>(world: &W, known: &[W::Item], item: &W::Item) -> Option<usize>
-    requires world { W.lawful world.now }
-    requires known_fit { All (λ x. W.fits world.now (W.meaning x)) known.now }
-    requires item_fits { W.fits world.now (W.meaning item.now) }
-    requires ascending { IsAscending W.meaning (W.precedes world.now) known.now }
-    ensures known { IfNone result (Any (λ x. W.meaning x ≡ W.meaning item.now) known.now) }
-    ensures new { IfSome result
-        (IsInsertionPlace (λ x y. W.precedes world.now (W.meaning x) (W.meaning y)) known.now item.now) }
-{
-    let mut low = 0;
-    let mut high = known.len();
-    while low < high {
-        let middle = low + (high - low) / 2;
-        if world.before(&known[middle], item) {
-            low = middle + 1;
-        } else {
-            high = middle;
-        }
-    }
-    if low < known.len() && world.same(&known[low], item) {
-        None
-    } else {
-        Some(low)
-    }
-}
-
-/// The values known so far, in ascending order, and those of them whose joins were not tried yet.
-#[derive(Drop)]
-struct Search<T> {
-    known: Vec<T>,
-    untried: Vec<T>,
-}
-
-/// Makes a value known.
-fn add<W: JoinWorld>(
-    alloc: Global,
-    world: &W,
-    search: &mut Search<W::Item>,
-    item: W::Item,
-) -> Result<(), AllocError>
-    requires world { W.lawful world.now }
-    requires known_fit { All (λ x. W.fits world.now (W.meaning x)) search.old.known.items }
-    requires item_fits { W.fits world.now (W.meaning item) }
-    requires ascending { IsAscending W.meaning (W.precedes world.now) search.old.known.items }
-    ensures { OnOk result (Adds W.meaning (W.precedes world.now)
-        search.old.known.items search.old.untried.items (W.meaning item)
-        search.new.known.items search.new.untried.items) }
-{
-    if let Some(place) = place_for(world, search.known.as_slice(), &item) {
-        let copy = world.copy(alloc, &item)?;
-        search.untried.push(copy)?;
-        search.known.insert(place, item)?;
-    }
-    Ok(())
-}
-
-/// Makes the joins of a known value with the generators known, as long as no more than the limit are.
-/// Answers whether they all are.
-fn try_joins<W: JoinWorld>(
-    alloc: Global,
-    world: &W,
-    generators: &[W::Item],
-    search: &mut Search<W::Item>,
-    value: &W::Item,
-    limit: usize,
-) -> Result<bool, AllocError>
-    requires world { W.lawful world.now }
-    requires generators { All (λ x. W.fits world.now (W.meaning x)) generators.now }
-    requires value { Knows W.meaning search.old.known.items (W.meaning value.now) }
-    requires search { IsSearch W.meaning (W.fits world.now) (W.precedes world.now)
-        (IsGenerated (W.least world.now) (W.joins world.now) (map W.meaning generators.now))
-        (W.least world.now) search.old.known.items search.old.untried.items }
-    requires closed { IsClosedBut W.meaning (W.joins world.now) generators.now
-        search.old.known.items search.old.untried.items (W.meaning value.now) }
-    requires small { vec_len search.old.known ≤ limit }
-    ensures search { OnOk result (IsSearch W.meaning (W.fits world.now) (W.precedes world.now)
-        (IsGenerated (W.least world.now) (W.joins world.now) (map W.meaning generators.now))
-        (W.least world.now) search.new.known.items search.new.untried.items) }
-    ensures even { OnOk result (vec_len search.new.known + vec_len search.old.untried
-        ≡ vec_len search.old.known + vec_len search.new.untried) }
-    ensures all { IfOk result (λ all. OnTrue all (IsClosed W.meaning (W.joins world.now)
-        generators.now search.new.known.items search.new.untried.items)) }
-    ensures within { IfOk result (λ all. OnTrue all (vec_len search.new.known ≤ limit)) }
-    ensures more { IfOk result (λ all. OnFalse all (vec_len search.new.known ≡ limit + 1)) }
-{
-    for generator in generators {
-        let joined = world.join(alloc, generator, value)?;
-        add(alloc, world, search, joined)?;
-        if search.known.len() > limit {
-            return Ok(false);
-        }
-    }
-    Ok(true)
-}
-
-/// Puts a copy of a value into its place, unless it is there already.
+/// Makes the value of an item known, by a copy.
 fn keep<W: JoinWorld>(
     alloc: Global,
     world: &W,
-    kept: &mut Vec<W::Item>,
+    kept: &mut Collection<W::Item>,
     item: &W::Item,
 ) -> Result<(), AllocError>
     requires world { W.lawful world.now }
-    requires kept_fit { All (λ x. W.fits world.now (W.meaning x)) kept.old.items }
-    requires item_fits { W.fits world.now (W.meaning item.now) }
-    requires ascending { IsAscending W.meaning (W.precedes world.now) kept.old.items }
-    ensures { OnOk result (Learns W.meaning (W.precedes world.now)
-        kept.old.items (W.meaning item.now) kept.new.items) }
+    requires kept { IsCollection W.meaning (W.fits world.now) (W.precedes world.now) kept.old }
+    requires item { W.fits world.now (W.meaning item.now) }
+    ensures kept { OnOk result (IsCollection W.meaning (W.fits world.now) (W.precedes world.now) kept.new) }
+    ensures adds { OnOk result (Adds W.meaning (items_in kept.old) (W.meaning item.now) (items_in kept.new)) }
 {
-    if let Some(place) = place_for(world, kept.as_slice(), item) {
+    if !kept.holds(world, item) {
         let copy = world.copy(alloc, item)?;
-        kept.insert(place, copy)?;
+        kept.add(world, copy)?;
     }
     Ok(())
 }
@@ -143,14 +44,67 @@ fn distinct<W: JoinWorld>(
         → Knows W.meaning generators.now z → Knows W.meaning items z)) }
     ensures more { IfOk result (λ listing. IfMore listing (λ items. length items ≡ limit + 1)) }
 {
-    let mut kept = Vec::new(alloc);
+    let mut kept = Collection::new(alloc);
     for generator in generators {
         keep(alloc, world, &mut kept, generator)?;
         if kept.len() > limit {
-            return Ok(Listing::More(Items::from(kept)));
+            return Ok(Listing::More(kept.ascending(alloc, world)?));
         }
     }
-    Ok(Listing::Whole(Items::from(kept)))
+    Ok(Listing::Whole(kept.ascending(alloc, world)?))
+}
+
+/// Makes the join of a generator and a known value known.
+fn add_join<W: JoinWorld>(
+    alloc: Global,
+    world: &W,
+    known: &mut Collection<W::Item>,
+    place: usize,
+    generator: &W::Item,
+) -> Result<(), AllocError>
+    requires world { W.lawful world.now }
+    requires known { IsCollection W.meaning (W.fits world.now) (W.precedes world.now) known.old }
+    requires place { place < length (items_in known.old) }
+    requires generator { W.fits world.now (W.meaning generator.now) }
+    ensures known { OnOk result (IsCollection W.meaning (W.fits world.now) (W.precedes world.now) known.new) }
+    ensures adds { OnOk result (AddsJoin W.meaning (W.joins world.now) (items_in known.old)
+        (W.meaning generator.now) (W.meaning (slice_index_or (items_in known.old) place generator.now))
+        (items_in known.new)) }
+{
+    let value = &known.as_slice()[place];
+    let joined = world.join(alloc, generator, value)?;
+    if !world.same(&joined, value) {
+        known.add(world, joined)?;
+    }
+    Ok(())
+}
+
+/// Makes the joins of a generator with the values known, as long as no more than the limit are.
+fn add_joins<W: JoinWorld>(
+    alloc: Global,
+    world: &W,
+    known: &mut Collection<W::Item>,
+    generator: &W::Item,
+    limit: usize,
+) -> Result<(), AllocError>
+    requires world { W.lawful world.now }
+    requires known { IsCollection W.meaning (W.fits world.now) (W.precedes world.now) known.old }
+    requires generator { W.fits world.now (W.meaning generator.now) }
+    requires small { length (items_in known.old) ≤ limit }
+    ensures known { OnOk result (IsCollection W.meaning (W.fits world.now) (W.precedes world.now) known.new) }
+    ensures extends { OnOk result (Extends W.meaning (W.joins world.now)
+        (items_in known.old) (W.meaning generator.now) (items_in known.new)) }
+    ensures all { OnOk result (length (items_in known.new) ≤ limit → KnowsJoins W.meaning (W.joins world.now)
+        (items_in known.old) (W.meaning generator.now) (items_in known.new)) }
+    ensures few { OnOk result (length (items_in known.new) ≤ limit + 1) }
+{
+    for place in 0..known.len() {
+        add_join(alloc, world, known, place, generator)?;
+        if known.len() > limit {
+            return Ok(());
+        }
+    }
+    Ok(())
 }
 
 /// The joins of lists of these generators, no more of them than the limit.
@@ -177,25 +131,26 @@ fn joins_of<W: JoinWorld>(
         limit (map W.meaning items))) }
     ensures fit { IfOk result (λ listing. All (λ x. W.fits world.now (W.meaning x)) (items_of listing)) }
 {
-    let mut search = Search {
-        known: Vec::new(alloc),
-        untried: Vec::new(alloc),
-    };
-    add(alloc, world, &mut search, bottom)?;
-    while let Some(value) = search.untried.pop() {
-        if !try_joins(alloc, world, generators, &mut search, &value, limit)? {
-            return Ok(Listing::More(Items::from(search.known)));
+    let mut known = Collection::new(alloc);
+    known.add(world, bottom)?;
+    for generator in generators {
+        if known.holds(world, generator) {
+            continue;
+        }
+        add_joins(alloc, world, &mut known, generator, limit)?;
+        if known.len() > limit {
+            return Ok(Listing::More(known.ascending(alloc, world)?));
         }
     }
-    Ok(Listing::Whole(Items::from(search.known)))
+    Ok(Listing::Whole(known.ascending(alloc, world)?))
 }
 
 /// The joins of lists of generators, the empty list giving the least value, in ascending order.
 ///
 /// The limit is on the values. Where there are more, the listing is [`Listing::More`] with limit + 1
-/// of them, also in ascending order; which ones is left open. Equal generators count once: at most the
-/// values times the generators that differ are joined, and the memory taken is at most that of three
-/// times the values.
+/// of them, also in ascending order; which ones is left open. Equal generators count once, and one that
+/// is a join of some before it in the order is joined with nothing: at most the values times the other
+/// generators are joined.
 pub fn join_closure<W: JoinWorld>(
     alloc: Global,
     world: &W,

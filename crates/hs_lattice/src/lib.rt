@@ -8,16 +8,23 @@
 //! `specs/Laws.antt` says that what the least value and the generators have and joins keep, every
 //! generated value has. What stands in `specs/Inner` serves private functions alone.
 //!
+//! A [`Collection`] keeps different values as it grows, and says of each item whether its value stands
+//! there. Beside the items stand their places in ascending order, which are halved to find a value, so an
+//! insertion moves numbers and not items. `specs/Collection.antt` says what one is and what an addition
+//! changes.
+//!
 //! [`join_closure`] lists the joins of all lists of generators, proved once for every world. It puts the
-//! generators into ascending order first, equal ones once. Then it keeps the known values in ascending
-//! order, and beside them those whose joins with the generators were not tried yet. One of these is
-//! taken, joined with each generator, and each join that is new becomes known and untried; a value is
-//! looked for by halving the list. In the end the least value is known, and with each known value its
-//! join with each generator. So each list of generators has a join, and it is known, by induction on the
-//! list: that of the empty list is the least value, and that of a longer one is the join of its first
-//! generator and of a value that is known already. Each known value is taken once, so there are as many
-//! joins as generators that differ times values. Where a listing is whole there is no evidence of more
-//! than the limit, and the other way round.
+//! generators into ascending order first, equal ones once. The least value is known at first, and then
+//! each generator passes over the values known so far: the join with each of them becomes known. So the
+//! known values are always the joins of lists of the generators that have passed. They are closed under
+//! joins with these: those of before a pass by induction, and a new value x + g since its join with an
+//! earlier generator h is (x + h) + g, and with g itself x + g. A generator that is known already is a
+//! join of earlier ones, so the known values are closed under joins with it too, and it needs no pass.
+//! In the end each list of generators has a join, and it is known, by induction on the list: that of the
+//! empty list is the least value, and that of a longer one is the join of its first generator and of a
+//! value that is known already. In worlds whose order puts finer values first few generators need a pass,
+//! but nothing rests on that. Where a listing is whole there is no evidence of more than the limit, and
+//! the other way round.
 #![tactic(auto)]
 
 mod closure;

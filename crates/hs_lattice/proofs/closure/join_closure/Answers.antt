@@ -2,7 +2,7 @@ use Rattle.std.proofs.Common.{map, All}
 use Rattle.std.proofs.lemmas.List.{length-map}
 use Rattle.std.proofs.lemmas.List.Elements.{All-map}
 use Rattle.hs_lattice.specs.JoinWorld.{IsGenerated}
-use Rattle.hs_lattice.specs.Inner.Search.{IsPicked}
+use Rattle.hs_lattice.specs.Inner.Passes.{IsPicked}
 use Rattle.hs_lattice.proofs.Distinct.{picked_fit, picked_is_evidence, lists_picked, joins_picked, evidence_picked}
 use Rattle.hs_lattice.proofs.Exclusion.{StrictOrder, few_exclude_more}
 use Rattle.hs_lattice.proofs.Outcomes.{whole-from, more-from, whole-from_three}

@@ -1,75 +1,110 @@
-use Rattle.std.proofs.Common.{◌≡◌, [], refl, map, arith}
-use Rattle.std.proofs.lemmas.List.Quantifiers.{Any-push}
-use Rattle.std.proofs.lemmas.List.{nil_from_length}
-use Rattle.std.proofs.lemmas.List.Elements.{All-map}
-use Rattle.hs_lattice.proofs.Searches.{search_begun, closed_begun, search_taken, closed_taken, lists_all, is_evidence, have_joins, All-from_known}
+use Rattle.std.proofs.Common.{◌≡◌, ◌≤◌, ◌+◌, length, subst, arith}
+use Rattle.hs_lattice.specs.Collection.{items_in}
+use Rattle.hs_lattice.proofs.Passes.{Joining, IsReached, generated_more, have_joins, is_evidence, lists_all, reached_more, reached_skip}
+use Rattle.hs_lattice.proofs.Values.{All-from_known, known_fit}
 use Rattle.hs_lattice.proofs.closure.joins_of.Goals as goal
 
-pub loop-value-init : goal.loop-value-init
-loop-value-init g c =
+pub loop-generator-preserved-then-holds : goal.loop-generator-preserved-then-holds
+loop-generator-preserved-then-holds g c =
     let w = g.W.JoinWorld in
     let laws = g.met.W.JoinWorld in
     let world = c.args.world.now in
     let lawful = c.requires.world in
-    let adds = rw (c.new.ensures.items, c.new-2.ensures.items) at c.in_ok-add.ensures in
+    let joining : Joining (w.fits world) (w.least world) (w.joins world) = record {
+      least_fits = λ x. laws.least_fits world x lawful;
+      fit = λ x y z. laws.joins_fit world x y z lawful;
+      once = λ x y z other. laws.joins_once world x y z other lawful;
+      commute = λ x y z. laws.joins_commute world x y z lawful;
+      associate = λ x y z front back all. laws.joins_associate world x y z front back all lawful;
+      repeat = λ x. laws.joins_repeat world x lawful;
+      unit = λ x y. laws.joins_least world x y lawful;
+    } in
+    let inv = c.loop-generator.invariant in
     record {
-      search = search_begun w.meaning (w.fits world) (w.precedes world) (w.least world) (w.joins world) (map w.meaning c.args.generators.now) c.args.bottom _ _ adds
-          (laws.least_fits world _ lawful c.requires.bottom) c.requires.bottom (λ z h. laws.least_once world _ z lawful c.requires.bottom h);
-      closed = closed_begun w.meaning (w.precedes world) (w.joins world) c.args.generators.now c.args.bottom _ _ adds;
-      small = omega (arith, adds.learns.small, c.requires.positive);
+      known = inv.known;
+      reached = reached_skip w.meaning (w.fits world) (w.least world) (w.joins world) c.args.generators.now c.loop-generator.generator-index c.generator-item.result (items_in c.loop-generator.known) joining
+          c.requires.generators inv.known.fit c.loop-generator-test.true c.generator-item.is inv.reached (c.holds.ensures.0 c.if-holds.true);
+      small = inv.small;
     }
 
-pub try_joins-requires-clause-value : goal.try_joins-requires-clause-value
-try_joins-requires-clause-value g c =
+pub loop-generator-preserved : goal.loop-generator-preserved
+loop-generator-preserved g c =
     let w = g.W.JoinWorld in
-    (rw c.in-Some.ensures.items at c.loop-value.invariant.search.untried_known) (w.meaning c.in-Some.value)
-    (Any-push (λ x. w.meaning x ≡ w.meaning c.in-Some.value) c.pop.new.self.items c.in-Some.value refl)
+    let laws = g.met.W.JoinWorld in
+    let world = c.args.world.now in
+    let lawful = c.requires.world in
+    let joining : Joining (w.fits world) (w.least world) (w.joins world) = record {
+      least_fits = λ x. laws.least_fits world x lawful;
+      fit = λ x y z. laws.joins_fit world x y z lawful;
+      once = λ x y z other. laws.joins_once world x y z other lawful;
+      commute = λ x y z. laws.joins_commute world x y z lawful;
+      associate = λ x y z front back all. laws.joins_associate world x y z front back all lawful;
+      repeat = λ x. laws.joins_repeat world x lawful;
+      unit = λ x y. laws.joins_least world x y lawful;
+    } in
+    let inv = c.loop-generator.invariant in
+    let small : length (items_in c.add_joins.new.known) ≤ c.args.limit = omega arith in
+    record {
+      known = c.in_ok-add_joins.ensures.known;
+      reached = reached_more w.meaning (w.fits world) (w.least world) (w.joins world) c.args.generators.now c.loop-generator.generator-index c.generator-item.result (items_in c.loop-generator.known) (items_in c.add_joins.new.known) joining
+          c.requires.generators inv.known.fit c.loop-generator-test.true c.generator-item.is inv.reached c.in_ok-add_joins.ensures.extends (c.in_ok-add_joins.ensures.all small);
+      small = small;
+    }
 
-pub try_joins-requires-clause-search : goal.try_joins-requires-clause-search
-try_joins-requires-clause-search g c =
+pub returns-then-len-limit-clause-more : goal.returns-then-len-limit-clause-more
+returns-then-len-limit-clause-more g c =
     let w = g.W.JoinWorld in
     let world = c.args.world.now in
-    search_taken w.meaning (w.fits world) (w.precedes world) _ (w.least world) c.loop-value.search.known.items c.pop.new.self.items c.in-Some.value
-    (rw c.in-Some.ensures.items at c.loop-value.invariant.search)
+    let more : length c.in_ok-ascending.field-0 ≡ c.args.limit + 1 = omega (arith, c.in_ok-ascending.ensures.count, c.in_ok-add_joins.ensures.few) in
+    is_evidence w.meaning (w.precedes world) (w.least world) (w.joins world) c.args.generators.now (c.loop-generator.generator-index + 1) c.in_ok-ascending.field-0 c.args.limit c.in_ok-ascending.ensures.ascending
+    (λ z h.
+    generated_more w.meaning (w.least world) (w.joins world) c.args.generators.now c.loop-generator.generator-index c.generator-item.result (items_in c.loop-generator.known) (items_in c.add_joins.new.known)
+    c.loop-generator-test.true c.generator-item.is c.loop-generator.invariant.reached c.in_ok-add_joins.ensures.extends z ((c.in_ok-ascending.ensures.values z).0 h))
+    more
 
-pub try_joins-requires-clause-closed : goal.try_joins-requires-clause-closed
-try_joins-requires-clause-closed g c =
+pub returns-then-len-limit-clause-fit : goal.returns-then-len-limit-clause-fit
+returns-then-len-limit-clause-fit g c =
     let w = g.W.JoinWorld in
-    closed_taken w.meaning (w.joins c.args.world.now) c.args.generators.now c.loop-value.search.known.items c.pop.new.self.items c.in-Some.value
-    (rw c.in-Some.ensures.items at c.loop-value.invariant.closed)
-
-pub returns-then-not-branch-clause-more : goal.returns-then-not-branch-clause-more
-returns-then-not-branch-clause-more g c =
-    let w = g.W.JoinWorld in
-    let world = c.args.world.now in
-    rw c.from.ensures (is_evidence w.meaning (w.fits world) (w.precedes world) _ (w.least world) c.try_joins.new.search.known.items c.try_joins.new.search.untried.items c.args.limit c.in_ok-try_joins.ensures.search (omega (arith, rw c.if-not-branch.true at c.in_ok-try_joins.ensures.more)))
+    let fits = w.fits c.args.world.now in
+    All-from_known w.meaning fits c.in_ok-ascending.field-0 (λ z h. known_fit w.meaning fits (items_in c.add_joins.new.known) c.in_ok-add_joins.ensures.known.fit z ((c.in_ok-ascending.ensures.values z).0 h))
 
 pub returns-clause-whole : goal.returns-clause-whole
 returns-clause-whole g c =
     let w = g.W.JoinWorld in
     let laws = g.met.W.JoinWorld in
     let world = c.args.world.now in
-    let none : c.loop-value.search.untried.items ≡ [] = nil_from_length _ (omega (arith, c.in_default.ensures.cases)) in
-    rw c.from-2.ensures (lists_all w.meaning (w.fits world) (w.precedes world) (w.joins world) (w.least world) c.args.generators.now c.loop-value.search.known.items
-    (λ x y z other. laws.joins_once world x y z other c.requires.world) (All-map (w.fits world) w.meaning c.args.generators.now c.requires.generators)
-    (rw none at c.loop-value.invariant.search) (rw none at c.loop-value.invariant.closed))
+    let lawful = c.requires.world in
+    let joining : Joining (w.fits world) (w.least world) (w.joins world) = record {
+      least_fits = λ x. laws.least_fits world x lawful;
+      fit = λ x y z. laws.joins_fit world x y z lawful;
+      once = λ x y z other. laws.joins_once world x y z other lawful;
+      commute = λ x y z. laws.joins_commute world x y z lawful;
+      associate = λ x y z front back all. laws.joins_associate world x y z front back all lawful;
+      repeat = λ x. laws.joins_repeat world x lawful;
+      unit = λ x y. laws.joins_least world x y lawful;
+    } in
+    let generators = c.args.generators.now in
+    let items = items_in c.loop-generator.known in
+    let values = c.in_ok-ascending-2.ensures.values in
+    let end : c.loop-generator.generator-index ≡ length generators = omega arith in
+    let reached : IsReached w.meaning (w.least world) (w.joins world) generators (length generators) items =
+    subst (λ n. IsReached w.meaning (w.least world) (w.joins world) generators n items) end c.loop-generator.invariant.reached in
+    lists_all w.meaning (w.fits world) (w.least world) (w.precedes world) (w.joins world) generators items c.in_ok-ascending-2.field-0 joining
+    c.requires.generators c.loop-generator.invariant.known.fit reached c.in_ok-ascending-2.ensures.ascending (λ z. (values z).0) (λ z. (values z).1)
 
 pub returns-clause-joined : goal.returns-clause-joined
 returns-clause-joined g c =
     let w = g.W.JoinWorld in
     let world = c.args.world.now in
-    let none : c.loop-value.search.untried.items ≡ [] = nil_from_length _ (omega (arith, c.in_default.ensures.cases)) in
-    have_joins w.meaning (w.joins world) (w.least world) c.args.generators.now c.loop-value.search.known.items
-    (w.meaning c.args.bottom, c.requires.bottom, c.loop-value.invariant.search.least_known _ c.requires.bottom) (rw none at c.loop-value.invariant.closed)
+    let generators = c.args.generators.now in
+    let items = items_in c.loop-generator.known in
+    let end : c.loop-generator.generator-index ≡ length generators = omega arith in
+    let reached : IsReached w.meaning (w.least world) (w.joins world) generators (length generators) items =
+    subst (λ n. IsReached w.meaning (w.least world) (w.joins world) generators n items) end c.loop-generator.invariant.reached in
+    have_joins w.meaning (w.least world) (w.joins world) generators items (w.meaning c.args.bottom) c.requires.bottom reached
 
 pub returns-clause-fit : goal.returns-clause-fit
 returns-clause-fit g c =
     let w = g.W.JoinWorld in
-    let world = c.args.world.now in
-    rw c.from-2.ensures (All-from_known w.meaning (w.fits world) c.loop-value.search.known.items c.loop-value.invariant.search.fit)
-
-pub returns-then-not-branch-clause-fit : goal.returns-then-not-branch-clause-fit
-returns-then-not-branch-clause-fit g c =
-    let w = g.W.JoinWorld in
-    let world = c.args.world.now in
-    rw c.from.ensures (All-from_known w.meaning (w.fits world) c.try_joins.new.search.known.items c.in_ok-try_joins.ensures.search.fit)
+    let fits = w.fits c.args.world.now in
+    All-from_known w.meaning fits c.in_ok-ascending-2.field-0 (λ z h. known_fit w.meaning fits (items_in c.loop-generator.known) c.loop-generator.invariant.known.fit z ((c.in_ok-ascending-2.ensures.values z).0 h))

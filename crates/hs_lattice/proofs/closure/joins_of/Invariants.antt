@@ -1,19 +1,13 @@
-use Rattle.std.proofs.Common.{◌+◌, ◌-◌, ◌≤◌, length, map}
-use Rattle.hs_lattice.specs.JoinWorld.{IsGenerated}
-use Rattle.hs_lattice.specs.Inner.Search.{IsSearch, IsClosed}
+use Rattle.std.proofs.Common.{◌≤◌, length}
+use Rattle.hs_lattice.specs.Collection.{IsCollection, items_in}
+use Rattle.hs_lattice.proofs.Passes.{IsReached}
 use Rattle.hs_lattice.proofs.closure.joins_of.Given as goal
 
-abbrev pub invariant-loop-value : goal.invariant-loop-value
-invariant-loop-value g l =
+abbrev pub invariant-loop-generator : goal.invariant-loop-generator
+invariant-loop-generator g l =
     let w = g.W.JoinWorld in
-    let world = l.world in
-    let known = l.search.known.items in
-    let untried = l.search.untried.items in
     record {
-      search : IsSearch w.meaning (w.fits world) (w.precedes world) (IsGenerated (w.least world) (w.joins world) (map w.meaning l.generators)) (w.least world) known untried;
-      closed : IsClosed w.meaning (w.joins world) l.generators known untried;
-      small : length known ≤ l.limit;
+      known : IsCollection w.meaning (w.fits l.world) (w.precedes l.world) l.known;
+      reached : IsReached w.meaning (w.least l.world) (w.joins l.world) l.generators l.generator-index (items_in l.known);
+      small : length (items_in l.known) ≤ l.limit;
     }
-
-abbrev pub decreases-loop-value : goal.decreases-loop-value
-decreases-loop-value g l = (l.limit + 1 - length l.search.known.items) + length l.search.untried.items

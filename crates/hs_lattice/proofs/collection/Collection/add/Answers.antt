@@ -1,5 +1,5 @@
 use Rattle.std.proofs.Common.{◌≡◌, length, sym, ◌∙◌}
-use Rattle.hs_lattice.proofs.Collections.{TotalOrder, different_more}
+use Rattle.hs_lattice.proofs.Collections.{TotalOrder, adds_item, different_more}
 use Rattle.hs_lattice.proofs.collection.Collection.add.Goals as goal
 
 pub place_for-requires-clause-order : goal.place_for-requires-clause-order
@@ -20,3 +20,6 @@ returns-in_ok-insert-clause-collection g c =
     rw (c.in_ok-push.ensures.items, c.in_ok-insert.ensures.items, last)
     (different_more w.meaning (w.fits world) (w.precedes world) c.args.self.now.items.items c.args.self.now.order.items c.args.item c.in-Some.place order c.requires.item c.requires.collection
     (rw (c.as_slice.ensures.value, c.as_slice-2.ensures.value) at c.in-Some.ensures.new))
+
+pub returns-in_ok-insert-clause-adds : goal.returns-in_ok-insert-clause-adds
+returns-in_ok-insert-clause-adds g c = rw c.in_ok-push.ensures.items (adds_item g.W.JoinWorld.meaning c.args.self.now.items.items c.args.item)

@@ -1,0 +1,32 @@
+use Rattle.std.proofs.Common.{◌≡◌, ◌<◌, length, subst, arith}
+use Rattle.hs_lattice.specs.Collection.{items_in}
+use Rattle.hs_lattice.proofs.Passes.{IsPassing, passing_more, passed_all}
+use Rattle.hs_lattice.proofs.closure.add_joins.Goals as goal
+
+pub returns-then-len-limit-clause-extends : goal.returns-then-len-limit-clause-extends
+returns-then-len-limit-clause-extends g c =
+    let w = g.W.JoinWorld in
+    let inside : c.loop-place.place < length (items_in c.args.known.now) = omega arith in
+    (passing_more w.meaning (w.joins c.args.world.now) (items_in c.args.known.now) (w.meaning c.args.generator.now) (items_in c.loop-place.known) c.loop-place.place c.args.generator.now
+    (items_in c.add_join.new.known) c.loop-place.invariant.passing inside c.in_ok-add_join.ensures.adds).extends
+
+pub loop-place-preserved : goal.loop-place-preserved
+loop-place-preserved g c =
+    let w = g.W.JoinWorld in
+    let inside : c.loop-place.place < length (items_in c.args.known.now) = omega arith in
+    record {
+      known = c.in_ok-add_join.ensures.known;
+      passing = passing_more w.meaning (w.joins c.args.world.now) (items_in c.args.known.now) (w.meaning c.args.generator.now) (items_in c.loop-place.known) c.loop-place.place c.args.generator.now
+          (items_in c.add_join.new.known) c.loop-place.invariant.passing inside c.in_ok-add_join.ensures.adds;
+      small = omega arith;
+    }
+
+pub returns-clause-all : goal.returns-clause-all
+returns-clause-all g c =
+    let w = g.W.JoinWorld in
+    let known = items_in c.args.known.now in
+    let now = items_in c.loop-place.known in
+    let joins = w.joins c.args.world.now in
+    let value = w.meaning c.args.generator.now in
+    let end : c.loop-place.place ≡ length known = omega arith in
+    λ small. passed_all w.meaning joins known value now (subst (IsPassing w.meaning joins known value now) end c.loop-place.invariant.passing)
