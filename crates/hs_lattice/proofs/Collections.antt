@@ -98,11 +98,6 @@ pub other_at :
 other_at meaning items order item x k places inside read other d same =
     other (ap meaning (sym (place_read items order k x item places inside read d)) ∙ same)
 
--- the item that was read is one of the items
-pub known_at :
-    {X M : Type 0} (meaning : X → M) (items : List X) (i : ℕ) (x : X) (z : M) → i < length items → x ≡ get_or items i x → meaning x ≡ z → Knows meaning items z
-known_at meaning items i x z inside read same = (i, x, inside, sym read, same)
-
 -- where an item has its place, no item of its value stands
 pub not_known :
     {X M : Type 0} (meaning : X → M) (fits : M → Type 0) (precedes : M → M → Type 0) (items : List X) (order : List ℕ) (item : X) (place : ℕ) →

@@ -1,5 +1,5 @@
 -- What an insertion leaves of an ascending list.
-use Rattle.std.proofs.Common.{◌≡◌, ℕ, ◌+◌, ◌-◌, ◌<◌, ◌≤◌, ◌⊎◌, inl, inr, List, length, get_or, AllPairs, Any, subst, sym, ◌∙◌, ap, arith}
+use Rattle.std.proofs.Common.{◌≡◌, ℕ, ◌+◌, ◌-◌, ◌<◌, ◌≤◌, inl, inr, List, length, get_or, AllPairs, Any, ◌∙◌, ap, arith}
 use Rattle.std.specs.List.{insert}
 use Rattle.std.proofs.lemmas.Bool.{cases_lt}
 use Rattle.std.proofs.lemmas.List.Edits.{length-insert, get_or-insert_below, get_or-insert_at, get_or-insert_above}
@@ -60,13 +60,3 @@ pub Any-insert_new : {X : Type 0} (P : X → Type 0) (xs : List X) (i : ℕ) (y 
 Any-insert_new P xs i y within p =
     let n : length (insert xs i y) ≡ length xs + 1 = length-insert xs i y within in
     (i, y, omega (arith, n), get_or-insert_at xs i y y within, p)
-
--- an element of the longer list is one of the list or the inserted one
-pub Any-insert_cases : {X : Type 0} (P : X → Type 0) (xs : List X) (i : ℕ) (y : X) → i ≤ length xs → Any P (insert xs i y) → Any P xs ⊎ P y
-Any-insert_cases P xs i y within (k, x, lt, read, p) =
-    let n : length (insert xs i y) ≡ length xs + 1 = length-insert xs i y within in
-    elim (source_of xs i y k within) [
-      | Below low r ↦ inl (k, x, omega arith, sym (r x) ∙ read, p)
-      | Here at r ↦ inr (subst P (sym read ∙ r x) p)
-      | Above j up le r ↦ inl (j, x, omega (arith, n), sym (r x) ∙ read, p)
-    ]

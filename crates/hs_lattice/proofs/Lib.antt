@@ -6,3 +6,4 @@ pub mod Passes
 pub mod Distinct
 pub mod Exclusion
 pub mod Outcomes
+pub mod Members
