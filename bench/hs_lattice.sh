@@ -1,8 +1,8 @@
 #!/usr/bin/env bash
 # Times the listing of joins from outside, beside a plain baseline in the same run: joins of two of the
-# generators and nothing else, as many as the listing makes where it is whole, the generators that differ
-# times the values, and one for each value where it stops at the limit. Each time is the least of three
-# runs without that of a run that joins nothing: the start, and the making of the generators.
+# generators and nothing else, the generators that differ times the values where the listing is whole, and
+# one for each value where it stops at the limit. Each time is the least of three runs without that of a
+# run that joins nothing: the start, and the making of the generators.
 set -eu
 . "$(dirname "$0")/timing.sh"
 cd "$(dirname "$0")/../crates/bench_hs_lattice"

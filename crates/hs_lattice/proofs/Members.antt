@@ -1,28 +1,9 @@
 -- Items that stand for themselves: a value is known where it stands in the list.
-use Rattle.std.proofs.Common.{◌≡◌, ℕ, ◌+◌, ◌<◌, ◌↔◌, inl, inr, All, AllPairs, Contains, List, [], get_or, length, take, refl, sym, subst, arith}
+use Rattle.std.proofs.Common.{◌≡◌, ℕ, ◌+◌, ◌<◌, ◌↔◌, inl, inr, All, AllPairs, Contains, List, get_or, length, take, refl, sym, subst, arith}
 use Rattle.std.proofs.lemmas.List.{get_or-take, length-take-le}
 use Rattle.std.proofs.lemmas.List.Elements.{All-contains, All-take, Contains-get_or}
-use Rattle.hs_lattice.specs.declared.collection.Collection.{Collection}
-use Rattle.hs_lattice.specs.Collection.{Adds, AreDifferent, IsCollection, IsEmpty, Knows, order_in}
+use Rattle.hs_lattice.specs.Collection.{Adds, Knows}
 use Rattle.hs_lattice.specs.Listing.{Evidence}
-
-none_different : {X M : Type 0} (meaning : X → M) (fits : M → Type 0) (precedes : M → M → Type 0) → AreDifferent meaning fits precedes [] []
-none_different meaning fits precedes = record {
-  fit = λ k d within. absurd (omega arith);
-  different = λ i j d order within. absurd (omega arith);
-  ordered = record {
-    count = refl;
-    places = λ k d within. absurd (omega arith);
-    each = λ i within. absurd (omega arith);
-    ascending = λ i j d order within. absurd (omega arith);
-  };
-}
-
--- an empty collection is one in every world
-pub empty_is_collection : {X M : Type 0} (meaning : X → M) (fits : M → Type 0) (precedes : M → M → Type 0) (c : Collection X) → IsEmpty c → IsCollection meaning fits precedes c
-empty_is_collection {X} meaning fits precedes c empty =
-    subst (λ (items : List X). AreDifferent meaning fits precedes items (order_in c)) (sym empty.items)
-    (subst (λ (order : List ℕ). AreDifferent meaning fits precedes [] order) (sym empty.order) (none_different meaning fits precedes))
 
 pub known_contained : {X : Type 0} (items : List X) (z : X) → Knows (λ x. x) items z → Contains items z
 known_contained items z (k, x, within, read, same) = subst (Contains items) same (k, within, read)
