@@ -1,7 +1,6 @@
 -- A listing of the joins of generators is one of the partitions that are such joins.
-use Rattle.std.proofs.Common.{◌≡◌, ℕ, ◌+◌, ◌<◌, All, AllPairs, List, get_or, length, map, take, sym, subst, arith}
-use Rattle.std.proofs.lemmas.List.{get_or-take, length-take-le, map-id}
-use Rattle.std.proofs.lemmas.List.Elements.{All-take}
+use Rattle.std.proofs.Common.{◌≡◌, ℕ, List, length, map, sym, subst}
+use Rattle.std.proofs.lemmas.List.{map-id}
 use Rattle.hs_lattice.specs.JoinWorld.{IsGenerated, HaveJoins}
 use Rattle.hs_lattice.specs.Listing.{Lists, Evidence}
 use Rattle.kiss2.specs.declared.kiss_file.KissFile.{KissFile}
@@ -16,18 +15,6 @@ IsMadeOf n generators p = IsGenerated (λ q. q ≡ zero_of n) IsJoin (map (λ q.
 
 abbrev pub HaveJoinsOf : ℕ → List (List ℕ) → Type 0
 HaveJoinsOf n generators = HaveJoins (λ q. q ≡ zero_of n) IsJoin (map (λ q. q) generators)
-
--- of more partitions than the limit, the first limit + 1
-pub first_evident : (Has : List ℕ → Type 0) (limit : ℕ) (found : List (List ℕ)) → AllPairs Before found → All Has found → limit < length found → Evidence Before Has limit (take (limit + 1) found)
-first_evident Has limit found ascending all more =
-    let size : length (take (limit + 1) found) ≡ limit + 1 = length-take-le (limit + 1) found (omega arith) in
-    record {
-      ascending = λ i j d order within.
-          subst (λ (x : List ℕ). Before x (get_or (take (limit + 1) found) j d)) (sym (get_or-take (limit + 1) found i d (omega arith)))
-          (subst (λ (x : List ℕ). Before (get_or found i d) x) (sym (get_or-take (limit + 1) found j d (omega arith))) (ascending i j d order (omega arith)));
-      members = All-take Has (limit + 1) found all;
-      more = size;
-    }
 
 module _ (F : KissFile) (n : ℕ) (size : n ≡ length F.states) (generators : List (List ℕ)) (Has : List ℕ → Type 0)
     (have : (p : List ℕ) → IsMade F generators p → Has p) (are_made : HaveJoins (IsZeroOf F) IsJoin generators → (p : List ℕ) → Has p → IsMade F generators p) where

@@ -1,14 +1,9 @@
 -- Lists of least closed partitions.
-use Rattle.std.specs.Prelude.{◌≡◌, ℕ, ◌<◌, ◌⊎◌, All, AllPairs, Contains, List, length}
+use Rattle.std.specs.Prelude.{ℕ, ◌<◌, All, AllPairs, List, length}
 use Rattle.kiss2.specs.declared.kiss_file.KissFile.{KissFile}
 use Rattle.partition.specs.Partition.{Le, Together}
 use Rattle.partition.specs.Before.{Before}
-use Rattle.closed_lattice.specs.Closed.{HasPrincipal, HoldsSome, IsClosedPartition, IsPrincipalWithin}
-
--- least closed partitions of pairs of states that are together in top, each once, in ascending order
-pub record ArePrincipals (F : KissFile) (top : List ℕ) (found : List (List ℕ)) : Type 0 where
-  pub members : All (IsPrincipalWithin F top) found
-  pub ascending : AllPairs Before found
+use Rattle.closed_lattice.specs.Closed.{HasPrincipal, HoldsSome, IsClosedPartition}
 
 -- those of each two of the first states that are together in top stand in the list
 abbrev pub HavePrincipals : KissFile → List ℕ → ℕ → List (List ℕ) → Type 0
@@ -20,13 +15,6 @@ pub record AreGenerators (F : KissFile) (found : List (List ℕ)) : Type 0 where
   pub some : All HoldsSome found
   pub ascending : AllPairs Before found
   pub each : (s t : ℕ) → s < t → t < length F.states → HasPrincipal F found s t
-
--- the partition stands in the list too, and nothing else was added
-pub record Keeps (old : List (List ℕ)) (p : List ℕ) (new : List (List ℕ)) : Type 0 where
-  pub ascending : AllPairs Before new
-  pub kept : (q : List ℕ) → Contains old q → Contains new q
-  pub added : Contains new p
-  pub only : (q : List ℕ) → Contains new q → Contains old q ⊎ (p ≡ q)
 
 -- no partition of the list is strictly below p
 abbrev pub IsLeastAmong : List (List ℕ) → List ℕ → Type 0

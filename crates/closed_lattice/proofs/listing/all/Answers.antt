@@ -1,7 +1,7 @@
 use Rattle.std.proofs.Common.{◌≡◌, ℕ, ◌+◌, ◌≤◌, All, AllPairs, List, length, take, ap, ◌∙◌, arith}
 use Rattle.partition.specs.Before.{Before}
 use Rattle.closed_lattice.specs.Closed.{IsClosedPartition}
-use Rattle.closed_lattice.proofs.Listed.{first_evident}
+use Rattle.hs_lattice.proofs.Members.{first_evident}
 use Rattle.closed_lattice.proofs.Principals.{all_generate, closed_within}
 use Rattle.closed_lattice.proofs.listing.all.Goals as goal
 
@@ -19,4 +19,4 @@ returns-then-partitions-limit-clause-more c =
     let front : c.from.result ≡ take (c.args.limit + 1) partitions = c.from.ensures ∙ c.in_ok-rows.ensures in
     let ascending : AllPairs Before partitions = rw c.as_slice-partitions.ensures.value c.in_ok-found.ensures.ascending in
     let closed : All (IsClosedPartition F) partitions = rw c.as_slice-partitions.ensures.value (closed_within F c.in_ok-one.one c.in_ok-found.found.items c.in_ok-found.ensures.members) in
-    rw front (first_evident (IsClosedPartition F) c.args.limit partitions ascending closed c.if-partitions-limit.true)
+    rw front (first_evident Before (IsClosedPartition F) c.args.limit partitions ascending closed c.if-partitions-limit.true)

@@ -1,13 +1,15 @@
 use Rattle.std.proofs.Common.{◌≡◌, ℕ, ◌+◌, ◌<◌, ◌≤◌, All, List, get_or, length, take, sym, ◌∙◌, subst, arith}
+use Rattle.hs_lattice.proofs.Members.{first_evident}
 use Rattle.hs_lattice.proofs.Outcomes.{whole-from_three, more-from}
 use Rattle.hs_lattice.specs.JoinWorld.{HaveJoins}
 use Rattle.kiss2.specs.declared.kiss_file.KissFile.{KissFile}
 use Rattle.machine_table.specs.Staying.{NeverLeaves}
+use Rattle.partition.specs.Before.{Before}
 use Rattle.partition.specs.MeetAndJoin.{IsJoin}
 use Rattle.partition.specs.Partition.{IsPartition, Together}
 use Rattle.closed_lattice.specs.Closed.{HasPrincipal, IsPrincipalWithin}
 use Rattle.closed_lattice.proofs.Generating.{IsMade, IsZeroOf, states_counted}
-use Rattle.closed_lattice.proofs.Listed.{first_evident, listed, evident, unevident}
+use Rattle.closed_lattice.proofs.Listed.{listed, evident, unevident}
 use Rattle.state_reduce.specs.Alike.{IsEquivalence}
 use Rattle.output_consistent.specs.Outputs.{IsClosedAndConsistent}
 use Rattle.output_consistent.proofs.Listed.{consistent_made, made_consistent, principals_consistent}
@@ -28,7 +30,7 @@ returns-then-len-limit-clause-more c =
     let found : List (List ℕ) = c.in_ok-found.found.items in
     let front : c.from.result ≡ take (c.args.limit + 1) found = c.from.ensures ∙ c.truncate.ensures.items in
     let all : All (IsClosedAndConsistent F) found = principals_consistent F c.in_ok-alike.alike found c.states.ensures.inside c.in_ok-alike.ensures c.in_ok-found.ensures.members in
-    rw front (first_evident (IsClosedAndConsistent F) c.args.limit found c.in_ok-found.ensures.ascending all (omega arith))
+    rw front (first_evident Before (IsClosedAndConsistent F) c.args.limit found c.in_ok-found.ensures.ascending all (omega arith))
 
 pub join_closure-requires-clause-generators : goal.join_closure-requires-clause-generators
 join_closure-requires-clause-generators c k d within =
