@@ -1,6 +1,6 @@
 -- A listing of the joins of the right sides of two states is one of the right sides of Mm pairs, and with M of each it is
 -- one of the Mm pairs.
-use Rattle.std.proofs.Common.{◌≡◌, ℕ, ◌<◌, All, AllPairs, Contains, List, [], ◌∷◌, ◌++◌, get_or, length, map, sym, ap, ◌∙◌, subst, arith}
+use Rattle.std.proofs.Common.{◌≡◌, ℕ, ◌<◌, All, AllPairs, List, [], ◌∷◌, ◌++◌, get_or, length, map, sym, ap, ◌∙◌, subst, arith}
 use Rattle.std.proofs.lemmas.List.{get_or-map, length-map, map-id, map_push}
 use Rattle.std.proofs.lemmas.List.Elements.{All-push}
 use Rattle.hs_lattice.specs.JoinWorld.{IsGenerated, HaveJoins}
@@ -35,6 +35,10 @@ evidence_as P Q limit xs to evidence = record {
   more = evidence.more;
 }
 
+-- each right side of two states is reached
+pub are_reached : (F : KissFile) (found : List (List ℕ)) → AreRights F found → All (IsReached F) found
+are_reached F found rights k d within = let two = rights k d within in reached_two F two.0 two.1 (get_or found k d) two.2
+
 module _ (F : KissFile) (n : ℕ) (size : n ≡ length F.states) (count : IsStateCount n) (found : List (List ℕ)) (rights : AreRights F found) (have : HaveRights F (length F.states) found) where
   all_count : IsStateCount (length F.states)
   all_count = subst IsStateCount size count
@@ -46,7 +50,7 @@ module _ (F : KissFile) (n : ℕ) (size : n ≡ length F.states) (count : IsStat
       IsGenerated-has (λ r. r ≡ zero_of (length F.states)) IsJoin (IsReached F) found q
       (λ r is. subst (IsReached F) (sym is) (reached_zero F all_count))
       (λ a b c one two joined. reached_join F a b c one two joined)
-      (λ k d within. let two = rights k d within in reached_two F two.0 two.1 (get_or found k d) two.2)
+      (are_reached F found rights)
       plain
 
   from : HaveJoinsOf n found → (q : List ℕ) → IsRightSide F q → IsMadeOf n found q

@@ -1,5 +1,5 @@
 -- The growth of zero over the right sides of two states is a greatest right side strictly below one.
-use Rattle.std.proofs.Common.{◌≡◌, ℕ, ◌+◌, ◌<◌, ◌≤◌, ◌↔◌, inl, inr, List, length, refl, sym, ◌∙◌, subst, arith}
+use Rattle.std.proofs.Common.{◌≡◌, ℕ, ◌+◌, ◌<◌, ◌≤◌, ◌↔◌, inl, inr, List, length, refl, subst, arith}
 use Rattle.std.proofs.lemmas.Bool.{cases_eq, cases_lt}
 use Rattle.std.proofs.lemmas.List.Recursion.{max_least}
 use Rattle.kiss2.specs.declared.kiss_file.KissFile.{KissFile}
@@ -8,7 +8,7 @@ use Rattle.partition.specs.Partition.{blocks_of, IsOne, IsPartition, IsStateCoun
 use Rattle.partition.specs.Laws.Chains.{together_turned}
 use Rattle.partition.specs.Laws.Extremes.{zero_of_is_partition, zero_of_is_zero}
 use Rattle.partition.specs.Laws.Labels.{label-lt-blocks_of}
-use Rattle.pair_operators.specs.Extremes.{IsHigh, MmPair}
+use Rattle.pair_operators.specs.Extremes.{IsHigh}
 use Rattle.pair_operators.specs.Growth.{IsGrowth, NoneFits, pairs_of}
 use Rattle.pair_operators.specs.Laws.Growth.{grown_keeps, grown_meets, growth_is_full}
 use Rattle.pair_operators.specs.Laws.Pairs.{pair_monotone}

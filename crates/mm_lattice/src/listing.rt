@@ -33,8 +33,12 @@ fn right_sides(alloc: Global, m: &Machine, limit: usize) -> Result<Listing<Parti
     ensures more { IfOk result (λ listing. IfMore listing (Evidence Before (IsReached m.now) limit)) }
     ensures fit { IfOk result (λ listing. All (IsPartition (length m.now.states)) (items_of listing)) }
 {
-    let found = rights(alloc, m)?;
     let world = PartWorld { n: m.states() };
+    let mut found = rights(alloc, m, limit)?;
+    if found.len() > limit {
+        found.truncate(limit + 1);
+        return Ok(Listing::More(Items::from(found)));
+    }
     join_closure(alloc, &world, found.as_slice(), limit)
 }
 

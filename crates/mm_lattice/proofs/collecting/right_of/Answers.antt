@@ -1,4 +1,4 @@
-use Rattle.std.proofs.Common.{ℕ, List, length, sym, subst, arith}
+use Rattle.std.proofs.Common.{ℕ, List, sym, subst, arith}
 use Rattle.partition.specs.Laws.Labels.{IsPartition-of}
 use Rattle.pair_operators.proofs.Holding.{AreImages, image_at, holding_none, holding_more, holding_all}
 use Rattle.mm_lattice.proofs.Holds.{right_held}

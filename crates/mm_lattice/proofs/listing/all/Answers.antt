@@ -1,4 +1,4 @@
-use Rattle.std.proofs.Common.{List, map}
+use Rattle.std.proofs.Common.{map}
 use Rattle.mm_lattice.specs.Sides.{Sides, sides_of}
 use Rattle.mm_lattice.proofs.Listed.{paired, paired_evidence, right_evidence}
 use Rattle.mm_lattice.proofs.listing.all.Goals as goal
