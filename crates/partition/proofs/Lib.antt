@@ -10,10 +10,8 @@ pub mod Faults
 pub mod Nesting
 pub mod Sizes
 pub mod Words
-pub mod Rows
-pub mod RowNumbering
 pub mod Counting
-pub mod Reaching
-pub mod FlatRows
-pub mod Beside
+pub mod BlockRows
+pub mod SingleRow
+pub mod JoinedStates
 pub mod Relabelling

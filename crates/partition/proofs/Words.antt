@@ -1,13 +1,12 @@
 -- Bits in four words.
-use Rattle.std.proofs.Common.{◌≡◌, ◌≢◌, ℕ, zero, suc, ◌+◌, ◌-◌, ◌*◌, ◌/◌, ◌%◌, ◌^◌, ◌<◌, ◌≤◌, Option, Some, None, IfSome, IfNone, min, max, List, [], ◌∷◌, length, get_or, set, refl, sym, ap, ◌∙◌, inl, inr, arith}
-use Rattle.std.specs.Option.{unwrap_or}
+use Rattle.std.proofs.Common.{◌≡◌, ◌≢◌, ℕ, zero, suc, ◌+◌, ◌*◌, ◌/◌, ◌%◌, ◌^◌, ◌<◌, ◌≤◌, List, length, get_or, set, refl, sym, ap, ◌∙◌, inl, inr, arith}
 use Rattle.std.proofs.lemmas.Bool.{cases_eq, cases_lt}
 use Rattle.std.proofs.lemmas.List.{get_or_past, get_or-set_same, get_or-set_other}
-use Rattle.std.proofs.lemmas.Nat.Bits.{bit_at-zero, bit_at_and, bit_at_or, bit_at_not, bit_at_set_same, bit_at_set_other, bit_at_clear_same, bit_at_clear_other, bit_at-trailing_zeros, bit_at-lt}
+use Rattle.std.proofs.lemmas.Nat.Bits.{bit_at-zero, bit_at_set_same, bit_at_set_other, bit_at_clear_same, bit_at_clear_other, bit_at-trailing_zeros, bit_at-lt}
 use Rattle.std.specs.Int.{bit_at, bit_not, trailing_zeros, w64}
 use Rattle.std.specs.Int.RustNames.{bit_and, bit_or}
 use Rattle.partition.specs.Bits.{bit_of}
-use Rattle.partition.specs.Inner.Rows.{Has}
+use Rattle.partition.specs.Inner.Rows.{four_of}
 
 -- a fact of each of four words
 pub below_four : (P : ℕ → Type 0) → P 0 → P 1 → P 2 → P 3 → (i : ℕ) → i < 4 → P i
@@ -24,44 +23,16 @@ bit_of_past words t past = ap (λ (word : ℕ). bit_at word (t % 64)) (get_or_pa
 pub bit_of-lt : (words : List ℕ) (t : ℕ) → bit_of words t < 2
 bit_of-lt words t = bit_at-lt (get_or words (t / 64) 0) (t % 64)
 
--- what holds of the bits word by word holds of them
-pub bits_by_word : (ws xs ys : List ℕ) (g : ℕ → ℕ → ℕ) → length ws ≡ 4 → length xs ≡ 4 → length ys ≡ 4 → g 0 0 ≡ 0 → ((i : ℕ) → i < 4 → (k : ℕ) → k < 64 → bit_at (get_or ws i 0) k ≡ g (bit_at (get_or xs i 0) k) (bit_at (get_or ys i 0) k)) → (t : ℕ) → bit_of ws t ≡ g (bit_of xs t) (bit_of ys t)
-bits_by_word ws xs ys g ws_size xs_size ys_size none each t =
+-- four words have the bits of fewer
+pub bits_of_four : (words : List ℕ) (t : ℕ) → length words ≤ 4 → bit_of (four_of words) t ≡ bit_of words t
+bits_of_four words t few =
     elim (cases_lt (t / 64) 4) [
-      | inl inside ↦ each (t / 64) inside (t % 64) (omega arith)
-      | inr past ↦ bit_of_past ws t (omega arith) ∙ sym none ∙ ap (λ (b : ℕ). g b 0) (sym (bit_of_past xs t (omega arith))) ∙ ap (λ (b : ℕ). g (bit_of xs t) b) (sym (bit_of_past ys t (omega arith)))
+      | inl inside ↦ below_four (λ (i : ℕ). bit_at (get_or (four_of words) i 0) (t % 64) ≡ bit_at (get_or words i 0) (t % 64)) refl refl refl refl (t / 64) inside
+      | inr past ↦ bit_of_past (four_of words) t past ∙ sym (bit_of_past words t (omega arith))
     ]
 
--- four words, each made of two
-abbrev pub four_by : (ℕ → ℕ → ℕ) → List ℕ → List ℕ → List ℕ
-four_by f xs ys = f (get_or xs 0 0) (get_or ys 0 0) ∷ f (get_or xs 1 0) (get_or ys 1 0) ∷ f (get_or xs 2 0) (get_or ys 2 0) ∷ f (get_or xs 3 0) (get_or ys 3 0) ∷ []
-
-bits_by_four : (f g : ℕ → ℕ → ℕ) (xs ys : List ℕ) → length xs ≡ 4 → length ys ≡ 4 → g 0 0 ≡ 0 → ((i : ℕ) → i < 4 → (k : ℕ) → k < 64 → bit_at (f (get_or xs i 0) (get_or ys i 0)) k ≡ g (bit_at (get_or xs i 0) k) (bit_at (get_or ys i 0) k)) → (t : ℕ) → bit_of (four_by f xs ys) t ≡ g (bit_of xs t) (bit_of ys t)
-bits_by_four f g xs ys xs_size ys_size none each =
-    let P : ℕ → Type 0 = λ i. (k : ℕ) → k < 64 → bit_at (get_or (four_by f xs ys) i 0) k ≡ g (bit_at (get_or xs i 0) k) (bit_at (get_or ys i 0) k) in
-    bits_by_word (four_by f xs ys) xs ys g refl xs_size ys_size none (below_four P (each 0 (omega arith)) (each 1 (omega arith)) (each 2 (omega arith)) (each 3 (omega arith)))
-
-pub bits_of_and : (xs ys : List ℕ) → length xs ≡ 4 → length ys ≡ 4 → (t : ℕ) → bit_of (four_by bit_and xs ys) t ≡ min (bit_of xs t) (bit_of ys t)
-bits_of_and xs ys xs_size ys_size = bits_by_four bit_and min xs ys xs_size ys_size refl (λ i _ k _. bit_at_and (get_or xs i 0) (get_or ys i 0) k)
-
-pub bits_of_or : (xs ys : List ℕ) → length xs ≡ 4 → length ys ≡ 4 → (t : ℕ) → bit_of (four_by bit_or xs ys) t ≡ max (bit_of xs t) (bit_of ys t)
-bits_of_or xs ys xs_size ys_size = bits_by_four bit_or max xs ys xs_size ys_size refl (λ i _ k _. bit_at_or (get_or xs i 0) (get_or ys i 0) k)
-
--- the first bit of words with the bits of a row that has the bit s
-pub first_found : (row words : List ℕ) (s result : ℕ) (first : Option ℕ) → ((t : ℕ) → bit_of words t ≡ bit_of row t) → Has row s → IfSome first (λ t. Has words t) → IfSome first (λ t. (u : ℕ) → u < t → bit_of words u ≡ 0) → IfNone first ((t : ℕ) → bit_of words t ≡ 0) → result ≡ unwrap_or first s → Has row result × ((u : ℕ) → u < result → bit_of row u ≡ 0)
-first_found row words s result (Some t) same own some least none is = rw is (sym (same t) ∙ some, λ u below. sym (same u) ∙ least u below)
-first_found row words s result None same own some least none is = absurd (omega (arith, own, same s, none s))
-
--- the words without the bits of others
-abbrev pub without : ℕ → ℕ → ℕ
-without x y = bit_and x (bit_not w64 y)
-
-pub bits_of_without : (xs ys : List ℕ) → length xs ≡ 4 → length ys ≡ 4 → ((i : ℕ) → i < 4 → get_or ys i 0 < 2 ^ 64) → (t : ℕ) → bit_of (four_by without xs ys) t ≡ min (bit_of xs t) (1 - bit_of ys t)
-bits_of_without xs ys xs_size ys_size small =
-    bits_by_four without (λ x y. min x (1 - y)) xs ys xs_size ys_size refl (λ i in_i k in_k. bit_at_and (get_or xs i 0) (bit_not w64 (get_or ys i 0)) k ∙ ap (min (bit_at (get_or xs i 0) k)) (bit_at_not w64 (get_or ys i 0) k (small i in_i) in_k))
-
 -- two bits of words are one only where their words and places are
-same_bit : (t u : ℕ) → t / 64 ≡ u / 64 → t % 64 ≡ u % 64 → t ≡ u
+pub same_bit : (t u : ℕ) → t / 64 ≡ u / 64 → t % 64 ≡ u % 64 → t ≡ u
 same_bit t u words places = omega arith
 
 -- one word changed, at one of its bits

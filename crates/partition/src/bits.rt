@@ -1,43 +1,72 @@
 //! Partitions as rows of bits.
 
 ghost use Rattle.std.specs.Prelude.{◌≡◌, ℕ, ◌+◌, ◌/◌, ◌<◌, ◌≤◌, ◌↔◌, length, IsTrue, IfOk};
+ghost use Rattle.std.specs.Bool.{OnFalse};
 ghost use Rattle.partition.specs.Partition.{IsPartition, Together, blocks_of};
-ghost use Rattle.partition.specs.MeetAndJoin.{IsMeet, IsJoin};
+ghost use Rattle.partition.specs.MeetAndJoin.{IsMeet, IsJoin, IsGreatestBelow, IsLeastAbove};
 ghost use Rattle.partition.specs.Before.{Before};
 ghost use Rattle.partition.specs.Bits.{bit_of};
 
-mod conversion;
 mod lattice;
+mod numbers;
 mod rows;
+mod single;
 
 use crate::Partition;
-use rows::Rows;
+use rows::{block_rows, row_count, row_with, word_count};
+use single::single_row;
 use std::alloc::{AllocError, Global};
 use std::marker::Model;
 
-/// A partition of n states as its labels and n rows of n bits, seen by contracts as the list of labels.
+/// A partition of n states as its labels and as rows of n bits, seen by contracts as the list of labels.
 ///
-/// Bit t of row s is 1 exactly where s and t are together. The rows stand in one vector, each in as many
-/// words as n bits need. Meet and join are made on the rows; what compares or counts reads the labels.
+/// Bit t of row s is 1 exactly where s and t are together. States of one block have one row, which is kept
+/// where the block has two states or more: the row of a state that is alone needs no place. The rows stand
+/// in one vector, each in as many words as n bits need.
 #[derive(Debug, Drop)]
 pub struct BitPart {
     partition: Partition,
-    rows: Rows,
+    rows: Vec<u64>,
 }
 
 impl Model for BitPart {
     ghost use Rattle.std.specs.Prelude.{List, ℕ, length};
     ghost use Rattle.partition.specs.Partition.{IsPartition};
-    ghost use Rattle.partition.specs.Inner.Rows.{IsRows};
+    ghost use Rattle.partition.specs.Inner.Rows.{AreRowsOf};
 
     ghost Value = { List ℕ };
 
     ghost view = { λ p. p.partition };
 
-    ghost invariant = { λ p. IsPartition (length p.partition) p.partition × IsRows p.partition p.rows };
+    ghost invariant = { λ p. IsPartition (length p.partition) p.partition × AreRowsOf p.partition p.rows.items };
 }
 
 impl BitPart {
+    /// The same partition as rows of bits.
+    pub fn of(alloc: Global, p: &Partition) -> Result<BitPart, AllocError>
+        ensures labels { IfOk result (λ q. q ≡ p.now) }
+        ensures lawful { IfOk result (λ q. IsPartition (length p.now) q) }
+    {
+        BitPart::with_rows(alloc, p.copy(alloc)?)
+    }
+
+    /// The partition, with rows of its blocks.
+    fn with_rows(alloc: Global, partition: Partition) -> Result<BitPart, AllocError>
+        ensures labels { IfOk result (λ q. q ≡ partition) }
+        ensures lawful { IfOk result (λ q. IsPartition (length partition) q) }
+    {
+        let rows = block_rows(alloc, partition.labels())?;
+        Ok(BitPart { partition, rows })
+    }
+
+    /// The labels of the states.
+    pub fn labels(&self, alloc: Global) -> Result<Partition, AllocError>
+        ensures labels { IfOk result (λ p. p ≡ self.now) }
+        ensures lawful { IfOk result (λ p. IsPartition (length self.now) p) }
+    {
+        self.partition.copy(alloc)
+    }
+
     /// The number of states.
     pub fn len(&self) -> usize
         ensures len { result ≡ length self.now }
@@ -54,7 +83,14 @@ impl BitPart {
         ensures together { (t : ℕ) → (bit_of result.now t ≡ 1) ↔ Together self.now s t }
         ensures above { (t : ℕ) → length self.now ≤ t → bit_of result.now t ≡ 0 }
     {
-        self.rows.words(s)
+        let width = word_count(self.partition.len());
+        let rows = self.rows.as_slice();
+        let at = row_with(rows, width, row_count(rows.len(), width), s);
+        if at < rows.len() {
+            &rows[at..at + width]
+        } else {
+            single_row(s, width)
+        }
     }
 
     /// Whether two states are together.
@@ -96,7 +132,7 @@ impl BitPart {
     {
         Ok(BitPart {
             partition: self.partition.copy(alloc)?,
-            rows: self.rows.copy(alloc)?,
+            rows: self.rows.as_slice().to_vec(alloc)?,
         })
     }
 }

@@ -23,13 +23,6 @@ impl Model for StateSet {
 }
 
 impl StateSet {
-    /// No states.
-    pub fn empty() -> StateSet
-        ensures { (t : ℕ) → bit_of result t ≡ 0 }
-    {
-        StateSet { words: [0; 4] }
-    }
-
     /// The states whose bits stand in up to four words.
     pub fn of(words: &[u64]) -> StateSet
         ensures { result ≡ four_of words.now }
@@ -42,53 +35,6 @@ impl StateSet {
                 word_at(words, 3),
             ],
         }
-    }
-
-    /// Whether a state is in the set.
-    pub fn contains(&self, t: usize) -> bool
-        requires { t < 256 }
-        ensures { IsTrue result ↔ Has self.now t }
-    {
-        (self.words[t / 64] >> (t % 64)) & 1 == 1
-    }
-
-    /// The states of both sets.
-    pub fn intersection(&self, other: &StateSet) -> StateSet
-        ensures { (t : ℕ) → bit_of result t ≡ min (bit_of self.now t) (bit_of other.now t) }
-    {
-        let (a, b) = (&self.words, &other.words);
-        StateSet {
-            words: [a[0] & b[0], a[1] & b[1], a[2] & b[2], a[3] & b[3]],
-        }
-    }
-
-    /// The states of either set.
-    pub fn union(&self, other: &StateSet) -> StateSet
-        ensures { (t : ℕ) → bit_of result t ≡ max (bit_of self.now t) (bit_of other.now t) }
-    {
-        let (a, b) = (&self.words, &other.words);
-        StateSet {
-            words: [a[0] | b[0], a[1] | b[1], a[2] | b[2], a[3] | b[3]],
-        }
-    }
-
-    /// The states of the set that are not in the other.
-    pub fn difference(&self, other: &StateSet) -> StateSet
-        ensures { (t : ℕ) → bit_of result t ≡ min (bit_of self.now t) (1 - bit_of other.now t) }
-    {
-        let (a, b) = (&self.words, &other.words);
-        StateSet {
-            words: [a[0] & !b[0], a[1] & !b[1], a[2] & !b[2], a[3] & !b[3]],
-        }
-    }
-
-    /// Puts a state into the set.
-    pub fn insert(&mut self, t: usize)
-        requires { t < 256 }
-        ensures in_set { Has self.new t }
-        ensures others { (u : ℕ) → u ≢ t → bit_of self.new u ≡ bit_of self.old u }
-    {
-        self.words[t / 64] |= 1 << (t % 64);
     }
 
     /// Takes a state out of the set.
@@ -107,18 +53,6 @@ impl StateSet {
         ensures none { IfNone result ((t : ℕ) → bit_of self.now t ≡ 0) }
     {
         first_bit(self.words.as_slice())
-    }
-
-    /// The first words, in which the states below 64 times their number are.
-    pub fn words(&self, count: usize) -> &[u64]
-        requires { count ≤ 4 }
-        ensures words { result.now ≡ take count self.now }
-        ensures length { length result.now ≡ count }
-        ensures four { length self.now ≡ 4 }
-        ensures small { (i : ℕ) → i < 4 → slice_index self.now i < 2 ^ 64 }
-    {
-        let words = self.words.as_slice();
-        &words[..count]
     }
 }
 

@@ -1,60 +1,48 @@
--- For private functions and proofs alone: rows of bits, and how they stand in words.
-use Rattle.std.specs.Prelude.{◌≡◌, ℕ, zero, suc, ◌+◌, ◌*◌, ◌/◌, ◌<◌, ◌↔◌, ◌⊎◌, List, [], ◌∷◌, ◌++◌, length, take, drop, slice_index, slice_index_or}
-use Rattle.std.specs.Int.{bit_at}
-use Rattle.partition.specs.Partition.{IsStateCount, Together}
+-- For private functions and proofs alone: rows of bits for the blocks of a partition, one after another.
+use Rattle.std.specs.Prelude.{◌≡◌, ◌≢◌, ℕ, ◌+◌, ◌*◌, ◌/◌, ◌<◌, ◌≤◌, ◌↔◌, ◌⊎◌, List, [], ◌∷◌, length, slice_index}
+use Rattle.partition.specs.Partition.{IsPartition, Together}
 use Rattle.partition.specs.Bits.{bit_of}
 
 -- the bit is set: a set of states, kept so, has this member
 abbrev pub Has : List ℕ → ℕ → Type 0
 Has words t = bit_of words t ≡ 1
 
--- the bits of the other word are set in the word
-abbrev pub Covers : ℕ → ℕ → Type 0
-Covers word other = (i : ℕ) → i < 64 → bit_at other i ≡ 1 → bit_at word i ≡ 1
-
--- the row of a state
-abbrev pub row_of : List (List ℕ) → ℕ → List ℕ
-row_of rows s = slice_index_or rows s []
-
--- rows of bits for a partition: bit t of row s is 1 exactly where s and t are together
-pub record IsRows (p : List ℕ) (rows : List (List ℕ)) : Type 0 where
-  pub size : length rows ≡ length p
-  pub bits : (s t : ℕ) → Has (row_of rows s) t ↔ Together p s t
-
--- Rows of bits for blocks: each state is in its own row, and two states of one row have each other in
--- theirs.
-pub record AreBlocks (rows : List (List ℕ)) : Type 0 where
-  pub count : IsStateCount (length rows)
-  pub within : (s t : ℕ) → Has (row_of rows s) t → t < length rows
-  pub own : (s : ℕ) → s < length rows → Has (row_of rows s) s
-  pub alike : (s t u : ℕ) → Has (row_of rows s) t → Has (row_of rows s) u → Has (row_of rows t) u
-
--- for each block the set of those of its states that are below t
-pub record AreSets (labels : List ℕ) (sets : List (List ℕ)) (blocks t : ℕ) : Type 0 where
-  pub size : length sets ≡ blocks
-  pub members : (block u : ℕ) → block < blocks → Has (row_of sets block) u ↔ ((u < t) × (slice_index labels u ≡ block))
-
--- from s one goes through the states of the list to t, each of them in the row of the one before in p or q
-abbrev pub ReachesBy : List (List ℕ) → List (List ℕ) → ℕ → List ℕ → ℕ → Type 0
-ReachesBy p q s [] t = s ≡ t
-ReachesBy p q s (u ∷ us) t = (Has (row_of p s) u ⊎ Has (row_of q s) u) × ReachesBy p q u us t
-
-abbrev pub Reaches : List (List ℕ) → List (List ℕ) → ℕ → ℕ → Type 0
-Reaches p q s t = (us : List ℕ) × ReachesBy p q s us t
+-- up to four words as four of them
+abbrev pub four_of : List ℕ → List ℕ
+four_of words = slice_index words 0 ∷ slice_index words 1 ∷ slice_index words 2 ∷ slice_index words 3 ∷ []
 
 -- so many words have the bits of n states
 abbrev pub words_for : ℕ → ℕ
 words_for n = (n + 63) / 64
 
--- up to four words as four of them
-abbrev pub four_of : List ℕ → List ℕ
-four_of words = slice_index words 0 ∷ slice_index words 1 ∷ slice_index words 2 ∷ slice_index words 3 ∷ []
+-- where bit t of row i stands, in rows of so many words one after another
+abbrev pub place_in : (width i t : ℕ) → ℕ
+place_in width i t = i * width * 64 + t
 
--- the words of row s, where rows of so many words stand one after another
-abbrev pub words_at : List ℕ → ℕ → ℕ → List ℕ
-words_at words width s = take width (drop (s * width) words)
+-- Rows for the blocks of p, so many of them. Each has all states of one block, and a state that is together
+-- with another has a row.
+pub record AreRows (p words : List ℕ) (width count : ℕ) : Type 0 where
+  pub size : length words ≡ count * width
+  pub block : (i s t : ℕ) → i < count → s < 64 * width → t < 64 * width → Has words (place_in width i s) → Has words (place_in width i t) ↔ Together p s t
+  pub listed : (s t : ℕ) → Together p s t → s ≢ t → (i : ℕ) × (i < count) × Has words (place_in width i s)
 
--- the first n rows
-abbrev pub rows_in : List ℕ → ℕ → ℕ → List (List ℕ)
-rows_in words width zero = []
-rows_in words width (suc n) = rows_in words width n ++ four_of (words_at words width n) ∷ []
+abbrev pub AreRowsOf : List ℕ → List ℕ → Type 0
+AreRowsOf p words = AreRows p words (words_for (length p)) (length words / words_for (length p))
+
+-- Numbers of the labels of the first s states: 0 where none of them has the label, 1 where one has it, and else
+-- the number of a row plus 2, another one for each label.
+pub record AreNumbers (p numbers : List ℕ) (count s : ℕ) : Type 0 where
+  pub few : count ≤ s
+  pub small : (label : ℕ) → slice_index numbers label < count + 2
+  pub some : (t : ℕ) → t < s → 1 ≤ slice_index numbers (slice_index p t)
+  pub alone : (t u : ℕ) → t < s → u < s → slice_index p t ≡ slice_index p u → slice_index numbers (slice_index p t) ≡ 1 → t ≡ u
+  pub once : (a b : ℕ) → slice_index numbers a ≡ slice_index numbers b → 2 ≤ slice_index numbers a → a ≡ b
+
+-- the state is together with one of these states
+abbrev pub Touches : List ℕ → List ℕ → ℕ → Type 0
+Touches p states u = (t : ℕ) × Has states t × Together p t u
+
+-- r has the blocks of these states in one, and each other block as p has it
+pub record JoinsStates (p states r : List ℕ) : Type 0 where
+  pub lawful : IsPartition (length p) r
+  pub together : (u v : ℕ) → Together r u v ↔ (Together p u v ⊎ (Touches p states u × Touches p states v))

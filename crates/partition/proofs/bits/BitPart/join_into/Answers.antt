@@ -1,37 +1,48 @@
-use Rattle.std.proofs.Common.{◌≡◌, ◌+◌, ◌≤◌, ◌<◌, ℕ, List, length, subst, arith}
-use Rattle.partition.specs.Partition.{Together}
-use Rattle.partition.specs.Inner.Rows.{Has, row_of, IsRows}
-use Rattle.partition.specs.Laws.Chains.{chain_within}
-use Rattle.partition.proofs.Reaching.{IsJoining, joining_first, joining_filled, joining_all}
+use Rattle.std.proofs.Common.{◌≡◌, ◌*◌, ◌≤◌, ℕ, List, length, refl, sym, ap, subst, ◌∙◌, arith}
+use Rattle.partition.specs.Inner.Rows.{AreRows, AreRowsOf}
+use Rattle.partition.proofs.BlockRows.{in_hand, row_states}
+use Rattle.partition.proofs.JoinedStates.{IsJoiningRows, rows_first, rows_step, rows_all, row_within, kept_both}
 use Rattle.partition.proofs.bits.BitPart.join_into.Goals as goal
 
-pub loop-s-init : goal.loop-s-init
-loop-s-init c = record {
-  joining = joining_first c.args.self.now c.args.q.now c.args.rows.now c.args.first c.requires.lawful c.requires.rows c.requires.below;
-  high = c.requires.first;
-}
+pub loop-i-init : goal.loop-i-init
+loop-i-init c = record { joining = rows_first c.args.partition.now c.args.self.now c.as_slice-rows.result.now c.word_count-width.result c.requires.lawful; kept = refl }
 
-pub fill-requires-clause-within : goal.fill-requires-clause-within
-fill-requires-clause-within c t on =
-    omega (arith, chain_within c.args.self.now c.args.q.now c.loop-s.s t c.requires.length ((c.joined_block-block.ensures t).0 on), c.loop-s.invariant.joining.size)
+pub join_states-changed-requires-clause-states : goal.join_states-changed-requires-clause-states
+join_states-changed-requires-clause-states c t on =
+    let q : List ℕ = c.args.self.now in
+    let rows : List ℕ = c.as_slice-rows.result.now in
+    let width : ℕ = c.word_count-width.result in
+    let of_q : AreRowsOf q c.self.inside.rows.items = rw (← c.self.view_is) c.self.invariant.1 in
+    let number : c.len.result ≡ length q = c.len.ensures.len ∙ ap length c.self.view_is in
+    let are : AreRows q rows width c.row_count-i-end.result = in_hand q c.self.inside.rows.items rows c.len.result width c.row_count-i-end.result of_q c.as_slice-rows.ensures.value number c.word_count-width.ensures.count c.row_count-i-end.ensures in
+    let states = row_states rows c.of-states.result width c.loop-i.i (c.loop-i.i * width) c.word_count-width.ensures.few refl c.of-states.ensures in
+    omega (arith, row_within q rows width c.row_count-i-end.result c.loop-i.i c.of-states.result are c.loop-i-test.true states.0 states.1 t on, c.requires.length, c.loop-i.invariant.joining.lawful.length)
 
-pub loop-s-preserved : goal.loop-s-preserved
-loop-s-preserved c =
-    let p : List ℕ = c.args.self.now in
-    let q : List ℕ = c.args.q.now in
-    let rows : List (List ℕ) = c.fill.new.rows in
-    let q_rows : List (List ℕ) = c.q.inside.rows in
-    let q_is : IsRows q q_rows = rw (← c.q.view_is) c.q.invariant.1 in
-    let joining = c.loop-s.invariant.joining in
-    let inside : c.loop-s.s < length p = omega (arith, joining.size) in
-    let later : (t u : ℕ) → c.loop-s.s + 1 ≤ t → t < c.first_outside-s.result → Together q t u → Has (row_of rows t) u = λ t u low high held. c.first_outside-s.ensures.inside t low high u ((q_is.bits t u).1 held) in
+pub loop-i-preserved : goal.loop-i-preserved
+loop-i-preserved c =
+    let p : List ℕ = c.args.partition.now in
+    let q : List ℕ = c.args.self.now in
+    let rows : List ℕ = c.as_slice-rows.result.now in
+    let width : ℕ = c.word_count-width.result in
+    let of_q : AreRowsOf q c.self.inside.rows.items = rw (← c.self.view_is) c.self.invariant.1 in
+    let number : c.len.result ≡ length q = c.len.ensures.len ∙ ap length c.self.view_is in
+    let are : AreRows q rows width c.row_count-i-end.result = in_hand q c.self.inside.rows.items rows c.len.result width c.row_count-i-end.result of_q c.as_slice-rows.ensures.value number c.word_count-width.ensures.count c.row_count-i-end.ensures in
+    let wide : length q ≤ 64 * width = omega (arith, number, c.word_count-width.ensures.count) in
+    let states = row_states rows c.of-states.result width c.loop-i.i (c.loop-i.i * width) c.word_count-width.ensures.few refl c.of-states.ensures in
     record {
-      joining = joining_filled p q c.loop-s.rows rows c.joined_block-block.result c.loop-s.s c.first_outside-s.result c.requires.length inside joining c.joined_block-block.ensures c.fill.ensures.length c.fill.ensures.members c.fill.ensures.others later;
-      high = omega (arith, c.first_outside-s.ensures.high, c.fill.ensures.length, joining.size);
+      joining = rows_step p q rows width c.row_count-i-end.result c.loop-i.i c.of-states.result c.loop-i.partition c.join_states-changed.new.partition (sym c.requires.length) wide are c.loop-i-test.true states.0 states.1 c.loop-i.invariant.joining c.join_states-changed.ensures.joined;
+      kept = kept_both c.loop-i.changed c.join_states-changed.result p c.loop-i.partition c.join_states-changed.new.partition c.loop-i.invariant.kept c.join_states-changed.ensures.kept;
     }
 
-pub returns-clause-chains : goal.returns-clause-chains
-returns-clause-chains c s t within =
-    let p : List ℕ = c.args.self.now in
-    let end : c.loop-s.s ≡ length p = omega (arith, c.loop-s.invariant.high, c.loop-s.invariant.joining.size) in
-    joining_all p c.args.q.now c.loop-s.rows (subst (λ (k : ℕ). IsJoining p c.args.q.now c.loop-s.rows k) end c.loop-s.invariant.joining) s t within
+pub returns-clause-join : goal.returns-clause-join
+returns-clause-join c =
+    let p : List ℕ = c.args.partition.now in
+    let q : List ℕ = c.args.self.now in
+    let rows : List ℕ = c.as_slice-rows.result.now in
+    let width : ℕ = c.word_count-width.result in
+    let of_q : AreRowsOf q c.self.inside.rows.items = rw (← c.self.view_is) c.self.invariant.1 in
+    let number : c.len.result ≡ length q = c.len.ensures.len ∙ ap length c.self.view_is in
+    let are : AreRows q rows width c.row_count-i-end.result = in_hand q c.self.inside.rows.items rows c.len.result width c.row_count-i-end.result of_q c.as_slice-rows.ensures.value number c.word_count-width.ensures.count c.row_count-i-end.ensures in
+    let wide : length q ≤ 64 * width = omega (arith, number, c.word_count-width.ensures.count) in
+    let end : c.loop-i.i ≡ c.row_count-i-end.result = omega arith in
+    rows_all p q rows width c.row_count-i-end.result c.loop-i.partition (sym c.requires.length) wide are (subst (λ (k : ℕ). IsJoiningRows p q rows width k c.loop-i.partition) end c.loop-i.invariant.joining)

@@ -1,12 +1,10 @@
-use Rattle.std.proofs.Common.{◌-◌, ◌≤◌, length}
-use Rattle.partition.proofs.Reaching.{IsJoining}
+use Rattle.std.proofs.Common.{◌≡◌}
+use Rattle.std.specs.Bool.{OnFalse}
+use Rattle.partition.proofs.JoinedStates.{IsJoiningRows}
 use Rattle.partition.proofs.bits.BitPart.join_into.Given as goal
 
-abbrev pub invariant-loop-s : goal.invariant-loop-s
-invariant-loop-s l = record {
-  joining : IsJoining l.self l.q l.rows l.s;
-  high : l.s ≤ length l.self;
+abbrev pub invariant-loop-i : goal.invariant-loop-i
+invariant-loop-i l = record {
+  joining : IsJoiningRows l.initial.partition l.self l.rows l.width l.i l.partition;
+  kept : OnFalse l.changed (l.partition ≡ l.initial.partition);
 }
-
-abbrev pub decreases-loop-s : goal.decreases-loop-s
-decreases-loop-s l = length l.self - l.s
