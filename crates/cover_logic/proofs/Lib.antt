@@ -1,10 +1,13 @@
 pub mod Bits
 pub mod Terms
 pub mod Lists
+pub mod Entries
 pub mod Nodes
+pub mod Walks
 pub mod Values
 pub mod Raising
 pub mod Gaps
 pub mod PrimeRows
 pub mod SpareRows
+pub mod Rivals
 pub mod Width

@@ -5,7 +5,7 @@ use Rattle.std.proofs.lemmas.List.Elements.{All-contains, All-nil, All-push, All
 use Rattle.std.proofs.lemmas.List.Sorted.{Contains-permutation, IsPermutation-sym}
 use Rattle.cover_logic.specs.declared.term.Term.{Term}
 use Rattle.cover_logic.specs.Term.{IsCovered}
-use Rattle.cover_logic.specs.Inner.Rows.{HasSameTerms, HasSameValues, IsWithinOne}
+use Rattle.cover_logic.specs.Inner.Rows.{Covers, HasSameTerms, HasSameValues, IsWithinOne}
 use Rattle.cover_logic.proofs.Lists.{held_left, held_push, held_push_cases}
 
 pub values_none : HasSameValues [] []
@@ -41,6 +41,10 @@ values_same terms others list h same = record {
       All-contains (Contains terms) others (get_or list k d) h.among ((same (get_or list k d)).0 (Contains-get_or list k d below));
   covers = λ x held. let k = h.covers x held in (k.0, (same k.0).1 k.1, k.2);
 }
+
+-- what covers the terms covers a list of the same terms
+pub covers_same : (rows terms list : List Term) → HasSameTerms terms list → Covers rows terms → Covers rows list
+covers_same rows terms list same covers x h = covers x (h.0, (same h.0).0 h.1, h.2)
 
 -- what the others hold, the terms hold
 pub covered_back : (terms others : List Term) → HasSameValues terms others → (x : ℕ) → IsCovered others x → IsCovered terms x

@@ -1,5 +1,6 @@
 -- Definitions that private functions and proofs need; no public contract cites them.
 pub mod Pair
 pub mod Rows
+pub mod Entries
 pub mod Nodes
 pub mod Index

@@ -78,5 +78,6 @@ pub fn cover(alloc: Global, on: &[Term], off: &[Term], width: u8) -> Result<Vec<
     let zeros = distinct(alloc, off)?;
     let index = Index::new(alloc, &zeros, width)?;
     let rows = primes(alloc, &ones, &index, width)?;
-    without_spare(alloc, &rows, &ones)
+    let held = Index::new(alloc, &ones, width)?;
+    without_spare(alloc, &rows, &held, width)
 }

@@ -1,18 +1,35 @@
-ghost use Rattle.std.specs.Prelude.{◌≡◌, ◌++◌, [], All, Contains, IfOk, filter};
-ghost use Rattle.cover_logic.specs.Inner.Pair.{agree};
+ghost use Rattle.std.specs.Prelude.{◌≡◌, ◌≤◌, [], All, Contains, IfOk, false, slice_index_or};
+ghost use Rattle.cover_logic.specs.Inner.Entries.{HoldsRivals};
+ghost use Rattle.cover_logic.specs.Inner.Index.{terms_of};
 ghost use Rattle.cover_logic.specs.Inner.Rows.{Covers, EachNeeded, IsSole};
 
-use crate::gap::{find_gap, overlapping};
+use crate::gap::find_gap;
+use crate::index::{Entry, Index};
 use crate::term::Term;
 use std::alloc::{AllocError, Global};
 
-/// The terms of both lists that share a value with the row.
-fn rivals(alloc: Global, row: Term, kept: &[Term], rest: &[Term]) -> Result<Vec<Term>, AllocError>
-    ensures { IfOk result (λ others. others.items ≡ filter (agree row) (kept.now ++ rest.now)) }
+/// Whether the row of that number stands.
+fn is_left(stands: &[bool], number: usize) -> bool
+    ensures { result ≡ slice_index_or stands.now number false }
 {
-    let mut others = overlapping(alloc, row, kept)?;
-    let later = overlapping(alloc, row, rest)?;
-    others.extend_from_slice(&later)?;
+    stands.get(number).copied().unwrap_or(false)
+}
+
+/// The terms of other rows that stand.
+fn rivals(
+    alloc: Global,
+    row: usize,
+    near: &[Entry],
+    stands: &[bool],
+) -> Result<Vec<Term>, AllocError>
+    ensures { IfOk result (λ others. HoldsRivals row stands.now near.now others.items) }
+{
+    let mut others = Vec::new(alloc);
+    for entry in near {
+        if entry.number != row && is_left(stands, entry.number) {
+            others.push(entry.term)?;
+        }
+    }
     Ok(others)
 }
 
@@ -20,13 +37,14 @@ fn rivals(alloc: Global, row: Term, kept: &[Term], rest: &[Term]) -> Result<Vec<
 fn sole_value(
     alloc: Global,
     row: Term,
-    on: &[Term],
+    on: &Index,
     others: &[Term],
 ) -> Result<Option<u128>, AllocError>
-    ensures { IfOk result (IsSole row on.now others.now) }
+    ensures { IfOk result (IsSole row (terms_of on.now) others.now) }
 {
-    for term in on {
-        if let Some(part) = row.meet(*term) {
+    let near = on.all_met_by(alloc, row)?;
+    for entry in &near {
+        if let Some(part) = row.meet(entry.term) {
             if let Some(gap) = find_gap(alloc, part, others)? {
                 return Ok(Some(gap));
             }
@@ -36,18 +54,29 @@ fn sole_value(
 }
 
 /// The rows that are left when each row goes whose values of on the others hold.
-pub fn without_spare(alloc: Global, rows: &[Term], on: &[Term]) -> Result<Vec<Term>, AllocError>
-    requires { Covers rows.now on.now }
+pub fn without_spare(
+    alloc: Global,
+    rows: &[Term],
+    on: &Index,
+    width: u8,
+) -> Result<Vec<Term>, AllocError>
+    requires width { width ≤ 128 }
+    requires covers { Covers rows.now (terms_of on.now) }
     ensures among { IfOk result (λ kept. All (Contains rows.now) kept.items) }
-    ensures covers { IfOk result (λ kept. Covers kept.items on.now) }
-    ensures needed { IfOk result (λ kept. EachNeeded on.now kept.items []) }
+    ensures covers { IfOk result (λ kept. Covers kept.items (terms_of on.now)) }
+    ensures needed { IfOk result (λ kept. EachNeeded (terms_of on.now) kept.items []) }
 {
+    let index = Index::new(alloc, rows, width)?;
+    let mut stands = vec![in alloc; true; rows.len()]?;
     let mut kept = Vec::new(alloc);
     for (i, row) in rows.iter().enumerate() {
-        let others = rivals(alloc, *row, &kept, &rows[i + 1..])?;
+        let near = index.all_met_by(alloc, *row)?;
+        let others = rivals(alloc, i, &near, &stands)?;
         let sole = sole_value(alloc, *row, on, &others)?;
         if sole.is_some() {
             kept.push(*row)?;
+        } else {
+            stands[i] = false;
         }
     }
     Ok(kept)

@@ -1,0 +1,12 @@
+use Rattle.std.proofs.Common.{◌≡◌, ◌+◌, List, ◌∷◌, [], ◌++◌, sym, subst, rules}
+use Rattle.cover_logic.specs.declared.index.Entry.{Entry}
+use Rattle.cover_logic.proofs.Entries.{AreFirst, first_more}
+use Rattle.cover_logic.proofs.index.numbered.Goals as goal
+
+pub loop-number-preserved : goal.loop-number-preserved
+loop-number-preserved c =
+    let term = c.index-terms-number.result in
+    let entry : Entry = record { term = term; number = c.loop-number.number } in
+    let pushed : c.push.new.self.items ≡ c.loop-number.entries.items ++ entry ∷ [] = search rules in
+    subst (λ (es : List Entry). AreFirst c.args.terms.now (c.loop-number.number + 1) es) (sym pushed)
+    (first_more c.args.terms.now c.loop-number.number c.loop-number.entries.items term c.loop-number-test.true c.index-terms-number.is c.loop-number.invariant)
