@@ -3,7 +3,7 @@ pub mod Terms
 pub mod Lists
 pub mod Entries
 pub mod Nodes
-pub mod Walks
+pub mod Planes
 pub mod Values
 pub mod Raising
 pub mod Gaps

@@ -4,7 +4,7 @@ use Rattle.std.specs.Option.{is_some}
 use Rattle.std.proofs.lemmas.Bool.{cases_lt, false≢true}
 use Rattle.std.proofs.lemmas.List.{take-append-le, drop-append-le, append-nil}
 use Rattle.std.proofs.lemmas.List.Elements.{All-contains, All-nil, All-push}
-use Rattle.cover_logic.specs.declared.index.Entry.{Entry}
+use Rattle.cover_logic.specs.declared.bundles.Entry.{Entry}
 use Rattle.cover_logic.specs.declared.term.Term.{Term}
 use Rattle.cover_logic.specs.Term.{Holds, IsCovered}
 use Rattle.cover_logic.specs.Inner.Entries.{IsMet, terms_in}

@@ -2,5 +2,7 @@
 pub mod Pair
 pub mod Rows
 pub mod Entries
+pub mod Planes
+pub mod Bundles
 pub mod Nodes
 pub mod Index

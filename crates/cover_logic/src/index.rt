@@ -1,22 +1,15 @@
-//! An index of a list of terms, which is asked for the terms that share a value with a given one.
+//! An index of a list of terms, which is asked for a term that shares a value with a given one.
 ghost use Rattle.std.specs.Prelude.{◌≡◌, ◌<◌, ◌≤◌, All, IfOk, OnOk, filter, length};
-ghost use Rattle.cover_logic.specs.Inner.Entries.{IsNumbered, IsWithin, has_dash, has_one, has_zero};
+ghost use Rattle.cover_logic.specs.Inner.Pair.{Includes, has_dash, has_one, has_zero};
 ghost use Rattle.cover_logic.specs.Inner.Nodes.{IsAdded, IsNested, IsNested-prop};
 
 use crate::term::Term;
 use std::alloc::{AllocError, Global};
 
-/// A term of a list, and its number there.
-#[derive(Clone, Copy)]
-pub struct Entry {
-    pub term: Term,
-    pub number: usize,
-}
-
 /// A term of the list, or a term that holds those of the list from `from` up to its own place.
 #[derive(Clone, Copy)]
 struct Node {
-    entry: Entry,
+    term: Term,
     from: usize,
     is_listed: bool,
 }
@@ -31,20 +24,17 @@ pub struct Index {
 
 impl Index {
     ghost use Rattle.std.specs.Prelude.{◌≤◌, Contains, IfOk, IsTrue, MatchOption};
-    ghost use Rattle.cover_logic.specs.Inner.Entries.{IsMet, IsNumbered};
-    ghost use Rattle.cover_logic.specs.Inner.Index.{entries_of, terms_of};
+    ghost use Rattle.cover_logic.specs.Inner.Index.{terms_of};
     ghost use Rattle.cover_logic.specs.Inner.Pair.{ShareValue};
     ghost use Rattle.cover_logic.specs.Inner.Rows.{HasSameTerms, IsClear, MeetsSome};
 
     /// The index of the terms. It is split by columns below the width alone.
     pub fn new(alloc: Global, terms: &[Term], width: u8) -> Result<Index, AllocError>
         requires { width ≤ 128 }
-        ensures terms { IfOk result (λ index. HasSameTerms terms.now (terms_of index)) }
-        ensures numbers { IfOk result (λ index. IsNumbered terms.now (entries_of index)) }
+        ensures { IfOk result (λ index. HasSameTerms terms.now (terms_of index)) }
     {
-        let entries = numbered(alloc, terms)?;
         let mut nodes = Vec::new(alloc);
-        add(alloc, &mut nodes, &entries, width, width)?;
+        add(alloc, &mut nodes, terms, width, width)?;
         Ok(Index { nodes })
     }
 
@@ -56,9 +46,9 @@ impl Index {
         let mut end = self.nodes.len();
         while end > 0 {
             let node = self.nodes[end - 1];
-            if row.touches(node.entry.term) {
+            if row.touches(node.term) {
                 if node.is_listed {
-                    return Some(node.entry.term);
+                    return Some(node.term);
                 }
                 end -= 1;
             } else {
@@ -66,26 +56,6 @@ impl Index {
             }
         }
         None
-    }
-
-    /// The terms of the list that share a value with the row.
-    pub fn all_met_by(&self, alloc: Global, row: Term) -> Result<Vec<Entry>, AllocError>
-        ensures { IfOk result (λ met. IsMet row (entries_of self.now) met.items) }
-    {
-        let mut met = Vec::new(alloc);
-        let mut end = self.nodes.len();
-        while end > 0 {
-            let node = self.nodes[end - 1];
-            if row.touches(node.entry.term) {
-                if node.is_listed {
-                    met.push(node.entry)?;
-                }
-                end -= 1;
-            } else {
-                end = node.from;
-            }
-        }
-        Ok(met)
     }
 
     /// Whether the node at the place stands for a term of the list that shares a value with the row.
@@ -99,7 +69,7 @@ impl Index {
         if !node.is_listed {
             return false;
         }
-        row.touches(node.entry.term)
+        row.touches(node.term)
     }
 
     /// The terms of the list, in the order of the nodes.
@@ -107,7 +77,7 @@ impl Index {
         let mut terms = Vec::new(alloc);
         for node in &self.nodes {
             if node.is_listed {
-                terms.push(node.entry.term)?;
+                terms.push(node.term)?;
             }
         }
         Ok(terms)
@@ -125,66 +95,52 @@ impl Index {
     }
 }
 
-/// The terms with their numbers.
-fn numbered(alloc: Global, terms: &[Term]) -> Result<Vec<Entry>, AllocError>
-    ensures { IfOk result (λ entries. IsNumbered terms.now entries.items) }
-{
-    let mut entries = Vec::new(alloc);
-    for (number, term) in terms.iter().enumerate() {
-        entries.push(Entry {
-            term: *term,
-            number,
-        })?;
-    }
-    Ok(entries)
-}
-
-/// Puts nodes for the entries behind the others: by halves of a column and those with a dash there, as often
+/// Puts nodes for the terms behind the others: by halves of a column and those with a dash there, as often
 /// as `depth` says.
 fn add(
     alloc: Global,
     nodes: &mut Vec<Node>,
-    entries: &[Entry],
+    terms: &[Term],
     width: u8,
     depth: u8,
 ) -> Result<(), AllocError>
     requires width { width ≤ 128 }
     requires nested { IsNested nodes.old.items }
-    ensures { OnOk result (IsAdded nodes.old.items entries.now nodes.new.items) }
+    ensures { OnOk result (IsAdded nodes.old.items terms.now nodes.new.items) }
 {
-    let Some(first) = entries.first() else {
+    let Some(first) = terms.first() else {
         return Ok(());
     };
     let from = nodes.len();
-    let column = best_column(entries, width);
-    if depth == 0 || column == 0 || entries.len() <= 4 {
-        add_each(nodes, entries)?;
+    let column = best_column(terms, width);
+    if depth == 0 || column == 0 || terms.len() <= 4 {
+        add_each(nodes, terms)?;
     } else {
-        let zeros = zeros(alloc, entries, column)?;
-        let ones = ones(alloc, entries, column)?;
-        let dashes = dashes(alloc, entries, column)?;
+        let zeros = zeros(alloc, terms, column)?;
+        let ones = ones(alloc, terms, column)?;
+        let dashes = dashes(alloc, terms, column)?;
         add(alloc, nodes, &zeros, width, depth - 1)?;
         add(alloc, nodes, &ones, width, depth - 1)?;
         add(alloc, nodes, &dashes, width, depth - 1)?;
     }
-    let term = hull(first.term, entries);
+    let term = hull(*first, terms);
     nodes.push(Node {
-        entry: Entry { term, number: 0 },
+        term,
         from,
         is_listed: false,
     })?;
     Ok(())
 }
 
-/// Puts a node for each entry behind the others.
-fn add_each(nodes: &mut Vec<Node>, entries: &[Entry]) -> Result<(), AllocError>
+/// Puts a node for each term behind the others.
+fn add_each(nodes: &mut Vec<Node>, terms: &[Term]) -> Result<(), AllocError>
     requires { IsNested nodes.old.items }
-    ensures { OnOk result (IsAdded nodes.old.items entries.now nodes.new.items) }
+    ensures { OnOk result (IsAdded nodes.old.items terms.now nodes.new.items) }
 {
-    for entry in entries {
+    for term in terms {
         let from = nodes.len();
         nodes.push(Node {
-            entry: *entry,
+            term: *term,
             from,
             is_listed: true,
         })?;
@@ -193,58 +149,58 @@ fn add_each(nodes: &mut Vec<Node>, entries: &[Entry]) -> Result<(), AllocError>
 }
 
 /// A term that holds the values of all.
-fn hull(first: Term, entries: &[Entry]) -> Term
-    ensures { All (IsWithin result) entries.now }
+fn hull(first: Term, terms: &[Term]) -> Term
+    ensures { All (Includes result) terms.now }
 {
     let mut hull = first;
-    for entry in entries {
-        hull = hull.joined(entry.term);
+    for term in terms {
+        hull = hull.joined(*term);
     }
     hull
 }
 
-/// The entries with a literal 0 at the column.
-fn zeros(alloc: Global, entries: &[Entry], column: u128) -> Result<Vec<Entry>, AllocError>
-    ensures { IfOk result (λ part. part.items ≡ filter (has_zero column) entries.now) }
+/// The terms with a literal 0 at the column.
+fn zeros(alloc: Global, terms: &[Term], column: u128) -> Result<Vec<Term>, AllocError>
+    ensures { IfOk result (λ part. part.items ≡ filter (has_zero column) terms.now) }
 {
-    entries
+    terms
         .iter()
         .copied()
-        .filter(|entry| entry.term.value & column == 0 && entry.term.care & column != 0)
+        .filter(|term| term.value & column == 0 && term.care & column != 0)
         .collect(alloc)
 }
 
-/// The entries with a literal 1 at the column.
-fn ones(alloc: Global, entries: &[Entry], column: u128) -> Result<Vec<Entry>, AllocError>
-    ensures { IfOk result (λ part. part.items ≡ filter (has_one column) entries.now) }
+/// The terms with a literal 1 at the column.
+fn ones(alloc: Global, terms: &[Term], column: u128) -> Result<Vec<Term>, AllocError>
+    ensures { IfOk result (λ part. part.items ≡ filter (has_one column) terms.now) }
 {
-    entries
+    terms
         .iter()
         .copied()
-        .filter(|entry| entry.term.value & column != 0)
+        .filter(|term| term.value & column != 0)
         .collect(alloc)
 }
 
-/// The entries with a dash at the column.
-fn dashes(alloc: Global, entries: &[Entry], column: u128) -> Result<Vec<Entry>, AllocError>
-    ensures { IfOk result (λ part. part.items ≡ filter (has_dash column) entries.now) }
+/// The terms with a dash at the column.
+fn dashes(alloc: Global, terms: &[Term], column: u128) -> Result<Vec<Term>, AllocError>
+    ensures { IfOk result (λ part. part.items ≡ filter (has_dash column) terms.now) }
 {
-    entries
+    terms
         .iter()
         .copied()
-        .filter(|entry| entry.term.value & column == 0 && entry.term.care & column == 0)
+        .filter(|term| term.value & column == 0 && term.care & column == 0)
         .collect(alloc)
 }
 
-/// The column that parts the entries best, as a number with that bit alone; 0 where none does.
-fn best_column(entries: &[Entry], width: u8) -> u128
+/// The column that parts the terms best, as a number with that bit alone; 0 where none does.
+fn best_column(terms: &[Term], width: u8) -> u128
     requires { width ≤ 128 }
 {
     let mut best = 0;
     let mut best_gain = 0;
     for column in 0..u32::from(width) {
         let bit = 1u128 << column;
-        let gain = gain(entries, bit);
+        let gain = gain(terms, bit);
         if gain > best_gain {
             best = bit;
             best_gain = gain;
@@ -253,19 +209,13 @@ fn best_column(entries: &[Entry], width: u8) -> u128
     best
 }
 
-/// How well a column parts the entries: best into halves without dashes; 0 where all stay together.
-fn gain(entries: &[Entry], column: u128) -> usize {
-    let ones = entries
-        .iter()
-        .filter(|entry| entry.term.value & column != 0)
-        .count();
-    let literals = entries
-        .iter()
-        .filter(|entry| entry.term.care & column != 0)
-        .count();
+/// How well a column parts the terms: best into halves without dashes; 0 where all stay together.
+fn gain(terms: &[Term], column: u128) -> usize {
+    let ones = terms.iter().filter(|term| term.value & column != 0).count();
+    let literals = terms.iter().filter(|term| term.care & column != 0).count();
     let zeros = literals.saturating_sub(ones);
     let most = ones.max(zeros);
-    if most == entries.len() {
+    if most == terms.len() {
         0
     } else {
         ones.min(zeros).saturating_mul(4).saturating_add(most)

@@ -24,6 +24,7 @@ ghost use Rattle.cover_logic.specs.Term.{FitsWidth};
 ghost use Rattle.cover_logic.specs.Cover.{CanCover, GoodCover};
 ghost use Rattle.cover_logic.specs.Inner.Rows.{IsClear};
 
+mod bundles;
 mod distinct;
 mod gap;
 mod index;
@@ -35,6 +36,7 @@ mod term;
 #[cfg(test)]
 mod tests;
 
+use bundles::Bundles;
 use distinct::distinct;
 use index::Index;
 use primes::primes;
@@ -78,6 +80,6 @@ pub fn cover(alloc: Global, on: &[Term], off: &[Term], width: u8) -> Result<Vec<
     let zeros = distinct(alloc, off)?;
     let index = Index::new(alloc, &zeros, width)?;
     let rows = primes(alloc, &ones, &index, width)?;
-    let held = Index::new(alloc, &ones, width)?;
+    let held = Bundles::new(alloc, &ones, width)?;
     without_spare(alloc, &rows, &held, width)
 }

@@ -1,10 +1,10 @@
 ghost use Rattle.std.specs.Prelude.{◌≡◌, ◌≤◌, [], All, Contains, IfOk, false, slice_index_or};
 ghost use Rattle.cover_logic.specs.Inner.Entries.{HoldsRivals};
-ghost use Rattle.cover_logic.specs.Inner.Index.{terms_of};
+ghost use Rattle.cover_logic.specs.Inner.Bundles.{terms_in_bundles};
 ghost use Rattle.cover_logic.specs.Inner.Rows.{Covers, EachNeeded, IsSole};
 
+use crate::bundles::{Bundles, Entry};
 use crate::gap::find_gap;
-use crate::index::{Entry, Index};
 use crate::term::Term;
 use std::alloc::{AllocError, Global};
 
@@ -37,12 +37,12 @@ fn rivals(
 fn sole_value(
     alloc: Global,
     row: Term,
-    on: &Index,
+    on: &Bundles,
     others: &[Term],
 ) -> Result<Option<u128>, AllocError>
-    ensures { IfOk result (IsSole row (terms_of on.now) others.now) }
+    ensures { IfOk result (IsSole row (terms_in_bundles on.now) others.now) }
 {
-    let near = on.all_met_by(alloc, row)?;
+    let near = on.met_by(alloc, row)?;
     for entry in &near {
         if let Some(part) = row.meet(entry.term) {
             if let Some(gap) = find_gap(alloc, part, others)? {
@@ -57,20 +57,20 @@ fn sole_value(
 pub fn without_spare(
     alloc: Global,
     rows: &[Term],
-    on: &Index,
+    on: &Bundles,
     width: u8,
 ) -> Result<Vec<Term>, AllocError>
     requires width { width ≤ 128 }
-    requires covers { Covers rows.now (terms_of on.now) }
+    requires covers { Covers rows.now (terms_in_bundles on.now) }
     ensures among { IfOk result (λ kept. All (Contains rows.now) kept.items) }
-    ensures covers { IfOk result (λ kept. Covers kept.items (terms_of on.now)) }
-    ensures needed { IfOk result (λ kept. EachNeeded (terms_of on.now) kept.items []) }
+    ensures covers { IfOk result (λ kept. Covers kept.items (terms_in_bundles on.now)) }
+    ensures needed { IfOk result (λ kept. EachNeeded (terms_in_bundles on.now) kept.items []) }
 {
-    let index = Index::new(alloc, rows, width)?;
+    let all = Bundles::new(alloc, rows, width)?;
     let mut stands = vec![in alloc; true; rows.len()]?;
     let mut kept = Vec::new(alloc);
     for (i, row) in rows.iter().enumerate() {
-        let near = index.all_met_by(alloc, *row)?;
+        let near = all.met_by(alloc, *row)?;
         let others = rivals(alloc, i, &near, &stands)?;
         let sole = sole_value(alloc, *row, on, &others)?;
         if sole.is_some() {

@@ -13,7 +13,7 @@ impl Term {
     ghost use Rattle.std.specs.Prelude.{◌≡◌, ℕ, ◌<◌, ◌≤◌, ◌↔◌, IsTrue, MatchOption, bit_and, if◌then◌else◌};
     ghost use Rattle.std.specs.Int.{bit_at};
     ghost use Rattle.cover_logic.specs.Term.{FitsWidth, Holds, HoldsWithDash, LooksAt};
-    ghost use Rattle.cover_logic.specs.Inner.Pair.{Includes, IsColumnHalf, IsLooser, IsIntersection, ShareValue, agree, refines};
+    ghost use Rattle.cover_logic.specs.Inner.Pair.{HasLiteral, Includes, IsColumnHalf, IsLooser, IsIntersection, ShareValue, agree, refines};
 
     /// The term with literals at the columns of `care`, by the bits of `value` there.
     pub(crate) fn masked(care: u128, value: u128) -> Term
@@ -53,6 +53,14 @@ impl Term {
         ensures includes { IsTrue result → Includes self other }
     {
         self.care & other.care == self.care && other.value & self.care == self.value
+    }
+
+    /// Whether the term has that literal at the column.
+    pub(crate) fn has_literal(self, column: u32, one: bool) -> bool
+        requires { column < 128 }
+        ensures { IsTrue result → HasLiteral self column (if one then 1 else 0) }
+    {
+        self.care >> column & 1 == 1 && (self.value >> column & 1 == 1) == one
     }
 
     /// The term with a dash at the column.

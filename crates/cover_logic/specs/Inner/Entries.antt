@@ -1,8 +1,9 @@
 -- Terms of a list with their numbers. Private functions need it; no public contract cites it.
-use Rattle.std.specs.Prelude.{◌≡◌, ◌≢◌, ℕ, ◌<◌, ◌↔◌, Bool, true, false, not, ◌==◌, ◌&&◌, bit_and, List, [], ◌∷◌, All, Contains, length, slice_index_or}
-use Rattle.cover_logic.specs.declared.index.Entry.{Entry}
+use Rattle.std.specs.Prelude.{◌≡◌, ◌≢◌, ℕ, ◌<◌, ◌↔◌, Bool, true, false, ◌⊎◌, List, [], ◌∷◌, All, Contains, length, slice_index_or}
+use Rattle.std.specs.Int.{bit_at}
+use Rattle.cover_logic.specs.declared.bundles.Entry.{Entry}
 use Rattle.cover_logic.specs.declared.term.Term.{Term}
-use Rattle.cover_logic.specs.Inner.Pair.{Includes, agree}
+use Rattle.cover_logic.specs.Inner.Pair.{HasLiteral, agree}
 
 abbrev pub terms_in : List Entry → List Term
 terms_in [] = []
@@ -17,13 +18,34 @@ pub record IsNumbered (terms : List Term) (entries : List Entry) : Type 0 where
   pub among : All (HasNumber terms) entries
   pub all : (i : ℕ) (d : Term) → i < length terms → Contains entries (record { term = slice_index_or terms i d; number = i })
 
--- the term holds the values of the entry's
-abbrev pub IsWithin : Term → Entry → Type 0
-IsWithin wide e = Includes wide e.term
-
 -- the entries whose terms share a value with the row
 abbrev pub IsMet : Term → List Entry → List Entry → Type 0
 IsMet row entries met = (e : Entry) → Contains met e ↔ (Contains entries e × (agree row e.term ≡ true))
+
+-- each place of the set is that of an entry with that literal at the column
+abbrev pub HasLiterals : ℕ → ℕ → List Entry → ℕ → Type 0
+HasLiterals column bit entries places =
+    (k : ℕ) (d : Entry) → k < length entries → bit_at places k ≡ 1 → HasLiteral (slice_index_or entries k d).term column bit
+
+-- each place of the set is that of an entry whose term shares no value with the row
+abbrev pub IsAgainst : Term → List Entry → ℕ → Type 0
+IsAgainst row entries places =
+    (k : ℕ) (d : Entry) → k < length entries → bit_at places k ≡ 1 → agree row (slice_index_or entries k d).term ≡ false
+
+-- entries were put in whose terms share a value with the row, and none was taken out
+pub record AreMore (row : Term) (entries before after : List Entry) : Type 0 where
+  pub kept : (e : Entry) → Contains before e → Contains after e
+  pub among : (e : Entry) → Contains after e → Contains before e ⊎ (Contains entries e × (agree row e.term ≡ true))
+
+-- with the entry at the place among them, if its term does
+pub record IsPutAt (row : Term) (entries : List Entry) (place : ℕ) (before after : List Entry) : Type 0 where
+  pub more : AreMore row entries before after
+  pub there : (d : Entry) → place < length entries → agree row (slice_index_or entries place d).term ≡ true → Contains after (slice_index_or entries place d)
+
+-- with each such entry
+pub record IsPutIn (row : Term) (entries before after : List Entry) : Type 0 where
+  pub more : AreMore row entries before after
+  pub all : (e : Entry) → Contains entries e → agree row e.term ≡ true → Contains after e
 
 -- the entry is of another row, which stands
 abbrev pub IsRival : ℕ → List Bool → Entry → Type 0
@@ -33,13 +55,3 @@ IsRival row stands e = (e.number ≢ row) × (slice_index_or stands e.number fal
 pub record HoldsRivals (row : ℕ) (stands : List Bool) (near : List Entry) (others : List Term) : Type 0 where
   pub among : All (λ t. (e : Entry) × Contains near e × IsRival row stands e × (e.term ≡ t)) others
   pub all : All (λ e. IsRival row stands e → Contains others e.term) near
-
--- the literal 0 or 1, or the dash, that an entry has at the column whose bit alone the number has
-abbrev pub has_zero : ℕ → Entry → Bool
-has_zero column e = bit_and e.term.value column == 0 && not (bit_and e.term.care column == 0)
-
-abbrev pub has_one : ℕ → Entry → Bool
-has_one column e = not (bit_and e.term.value column == 0)
-
-abbrev pub has_dash : ℕ → Entry → Bool
-has_dash column e = bit_and e.term.value column == 0 && bit_and e.term.care column == 0

@@ -1,5 +1,5 @@
 -- Two terms, and the values that they hold. Private functions need it; no public contract cites it.
-use Rattle.std.specs.Prelude.{◌≡◌, ℕ, ◌↔◌, Bool, ◌==◌, ◌&&◌, bit_and, bit_xor}
+use Rattle.std.specs.Prelude.{◌≡◌, ℕ, ◌↔◌, Bool, not, ◌==◌, ◌&&◌, bit_and, bit_xor}
 use Rattle.std.specs.Int.{bit_at}
 use Rattle.cover_logic.specs.declared.term.Term.{Term}
 use Rattle.cover_logic.specs.Term.{LooksAt, Holds}
@@ -12,6 +12,10 @@ agree a b = bit_and (bit_and (bit_xor a.value b.value) a.care) b.care == 0
 abbrev pub refines : Term → Term → Bool
 refines wide narrow =
     bit_and wide.care narrow.care == wide.care && bit_and narrow.value wide.care == wide.value
+
+-- the term has that literal at the column
+abbrev pub HasLiteral : Term → ℕ → ℕ → Type 0
+HasLiteral t column bit = LooksAt t column × (bit_at t.value column ≡ bit)
 
 -- each literal of the first term is a literal of the second
 pub record IsLooser (wide narrow : Term) : Type 0 where
@@ -33,3 +37,13 @@ IsIntersection a b both = (x : ℕ) → Holds both x ↔ (Holds a x × Holds b x
 -- the term holds the values of the first that have the given bit at the column
 abbrev pub IsColumnHalf : Term → ℕ → ℕ → Term → Type 0
 IsColumnHalf t column bit half = (x : ℕ) → Holds half x ↔ (Holds t x × (bit_at x column ≡ bit))
+
+-- the literal 0 or 1, or the dash, that a term has at the column whose bit alone the number has
+abbrev pub has_zero : ℕ → Term → Bool
+has_zero column t = bit_and t.value column == 0 && not (bit_and t.care column == 0)
+
+abbrev pub has_one : ℕ → Term → Bool
+has_one column t = not (bit_and t.value column == 0)
+
+abbrev pub has_dash : ℕ → Term → Bool
+has_dash column t = bit_and t.value column == 0 && bit_and t.care column == 0

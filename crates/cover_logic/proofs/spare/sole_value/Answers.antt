@@ -2,9 +2,9 @@ use Rattle.std.proofs.Common.{ℕ, List, Option, sym, subst}
 use Rattle.std.specs.List.{All, Contains}
 use Rattle.std.proofs.lemmas.List.{take_all}
 use Rattle.std.proofs.lemmas.List.Elements.{All-more, All-nil, Contains-get_or}
-use Rattle.cover_logic.specs.declared.index.Entry.{Entry}
+use Rattle.cover_logic.specs.declared.bundles.Entry.{Entry}
 use Rattle.cover_logic.specs.Inner.Entries.{IsMet}
-use Rattle.cover_logic.specs.Inner.Index.{entries_of}
+use Rattle.cover_logic.specs.Inner.Bundles.{entries_of}
 use Rattle.cover_logic.specs.Inner.Rows.{IsUncovered}
 use Rattle.cover_logic.proofs.SpareRows.{IsShared, met_is_held, shared_all}
 use Rattle.cover_logic.proofs.spare.sole_value.Goals as goal

@@ -1,8 +1,8 @@
 use Rattle.std.proofs.Common.{◌≡◌, ◌+◌, ◌∙◌, Bool, List, ◌∷◌, [], ◌++◌, true, false, drop, length, replicate, set, ap, sym, subst, rules}
-use Rattle.cover_logic.specs.declared.index.Entry.{Entry}
+use Rattle.cover_logic.specs.declared.bundles.Entry.{Entry}
 use Rattle.cover_logic.specs.declared.term.Term.{Term}
 use Rattle.cover_logic.specs.Inner.Entries.{HoldsRivals}
-use Rattle.cover_logic.specs.Inner.Index.{entries_of, terms_of}
+use Rattle.cover_logic.specs.Inner.Bundles.{entries_of, terms_in_bundles}
 use Rattle.cover_logic.specs.Inner.Rows.{EachNeeded, IsSole}
 use Rattle.cover_logic.proofs.Rivals.{rivals_alike, standing_kept, standing_left_out, standing_none}
 use Rattle.cover_logic.proofs.SpareRows.{AreKept, HoldAlike, kept_none, row_kept, row_left_out, rest_from, covers_alone}
@@ -15,18 +15,18 @@ use Rattle.cover_logic.proofs.spare.without_spare.Goals.{then-is_some+in_ok-push
 pub loop-i-init : goal.loop-i-init
 loop-i-init c =
     let stand : c.in_ok-stands.stands.items ≡ replicate (length c.args.rows.now) true = search rules in
-    rw c.new-kept.ensures.items (kept_none (terms_of c.args.on.now) c.args.rows.now c.requires.covers, standing_none c.args.rows.now c.in_ok-stands.stands.items stand)
+    rw c.new-kept.ensures.items (kept_none (terms_in_bundles c.args.on.now) c.args.rows.now c.requires.covers, standing_none c.args.rows.now c.in_ok-stands.stands.items stand)
 
 pub loop-i-preserved : goal.loop-i-preserved
 loop-i-preserved c =
     let i = c.loop-i.i in
     let row = c.index-rows-i.result in
-    let on = terms_of c.args.on.now in
+    let on = terms_in_bundles c.args.on.now in
     let rows = c.args.rows.now in
     let kept = c.loop-i.kept.items in
     let stands = c.loop-i.stands.items in
     let rest = drop (i + 1) rows in
-    let entries = entries_of c.in_ok-index.index in
+    let entries = entries_of c.in_ok-all.all in
     let near = c.in_ok-near.near.items in
     let others = c.in_ok-others.others.items in
     let before : AreKept on rows kept (row ∷ rest) = rw (← rest_from rows i row c.loop-i-test.true c.index-rows-i.is) c.loop-i.invariant.0 in
@@ -34,7 +34,7 @@ loop-i-preserved c =
     subst (λ (es : List Entry). HoldsRivals i stands es others) c.deref.ensures.value
     (subst (λ (bs : List Bool). HoldsRivals i bs c.deref.result.now others) c.deref-in-loop-i.ensures.value c.in_ok-others.ensures) in
     let alike : HoldAlike row (kept ++ rest) others =
-    rivals_alike rows stands kept i row entries near others c.in_ok-index.ensures.numbers c.in_ok-near.ensures held c.loop-i.invariant.1 in
+    rivals_alike rows stands kept i row entries near others c.in_ok-all.ensures.numbers c.in_ok-near.ensures held c.loop-i.invariant.1 in
     let sole : IsSole row on others c.in_ok-sole.sole = subst (λ (ts : List Term). IsSole row on ts c.in_ok-sole.sole) c.deref-in-loop-i-2.ensures.value c.in_ok-sole.ensures in
     let among : Contains rows row = subst (λ (t : Term). Contains rows t) (sym c.index-rows-i.is) (Contains-get_or rows i row c.loop-i-test.true) in
     elim c.if-is_some.branch [
@@ -56,8 +56,8 @@ loop-i-preserved c =
 
 pub returns-clause-covers : goal.returns-clause-covers
 returns-clause-covers c =
-    covers_alone (terms_of c.args.on.now) c.loop-i.kept.items _ (drop_all c.loop-i.i c.args.rows.now c.loop-i-test.false) c.loop-i.invariant.0.covers
+    covers_alone (terms_in_bundles c.args.on.now) c.loop-i.kept.items _ (drop_all c.loop-i.i c.args.rows.now c.loop-i-test.false) c.loop-i.invariant.0.covers
 
 pub returns-clause-needed : goal.returns-clause-needed
 returns-clause-needed c =
-    subst (λ (rest : List Term). EachNeeded (terms_of c.args.on.now) c.loop-i.kept.items rest) (drop_all c.loop-i.i c.args.rows.now c.loop-i-test.false) c.loop-i.invariant.0.needed
+    subst (λ (rest : List Term). EachNeeded (terms_in_bundles c.args.on.now) c.loop-i.kept.items rest) (drop_all c.loop-i.i c.args.rows.now c.loop-i-test.false) c.loop-i.invariant.0.needed

@@ -1,5 +1,5 @@
 use Rattle.std.proofs.Common.{◌∙◌, sym, rules}
-use Rattle.cover_logic.proofs.Walks.{met_there}
+use Rattle.cover_logic.proofs.Nodes.{met_there}
 use Rattle.cover_logic.proofs.index.Index.is_met_at.Goals as goal
 
 pub returns : goal.returns

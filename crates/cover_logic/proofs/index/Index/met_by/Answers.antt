@@ -1,5 +1,5 @@
 use Rattle.std.proofs.Common.{◌∙◌, ◌-◌, sym, rules, arith}
-use Rattle.cover_logic.proofs.Walks.{apart_none, apart_all, apart_left_out, met_at}
+use Rattle.cover_logic.proofs.Nodes.{apart_none, apart_all, apart_left_out, met_at}
 use Rattle.cover_logic.proofs.index.Index.met_by.Goals as goal
 
 pub loop-end-init : goal.loop-end-init

@@ -1,4 +1,4 @@
-use Rattle.cover_logic.proofs.Walks.{ApartFrom}
+use Rattle.cover_logic.proofs.Nodes.{ApartFrom}
 use Rattle.cover_logic.proofs.index.Index.met_by.Given as goal
 
 abbrev pub invariant-loop-end : goal.invariant-loop-end

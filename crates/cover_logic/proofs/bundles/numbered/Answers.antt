@@ -1,7 +1,7 @@
 use Rattle.std.proofs.Common.{◌≡◌, ◌+◌, List, ◌∷◌, [], ◌++◌, sym, subst, rules}
-use Rattle.cover_logic.specs.declared.index.Entry.{Entry}
+use Rattle.cover_logic.specs.declared.bundles.Entry.{Entry}
 use Rattle.cover_logic.proofs.Entries.{AreFirst, first_more}
-use Rattle.cover_logic.proofs.index.numbered.Goals as goal
+use Rattle.cover_logic.proofs.bundles.numbered.Goals as goal
 
 pub loop-number-preserved : goal.loop-number-preserved
 loop-number-preserved c =

@@ -1,0 +1,25 @@
+use Rattle.std.proofs.Common.{◌≡◌, List, ◌∷◌, [], ◌++◌, length, subst, sym, rules, arith}
+use Rattle.cover_logic.specs.declared.bundles.Entry.{Entry}
+use Rattle.cover_logic.specs.declared.bundles.Plane.{Plane}
+use Rattle.cover_logic.specs.Inner.Planes.{AreTold}
+use Rattle.cover_logic.proofs.Planes.{told_more}
+use Rattle.std.proofs.lemmas.List.{length-append}
+use Rattle.cover_logic.proofs.bundles.Bundle.new.Goals as goal
+
+pub loop-column-preserved : goal.loop-column-preserved
+loop-column-preserved c =
+    let entries = c.args.entries.now in
+    let column = c.loop-column.column in
+    let planes = c.loop-column.planes.items in
+    let plane : Plane = record { zeros = c.literals.result; ones = c.literals-in-loop-column.result } in
+    let pushed : c.push.new.self.items ≡ planes ++ plane ∷ [] = search rules in
+    let size : length planes ≡ column = c.loop-column.invariant.1 in
+    rw pushed (
+      told_more entries planes plane column c.loop-column.invariant.0 size (let w = c.requires.width in let t = c.loop-column-test.true in omega arith) c.literals.ensures c.literals-in-loop-column.ensures,
+      (let n = length-append planes (plane ∷ []) in omega (arith, n, size)),
+    )
+
+pub invariant_of-result : goal.invariant_of-result
+invariant_of-result c = record {
+  told = subst (λ (es : List Entry). AreTold es c.loop-column.planes.items) (sym c.in_ok-from_slice.ensures.items) c.loop-column.invariant.0;
+}
