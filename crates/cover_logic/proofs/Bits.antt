@@ -1,10 +1,11 @@
-use Rattle.std.proofs.Common.{◌≡◌, ℕ, zero, suc, ◌+◌, ◌-◌, ◌%◌, ◌<◌, ◌^◌, ◌*◌, ◌∙◌, ◌/◌, ◌↔◌, IsTrue, zero-mul, ◌==◌, true, min, bit_and, bit_xor, ap, sym, refl, inl, inr, ◌⊎◌, ⊎_elim, arith}
+use Rattle.std.proofs.Common.{◌≡◌, ℕ, zero, suc, ◌+◌, ◌-◌, ◌%◌, ◌<◌, ◌^◌, ◌*◌, ◌∙◌, ◌/◌, ◌↔◌, IsTrue, zero-mul, ◌==◌, Bool, true, false, not, if◌then◌else◌, min, bit_and, bit_xor, ap, sym, refl, inl, inr, ◌⊎◌, ⊎_elim, arith}
+use mathlib.Core.Bool.{beq}
 use Rattle.std.specs.Int.{bit_at, bit_not, w128}
-use Rattle.std.proofs.lemmas.Nat.Bits.{bit_at-zero, bit_at-lt, bit_at_and, bit_at_xor, bit_at_not, bit_at_above, same_from_bits}
-use Rattle.std.proofs.lemmas.Nat.{and_assoc, xor_lt, pow_pos, div-add-mod'}
+use Rattle.std.proofs.lemmas.Nat.Bits.{bit_at-zero, bit_at-lt, bit_at_and, bit_at_xor, bit_at_not, bit_at_above, and_pow, same_from_bits}
+use Rattle.std.proofs.lemmas.Nat.{and_assoc, one_shl, xor_lt, pow_pos, div-add-mod'}
 use Rattle.std.proofs.Math.Nat.{mod-lt, div-eq_of_lt}
 use Rattle.std.specs.Int.Bits.{and_self}
-use Rattle.std.proofs.lemmas.Bool.{cases_lt}
+use Rattle.std.proofs.lemmas.Bool.{cases_Bool, cases_lt, false≢true}
 use Rattle.std.proofs.lemmas.Bool.Decides.{nat_tests}
 
 pub zero_from_test : (n : ℕ) → (n == 0) ≡ true → n ≡ 0
@@ -86,3 +87,32 @@ shifted_out n w =
 
     none : (n m : ℕ) → n < m → n / m ≡ 0
     none n m h = div-eq_of_lt h
+
+-- whether `n & (1 << k)` is 0
+pub masked_bit : (n k : ℕ) → k < 128 → bit_and n (1 * 2 ^ k % 2 ^ 128) ≡ bit_at n k * 2 ^ k
+masked_bit n k h = ap (bit_and n) (one_shl k 128 h) ∙ and_pow n k
+
+pub bit_from_mask : (n k : ℕ) → k < 128 → (bit_and n (1 * 2 ^ k % 2 ^ 128) == 0) ≡ false → bit_at n k ≡ 1
+bit_from_mask n k h some = ⊎_elim
+    (λ none. absurd (false≢true (sym some ∙ test_from_zero _ (masked_bit n k h ∙ (ap (λ b. b * 2 ^ k) none ∙ zero-mul (2 ^ k))))))
+    (λ one. one) (zero_or_one (bit_at n k) (bit_at-lt n k))
+
+pub no_bit_from_mask : (n k : ℕ) → k < 128 → (bit_and n (1 * 2 ^ k % 2 ^ 128) == 0) ≡ true → bit_at n k ≡ 0
+no_bit_from_mask n k h none = ⊎_elim (λ zero. zero)
+    (λ one. absurd (positive (sym (masked_bit n k h ∙ ap (λ b. b * 2 ^ k) one) ∙ zero_from_test _ none))) (zero_or_one (bit_at n k) (bit_at-lt n k))
+  where
+    positive : 1 * 2 ^ k ≡ 0 → ⊥
+    positive e = let p = pow_pos k in omega (arith, p)
+
+-- a literal, by such tests
+pub literal_from_masks : (care value k : ℕ) (one : Bool) → k < 128 → (bit_and care (1 * 2 ^ k % 2 ^ 128) ≡ 0 → ⊥) → beq (not (bit_and value (1 * 2 ^ k % 2 ^ 128) == 0)) one ≡ true → (bit_at care k ≡ 1) × (bit_at value k ≡ if one then 1 else 0)
+literal_from_masks care value k one h looks has = (
+  bit_from_mask care k h (⊎_elim (λ t. absurd (looks (zero_from_test _ t))) (λ f. f) (cases_Bool (bit_and care (1 * 2 ^ k % 2 ^ 128) == 0))),
+  by_test (bit_and value (1 * 2 ^ k % 2 ^ 128) == 0) one (bit_at value k) (bit_from_mask value k h) (no_bit_from_mask value k h) has,
+)
+  where
+    by_test : (t one : Bool) (b : ℕ) → (t ≡ false → b ≡ 1) → (t ≡ true → b ≡ 0) → beq (not t) one ≡ true → b ≡ if one then 1 else 0
+    by_test true true b p q e = absurd (false≢true e)
+    by_test true false b p q e = q refl
+    by_test false true b p q e = p refl
+    by_test false false b p q e = absurd (false≢true e)

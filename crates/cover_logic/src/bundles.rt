@@ -1,8 +1,8 @@
 //! The terms of a list in bundles of 128, by their columns, so that one step asks all terms of a bundle
 //! whether they share a value with a row.
-ghost use Rattle.std.specs.Prelude.{◌≡◌, ◌<◌, ◌≤◌, IfOk, OnOk, if◌then◌else◌, length};
+ghost use Rattle.std.specs.Prelude.{◌<◌, ◌≤◌, All, IfOk, if◌then◌else◌, length};
 ghost use Rattle.cover_logic.specs.Inner.Entries.{HasLiterals, IsNumbered};
-ghost use Rattle.cover_logic.specs.Inner.Planes.{AreTold, AreTold-prop};
+ghost use Rattle.cover_logic.specs.Inner.Planes.{AreTold, AreTold-prop, IsLiteralOf};
 
 use crate::term::Term;
 use std::alloc::{AllocError, Global};
@@ -12,6 +12,13 @@ use std::alloc::{AllocError, Global};
 pub struct Entry {
     pub term: Term,
     pub number: usize,
+}
+
+/// A literal of a row: its column, and whether it is a 1.
+#[derive(Clone, Copy)]
+struct Literal {
+    column: usize,
+    one: bool,
 }
 
 /// Which terms of a bundle have a literal 0 at a column, and which have a literal 1: bit k stands for the
@@ -31,8 +38,10 @@ struct Bundle {
 }
 
 impl Bundle {
-    ghost use Rattle.std.specs.Prelude.{◌≡◌, ◌<◌, ◌≤◌, IfOk, OnOk, length};
+    ghost use Rattle.std.specs.Prelude.{◌≡◌, ◌≤◌, All, IfOk, OnOk, length};
+    ghost use Rattle.cover_logic.specs.declared.term.Term.{Term};
     ghost use Rattle.cover_logic.specs.Inner.Entries.{IsAgainst, IsPutAt, IsPutIn};
+    ghost use Rattle.cover_logic.specs.Inner.Planes.{IsLiteralOf};
 
     /// The bundle of the entries.
     fn new(alloc: Global, entries: &[Entry], width: u8) -> Result<Bundle, AllocError>
@@ -40,7 +49,7 @@ impl Bundle {
         requires few { length entries.now ≤ 128 }
         ensures { IfOk result (λ bundle. bundle.entries.items ≡ entries.now) }
     {
-        let mut planes = Vec::new(alloc);
+        let mut planes = Vec::with_capacity(alloc, usize::from(width))?;
         for column in 0..u32::from(width) {
             planes.push(Plane {
                 zeros: literals(entries, column, false),
@@ -53,31 +62,30 @@ impl Bundle {
         })
     }
 
-    /// Places of terms that share no value with the row, for the row's literal at the column.
-    fn against_at(&self, column: usize, row: Term) -> u128
-        requires { column < length self.now.planes.items }
-        ensures { IsAgainst row self.now.entries.items result }
+    /// Places of terms that have the other literal at the column.
+    fn against_one(&self, literal: Literal) -> u128
+        ensures { (row : Term) → IsLiteralOf row literal → IsAgainst row self.now.entries.items result }
     {
-        let plane = self.planes[column];
-        if row.has_literal(column as u32, false) {
-            return plane.ones;
+        if literal.column >= self.planes.len() {
+            return 0;
         }
-        if row.has_literal(column as u32, true) {
+        let plane = self.planes[literal.column];
+        if literal.one {
             return plane.zeros;
         }
-        0
+        plane.ones
     }
 
-    /// Places of terms that share no value with the row. From the last column to the first, until no place
-    /// is left.
-    fn against(&self, row: Term) -> u128
-        ensures { IsAgainst row self.now.entries.items result }
+    /// Places of terms that have the other literal at some column, found until no place is left.
+    fn against(&self, literals: &[Literal]) -> u128
+        ensures { (row : Term) → All (IsLiteralOf row) literals.now → IsAgainst row self.now.entries.items result }
     {
         let mut against = 0;
-        let mut column = self.planes.len();
-        while column > 0 && against != u128::MAX {
-            column -= 1;
-            against |= self.against_at(column, row);
+        for literal in literals {
+            if against == u128::MAX {
+                break;
+            }
+            against |= self.against_one(*literal);
         }
         against
     }
@@ -97,10 +105,16 @@ impl Bundle {
     }
 
     /// Puts the entries whose terms share a value with the row behind the others.
-    fn put_met(&self, row: Term, met: &mut Vec<Entry>) -> Result<(), AllocError>
+    fn put_met(
+        &self,
+        row: Term,
+        literals: &[Literal],
+        met: &mut Vec<Entry>,
+    ) -> Result<(), AllocError>
+        requires { All (IsLiteralOf row) literals.now }
         ensures { OnOk result (IsPutIn row self.now.entries.items met.old.items met.new.items) }
     {
-        let mut open = !self.against(row);
+        let mut open = !self.against(literals);
         while open != 0 {
             let place = open.trailing_zeros();
             open &= !(1u128 << place);
@@ -114,6 +128,7 @@ impl Bundle {
 #[derive(Drop)]
 pub struct Bundles {
     bundles: Vec<Bundle>,
+    width: u8,
 }
 
 impl Bundles {
@@ -136,16 +151,17 @@ impl Bundles {
             bundles.push(Bundle::new(alloc, &entries[start..end], width)?)?;
             start = end;
         }
-        Ok(Bundles { bundles })
+        Ok(Bundles { bundles, width })
     }
 
     /// The terms that share a value with the row.
     pub fn met_by(&self, alloc: Global, row: Term) -> Result<Vec<Entry>, AllocError>
         ensures { IfOk result (λ met. IsMet row (entries_of self.now) met.items) }
     {
+        let literals = literals_of(alloc, row, self.width)?;
         let mut met = Vec::new(alloc);
         for bundle in &self.bundles {
-            bundle.put_met(row, &mut met)?;
+            bundle.put_met(row, &literals, &mut met)?;
         }
         Ok(met)
     }
@@ -163,6 +179,22 @@ fn numbered(alloc: Global, terms: &[Term]) -> Result<Vec<Entry>, AllocError>
         })?;
     }
     Ok(entries)
+}
+
+/// The literals of the row below the width, from the last column to the first.
+fn literals_of(alloc: Global, row: Term, width: u8) -> Result<Vec<Literal>, AllocError>
+    ensures { IfOk result (λ literals. All (IsLiteralOf row) literals.items) }
+{
+    let mut literals = Vec::new(alloc);
+    let mut column = usize::from(width.min(128));
+    while column > 0 {
+        column -= 1;
+        let one = row.has_literal(column as u32, true);
+        if one || row.has_literal(column as u32, false) {
+            literals.push(Literal { column, one })?;
+        }
+    }
+    Ok(literals)
 }
 
 /// The places of the entries with that literal at the column.

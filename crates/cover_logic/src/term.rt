@@ -60,7 +60,8 @@ impl Term {
         requires { column < 128 }
         ensures { IsTrue result → HasLiteral self column (if one then 1 else 0) }
     {
-        self.care >> column & 1 == 1 && (self.value >> column & 1 == 1) == one
+        let bit = 1u128 << column;
+        self.care & bit != 0 && (self.value & bit != 0) == one
     }
 
     /// The term with a dash at the column.

@@ -1,9 +1,16 @@
 -- The planes of a bundle of terms. Private functions need it; no public contract cites it.
-use Rattle.std.specs.Prelude.{ℕ, ◌<◌, ◌≤◌, List, length, slice_index_or}
+use Rattle.std.specs.Prelude.{ℕ, ◌<◌, ◌≤◌, List, length, slice_index_or, if◌then◌else◌}
 use denote.Struct.Props as logic
 use Rattle.cover_logic.specs.declared.bundles.Entry.{Entry}
+use Rattle.cover_logic.specs.declared.bundles.Literal.{Literal}
 use Rattle.cover_logic.specs.declared.bundles.Plane.{Plane}
+use Rattle.cover_logic.specs.declared.term.Term.{Term}
 use Rattle.cover_logic.specs.Inner.Entries.{HasLiterals}
+use Rattle.cover_logic.specs.Inner.Pair.{HasLiteral}
+
+-- the row has the literal
+abbrev pub IsLiteralOf : Term → Literal → Type 0
+IsLiteralOf row l = HasLiteral row l.column (if l.one then 1 else 0)
 
 -- at most 128 entries and planes; each plane has no place but of entries with that literal at its column
 pub record AreTold (entries : List Entry) (planes : List Plane) : Type 0 where

@@ -1,9 +1,11 @@
-use Rattle.std.proofs.Common.{arith}
+use Rattle.std.proofs.Common.{get_or, subst, sym}
+use Rattle.std.specs.List.{All}
+use Rattle.cover_logic.specs.declared.bundles.Literal.{Literal}
+use Rattle.cover_logic.specs.Inner.Planes.{IsLiteralOf}
 use Rattle.cover_logic.proofs.Planes.{against_either}
 use Rattle.cover_logic.proofs.bundles.Bundle.against.Goals as goal
 
-pub loop-column-preserved : goal.loop-column-preserved
-loop-column-preserved c = (
-  against_either c.args.row c.args.self.now.entries.items c.loop-column.against c.against_at-against.result c.loop-column.invariant.0 c.against_at-against.ensures,
-  let below = c.loop-column.invariant.1 in omega arith,
-)
+pub loop-literal-preserved : goal.loop-literal-preserved
+loop-literal-preserved c = λ row all.
+    against_either row c.args.self.now.entries.items c.loop-literal.against c.against_one-against.result (c.loop-literal.invariant row all)
+    (c.against_one-against.ensures row (all c.loop-literal.literal-index _ c.loop-literal-test.true))

@@ -6,7 +6,7 @@ use Rattle.cover_logic.proofs.bundles.Bundle.put_met.Goals as goal
 
 pub loop-open-init : goal.loop-open-init
 loop-open-init c =
-    open_first c.args.row c.args.self.now.entries.items c.args.met.now.items c.against-open.result c.args.self.now.told.few (search rules) c.against-open.ensures
+    open_first c.args.row c.args.self.now.entries.items c.args.met.now.items c.against-open.result c.args.self.now.told.few (search rules) (c.against-open.ensures c.args.row c.requires)
 
 pub loop-open-smaller : goal.loop-open-smaller
 loop-open-smaller c =
