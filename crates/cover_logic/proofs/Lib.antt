@@ -9,5 +9,5 @@ pub mod Raising
 pub mod Gaps
 pub mod PrimeRows
 pub mod SpareRows
-pub mod Rivals
+pub mod Standing
 pub mod Width

@@ -1,28 +1,36 @@
-use Rattle.std.proofs.Common.{◌≡◌, ℕ, ◌+◌, ◌<◌, ◌∙◌, ⊎_elim, true, false, append_assoc, length-append, add-one, drop-cons, List, [], ◌∷◌, ◌++◌, length, take, drop, get_or, Option, Some, None, suc, sym, ap, subst, refl, arith}
+use Rattle.std.proofs.Common.{◌≡◌, ℕ, ◌+◌, ◌-◌, ◌<◌, ◌∙◌, ⊎_elim, true, false, append_assoc, length-append, length-drop, add-one, drop-cons, List, [], ◌∷◌, ◌++◌, length, take, drop, get_or, Option, Some, None, suc, sym, ap, subst, refl, arith}
 use Rattle.std.specs.List.{All, Contains, remove}
 use Rattle.std.specs.Option.{is_some}
 use Rattle.std.proofs.lemmas.Bool.{cases_lt, false≢true}
-use Rattle.std.proofs.lemmas.List.{take-append-le, drop-append-le, append-nil}
+use Rattle.std.proofs.lemmas.List.{take-append-le, drop-append-le, append-nil, take_all}
 use Rattle.std.proofs.lemmas.List.Elements.{All-contains, All-nil, All-push}
 use Rattle.cover_logic.specs.declared.bundles.Entry.{Entry}
 use Rattle.cover_logic.specs.declared.term.Term.{Term}
 use Rattle.cover_logic.specs.Term.{Holds, IsCovered}
 use Rattle.cover_logic.specs.Inner.Entries.{IsMet, terms_in}
 use Rattle.cover_logic.specs.Inner.Rows.{Covers, EachNeeded, IsSole}
+use Rattle.cover_logic.proofs.Gaps.{IsNear, held_near, held_from_near}
 use Rattle.cover_logic.proofs.Entries.{entry_of_term, term_of_entry}
 use Rattle.cover_logic.proofs.Terms.{agree_from_shared}
 use Rattle.cover_logic.proofs.Lists.{held_push, held_push_cases, held_left, held_right, held_cases, held_cons_cases, Contains-head}
 
+-- the others hold each value that the row has in common with the terms
+abbrev pub IsShared : Term → List Term → List Term → Type 0
+IsShared row terms others = (x : ℕ) → Holds row x → IsCovered terms x → IsCovered others x
+
+pub shared_more : (row : Term) (terms others : List Term) (t : Term) → IsShared row terms others → ((x : ℕ) → Holds row x → Holds t x → IsCovered others x) → IsShared row (terms ++ t ∷ []) others
+shared_more row terms others t h one x p held = ⊎_elim (λ k. h x p k) (λ q. one x p q) (held_push_cases terms t x held)
+
 -- the others hold each value that the row has in common with the entry's term
-abbrev pub IsShared : Term → List Term → Entry → Type 0
-IsShared row others e = (x : ℕ) → Holds row x → Holds e.term x → IsCovered others x
+abbrev pub IsSharedAt : Term → List Term → Entry → Type 0
+IsSharedAt row others e = (x : ℕ) → Holds row x → Holds e.term x → IsCovered others x
 
 -- then they hold what the row has in common with all terms, since it meets none but those
-pub shared_all : (row : Term) (entries near : List Entry) (others : List Term) → IsMet row entries near → All (IsShared row others) near → (x : ℕ) → Holds row x → IsCovered (terms_in entries) x → IsCovered others x
+pub shared_all : (row : Term) (entries near : List Entry) (others : List Term) → IsMet row entries near → All (IsSharedAt row others) near → (x : ℕ) → Holds row x → IsCovered (terms_in entries) x → IsCovered others x
 shared_all row entries near others met shared x p h =
     let e = entry_of_term entries h.0 h.1 in
     let q : Holds e.0.term x = subst (λ (t : Term). Holds t x) (sym e.2) h.2 in
-    All-contains (IsShared row others) near e.0 shared ((met e.0).1 (e.1, agree_from_shared row e.0.term x p q)) x p q
+    All-contains (IsSharedAt row others) near e.0 shared ((met e.0).1 (e.1, agree_from_shared row e.0.term x p q)) x p q
 
 -- the term of an entry that the row meets is one of the terms
 pub met_is_held : (row : Term) (entries near : List Entry) (e : Entry) (x : ℕ) → IsMet row entries near → Contains near e → Holds e.term x → IsCovered (terms_in entries) x
@@ -32,6 +40,9 @@ met_is_held row entries near e x met in' h = (e.term, term_of_entry entries e ((
 pub record HoldAlike (row : Term) (terms others : List Term) : Type 0 where
   pub inside : (x : ℕ) → Holds row x → IsCovered terms x → IsCovered others x
   pub back : (x : ℕ) → IsCovered others x → IsCovered terms x
+
+pub near_alike : (row : Term) (terms others : List Term) → IsNear row terms others → HoldAlike row terms others
+near_alike row terms others near = record { inside = held_near row terms others near; back = held_from_near row terms others near }
 
 -- the rows that are kept and the rest hold what on holds, and each kept row is needed beside the rest
 pub record AreKept (on rows kept rest : List Term) : Type 0 where
@@ -111,6 +122,10 @@ row_left_out on rows kept rest others row None a near sole none = record {
 -- the rest, from its first row on
 pub rest_from : (rows : List Term) (i : ℕ) (row : Term) → i < length rows → row ≡ get_or rows i row → drop i rows ≡ row ∷ drop (i + 1) rows
 rest_from rows i row h e = rw (add-one, drop-cons rows i row) (ap (λ (t : Term). t ∷ drop (suc i) rows) (sym e))
+
+-- the slice from a place on
+pub rest_slice : (rows : List Term) (n : ℕ) → take (length rows - n) (drop n rows) ≡ drop n rows
+rest_slice rows n = take_all (length rows - n) (drop n rows) (omega (arith, length-drop n rows))
 
 -- with nothing left, the rows that are kept hold all
 pub covers_alone : (on kept rest : List Term) → rest ≡ [] → Covers (kept ++ rest) on → Covers kept on

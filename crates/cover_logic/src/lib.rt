@@ -30,13 +30,13 @@ mod gap;
 mod index;
 mod primes;
 mod raise;
+mod rivals;
 mod slices;
 mod spare;
 mod term;
 #[cfg(test)]
 mod tests;
 
-use bundles::Bundles;
 use distinct::distinct;
 use index::Index;
 use primes::primes;
@@ -80,6 +80,5 @@ pub fn cover(alloc: Global, on: &[Term], off: &[Term], width: u8) -> Result<Vec<
     let zeros = distinct(alloc, off)?;
     let index = Index::new(alloc, &zeros, width)?;
     let rows = primes(alloc, &ones, &index, width)?;
-    let held = Bundles::new(alloc, &ones, width)?;
-    without_spare(alloc, &rows, &held, width)
+    without_spare(alloc, &rows, &ones, width)
 }

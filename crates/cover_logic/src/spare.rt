@@ -1,35 +1,20 @@
-ghost use Rattle.std.specs.Prelude.{◌≡◌, ◌≤◌, [], All, Contains, IfOk, false, slice_index_or};
-ghost use Rattle.cover_logic.specs.Inner.Entries.{HoldsRivals};
-ghost use Rattle.cover_logic.specs.Inner.Bundles.{terms_in_bundles};
+ghost use Rattle.std.specs.Prelude.{◌≡◌, ◌≤◌, ◌++◌, [], All, Contains, IfOk, filter};
+ghost use Rattle.cover_logic.specs.Inner.Pair.{agree};
 ghost use Rattle.cover_logic.specs.Inner.Rows.{Covers, EachNeeded, IsSole};
 
-use crate::bundles::{Bundles, Entry};
-use crate::gap::find_gap;
+use crate::bundles::Bundles;
+use crate::gap::{find_gap, overlapping};
+use crate::rivals::left_of_bundles;
 use crate::term::Term;
 use std::alloc::{AllocError, Global};
 
-/// Whether the row of that number stands.
-fn is_left(stands: &[bool], number: usize) -> bool
-    ensures { result ≡ slice_index_or stands.now number false }
+/// The terms of both lists that share a value with the row.
+fn rivals(alloc: Global, row: Term, kept: &[Term], rest: &[Term]) -> Result<Vec<Term>, AllocError>
+    ensures { IfOk result (λ others. others.items ≡ filter (agree row) (kept.now ++ rest.now)) }
 {
-    stands.get(number).copied().unwrap_or(false)
-}
-
-/// The terms of other rows that stand.
-fn rivals(
-    alloc: Global,
-    row: usize,
-    near: &[Entry],
-    stands: &[bool],
-) -> Result<Vec<Term>, AllocError>
-    ensures { IfOk result (λ others. HoldsRivals row stands.now near.now others.items) }
-{
-    let mut others = Vec::new(alloc);
-    for entry in near {
-        if entry.number != row && is_left(stands, entry.number) {
-            others.push(entry.term)?;
-        }
-    }
+    let mut others = overlapping(alloc, row, kept)?;
+    let later = overlapping(alloc, row, rest)?;
+    others.extend_from_slice(&later)?;
     Ok(others)
 }
 
@@ -37,14 +22,13 @@ fn rivals(
 fn sole_value(
     alloc: Global,
     row: Term,
-    on: &Bundles,
+    on: &[Term],
     others: &[Term],
 ) -> Result<Option<u128>, AllocError>
-    ensures { IfOk result (IsSole row (terms_in_bundles on.now) others.now) }
+    ensures { IfOk result (IsSole row on.now others.now) }
 {
-    let near = on.met_by(alloc, row)?;
-    for entry in &near {
-        if let Some(part) = row.meet(entry.term) {
+    for term in on {
+        if let Some(part) = row.meet(*term) {
             if let Some(gap) = find_gap(alloc, part, others)? {
                 return Ok(Some(gap));
             }
@@ -53,31 +37,43 @@ fn sole_value(
     Ok(None)
 }
 
+/// The same, by passes over the lists.
+fn plain_rows(alloc: Global, rows: &[Term], on: &[Term]) -> Result<Vec<Term>, AllocError>
+    requires { Covers rows.now on.now }
+    ensures among { IfOk result (λ kept. All (Contains rows.now) kept.items) }
+    ensures covers { IfOk result (λ kept. Covers kept.items on.now) }
+    ensures needed { IfOk result (λ kept. EachNeeded on.now kept.items []) }
+{
+    let mut kept = Vec::new(alloc);
+    for (i, row) in rows.iter().enumerate() {
+        let others = rivals(alloc, *row, &kept, &rows[i + 1..])?;
+        let sole = sole_value(alloc, *row, on, &others)?;
+        if sole.is_some() {
+            kept.push(*row)?;
+        }
+    }
+    Ok(kept)
+}
+
+/// The fewest terms of on for which bundles are made: below, they cost more than they save.
+const FEWEST: usize = 1024;
+
 /// The rows that are left when each row goes whose values of on the others hold.
 pub fn without_spare(
     alloc: Global,
     rows: &[Term],
-    on: &Bundles,
+    on: &[Term],
     width: u8,
 ) -> Result<Vec<Term>, AllocError>
     requires width { width ≤ 128 }
-    requires covers { Covers rows.now (terms_in_bundles on.now) }
+    requires covers { Covers rows.now on.now }
     ensures among { IfOk result (λ kept. All (Contains rows.now) kept.items) }
-    ensures covers { IfOk result (λ kept. Covers kept.items (terms_in_bundles on.now)) }
-    ensures needed { IfOk result (λ kept. EachNeeded (terms_in_bundles on.now) kept.items []) }
+    ensures covers { IfOk result (λ kept. Covers kept.items on.now) }
+    ensures needed { IfOk result (λ kept. EachNeeded on.now kept.items []) }
 {
-    let all = Bundles::new(alloc, rows, width)?;
-    let mut stands = vec![in alloc; true; rows.len()]?;
-    let mut kept = Vec::new(alloc);
-    for (i, row) in rows.iter().enumerate() {
-        let near = all.met_by(alloc, *row)?;
-        let others = rivals(alloc, i, &near, &stands)?;
-        let sole = sole_value(alloc, *row, on, &others)?;
-        if sole.is_some() {
-            kept.push(*row)?;
-        } else {
-            stands[i] = false;
-        }
+    if on.len() < FEWEST {
+        return plain_rows(alloc, rows, on);
     }
-    Ok(kept)
+    let held = Bundles::new(alloc, on, width)?;
+    left_of_bundles(alloc, rows, &held, width)
 }

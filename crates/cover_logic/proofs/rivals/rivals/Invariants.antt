@@ -1,6 +1,6 @@
 use Rattle.std.proofs.Common.{take}
 use Rattle.cover_logic.specs.Inner.Entries.{HoldsRivals}
-use Rattle.cover_logic.proofs.spare.rivals.Given as goal
+use Rattle.cover_logic.proofs.rivals.rivals.Given as goal
 
 abbrev pub invariant-loop-entry : goal.invariant-loop-entry
 invariant-loop-entry l = HoldsRivals l.row l.stands (take l.entry-index l.near) l.others.items

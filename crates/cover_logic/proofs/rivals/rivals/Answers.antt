@@ -4,9 +4,9 @@ use Rattle.std.proofs.lemmas.List.{take_more}
 use Rattle.cover_logic.specs.declared.bundles.Entry.{Entry}
 use Rattle.cover_logic.specs.declared.term.Term.{Term}
 use Rattle.cover_logic.specs.Inner.Entries.{HoldsRivals, IsRival}
-use Rattle.cover_logic.proofs.Rivals.{rivals_more, rivals_passed}
-use Rattle.cover_logic.proofs.spare.rivals.Goals as goal
-use Rattle.cover_logic.proofs.spare.rivals.Goals.{then-entry-row+then-is_left+in_ok-push, else-entry-row, else-entry-row-via-then-entry-row+else-is_left, else-entry-row-via-else-entry-row}
+use Rattle.cover_logic.proofs.Standing.{rivals_more, rivals_passed}
+use Rattle.cover_logic.proofs.rivals.rivals.Goals as goal
+use Rattle.cover_logic.proofs.rivals.rivals.Goals.{then-entry-row+then-is_left+in_ok-push, else-entry-row, else-entry-row-via-then-entry-row+else-is_left, else-entry-row-via-else-entry-row}
 
 pub loop-entry-preserved : goal.loop-entry-preserved
 loop-entry-preserved c =

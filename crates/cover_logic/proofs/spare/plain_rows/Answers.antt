@@ -1,0 +1,45 @@
+use Rattle.std.proofs.Common.{◌≡◌, ◌+◌, List, ◌∷◌, [], ◌++◌, drop, ap, ◌∙◌, sym, subst, rules}
+use Rattle.cover_logic.specs.declared.term.Term.{Term}
+use Rattle.cover_logic.specs.Inner.Pair.{agree}
+use Rattle.cover_logic.specs.Inner.Rows.{EachNeeded}
+use Rattle.cover_logic.proofs.SpareRows.{AreKept, HoldAlike, kept_none, near_alike, row_kept, row_left_out, rest_from, rest_slice, covers_alone}
+use Rattle.std.proofs.lemmas.List.{drop_all}
+use Rattle.cover_logic.proofs.Gaps.{IsNear}
+use Rattle.std.specs.List.{Contains, filter}
+use Rattle.std.proofs.lemmas.List.Elements.{Contains-get_or}
+use Rattle.cover_logic.proofs.spare.plain_rows.Goals as goal
+use Rattle.cover_logic.proofs.spare.plain_rows.Goals.{then-is_some+in_ok-push, else-is_some}
+
+pub loop-i-init : goal.loop-i-init
+loop-i-init c = rw c.new-kept.ensures.items (kept_none _ _ c.requires)
+
+pub loop-i-preserved : goal.loop-i-preserved
+loop-i-preserved c =
+    let row = c.index-rows-i.result in
+    let on = c.args.on.now in
+    let rows = c.args.rows.now in
+    let kept = c.loop-i.kept.items in
+    let rest = drop (c.loop-i.i + 1) rows in
+    let before : AreKept on rows kept (row ∷ rest) = rw (← rest_from rows c.loop-i.i row c.loop-i-test.true c.index-rows-i.is) c.loop-i.invariant in
+    let near : IsNear row (kept ++ rest) c.deref-in-loop-i.result.now =
+    c.deref-in-loop-i.ensures.value ∙ (c.in_ok-others.ensures ∙ (ap (λ (ts : List Term). filter (agree row) (c.deref.result.now ++ ts)) (rest_slice rows (c.loop-i.i + 1))
+    ∙ ap (λ (ts : List Term). filter (agree row) (ts ++ rest)) c.deref.ensures.value)) in
+    let alike : HoldAlike row (kept ++ rest) c.deref-in-loop-i.result.now = near_alike row (kept ++ rest) c.deref-in-loop-i.result.now near in
+    let among : Contains rows row = subst (λ (t : Term). Contains rows t) (sym c.index-rows-i.is) (Contains-get_or rows c.loop-i.i row c.loop-i-test.true) in
+    let P : List Term → Type 0 = λ ts. AreKept on rows ts rest in
+    elim c.if-is_some.branch [
+      | then-is_some+in_ok-push w ↦
+          let pushed : c.if-is_some.kept.items ≡ kept ++ row ∷ [] = search rules in
+          subst P (sym pushed) (row_kept on rows kept rest _ row c.in_ok-sole.sole before among alike c.in_ok-sole.ensures (sym c.is_some.ensures ∙ w.if-is_some.true))
+      | else-is_some w ↦
+          let same : c.if-is_some.kept.items ≡ kept = ap (λ v. v.items) w.kept-is in
+          subst P (sym same) (row_left_out on rows kept rest _ row c.in_ok-sole.sole before alike c.in_ok-sole.ensures (sym c.is_some.ensures ∙ w.if-is_some.false))
+    ]
+
+pub returns-clause-covers : goal.returns-clause-covers
+returns-clause-covers c =
+    covers_alone c.args.on.now c.loop-i.kept.items _ (drop_all c.loop-i.i c.args.rows.now c.loop-i-test.false) c.loop-i.invariant.covers
+
+pub returns-clause-needed : goal.returns-clause-needed
+returns-clause-needed c =
+    subst (λ (rest : List Term). EachNeeded c.args.on.now c.loop-i.kept.items rest) (drop_all c.loop-i.i c.args.rows.now c.loop-i-test.false) c.loop-i.invariant.needed

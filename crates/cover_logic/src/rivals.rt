@@ -1,0 +1,84 @@
+//! The way for long lists of leaving out the rows that others spare.
+ghost use Rattle.std.specs.Prelude.{◌≡◌, ◌≤◌, [], All, Contains, IfOk, false, slice_index_or};
+ghost use Rattle.cover_logic.specs.Inner.Entries.{HoldsRivals};
+ghost use Rattle.cover_logic.specs.Inner.Bundles.{terms_in_bundles};
+ghost use Rattle.cover_logic.specs.Inner.Rows.{Covers, EachNeeded, IsSole};
+
+use crate::bundles::{Bundles, Entry};
+use crate::gap::find_gap;
+use crate::term::Term;
+use std::alloc::{AllocError, Global};
+
+/// Whether the row of that number stands.
+fn is_left(stands: &[bool], number: usize) -> bool
+    ensures { result ≡ slice_index_or stands.now number false }
+{
+    stands.get(number).copied().unwrap_or(false)
+}
+
+/// The terms of other rows that stand.
+fn rivals(
+    alloc: Global,
+    row: usize,
+    near: &[Entry],
+    stands: &[bool],
+) -> Result<Vec<Term>, AllocError>
+    ensures { IfOk result (λ others. HoldsRivals row stands.now near.now others.items) }
+{
+    let mut others = Vec::new(alloc);
+    for entry in near {
+        if entry.number != row && is_left(stands, entry.number) {
+            others.push(entry.term)?;
+        }
+    }
+    Ok(others)
+}
+
+/// A value of on in the row that the others do not hold.
+fn sole_value(
+    alloc: Global,
+    row: Term,
+    on: &Bundles,
+    others: &[Term],
+) -> Result<Option<u128>, AllocError>
+    ensures { IfOk result (IsSole row (terms_in_bundles on.now) others.now) }
+{
+    let near = on.met_by(alloc, row)?;
+    for entry in &near {
+        if let Some(part) = row.meet(entry.term) {
+            if let Some(gap) = find_gap(alloc, part, others)? {
+                return Ok(Some(gap));
+            }
+        }
+    }
+    Ok(None)
+}
+
+/// The rows that are left when each row goes whose values of on the others hold.
+pub fn left_of_bundles(
+    alloc: Global,
+    rows: &[Term],
+    on: &Bundles,
+    width: u8,
+) -> Result<Vec<Term>, AllocError>
+    requires width { width ≤ 128 }
+    requires covers { Covers rows.now (terms_in_bundles on.now) }
+    ensures among { IfOk result (λ kept. All (Contains rows.now) kept.items) }
+    ensures covers { IfOk result (λ kept. Covers kept.items (terms_in_bundles on.now)) }
+    ensures needed { IfOk result (λ kept. EachNeeded (terms_in_bundles on.now) kept.items []) }
+{
+    let all = Bundles::new(alloc, rows, width)?;
+    let mut stands = vec![in alloc; true; rows.len()]?;
+    let mut kept = Vec::new(alloc);
+    for (i, row) in rows.iter().enumerate() {
+        let near = all.met_by(alloc, *row)?;
+        let others = rivals(alloc, i, &near, &stands)?;
+        let sole = sole_value(alloc, *row, on, &others)?;
+        if sole.is_some() {
+            kept.push(*row)?;
+        } else {
+            stands[i] = false;
+        }
+    }
+    Ok(kept)
+}
