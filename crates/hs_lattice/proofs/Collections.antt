@@ -21,15 +21,15 @@ pub record TotalOrder {M : Type 0} (fits : M → Type 0) (precedes : M → M →
 abbrev pub ComesBefore : {X M : Type 0} → (X → M) → (M → M → Type 0) → List X → X → ℕ → ℕ → Type 0
 ComesBefore meaning precedes items item i j = precedes (meaning (get_or items i item)) (meaning (get_or items j item))
 
-abbrev Fits : {X M : Type 0} → (X → M) → (M → Type 0) → List X → X → ℕ → Type 0
-Fits meaning fits items item i = fits (meaning (get_or items i item))
+abbrev FitsAt : {X M : Type 0} → (X → M) → (M → Type 0) → List X → X → ℕ → Type 0
+FitsAt meaning fits items item i = fits (meaning (get_or items i item))
 
-abbrev Same : {X M : Type 0} → (X → M) → List X → X → ℕ → ℕ → Type 0
-Same meaning items item i j = meaning (get_or items i item) ≡ meaning (get_or items j item)
+abbrev SameAt : {X M : Type 0} → (X → M) → List X → X → ℕ → ℕ → Type 0
+SameAt meaning items item i j = meaning (get_or items i item) ≡ meaning (get_or items j item)
 
 order_of_places :
     {X M : Type 0} (meaning : X → M) (fits : M → Type 0) (precedes : M → M → Type 0) (items : List X) (item : X) → TotalOrder fits precedes →
-    Order (Fits meaning fits items item) (Same meaning items item) (ComesBefore meaning precedes items item)
+    Order (FitsAt meaning fits items item) (SameAt meaning items item) (ComesBefore meaning precedes items item)
 order_of_places meaning fits precedes items item order = record {
   transitive = λ i j k. order.transitive (meaning (get_or items i item)) (meaning (get_or items j item)) (meaning (get_or items k item));
   total = λ i j. order.total (meaning (get_or items i item)) (meaning (get_or items j item));
@@ -38,10 +38,10 @@ order_of_places meaning fits precedes items item order = record {
 item_past : {X : Type 0} (items : List X) (item : X) → get_or items (length items) item ≡ item
 item_past items item = get_or_past items (length items) item (omega arith)
 
-item_fits : {X M : Type 0} (meaning : X → M) (fits : M → Type 0) (items : List X) (item : X) → fits (meaning item) → Fits meaning fits items item (length items)
+item_fits : {X M : Type 0} (meaning : X → M) (fits : M → Type 0) (items : List X) (item : X) → fits (meaning item) → FitsAt meaning fits items item (length items)
 item_fits {X} meaning fits items item fit = subst (λ (x : X). fits (meaning x)) (sym (item_past items item)) fit
 
-places_fit : {X M : Type 0} (meaning : X → M) (fits : M → Type 0) (items : List X) (order : List ℕ) (item : X) → All (λ x. fits (meaning x)) items → All (λ i. i < length items) order → All (Fits meaning fits items item) order
+places_fit : {X M : Type 0} (meaning : X → M) (fits : M → Type 0) (items : List X) (order : List ℕ) (item : X) → All (λ x. fits (meaning x)) items → All (λ i. i < length items) order → All (FitsAt meaning fits items item) order
 places_fit meaning fits items order item fit places k d lt = fit (get_or order k d) item (places k d lt)
 
 place_read :
@@ -59,7 +59,7 @@ pub narrowed_up :
     IsNarrowed (ComesBefore meaning precedes items item) order (length items) (middle + 1) high
 narrowed_up {X} meaning fits precedes items order item x low high middle laws fit fits_too ordered narrowed from to read before =
     let inside : middle < length order = omega (arith, narrowed.within) in
-    narrowed_above (Fits meaning fits items item) (Same meaning items item) (ComesBefore meaning precedes items item) order (length items) low high middle
+    narrowed_above (FitsAt meaning fits items item) (SameAt meaning items item) (ComesBefore meaning precedes items item) order (length items) low high middle
     (order_of_places meaning fits precedes items item laws) (places_fit meaning fits items order item fit ordered.places) (item_fits meaning fits items item fits_too)
     (λ i j d lt in_order. ordered.ascending i j d lt in_order item) narrowed from to
     (λ d. rw (place_read items order middle x item ordered.places inside read d, item_past items item) before)
@@ -73,7 +73,7 @@ pub narrowed_down :
     IsNarrowed (ComesBefore meaning precedes items item) order (length items) low middle
 narrowed_down {X} meaning fits precedes items order item x low high middle laws fit fits_too ordered narrowed from to read not_before =
     let inside : middle < length order = omega (arith, narrowed.within) in
-    narrowed_below (Fits meaning fits items item) (Same meaning items item) (ComesBefore meaning precedes items item) order (length items) low high middle
+    narrowed_below (FitsAt meaning fits items item) (SameAt meaning items item) (ComesBefore meaning precedes items item) order (length items) low high middle
     (order_of_places meaning fits precedes items item laws) (places_fit meaning fits items order item fit ordered.places) (item_fits meaning fits items item fits_too)
     (λ i j d lt in_order. ordered.ascending i j d lt in_order item) narrowed from to
     (λ d. rw (place_read items order middle x item ordered.places inside read d, item_past items item) not_before)
@@ -86,7 +86,7 @@ pub place_met :
     ((d : ℕ) → low < length order → meaning (get_or items (get_or order low d) item) ≡ meaning item → ⊥) →
     IsInsertionPlace (ComesBefore meaning precedes items item) order (length items) low
 place_met {X} {M} meaning fits precedes items order item low high laws fit fits_too ordered narrowed met other =
-    place_at (Fits meaning fits items item) (Same meaning items item) (ComesBefore meaning precedes items item) order (length items) low high
+    place_at (FitsAt meaning fits items item) (SameAt meaning items item) (ComesBefore meaning precedes items item) order (length items) low high
     (order_of_places meaning fits precedes items item laws) (places_fit meaning fits items order item fit ordered.places) (item_fits meaning fits items item fits_too)
     (λ i j d lt in_order. ordered.ascending i j d lt in_order item) narrowed met
     (λ d lt same. other d lt (same ∙ ap meaning (item_past items item)))

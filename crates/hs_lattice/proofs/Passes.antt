@@ -32,8 +32,8 @@ abbrev pub IsGeneratedBy : {M : Type 0} → (M → Type 0) → (M → M → M �
 IsGeneratedBy {M} least joins P z = (chosen : List M) × AllByRecursion P chosen × IsJoinOf least joins chosen z
 
 -- P, or the value
-abbrev pub Or : {M : Type 0} → (M → Type 0) → M → M → Type 0
-Or P g m = P m ⊎ (g ≡ m)
+abbrev pub OrValue : {M : Type 0} → (M → Type 0) → M → M → Type 0
+OrValue P g m = P m ⊎ (g ≡ m)
 
 join_fits :
     {M : Type 0} (fits least : M → Type 0) (joins : M → M → M → Type 0) (P : M → Type 0) → Joining fits least joins → ((m : M) → P m → fits m) →
@@ -61,7 +61,7 @@ closed_under_join fits least joins P S laws fit known_fit closed (m ∷ chosen) 
 -- so a generator that is a join of earlier ones has no pass
 closed_skip :
     {M : Type 0} (fits least : M → Type 0) (joins : M → M → M → Type 0) (P S : M → Type 0) (g : M) → Joining fits least joins →
-    ((m : M) → P m → fits m) → ((v : M) → S v → fits v) → IsClosed joins P S → IsGeneratedBy least joins P g → IsClosed joins (Or P g) S
+    ((m : M) → P m → fits m) → ((v : M) → S v → fits v) → IsClosed joins P S → IsGeneratedBy least joins P g → IsClosed joins (OrValue P g) S
 closed_skip {M} fits least joins P S g laws fit known_fit closed (chosen, each, of) m v h known =
     elim h [
       | inl old ↦ closed m v old known
@@ -73,7 +73,7 @@ closed_pass :
     {M : Type 0} (fits least : M → Type 0) (joins : M → M → M → Type 0) (P S S' : M → Type 0) (g : M) → Joining fits least joins →
     ((m : M) → P m → fits m) → ((v : M) → S v → fits v) → fits g → IsClosed joins P S →
     ((z : M) → S z → S' z) → ((z : M) → S' z → S z ⊎ ((x : M) × S x × joins g x z)) → ((v : M) → S v → (z : M) × joins g v z × S' z) →
-    IsClosed joins (Or P g) S'
+    IsClosed joins (OrValue P g) S'
 closed_pass {M} fits least joins P S S' g laws fit known_fit g_fits closed kept only each m v h known =
     elim (only v known) [
       | inl before ↦ elim h [
@@ -98,11 +98,11 @@ closed_pass {M} fits least joins P S S' g laws fit known_fit g_fits closed kept 
 -- the generated values after a pass
 generated_pass :
     {M : Type 0} (least : M → Type 0) (joins : M → M → M → Type 0) (P S S' : M → Type 0) (g : M) → ((z : M) → S z → IsGeneratedBy least joins P z) →
-    ((z : M) → S' z → S z ⊎ ((x : M) × S x × joins g x z)) → (z : M) → S' z → IsGeneratedBy least joins (Or P g) z
+    ((z : M) → S' z → S z ⊎ ((x : M) × S x × joins g x z)) → (z : M) → S' z → IsGeneratedBy least joins (OrValue P g) z
 generated_pass least joins P S S' g generated only z known =
     elim (only z known) [
-      | inl before ↦ let old = generated z before in (old.0, each_weaker P (Or P g) old.0 (λ m. inl) old.1, old.2)
-      | inr made ↦ let old = generated made.0 made.1 in (g ∷ old.0, (inr refl, each_weaker P (Or P g) old.0 (λ m. inl) old.1), (made.0, old.2, made.2))
+      | inl before ↦ let old = generated z before in (old.0, each_weaker P (OrValue P g) old.0 (λ m. inl) old.1, old.2)
+      | inr made ↦ let old = generated made.0 made.1 in (g ∷ old.0, (inr refl, each_weaker P (OrValue P g) old.0 (λ m. inl) old.1), (made.0, old.2, made.2))
     ]
 
 -- where the least values are known, so is each join of a list of values with P, since two values have one join
@@ -127,20 +127,20 @@ joins_found least joins P S bottom closed (m ∷ chosen) (among, each) =
     (found.0, (rest.0, rest.1, found.1), found.2)
 
 -- the values of the first generators
-abbrev pub First : {X M : Type 0} → (X → M) → List X → ℕ → M → Type 0
-First meaning generators n = Knows meaning (take n generators)
+abbrev pub AmongFirst : {X M : Type 0} → (X → M) → List X → ℕ → M → Type 0
+AmongFirst meaning generators n = Knows meaning (take n generators)
 
 -- with one more of them
 first_cases :
     {X M : Type 0} (meaning : X → M) (generators : List X) (n : ℕ) (g : X) → n < length generators → g ≡ get_or generators n g →
-    (m : M) → First meaning generators (n + 1) m → Or (First meaning generators n) (meaning g) m
+    (m : M) → AmongFirst meaning generators (n + 1) m → OrValue (AmongFirst meaning generators n) (meaning g) m
 first_cases {X} meaning generators n g lt read m h =
     let more : take (n + 1) generators ≡ take n generators ++ g ∷ [] = take_more generators n g lt ∙ ap (λ (x : X). take n generators ++ x ∷ []) (sym read) in
     Any-push_cases (λ x. meaning x ≡ m) (take n generators) g (subst (Any (λ x. meaning x ≡ m)) more h)
 
 first_more :
     {X M : Type 0} (meaning : X → M) (generators : List X) (n : ℕ) (g : X) → n < length generators → g ≡ get_or generators n g →
-    (m : M) → Or (First meaning generators n) (meaning g) m → First meaning generators (n + 1) m
+    (m : M) → OrValue (AmongFirst meaning generators n) (meaning g) m → AmongFirst meaning generators (n + 1) m
 first_more {X} meaning generators n g lt read m h =
     let more : take (n + 1) generators ≡ take n generators ++ g ∷ [] = take_more generators n g lt ∙ ap (λ (x : X). take n generators ++ x ∷ []) (sym read) in
     let Is : X → Type 0 = λ x. meaning x ≡ m in
@@ -152,20 +152,20 @@ first_more {X} meaning generators n g lt read m h =
 
 -- what the passes of the first generators reach
 pub record IsReached {X M : Type 0} (meaning : X → M) (least : M → Type 0) (joins : M → M → M → Type 0) (generators : List X) (n : ℕ) (items : List X) : Type 0 where
-  pub generated : (z : M) → Knows meaning items z → IsGeneratedBy least joins (First meaning generators n) z
+  pub generated : (z : M) → Knows meaning items z → IsGeneratedBy least joins (AmongFirst meaning generators n) z
   pub least_known : (z : M) → least z → Knows meaning items z
-  pub closed : IsClosed joins (First meaning generators n) (Knows meaning items)
+  pub closed : IsClosed joins (AmongFirst meaning generators n) (Knows meaning items)
 
 -- the first generators are some of all, and all where there are no more
-first_known : {X M : Type 0} (meaning : X → M) (generators : List X) (n : ℕ) (m : M) → First meaning generators n m → Knows meaning generators m
+first_known : {X M : Type 0} (meaning : X → M) (generators : List X) (n : ℕ) (m : M) → AmongFirst meaning generators n m → Knows meaning generators m
 first_known meaning generators n m (k, x, lt, read, is) =
     let below : k < min n (length generators) = subst (λ i. k < i) (length-take n generators) lt in
     (k, x, omega arith, sym (get_or-take n generators k x (omega arith)) ∙ read, is)
 
-known_first : {X M : Type 0} (meaning : X → M) (generators : List X) (m : M) → Knows meaning generators m → First meaning generators (length generators) m
+known_first : {X M : Type 0} (meaning : X → M) (generators : List X) (m : M) → Knows meaning generators m → AmongFirst meaning generators (length generators) m
 known_first {X} meaning generators m h = let P : X → Type 0 = λ x. meaning x ≡ m in subst (Any P) (sym (take_all (length generators) generators (omega arith))) h
 
-first_fit : {X M : Type 0} (meaning : X → M) (fits : M → Type 0) (generators : List X) (n : ℕ) → All (λ x. fits (meaning x)) generators → (m : M) → First meaning generators n m → fits m
+first_fit : {X M : Type 0} (meaning : X → M) (fits : M → Type 0) (generators : List X) (n : ℕ) → All (λ x. fits (meaning x)) generators → (m : M) → AmongFirst meaning generators n m → fits m
 first_fit meaning fits generators n fit m h = known_fit meaning fits generators fit m (first_known meaning generators n m h)
 
 pub reached_skip :
@@ -173,11 +173,11 @@ pub reached_skip :
     All (λ x. fits (meaning x)) generators → All (λ x. fits (meaning x)) items → n < length generators → g ≡ get_or generators n g →
     IsReached meaning least joins generators n items → Knows meaning items (meaning g) → IsReached meaning least joins generators (n + 1) items
 reached_skip meaning fits least joins generators n g items laws fit items_fit lt read reached known =
-    let P = First meaning generators n in
-    let closed : IsClosed joins (Or P (meaning g)) (Knows meaning items) =
+    let P = AmongFirst meaning generators n in
+    let closed : IsClosed joins (OrValue P (meaning g)) (Knows meaning items) =
     closed_skip fits least joins P (Knows meaning items) (meaning g) laws (first_fit meaning fits generators n fit) (known_fit meaning fits items items_fit) reached.closed (reached.generated (meaning g) known) in
     record {
-      generated = λ z h. let old = reached.generated z h in (old.0, each_weaker P (First meaning generators (n + 1)) old.0 (λ m among. first_more meaning generators n g lt read m (inl among)) old.1, old.2);
+      generated = λ z h. let old = reached.generated z h in (old.0, each_weaker P (AmongFirst meaning generators (n + 1)) old.0 (λ m among. first_more meaning generators n g lt read m (inl among)) old.1, old.2);
       least_known = reached.least_known;
       closed = λ m v h. closed m v (first_cases meaning generators n g lt read m h);
     }
@@ -186,11 +186,11 @@ reached_skip meaning fits least joins generators n g items laws fit items_fit lt
 pub generated_more :
     {X M : Type 0} (meaning : X → M) (least : M → Type 0) (joins : M → M → M → Type 0) (generators : List X) (n : ℕ) (g : X) (items new_items : List X) →
     n < length generators → g ≡ get_or generators n g → IsReached meaning least joins generators n items → Extends meaning joins items (meaning g) new_items →
-    (z : M) → Knows meaning new_items z → IsGeneratedBy least joins (First meaning generators (n + 1)) z
+    (z : M) → Knows meaning new_items z → IsGeneratedBy least joins (AmongFirst meaning generators (n + 1)) z
 generated_more meaning least joins generators n g items new_items lt read reached extends z h =
-    let P = First meaning generators n in
+    let P = AmongFirst meaning generators n in
     let new = generated_pass least joins P (Knows meaning items) (Knows meaning new_items) (meaning g) reached.generated extends.only z h in
-    (new.0, each_weaker (Or P (meaning g)) (First meaning generators (n + 1)) new.0 (first_more meaning generators n g lt read) new.1, new.2)
+    (new.0, each_weaker (OrValue P (meaning g)) (AmongFirst meaning generators (n + 1)) new.0 (first_more meaning generators n g lt read) new.1, new.2)
 
 pub reached_more :
     {X M : Type 0} (meaning : X → M) (fits least : M → Type 0) (joins : M → M → M → Type 0) (generators : List X) (n : ℕ) (g : X) (items new_items : List X) → Joining fits least joins →
@@ -198,9 +198,9 @@ pub reached_more :
     IsReached meaning least joins generators n items → Extends meaning joins items (meaning g) new_items → KnowsJoins meaning joins items (meaning g) new_items →
     IsReached meaning least joins generators (n + 1) new_items
 reached_more meaning fits least joins generators n g items new_items laws fit items_fit lt read reached extends each =
-    let P = First meaning generators n in
+    let P = AmongFirst meaning generators n in
     let g_fits = subst (λ x. fits (meaning x)) (sym read) (fit n g lt) in
-    let closed : IsClosed joins (Or P (meaning g)) (Knows meaning new_items) =
+    let closed : IsClosed joins (OrValue P (meaning g)) (Knows meaning new_items) =
     closed_pass fits least joins P (Knows meaning items) (Knows meaning new_items) (meaning g) laws (first_fit meaning fits generators n fit) (known_fit meaning fits items items_fit) g_fits reached.closed extends.kept extends.only each in
     record {
       generated = generated_more meaning least joins generators n g items new_items lt read reached extends;
@@ -211,14 +211,14 @@ reached_more meaning fits least joins generators n g items new_items laws fit it
 -- what the first generators generate, all do
 generated_all :
     {X M : Type 0} (meaning : X → M) (least : M → Type 0) (joins : M → M → M → Type 0) (generators : List X) (n : ℕ) (z : M) →
-    IsGeneratedBy least joins (First meaning generators n) z → IsGenerated least joins (map meaning generators) z
+    IsGeneratedBy least joins (AmongFirst meaning generators n) z → IsGenerated least joins (map meaning generators) z
 generated_all meaning least joins generators n z (chosen, each, of) =
-    (chosen, each_weaker (First meaning generators n) (Contains (map meaning generators)) chosen (λ m h. Contains-map meaning generators m (first_known meaning generators n m h)) each, of)
+    (chosen, each_weaker (AmongFirst meaning generators n) (Contains (map meaning generators)) chosen (λ m h. Contains-map meaning generators m (first_known meaning generators n m h)) each, of)
 
 chosen_first :
-    {X M : Type 0} (meaning : X → M) (generators : List X) (chosen : List M) → AllByRecursion (Contains (map meaning generators)) chosen → AllByRecursion (First meaning generators (length generators)) chosen
+    {X M : Type 0} (meaning : X → M) (generators : List X) (chosen : List M) → AllByRecursion (Contains (map meaning generators)) chosen → AllByRecursion (AmongFirst meaning generators (length generators)) chosen
 chosen_first meaning generators chosen =
-    each_weaker (Contains (map meaning generators)) (First meaning generators (length generators)) chosen (λ m h. known_first meaning generators m (Knows-map meaning generators m h))
+    each_weaker (Contains (map meaning generators)) (AmongFirst meaning generators (length generators)) chosen (λ m h. known_first meaning generators m (Knows-map meaning generators m h))
 
 -- the passes of all generators have found all joins
 pub lists_all :
@@ -233,7 +233,7 @@ lists_all {X} {M} meaning fits least precedes joins generators items list laws f
       ascending = AllPairs-map meaning precedes list ascending;
       members = All-map P meaning list (All-from_known meaning P list (λ z h. generated_all meaning least joins generators n z (reached.generated z (from z h))));
       complete = λ z h.
-          Contains-map meaning list z (all z (all_known fits least joins (First meaning generators n) (Knows meaning items) laws (first_fit meaning fits generators n fit) (known_fit meaning fits items items_fit)
+          Contains-map meaning list z (all z (all_known fits least joins (AmongFirst meaning generators n) (Knows meaning items) laws (first_fit meaning fits generators n fit) (known_fit meaning fits items items_fit)
           reached.least_known reached.closed h.0 z (chosen_first meaning generators h.0 h.1) h.2));
     }
 
@@ -243,13 +243,13 @@ pub have_joins :
     IsReached meaning least joins generators (length generators) items → HaveJoins least joins (map meaning generators)
 have_joins meaning least joins generators items bottom is reached chosen each =
     let found =
-    joins_found least joins (First meaning generators (length generators)) (Knows meaning items) (bottom, is, reached.least_known bottom is) reached.closed chosen (chosen_first meaning generators chosen each) in
+    joins_found least joins (AmongFirst meaning generators (length generators)) (Knows meaning items) (bottom, is, reached.least_known bottom is) reached.closed chosen (chosen_first meaning generators chosen each) in
     (found.0, found.1)
 
 -- more generated values than the limit are evidence
 pub is_evidence :
     {X M : Type 0} (meaning : X → M) (precedes : M → M → Type 0) (least : M → Type 0) (joins : M → M → M → Type 0) (generators : List X) (n : ℕ) (list : List X) (limit : ℕ) →
-    IsAscending meaning precedes list → ((z : M) → Knows meaning list z → IsGeneratedBy least joins (First meaning generators n) z) → length list ≡ limit + 1 →
+    IsAscending meaning precedes list → ((z : M) → Knows meaning list z → IsGeneratedBy least joins (AmongFirst meaning generators n) z) → length list ≡ limit + 1 →
     Evidence precedes (IsGenerated least joins (map meaning generators)) limit (map meaning list)
 is_evidence {X} {M} meaning precedes least joins generators n list limit ascending generated more =
     let P : M → Type 0 = IsGenerated least joins (map meaning generators) in

@@ -31,6 +31,7 @@ pub record AreDifferent {X M : Type 0} (meaning : X → M) (fits : M → Type 0)
   pub different : AllPairs (λ x y. meaning x ≡ meaning y → ⊥) items
   pub ordered : IsOrder (λ x y. precedes (meaning x) (meaning y)) items order
 
+-- a collection of a world's values
 abbrev pub IsCollection : {X M : Type 0} → (X → M) → (M → Type 0) → (M → M → Type 0) → Collection X → Type 0
 IsCollection meaning fits precedes c = AreDifferent meaning fits precedes (items_in c) (order_in c)
 
