@@ -13,10 +13,14 @@
 //! stays has a value of off as its reason, and the reason stands when later literals go, since the row
 //! only grows. Rows are made until each term of on lies whole within one (`primes`). Then each row is
 //! held against the others, and goes where they hold all its values of on; a row that stays has a value
-//! of its own, which stays its own when other rows go (`spare`). Whether the others hold the values that
-//! a row shares with a term of on is asked of one part at a time (`gap`): of the terms that touch the
-//! part, the one with the fewest literals outside it either holds the part whole, or has such a literal,
-//! and the part is split there in two. So the answer comes from the terms, whatever the number of values.
+//! of its own, which stays its own when other rows go (`spare`). Which rows and which terms of on share
+//! a value with the row is asked, in long lists, of 128 terms at once by their columns (`bundles`, `rivals`):
+//! a term that has the other literal at a column of the row is out, a term that is not out is looked at,
+//! and of the rows so found those count that have another number and did not go. Whether the others hold
+//! the values that a row shares with a term of on is asked of one part at a time (`gap`): of the terms
+//! that touch the part, the one with the fewest literals outside it either holds the part whole, or has
+//! such a literal, and the part is split there in two. So the answer comes from the terms, whatever the
+//! number of values.
 #![tactic(auto)]
 
 ghost use Rattle.std.specs.Prelude.{◌≤◌, ◌↔◌, All, IfOk, IsTrue};

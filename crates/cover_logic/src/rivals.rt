@@ -1,4 +1,5 @@
-//! The way for long lists of leaving out the rows that others spare.
+//! Which rows are to spare, in long lists: the rows and the terms of on that share a value with a row are
+//! asked of bundles.
 ghost use Rattle.std.specs.Prelude.{◌≡◌, ◌≤◌, [], All, Contains, IfOk, false, slice_index_or};
 ghost use Rattle.cover_logic.specs.Inner.Entries.{HoldsRivals};
 ghost use Rattle.cover_logic.specs.Inner.Bundles.{terms_in_bundles};

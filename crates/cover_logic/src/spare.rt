@@ -37,7 +37,7 @@ fn sole_value(
     Ok(None)
 }
 
-/// The same, by passes over the lists.
+/// The rows that are left when each row goes whose values of on the others hold, by passes over the lists.
 fn plain_rows(alloc: Global, rows: &[Term], on: &[Term]) -> Result<Vec<Term>, AllocError>
     requires { Covers rows.now on.now }
     ensures among { IfOk result (λ kept. All (Contains rows.now) kept.items) }
@@ -55,8 +55,10 @@ fn plain_rows(alloc: Global, rows: &[Term], on: &[Term]) -> Result<Vec<Term>, Al
     Ok(kept)
 }
 
-/// The fewest terms of on for which bundles are made: below, they cost more than they save.
-const FEWEST: usize = 1024;
+/// The fewest terms of on and the fewest rows for which bundles are made: below, they cost more than they save.
+const BUNDLED_TERMS: usize = 1024;
+
+const BUNDLED_ROWS: usize = 128;
 
 /// The rows that are left when each row goes whose values of on the others hold.
 pub fn without_spare(
@@ -71,7 +73,7 @@ pub fn without_spare(
     ensures covers { IfOk result (λ kept. Covers kept.items on.now) }
     ensures needed { IfOk result (λ kept. EachNeeded on.now kept.items []) }
 {
-    if on.len() < FEWEST {
+    if on.len() < BUNDLED_TERMS || rows.len() < BUNDLED_ROWS {
         return plain_rows(alloc, rows, on);
     }
     let held = Bundles::new(alloc, on, width)?;
