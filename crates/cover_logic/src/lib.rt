@@ -6,7 +6,7 @@
 //! become a dash without a value of off being held, and no row can be left out without a value of on
 //! being lost. That definition speaks of values, by their bits (specs/Term.antt), and never of the terms
 //! that they were given by. Which of the good covers is answered is left to the crate, and no clause says
-//! that it is a least one. (specs/Pair.antt and specs/Rows.antt hold what the crate's own functions say.)
+//! that it is a least one. (specs/Inner holds what the crate's own functions say.)
 //!
 //! The argument. A term of on is widened, first to hold other terms of on whole, and then by a dash for
 //! each literal in turn, as long as it shares no value with a term of off (`raise`). A literal that

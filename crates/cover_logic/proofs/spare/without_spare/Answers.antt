@@ -1,6 +1,4 @@
-use Rattle.std.proofs.Common.{List, [], sym, subst}
 use Rattle.std.proofs.lemmas.Result.{IfOk-weaker}
-use Rattle.cover_logic.specs.declared.term.Term.{Term}
 use Rattle.cover_logic.specs.Inner.Bundles.{terms_in_bundles}
 use Rattle.cover_logic.proofs.Values.{covers_same, covers_from_same, needed_from_same}
 use Rattle.cover_logic.proofs.spare.without_spare.Goals as goal

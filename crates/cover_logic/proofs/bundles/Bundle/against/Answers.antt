@@ -1,7 +1,3 @@
-use Rattle.std.proofs.Common.{get_or, subst, sym}
-use Rattle.std.specs.List.{All}
-use Rattle.cover_logic.specs.declared.bundles.Literal.{Literal}
-use Rattle.cover_logic.specs.Inner.Planes.{IsLiteralOf}
 use Rattle.cover_logic.proofs.Planes.{against_either}
 use Rattle.cover_logic.proofs.bundles.Bundle.against.Goals as goal
 

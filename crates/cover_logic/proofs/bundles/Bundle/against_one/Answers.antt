@@ -1,4 +1,4 @@
-use Rattle.std.proofs.Common.{◌≡◌, ◌<◌, ℕ, if◌then◌else◌, length, ap, subst, sym, rules, arith}
+use Rattle.std.proofs.Common.{◌<◌, if◌then◌else◌, length, subst, sym, rules, arith}
 use Rattle.cover_logic.specs.declared.bundles.Plane.{Plane}
 use Rattle.cover_logic.specs.Inner.Entries.{HasLiterals}
 use Rattle.cover_logic.specs.Inner.Pair.{HasLiteral}
