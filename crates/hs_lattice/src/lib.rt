@@ -1,7 +1,7 @@
 //! Worlds of values that can be joined, and listings of their values.
 //!
 //! A [`JoinWorld`] is a finite semilattice with a bottom and a total order on its values, kept by
-//! whatever items it likes: contracts speak of what an item means, which is plain data. Five kinds of
+//! whatever items it likes: contracts speak of what an item means, which is plain data. Several kinds of
 //! values of this product are such worlds, so what is proved of any world is proved once.
 //! `specs/JoinWorld.antt` says when a value is a join of some list of generators, and
 //! `specs/Listing.antt` what a whole listing is and what is evidence of more than a limit.
@@ -22,9 +22,9 @@
 //! join of earlier ones, so the known values are closed under joins with it too, and it needs no pass.
 //! In the end each list of generators has a join, and it is known, by induction on the list: that of the
 //! empty list is the least value, and that of a longer one is the join of its first generator and of a
-//! value that is known already. In worlds whose order puts finer values first few generators need a pass,
-//! but nothing rests on that. Where a listing is whole there is no evidence of more than the limit, and
-//! the other way round.
+//! value that is known already. An order that puts finer values first lets more generators be known when
+//! their turn comes; nothing rests on that. Where a listing is whole there is no evidence of more than
+//! the limit, and the other way round.
 #![tactic(auto)]
 
 mod closure;
