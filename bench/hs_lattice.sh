@@ -2,7 +2,8 @@
 # Times the listing of joins from outside, beside a plain baseline in the same run: joins of two of the
 # generators and nothing else, the generators that differ times the values where the listing is whole, and
 # one for each value where it stops at the limit. Each time is the least of three runs without that of a
-# run that joins nothing: the start, and the making of the generators.
+# run that joins nothing: the start, and the making of the generators; so are the instructions of the listing,
+# in millions, where valgrind is there to count them.
 set -eu
 . "$(dirname "$0")/timing.sh"
 cd "$(dirname "$0")/../crates/bench_hs_lattice"
@@ -14,7 +15,7 @@ least() {
     least_of 3 "$program" "$@"
 }
 
-printf '%-8s %-12s %10s  %-12s %10s %10s %7s\n' kept generators different answer 'list (ms)' 'join (ms)' ratio
+printf '%-8s %-12s %10s  %-12s %10s %10s %7s %13s\n' kept generators different answer 'list (ms)' 'join (ms)' ratio instructions
 while read -r kind size different; do
     for kept in labels bits; do
         answer=$("$program" "$kept" "$kind" "$size" 10000 list | tail -n 1)
@@ -26,9 +27,11 @@ while read -r kind size different; do
         none=$(least "$kept" "$kind" "$size" 0 join)
         list=$(least "$kept" "$kind" "$size" 10000 list)
         join=$(least "$kept" "$kind" "$size" "$joins" join)
+        counted=$(instructions_of "$program" "$kept" "$kind" "$size" 10000 list)
+        made=$(instructions_of "$program" "$kept" "$kind" "$size" 0 join)
         awk -v kept="$kept" -v gens="$kind $size" -v different="$different" -v answer="$answer" \
-            -v list="$((list - none))" -v join="$((join - none))" \
-            'BEGIN { printf "%-8s %-12s %10d  %-12s %10.1f %10.1f %7.2f\n", kept, gens, different, answer, list / 1000, join / 1000, list / join }'
+            -v list="$((list - none))" -v join="$((join - none))" -v counted="$((counted - made))" \
+            'BEGIN { printf "%-8s %-12s %10d  %-12s %10.1f %10.1f %7.2f %13.1f\n", kept, gens, different, answer, list / 1000, join / 1000, list / join, counted / 1000000 }'
     done
 done <<'CASES'
 pairs 6 15
