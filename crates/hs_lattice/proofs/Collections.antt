@@ -1,5 +1,5 @@
 -- Collections: halving the ordered places, what an addition leaves, and the items in ascending order.
-use Rattle.std.proofs.Common.{◌≡◌, ℕ, ◌+◌, ◌<◌, ◌≤◌, ◌⊎◌, ◌↔◌, inl, inr, Bool, true, false, not, Option, Some, None, IfNone, IfSome, IsTrue, is_some, List, [], ◌∷◌, ◌++◌, length, get_or, All, AllPairs, Any, Contains, subst, sym, ◌∙◌, refl, ap, arith}
+use Rattle.std.proofs.Common.{◌≡◌, ◌≢◌, ℕ, ◌+◌, ◌<◌, ◌≤◌, ◌⊎◌, ◌↔◌, inl, inr, Bool, true, false, not, Option, Some, None, IfNone, IfSome, IsTrue, is_some, List, [], ◌∷◌, ◌++◌, length, get_or, All, AllPairs, Any, Contains, subst, sym, ◌∙◌, refl, ap, arith}
 use Rattle.std.specs.List.{insert}
 use Rattle.std.proofs.lemmas.Bool.{cases_lt}
 use Rattle.std.proofs.lemmas.List.{get_or_default, get_or_past, get_or_read, get_or_append_left, get_or_push, length_push}
@@ -7,6 +7,7 @@ use Rattle.std.proofs.lemmas.List.Edits.{length-insert}
 use Rattle.std.proofs.lemmas.List.Elements.{All-push}
 use Rattle.std.proofs.lemmas.List.Quantifiers.{Any-push, all_pairs_push}
 use Rattle.hs_lattice.specs.Collection.{Adds, AreDifferent, IsAscending, IsOrder, Knows}
+use Rattle.hs_lattice.specs.Inner.Arranging.{IsArranged}
 use Rattle.hs_lattice.specs.Inner.Places.{IsInsertionPlace}
 use Rattle.hs_lattice.proofs.Insert.{Below, Here, Above, source_of, AllPairs-insert, Any-insert_kept, Any-insert_new}
 use Rattle.hs_lattice.proofs.Places.{Order, IsNarrowed, narrowed_above, narrowed_below, place_at}
@@ -208,61 +209,51 @@ adds_nothing meaning items value known = record {
   at_most_one = omega arith;
 }
 
--- the list has copies of the items at the first places
-pub record AreCopies {X M : Type 0} (meaning : X → M) (items : List X) (order : List ℕ) (list : List X) (n : ℕ) : Type 0 where
-  pub count : length list ≡ n
-  pub each : (k : ℕ) (d : X) → k < n → meaning (get_or list k d) ≡ meaning (get_or items (get_or order k 0) d)
-
-pub copies_none : {X M : Type 0} (meaning : X → M) (items : List X) (order : List ℕ) → AreCopies meaning items order [] 0
-copies_none meaning items order = record { count = refl; each = λ k d lt. absurd (omega arith) }
-
-pub copies_more :
-    {X M : Type 0} (meaning : X → M) (items : List X) (order : List ℕ) (list : List X) (n : ℕ) (copy x : X) → AreCopies meaning items order list n →
-    get_or order n 0 < length items → x ≡ get_or items (get_or order n 0) x → meaning copy ≡ meaning x → AreCopies meaning items order (list ++ copy ∷ []) (n + 1)
-copies_more meaning items order list n copy x copies inside read same = record {
-  count = length_push list copy ∙ ap (λ k. k + 1) copies.count;
-  each = λ k d lt.
-      elim (cases_lt k n) [
-        | inl low ↦ ap meaning (get_or_append_left list (copy ∷ []) d k (omega (arith, copies.count))) ∙ copies.each k d low
-        | inr ge ↦
-            let last : n ≡ k = omega arith in
-            ap meaning (get_or_push list copy d k (copies.count ∙ last)) ∙ (same ∙ (ap meaning (get_or_read items (get_or order n 0) x inside read d) ∙ ap (λ i. meaning (get_or items (get_or order i 0) d)) last))
-      ];
-}
-
-pub copies_ascend :
+-- what ascending places give of the items, when they are arranged so
+pub arranged_ascend :
     {X M : Type 0} (meaning : X → M) (precedes : M → M → Type 0) (items : List X) (order : List ℕ) (list : List X) →
-    IsOrder (λ x y. precedes (meaning x) (meaning y)) items order → AreCopies meaning items order list (length order) → IsAscending meaning precedes list
-copies_ascend meaning precedes items order list ordered copies i j d lt inside =
-    let n : length list ≡ length order = copies.count in
-    rw (copies.each i d (omega arith), copies.each j d (omega arith)) (ordered.ascending i j 0 lt (omega arith) d)
+    IsOrder (λ x y. precedes (meaning x) (meaning y)) items order → IsArranged items order (length order) list → IsAscending meaning precedes list
+arranged_ascend meaning precedes items order list ordered arranged i j d lt inside =
+    let n : length list ≡ length order = arranged.size ∙ sym ordered.count in
+    rw (arranged.each i d (omega arith), arranged.each j d (omega arith)) (ordered.ascending i j 0 lt (omega arith) d)
 
-pub copies_from :
+pub arranged_from :
     {X M : Type 0} (meaning : X → M) (precedes : M → M → Type 0) (items : List X) (order : List ℕ) (list : List X) →
-    IsOrder (λ x y. precedes (meaning x) (meaning y)) items order → AreCopies meaning items order list (length order) →
+    IsOrder (λ x y. precedes (meaning x) (meaning y)) items order → IsArranged items order (length order) list →
     (z : M) → Knows meaning list z → Knows meaning items z
-copies_from meaning precedes items order list ordered copies z (k, x, lt, read, is) =
-    let inside : k < length order = omega (arith, copies.count) in (
+arranged_from meaning precedes items order list ordered arranged z (k, x, lt, read, is) =
+    let inside : k < length order = omega (arith, arranged.size, ordered.count) in (
       get_or order k 0,
       get_or items (get_or order k 0) x,
       ordered.places k 0 inside,
       get_or_default items (get_or order k 0) (get_or items (get_or order k 0) x) x (ordered.places k 0 inside),
-      sym (copies.each k x inside) ∙ (ap meaning read ∙ is),
+      ap meaning (sym (arranged.each k x inside) ∙ read) ∙ is,
     )
 
-pub copies_all :
+pub arranged_all :
     {X M : Type 0} (meaning : X → M) (precedes : M → M → Type 0) (items : List X) (order : List ℕ) (list : List X) →
-    IsOrder (λ x y. precedes (meaning x) (meaning y)) items order → AreCopies meaning items order list (length order) →
+    IsOrder (λ x y. precedes (meaning x) (meaning y)) items order → IsArranged items order (length order) list →
     (z : M) → Knows meaning items z → Knows meaning list z
-copies_all meaning precedes items order list ordered copies z (k, x, lt, read, is) =
+arranged_all meaning precedes items order list ordered arranged z (k, x, lt, read, is) =
     let at : Contains order k = ordered.each k lt in
-    let inside : at.0 < length list = omega (arith, copies.count, at.1) in (
+    let inside : at.0 < length list = omega (arith, arranged.size, ordered.count, at.1) in (
       at.0,
       get_or list at.0 x,
       inside,
       get_or_default list at.0 (get_or list at.0 x) x inside,
-      copies.each at.0 x at.1 ∙ (ap (λ i. meaning (get_or items i x)) (get_or_default order at.0 0 k at.1 ∙ at.2) ∙ (ap meaning read ∙ is)),
+      ap meaning (arranged.each at.0 x at.1) ∙ (ap (λ i. meaning (get_or items i x)) (get_or_default order at.0 0 k at.1 ∙ at.2) ∙ (ap meaning read ∙ is)),
     )
+
+-- no place stands twice among ascending ones
+pub ordered_once :
+    {X M : Type 0} (meaning : X → M) (fits : M → Type 0) (precedes : M → M → Type 0) (items : List X) (order : List ℕ) →
+    ((x : M) → fits x → precedes x x → ⊥) → All (λ x. fits (meaning x)) items → IsOrder (λ x y. precedes (meaning x) (meaning y)) items order →
+    AllPairs (λ i j. i ≢ j) order
+ordered_once meaning fits precedes [] order irreflexive fit ordered i j d lt inside same = absurd (omega (arith, ordered.places j d inside))
+ordered_once meaning fits precedes (x ∷ items) order irreflexive fit ordered i j d lt inside same =
+    let at : ℕ = get_or order j d in
+    irreflexive (meaning (get_or (x ∷ items) at x)) (fit at x (ordered.places j d inside))
+    (subst (λ k. precedes (meaning (get_or (x ∷ items) k x)) (meaning (get_or (x ∷ items) at x))) same (ordered.ascending i j d lt inside x))
 
 -- there is no place for an item where its value is known, and only there
 pub known_where_none :

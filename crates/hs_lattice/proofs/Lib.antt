@@ -7,3 +7,4 @@ pub mod Distinct
 pub mod Exclusion
 pub mod Outcomes
 pub mod Members
+pub mod Moving

@@ -1,3 +1,4 @@
 -- Definitions that only private functions and proofs need.
+pub mod Arranging
 pub mod Passes
 pub mod Places

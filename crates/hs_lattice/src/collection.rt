@@ -5,6 +5,7 @@ ghost use Rattle.hs_lattice.specs.Collection.{items_in, Adds, IsAscending, IsCol
 ghost use Rattle.hs_lattice.specs.Inner.Places.{IsInsertionPlace};
 
 use crate::JoinWorld;
+use crate::arranging::arrange;
 use hs_list::Items;
 use std::alloc::{AllocError, Global};
 
@@ -102,23 +103,21 @@ impl<T: Drop> Collection<T> {
         Ok(())
     }
 
-    /// Copies of the items, in ascending order.
+    /// The items in ascending order, each moved to its place.
     pub fn ascending<W: JoinWorld<Item = T>>(
-        &self,
+        self,
         alloc: Global,
         world: &W,
     ) -> Result<Items<T>, AllocError>
         requires world { W.lawful world.now }
-        requires collection { IsCollection W.meaning (W.fits world.now) (W.precedes world.now) self.now }
+        requires collection { IsCollection W.meaning (W.fits world.now) (W.precedes world.now) self }
         ensures ascending { IfOk result (IsAscending W.meaning (W.precedes world.now)) }
         ensures values { IfOk result (λ list. (z : W.Meaning)
-            → Knows W.meaning list z ↔ Knows W.meaning (items_in self.now) z) }
-        ensures count { IfOk result (λ list. length list ≡ length (items_in self.now)) }
+            → Knows W.meaning list z ↔ Knows W.meaning (items_in self) z) }
+        ensures count { IfOk result (λ list. length list ≡ length (items_in self)) }
     {
-        let mut list = Vec::new(alloc);
-        for place in &self.order {
-            list.push(world.copy(alloc, &self.items[*place])?)?;
-        }
-        Ok(Items::from(list))
+        let mut items = self.items;
+        arrange(alloc, items.as_mut_slice(), self.order.as_slice())?;
+        Ok(Items::from(items))
     }
 }

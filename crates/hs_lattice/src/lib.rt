@@ -10,8 +10,8 @@
 //!
 //! A [`Collection`] keeps different values as it grows, and says of each item whether its value stands
 //! there. Beside the items stand their places in ascending order, which are halved to find a value, so an
-//! insertion moves numbers and not items. `specs/Collection.antt` says what one is and what an addition
-//! changes.
+//! insertion moves numbers and not items; in the end each item is moved to its place, once.
+//! `specs/Collection.antt` says what one is and what an addition changes.
 //!
 //! [`join_closure`] lists the joins of all lists of generators, proved once for every world. It puts the
 //! generators into ascending order first, equal ones once. The least value is known at first, and then
@@ -27,6 +27,7 @@
 //! the limit, and the other way round.
 #![tactic(auto)]
 
+mod arranging;
 mod closure;
 mod collection;
 mod world;

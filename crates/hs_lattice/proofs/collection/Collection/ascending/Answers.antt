@@ -1,26 +1,30 @@
-use Rattle.std.proofs.Common.{◌≡◌, ◌<◌, length, subst, arith}
-use Rattle.hs_lattice.proofs.Collections.{AreCopies, copies_none, copies_more, copies_from, copies_all}
+use Rattle.std.proofs.Common.{◌∙◌}
+use Rattle.std.proofs.lemmas.List.{with_items_is}
+use Rattle.hs_lattice.proofs.Collections.{arranged_ascend, arranged_from, arranged_all, ordered_once}
 use Rattle.hs_lattice.proofs.collection.Collection.ascending.Goals as goal
 
-pub loop-place-init : goal.loop-place-init
-loop-place-init g c = rw c.new-list.ensures.items (copies_none g.W.JoinWorld.meaning c.args.self.now.items.items c.args.self.now.order.items)
+pub arrange-requires-clause-once : goal.arrange-requires-clause-once
+arrange-requires-clause-once g c =
+    let w = g.W.JoinWorld in
+    let world = c.args.world.now in
+    rw c.as_slice.ensures.value
+    (ordered_once w.meaning (w.fits world) (w.precedes world) c.args.self.items.items c.args.self.order.items
+    (λ x. g.met.W.JoinWorld.precedes_irreflexive world x c.requires.world) c.requires.collection.fit c.requires.collection.ordered)
 
-pub loop-place-preserved : goal.loop-place-preserved
-loop-place-preserved g c =
-    let items = c.args.self.now.items.items in
-    let order = c.args.self.now.order.items in
-    let inside : c.loop-place.place-index < length order = rw c.deref-place-items.ensures.value at c.loop-place-test.true in
-    rw c.in_ok-push.ensures.items (copies_more g.W.JoinWorld.meaning items order c.loop-place.list.items c.loop-place.place-index c.in_ok-copy.field-0 c.index.result.now c.loop-place.invariant
-    (c.requires.collection.ordered.places c.loop-place.place-index 0 inside) (rw c.deref-place-items.ensures.value at c.index.ensures) c.in_ok-copy.ensures)
+pub returns-clause-ascending : goal.returns-clause-ascending
+returns-clause-ascending g c =
+    let arranged = rw (c.as_slice.ensures.value, c.as_mut_slice.ensures.value) at c.in_ok-arrange.ensures in
+    rw (c.from.ensures, with_items_is c.args.self.items c.arrange.new.items (c.in_ok-arrange.ensures.size ∙ c.as_mut_slice.ensures.len))
+    (arranged_ascend g.W.JoinWorld.meaning (g.W.JoinWorld.precedes c.args.world.now) c.args.self.items.items c.args.self.order.items c.arrange.new.items
+    c.requires.collection.ordered arranged)
 
 pub returns-clause-values : goal.returns-clause-values
 returns-clause-values g c =
     let meaning = g.W.JoinWorld.meaning in
     let precedes = g.W.JoinWorld.precedes c.args.world.now in
-    let items = c.args.self.now.items.items in
-    let order = c.args.self.now.order.items in
-    let list = c.loop-place.list.items in
-    let read : c.loop-place.place-index ≡ length c.deref-place-items.result.now = omega arith in
-    let end : c.loop-place.place-index ≡ length order = rw c.deref-place-items.ensures.value at read in
-    let copies : AreCopies meaning items order list (length order) = subst (AreCopies meaning items order list) end c.loop-place.invariant in
-    rw c.from.ensures (λ z. (copies_from meaning precedes items order list c.requires.collection.ordered copies z, copies_all meaning precedes items order list c.requires.collection.ordered copies z))
+    let items = c.args.self.items.items in
+    let order = c.args.self.order.items in
+    let new = c.arrange.new.items in
+    let arranged = rw (c.as_slice.ensures.value, c.as_mut_slice.ensures.value) at c.in_ok-arrange.ensures in
+    rw (c.from.ensures, with_items_is c.args.self.items new (c.in_ok-arrange.ensures.size ∙ c.as_mut_slice.ensures.len))
+    (λ z. (arranged_from meaning precedes items order new c.requires.collection.ordered arranged z, arranged_all meaning precedes items order new c.requires.collection.ordered arranged z))
