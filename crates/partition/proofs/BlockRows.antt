@@ -1,5 +1,5 @@
 -- Rows of bits for the blocks of a partition.
-use Rattle.std.proofs.Common.{◌≡◌, ◌≢◌, ℕ, ◌+◌, ◌-◌, ◌*◌, ◌/◌, ◌%◌, ◌^◌, ◌<◌, ◌≤◌, ◌↔◌, List, length, get_or, set, take, drop, replicate, sym, ap, ◌∙◌, subst, inl, inr, arith}
+use Rattle.std.proofs.Common.{◌≡◌, ◌≢◌, ℕ, ◌+◌, ◌-◌, ◌*◌, ◌/◌, ◌%◌, ◌^◌, ◌<◌, ◌≤◌, ◌↔◌, List, length, get_or, set, take, drop, replicate, refl, sym, ap, ◌∙◌, subst, inl, inr, arith}
 use Rattle.std.proofs.lemmas.Bool.{cases_eq, cases_lt}
 use Rattle.std.proofs.lemmas.List.{get_or-take, get_or-drop, get_or_past, get_or-set_same, get_or-set_other, length-take, get_or-replicate, length-replicate}
 use Rattle.std.proofs.lemmas.Nat.{mul-le, same_from_place}
@@ -8,16 +8,22 @@ use Rattle.std.specs.Int.{bit_at}
 use Rattle.std.specs.Int.RustNames.{bit_or}
 use Rattle.partition.specs.Partition.{Together}
 use Rattle.partition.specs.Bits.{bit_of}
-use Rattle.partition.specs.Inner.Rows.{Has, words_for, four_of, place_in, AreRows, AreRowsOf, AreNumbers}
+use Rattle.partition.specs.Inner.Rows.{Has, words_for, four_of, place_in, AreRows, AreRowsOf, AreTwo, AreNumbers}
 use Rattle.partition.proofs.Words.{bit_of_past, bit_of-lt, bits_of_four, with_bit, bit_set, bits_set_other}
+
+two_more : (p : List ℕ) (s label : ℕ) → AreTwo p s label → AreTwo p (s + 1) label
+two_more p s label two = record { one = two.one; other = two.other; apart = two.apart; within = omega (arith, two.within); first = two.first; second = two.second }
 
 pub numbers_none : (p numbers : List ℕ) → ((label : ℕ) → get_or numbers label 0 ≡ 0) → AreNumbers p numbers 0 0
 numbers_none p numbers none = record {
   few = omega arith;
   small = λ label. omega (arith, none label);
   some = λ t within. absurd (omega arith);
+  named = λ label some. absurd (omega (arith, none label, some));
   alone = λ t u within. absurd (omega arith);
+  shared = λ label high. absurd (omega (arith, none label, high));
   once = λ a b same high. absurd (omega (arith, none a, high));
+  used = λ i within. absurd (omega arith);
 }
 
 -- no earlier state has the label of state s
@@ -32,6 +38,10 @@ numbers_first p numbers count s so_far room none = record {
     | inl at ↦ omega (arith, here (get_or p t 0) (ap (λ (k : ℕ). get_or p k 0) at))
     | inr other ↦ omega (arith, there (get_or p t 0) (earlier t (omega arith)), so_far.some t (omega arith))
   ];
+  named = λ label some. elim (cases_eq label (get_or p s 0)) [
+    | inl at ↦ (s, omega arith, sym at)
+    | inr other ↦ let old = so_far.named label (omega (arith, some, there label other)) in (old.0, omega (arith, old.1), old.2)
+  ];
   alone = λ t u in_t in_u same one. elim (cases_eq t s) [
     | inl t_at ↦ elim (cases_eq u s) [
       | inl u_at ↦ t_at ∙ sym u_at
@@ -42,6 +52,10 @@ numbers_first p numbers count s so_far room none = record {
       | inr u_other ↦ so_far.alone t u (omega arith) (omega arith) same (sym (there (get_or p t 0) (earlier t (omega arith))) ∙ one)
     ]
   ];
+  shared = λ label high. elim (cases_eq label (get_or p s 0)) [
+    | inl at ↦ absurd (omega (arith, high, here label at))
+    | inr other ↦ two_more p s label (so_far.shared label (omega (arith, high, there label other)))
+  ];
   once = λ a b same high. elim (cases_eq a (get_or p s 0)) [
     | inl a_at ↦ absurd (omega (arith, high, here a a_at))
     | inr a_other ↦ elim (cases_eq b (get_or p s 0)) [
@@ -49,6 +63,9 @@ numbers_first p numbers count s so_far room none = record {
       | inr b_other ↦ so_far.once a b (sym (there a a_other) ∙ same ∙ there b b_other) (omega (arith, high, there a a_other))
     ]
   ];
+  used = λ i within.
+      let old = so_far.used i within in
+      (old.0, there old.0 (λ at. absurd (omega (arith, old.1, none, ap (λ (label : ℕ). get_or numbers label 0) at))) ∙ old.1);
 }
   where
     here : (label : ℕ) → label ≡ get_or p s 0 → get_or (set numbers (get_or p s 0) 1) label 0 ≡ 1
@@ -72,9 +89,19 @@ numbers_second p numbers count s so_far room one = record {
     | inl at ↦ omega (arith, here (get_or p t 0) at)
     | inr other ↦ omega (arith, there (get_or p t 0) other, so_far.some t (earlier t within other))
   ];
+  named = λ label some. elim (cases_eq label (get_or p s 0)) [
+    | inl at ↦ (s, omega arith, sym at)
+    | inr other ↦ let old = so_far.named label (omega (arith, some, there label other)) in (old.0, omega (arith, old.1), old.2)
+  ];
   alone = λ t u in_t in_u same is. elim (cases_eq (get_or p t 0) (get_or p s 0)) [
     | inl at ↦ absurd (omega (arith, is, here (get_or p t 0) at))
     | inr other ↦ so_far.alone t u (earlier t in_t other) (earlier u in_u (λ at. other (same ∙ at))) same (sym (there (get_or p t 0) other) ∙ is)
+  ];
+  shared = λ label high. elim (cases_eq label (get_or p s 0)) [
+    | inl at ↦
+        let old = so_far.named (get_or p s 0) (omega (arith, one)) in
+        record { one = old.0; other = s; apart = old.1; within = omega arith; first = old.2 ∙ sym at; second = sym at }
+    | inr other ↦ two_more p s label (so_far.shared label (omega (arith, high, there label other)))
   ];
   once = λ a b same high. elim (cases_eq a (get_or p s 0)) [
     | inl a_at ↦ elim (cases_eq b (get_or p s 0)) [
@@ -85,6 +112,12 @@ numbers_second p numbers count s so_far room one = record {
       | inl b_at ↦ absurd (omega (arith, same, here b b_at, there a a_other, so_far.small a))
       | inr b_other ↦ so_far.once a b (sym (there a a_other) ∙ same ∙ there b b_other) (omega (arith, high, there a a_other))
     ]
+  ];
+  used = λ i within. elim (cases_eq i count) [
+    | inl last ↦ (get_or p s 0, here (get_or p s 0) refl ∙ ap (λ (k : ℕ). k + 2) (sym last))
+    | inr other ↦
+        let old = so_far.used i (omega arith) in
+        (old.0, there old.0 (λ at. absurd (omega (arith, old.1, one, ap (λ (label : ℕ). get_or numbers label 0) at))) ∙ old.1)
   ];
 }
   where
@@ -110,8 +143,11 @@ numbers_later p numbers count s so_far some more = record {
     | inl at ↦ omega (arith, some, ap (λ (k : ℕ). get_or numbers (get_or p k 0) 0) at)
     | inr other ↦ so_far.some t (omega arith)
   ];
+  named = λ label some_has. let old = so_far.named label some_has in (old.0, omega (arith, old.1), old.2);
   alone = λ t u in_t in_u same one. so_far.alone t u (earlier t in_t one) (earlier u in_u (sym (ap (λ (label : ℕ). get_or numbers label 0) same) ∙ one)) same one;
+  shared = λ label high. two_more p s label (so_far.shared label high);
   once = so_far.once;
+  used = so_far.used;
 }
   where
     earlier : (t : ℕ) → t < s + 1 → get_or numbers (get_or p t 0) 0 ≡ 1 → t < s
@@ -207,6 +243,12 @@ rows_are p numbers words width count size wide are put = record {
         | inr other ↦ omega (arith, are.some s together.0)
       ] in
       (number - 2, omega (arith, are.small (get_or p s 0)), (put (number - 2) s (omega (arith, together.0))).1 (together.0, omega arith));
+  shared = λ i within.
+      let label = are.used i within in
+      let two = are.shared label.0 (omega (arith, label.1)) in
+      let in_one : two.one < length p = omega (arith, two.apart, two.within) in
+      (two.one, two.other, (λ same. absurd (omega (arith, two.apart, same))), (in_one, two.within, two.first ∙ sym two.second), (put i two.one (omega (arith, in_one, wide))).1 (in_one, ap (λ (k : ℕ). get_or numbers k 0) two.first ∙ label.1));
+  once = λ i j s in_i in_j in_s on_i on_j. omega (arith, ((put i s in_s).0 on_i).1, ((put j s in_s).0 on_j).1);
 }
 
 -- they are as many as the words make

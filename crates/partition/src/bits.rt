@@ -1,4 +1,4 @@
-//! Partitions as rows of bits.
+//! Partitions as labels and rows of bits.
 
 ghost use Rattle.std.specs.Prelude.{◌≡◌, ℕ, ◌+◌, ◌/◌, ◌<◌, ◌≤◌, ◌↔◌, length, IsTrue, IfOk};
 ghost use Rattle.std.specs.Bool.{OnFalse};
@@ -18,7 +18,7 @@ use single::single_row;
 use std::alloc::{AllocError, Global};
 use std::marker::Model;
 
-/// A partition of n states as its labels and as rows of n bits, seen by contracts as the list of labels.
+/// A partition of n states as its labels and rows of n bits, seen by contracts as the list of labels.
 ///
 /// Bit t of row s is 1 exactly where s and t are together. States of one block have one row, which is kept
 /// where the block has two states or more: the row of a state that is alone needs no place. The rows stand
@@ -42,7 +42,7 @@ impl Model for BitPart {
 }
 
 impl BitPart {
-    /// The same partition as rows of bits.
+    /// The same partition with rows of bits.
     pub fn of(alloc: Global, p: &Partition) -> Result<BitPart, AllocError>
         ensures labels { IfOk result (λ q. q ≡ p.now) }
         ensures lawful { IfOk result (λ q. IsPartition (length p.now) q) }

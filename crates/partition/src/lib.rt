@@ -1,11 +1,11 @@
 //! Partitions of the states of a machine, as a lattice.
 //!
-//! A partition of n states is kept as labels (`Partition`) or as n rows of n bits (`BitPart`), and contracts see
-//! both as the list of labels. Each call meets its definition: blocks and states together in `specs/Partition`,
-//! rows in `specs/Bits`, meet and join in `specs/MeetAndJoin`, the order of listings in `specs/Before`, blocks
-//! inside blocks and complements in `specs/Inside`, texts and refusals in `specs/Text` and `specs/Refusal`. The
-//! laws that other crates cite stand in `specs/Laws`. Partitions of n states are two worlds of joins, `PartWorld`
-//! and `BitWorld`.
+//! A partition of n states is kept as labels (`Partition`), or as labels and a row of n bits for each block of two
+//! states or more (`BitPart`). Contracts see both as the list of labels. Each call meets its definition: blocks and
+//! states together in `specs/Partition`, rows in `specs/Bits`, meet and join in `specs/MeetAndJoin`, the order of
+//! listings in `specs/Before`, blocks inside blocks and complements in `specs/Inside`, texts and refusals in
+//! `specs/Text` and `specs/Refusal`. The laws that other crates cite stand in `specs/Laws`. Partitions of n states
+//! are two worlds of joins, `PartWorld` and `BitWorld`.
 #![tactic(auto)]
 
 ghost use Rattle.std.specs.Prelude.{◌≡◌, ◌<◌, ◌↔◌, length, slice_index, IsTrue, IfOk};

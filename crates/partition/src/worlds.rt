@@ -76,7 +76,7 @@ impl JoinWorld for PartWorld {
     ghost precedes_total = { λ w p q lawful left right. before_decides w.n p q left right };
 }
 
-/// The partitions of n states, n from 1 to 256, kept as rows of bits.
+/// The partitions of n states, n from 1 to 256, kept as labels and rows of bits.
 #[derive(Clone, Copy, Debug)]
 pub struct BitWorld {
     pub n: usize,

@@ -19,24 +19,38 @@ words_for n = (n + 63) / 64
 abbrev pub place_in : (width i t : ℕ) → ℕ
 place_in width i t = i * width * 64 + t
 
--- Rows for the blocks of p, so many of them. Each has all states of one block, and a state that is together
--- with another has a row.
+-- So many rows, one for each block of p of two states or more and no other. Each has two states at least, and
+-- all states of one block; a state that is together with another has a row, and no state has two.
 pub record AreRows (p words : List ℕ) (width count : ℕ) : Type 0 where
   pub size : length words ≡ count * width
   pub block : (i s t : ℕ) → i < count → s < 64 * width → t < 64 * width → Has words (place_in width i s) → Has words (place_in width i t) ↔ Together p s t
   pub listed : (s t : ℕ) → Together p s t → s ≢ t → (i : ℕ) × (i < count) × Has words (place_in width i s)
+  pub shared : (i : ℕ) → i < count → (s : ℕ) × (t : ℕ) × (s ≢ t) × Together p s t × Has words (place_in width i s)
+  pub once : (i j s : ℕ) → i < count → j < count → s < 64 * width → Has words (place_in width i s) → Has words (place_in width j s) → i ≡ j
 
 abbrev pub AreRowsOf : List ℕ → List ℕ → Type 0
 AreRowsOf p words = AreRows p words (words_for (length p)) (length words / words_for (length p))
 
+-- two of the first s states have the label
+pub record AreTwo (p : List ℕ) (s label : ℕ) : Type 0 where
+  pub one : ℕ
+  pub other : ℕ
+  pub apart : one < other
+  pub within : other < s
+  pub first : slice_index p one ≡ label
+  pub second : slice_index p other ≡ label
+
 -- Numbers of the labels of the first s states: 0 where none of them has the label, 1 where one has it, and else
--- the number of a row plus 2, another one for each label.
+-- the number of a row plus 2, another one for each label. So many rows have a label.
 pub record AreNumbers (p numbers : List ℕ) (count s : ℕ) : Type 0 where
   pub few : count ≤ s
   pub small : (label : ℕ) → slice_index numbers label < count + 2
   pub some : (t : ℕ) → t < s → 1 ≤ slice_index numbers (slice_index p t)
+  pub named : (label : ℕ) → 1 ≤ slice_index numbers label → (t : ℕ) × (t < s) × (slice_index p t ≡ label)
   pub alone : (t u : ℕ) → t < s → u < s → slice_index p t ≡ slice_index p u → slice_index numbers (slice_index p t) ≡ 1 → t ≡ u
+  pub shared : (label : ℕ) → 2 ≤ slice_index numbers label → AreTwo p s label
   pub once : (a b : ℕ) → slice_index numbers a ≡ slice_index numbers b → 2 ≤ slice_index numbers a → a ≡ b
+  pub used : (i : ℕ) → i < count → (label : ℕ) × (slice_index numbers label ≡ i + 2)
 
 -- the state is together with one of these states
 abbrev pub Touches : List ℕ → List ℕ → ℕ → Type 0

@@ -1,4 +1,4 @@
-//! Meet and join on rows of bits.
+//! Meet by labels, and join by the rows of blocks.
 
 ghost use Rattle.std.specs.Prelude.{◌≡◌, ℕ, ◌<◌, length, IfOk};
 ghost use Rattle.std.specs.Bool.{OnFalse};

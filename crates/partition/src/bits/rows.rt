@@ -1,4 +1,4 @@
-//! Rows of bits, one after another.
+//! Rows of the blocks of two states or more, one after another.
 
 ghost use Rattle.std.specs.Prelude.{◌≡◌, ℕ, ◌+◌, ◌-◌, ◌*◌, ◌/◌, ◌<◌, ◌≤◌, ◌↔◌, length, slice_index, IfOk};
 ghost use Rattle.partition.specs.Partition.{IsPartition};
