@@ -1,5 +1,7 @@
 //! Worked partitions, refusals, and sizes at the edges of words.
 
+ghost use Rattle.std.specs.Prelude.{◌≡◌, ◌<◌, length};
+
 use crate::{BitPart, PartFail, Partition, parse_of_show};
 use std::alloc::{AllocError, Global};
 use std::test::Fail;
@@ -39,22 +41,31 @@ fn meets_and_joins(rt: HostRuntime) -> Result<(), Fail> {
     Ok(())
 }
 
+/// The text of the partition of four states that holds two together, as a copy has it.
+fn held_text(alloc: Global, s: usize, t: usize) -> Result<Vec<u8>, AllocError>
+    requires s { s < 4 }
+    requires t { t < 4 }
+{
+    let held = Partition::hold(alloc, 4, s, t)?;
+    let copy = held.copy(alloc)?;
+    labels_text(alloc, &copy)
+}
+
+/// The text of the complement of a partition.
+fn complement_text(alloc: Global, labels: &[u16]) -> Result<Vec<u8>, PartFail> {
+    let p = Partition::from_labels(alloc, labels)?;
+    let complement = p.complement(alloc)?;
+    Ok(labels_text(alloc, &complement)?)
+}
+
 #[test]
-fn holds_and_complements(rt: HostRuntime) -> Result<(), Fail> {
+fn holds_and_complements(rt: HostRuntime) {
     let alloc = rt.alloc();
-    let held = Partition::hold(alloc, 4, 0, 2)?;
-    assert_eq!(rt;
-        labels_text(alloc, &held)?.as_slice(),
-        b"0,1,0,2".as_slice()
-    );
-    let halves = Partition::from_labels(alloc, &[0, 0, 1, 1])?;
-    let complement = halves.complement(alloc)?;
-    assert_eq!(rt;
-        labels_text(alloc, &complement)?.as_slice(),
-        b"0,1,0,1".as_slice()
-    );
-    assert!(rt; held.copy(alloc)?.equal(&held));
-    Ok(())
+    let held = held_text(alloc, 0, 2).is_ok_and(|text| text.as_slice() == "0,1,0,2".as_bytes());
+    assert!(rt; held);
+    let complement = complement_text(alloc, &[0, 0, 1, 1]).is_ok_and(|text| text.as_slice()
+        == "0,1,0,1".as_bytes());
+    assert!(rt; complement);
 }
 
 /// The text of the partition with the blocks of two states put together.
@@ -127,17 +138,20 @@ fn refusals_name_the_first_place(rt: HostRuntime) {
     assert_eq!(rt; refused, Some(PartFail::WrongLength { found: 300 }));
 }
 
+/// The last word of the last row.
+fn last_word(alloc: Global, p: &Partition) -> Result<Option<u64>, AllocError> {
+    let bits = BitPart::of(alloc, p)?;
+    Ok(bits.row(p.len() - 1).last().copied())
+}
+
 /// The last word of the last row where all states are together, and where none are.
-fn last_words(alloc: Global, n: usize) -> Result<(Option<u64>, Option<u64>), AllocError> {
+fn last_words(alloc: Global, n: usize) -> Result<[Option<u64>; 2], AllocError> {
     if n == 0 || n > 256 {
-        return Ok((None, None));
+        return Ok([None, None]);
     }
-    let one = BitPart::of(alloc, &Partition::one(alloc, n)?)?;
-    let zero = BitPart::of(alloc, &Partition::zero(alloc, n)?)?;
-    Ok((
-        one.row(n - 1).last().copied(),
-        zero.row(n - 1).last().copied(),
-    ))
+    let one = Partition::one(alloc, n)?;
+    let zero = Partition::zero(alloc, n)?;
+    Ok([last_word(alloc, &one)?, last_word(alloc, &zero)?])
 }
 
 #[test]
@@ -151,29 +165,52 @@ fn rows_end_in_their_last_word(rt: HostRuntime) -> Result<(), Fail> {
         (256, u64::MAX, 1 << 63),
     ];
     for (n, of_one, of_zero) in cases {
-        let (one, zero) = last_words(alloc, n)?;
-        assert_eq!(rt; [one, zero], [Some(of_one), Some(of_zero)]);
+        let words = last_words(alloc, n)?;
+        assert_eq!(rt; words, [Some(of_one), Some(of_zero)]);
     }
     Ok(())
 }
 
-/// Whether rows of bits find that these two partitions have zero for their meet and one for their join, and
-/// that zero comes first.
-fn zero_and_one_are_found(alloc: Global, p: &Partition, q: &Partition) -> Result<bool, AllocError> {
+/// Whether rows of bits are zero, each state in a block of its own.
+fn is_zero(alloc: Global, bits: &BitPart) -> Result<bool, AllocError> {
+    let zero = Partition::zero(alloc, bits.len())?;
+    let rows = BitPart::of(alloc, &zero)?;
+    Ok(bits.equal(&rows) && bits.blocks() == bits.len())
+}
+
+/// Whether rows of bits are one, all states in one block.
+fn is_one(alloc: Global, bits: &BitPart) -> Result<bool, AllocError> {
+    let one = Partition::one(alloc, bits.len())?;
+    let rows = BitPart::of(alloc, &one)?;
+    Ok(bits.equal(&rows) && bits.blocks() == 1)
+}
+
+/// Whether the first of two stands before the second in a listing, and the second not before its copy.
+fn comes_first(alloc: Global, p: &BitPart, q: &BitPart) -> Result<bool, AllocError>
+    requires { length q.now ≡ length p.now }
+{
+    let copy = q.copy(alloc)?;
+    Ok(p.before(q) && !q.before(&copy))
+}
+
+/// Whether two partitions have zero for their meet and one for their join, and zero comes first.
+fn zero_and_one_are_found(alloc: Global, p: &BitPart, q: &BitPart) -> Result<bool, AllocError>
+    requires { length q.now ≡ length p.now }
+{
+    let meet = p.meet(alloc, q)?;
+    let join = p.join(alloc, q)?;
+    let first = comes_first(alloc, &meet, &join)? == (p.len() > 1);
+    Ok(first && is_zero(alloc, &meet)? && is_one(alloc, &join)?)
+}
+
+/// The same of the rows of two partitions of labels.
+fn rows_find_zero_and_one(alloc: Global, p: &Partition, q: &Partition) -> Result<bool, AllocError> {
     if p.len() != q.len() {
         return Ok(false);
     }
-    let zero = BitPart::of(alloc, &Partition::zero(alloc, p.len())?)?;
-    let one = BitPart::of(alloc, &Partition::one(alloc, p.len())?)?;
-    let (left, right) = (BitPart::of(alloc, p)?, BitPart::of(alloc, q)?);
-    let (meet, join) = (left.meet(alloc, &right)?, left.join(alloc, &right)?);
-    Ok(
-        meet.equal(&zero)
-            && join.equal(&one)
-            && [meet.blocks(), join.blocks()] == [p.len(), 1]
-            && meet.before(&join) == (p.len() > 1)
-            && !join.before(&one.copy(alloc)?),
-    )
+    let left = BitPart::of(alloc, p)?;
+    let right = BitPart::of(alloc, q)?;
+    zero_and_one_are_found(alloc, &left, &right)
 }
 
 /// The partitions of n states into pairs of neighbours, the first pair beginning with state 0 or with state 1.
@@ -196,7 +233,7 @@ fn chains_go_on_from_word_to_word(rt: HostRuntime) -> Result<(), Fail> {
         let Ok((even, odd)) = pairs_of_neighbours(alloc, n) else {
             panic!(rt; "these are labels of partitions");
         };
-        let found = zero_and_one_are_found(alloc, &even, &odd)?;
+        let found = rows_find_zero_and_one(alloc, &even, &odd)?;
         assert_eq!(rt; (n, found), (n, true));
     }
     Ok(())
