@@ -284,7 +284,7 @@ row_slice rows width i at t is within =
     let size : at + width - at ≡ width = omega arith in
     ap (λ (n : ℕ). bit_of (take n (drop at rows)) t) size ∙ ap (λ (from : ℕ). bit_of (take width (drop from rows)) t) is ∙ bits_of_row rows width i t within
 
-slice_past : (rows : List ℕ) (width at t : ℕ) → 64 * width ≤ t → bit_of (take (at + width - at) (drop at rows)) t ≡ 0
+pub slice_past : (rows : List ℕ) (width at t : ℕ) → 64 * width ≤ t → bit_of (take (at + width - at) (drop at rows)) t ≡ 0
 slice_past rows width at t past = bit_of_past (take (at + width - at) (drop at rows)) t (omega (arith, length-take {A = ℕ} (at + width - at) (drop at rows)))
 
 -- they have the states of the block of s

@@ -15,3 +15,4 @@ pub mod BlockRows
 pub mod SingleRow
 pub mod JoinedStates
 pub mod Relabelling
+pub mod Gathering

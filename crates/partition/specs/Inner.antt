@@ -3,3 +3,4 @@ pub mod Rows
 pub mod Pieces
 pub mod Ties
 pub mod Relabelled
+pub mod Gathering

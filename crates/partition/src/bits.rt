@@ -7,6 +7,7 @@ ghost use Rattle.partition.specs.MeetAndJoin.{IsMeet, IsJoin, IsGreatestBelow, I
 ghost use Rattle.partition.specs.Before.{Before};
 ghost use Rattle.partition.specs.Bits.{bit_of};
 
+mod gathering;
 mod lattice;
 mod numbers;
 mod rows;

@@ -8,6 +8,7 @@ ghost use Rattle.partition.specs.Merging.{IsMerged};
 ghost use Rattle.partition.specs.Inner.Rows.{Has, JoinsStates};
 
 use super::BitPart;
+use super::gathering::gathered_rows;
 use super::rows::{row_count, word_count};
 use crate::Partition;
 use crate::states::StateSet;
@@ -43,7 +44,10 @@ impl BitPart {
     {
         let mut partition = self.partition.copy(alloc)?;
         if q.join_into(&mut partition) {
-            return BitPart::with_rows(alloc, partition);
+            let front = self.rows.as_slice();
+            let back = q.rows.as_slice();
+            let rows = gathered_rows(alloc, partition.labels(), front, back)?;
+            return Ok(BitPart { partition, rows });
         }
         let rows = self.rows.as_slice().to_vec(alloc)?;
         Ok(BitPart { partition, rows })
