@@ -8,7 +8,6 @@ use Rattle.std.proofs.lemmas.List.Folds.{sum_by-replicate}
 use Rattle.std.proofs.lemmas.Nat.Bits.{bit_at_or}
 use Rattle.std.specs.Int.{bit_at}
 use Rattle.std.specs.Int.RustNames.{bit_or}
-use Rattle.std.specs.List.{sum_by}
 use Rattle.partition.specs.Partition.{Together, Le}
 use Rattle.partition.specs.MeetAndJoin.{IsJoin, Leads}
 use Rattle.partition.specs.Bits.{bit_of}

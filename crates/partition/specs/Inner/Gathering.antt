@@ -1,5 +1,5 @@
 -- For private functions and proofs alone: rows of a partition, put together from rows that lie within its blocks.
-use Rattle.std.specs.Prelude.{◌≡◌, ◌≢◌, ℕ, ◌+◌, ◌*◌, ◌<◌, ◌≤◌, ◌⊎◌, min, List, length, slice_index, sum_by}
+use Rattle.std.specs.Prelude.{◌≡◌, ◌≢◌, ℕ, ◌+◌, ◌*◌, ◌<◌, ◌≤◌, min, List, length, slice_index, sum_by}
 use Rattle.partition.specs.Partition.{Together}
 use Rattle.partition.specs.Inner.Rows.{Has, place_in, AreTwo}
 

@@ -1,4 +1,4 @@
-use Rattle.std.proofs.Common.{◌≡◌, ◌+◌, ◌-◌, ◌*◌, ◌/◌, ◌<◌, ◌≤◌, ℕ, List, length, get_or, take, drop, refl, arith}
+use Rattle.std.proofs.Common.{◌+◌, ◌-◌, ◌*◌, ◌/◌, ◌<◌, ◌≤◌, ℕ, List, length, get_or, take, drop, refl, arith}
 use Rattle.partition.proofs.BlockRows.{row_end, row_slice}
 use Rattle.partition.proofs.Gathering.{row_numbered, number_end, slice_size, gathered_more}
 use Rattle.partition.proofs.bits.gathering.gather.Goals as goal

@@ -1,4 +1,4 @@
-use Rattle.std.proofs.Common.{◌*◌, ◌<◌, ℕ, refl, arith}
+use Rattle.std.proofs.Common.{◌*◌, ◌<◌, refl, arith}
 use Rattle.partition.proofs.BlockRows.{row_slice}
 use Rattle.partition.proofs.Gathering.{row_has, two_of}
 use Rattle.partition.proofs.bits.gathering.label_of_row.Goals as goal

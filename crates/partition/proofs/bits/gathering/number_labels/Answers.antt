@@ -1,4 +1,4 @@
-use Rattle.std.proofs.Common.{◌+◌, ◌<◌, ◌≤◌, ℕ, List, length, get_or, set, arith}
+use Rattle.std.proofs.Common.{◌+◌, ◌<◌, ℕ, List, length, set, arith}
 use Rattle.std.proofs.lemmas.List.{get_or-set_same}
 use Rattle.partition.proofs.Gathering.{number_more, number_kept, numbers_few, numbers_row}
 use Rattle.partition.proofs.bits.gathering.number_labels.Goals as goal
