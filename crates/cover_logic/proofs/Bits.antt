@@ -1,9 +1,9 @@
-use Rattle.std.proofs.Common.{◌≡◌, ℕ, zero, suc, ◌+◌, ◌-◌, ◌%◌, ◌<◌, ◌^◌, ◌*◌, ◌∙◌, ◌/◌, ◌↔◌, IsTrue, zero-mul, ◌==◌, Bool, true, false, not, if◌then◌else◌, min, bit_and, bit_xor, ap, sym, refl, inl, inr, ◌⊎◌, ⊎_elim, arith}
+use Rattle.std.proofs.Common.{◌≡◌, ℕ, zero, suc, ◌+◌, ◌-◌, ◌%◌, ◌<◌, ◌≤◌, ◌^◌, ◌*◌, ◌∙◌, ◌/◌, ◌↔◌, IsTrue, zero-mul, ◌==◌, Bool, true, false, not, if◌then◌else◌, min, bit_and, bit_xor, ap, sym, refl, inl, inr, ◌⊎◌, ⊎_elim, arith}
 use mathlib.Core.Bool.{beq}
-use Rattle.std.specs.Int.{bit_at, bit_not, w128}
+use Rattle.std.specs.Int.{bit_at, bit_not, leading_zeros, w128}
 use Rattle.std.proofs.lemmas.Nat.Bits.{bit_at-zero, bit_at-lt, bit_at_and, bit_at_xor, bit_at_not, bit_at_above, and_pow, same_from_bits}
-use Rattle.std.proofs.lemmas.Nat.{and_assoc, one_shl, xor_lt, pow_pos, div-add-mod'}
-use Rattle.std.proofs.Math.Nat.{mod-lt, div-eq_of_lt}
+use Rattle.std.proofs.lemmas.Nat.{and_assoc, leading_top, one_shl, xor_lt, pow_pos, div-add-mod'}
+use Rattle.std.proofs.Math.Nat.{mod-lt, div-eq_of_lt, div-lt_iff_lt-mul}
 use Rattle.std.specs.Int.Bits.{and_self}
 use Rattle.std.proofs.lemmas.Bool.{cases_Bool, cases_lt, false≢true}
 use Rattle.std.proofs.lemmas.Bool.Decides.{nat_tests}
@@ -104,6 +104,9 @@ no_bit_from_mask n k h none = ⊎_elim (λ zero. zero)
     positive : 1 * 2 ^ k ≡ 0 → ⊥
     positive e = let p = pow_pos k in omega (arith, p)
 
+pub masked_zero : (n k : ℕ) → k < 128 → bit_and n (1 * 2 ^ k % 2 ^ 128) ≡ 0 → bit_at n k ≡ 0
+masked_zero n k h none = no_bit_from_mask n k h (test_from_zero _ none)
+
 -- a literal, by such tests
 pub literal_from_masks : (care value k : ℕ) (one : Bool) → k < 128 → (bit_and care (1 * 2 ^ k % 2 ^ 128) ≡ 0 → ⊥) → beq (not (bit_and value (1 * 2 ^ k % 2 ^ 128) == 0)) one ≡ true → (bit_at care k ≡ 1) × (bit_at value k ≡ if one then 1 else 0)
 literal_from_masks care value k one h looks has = (
@@ -116,3 +119,29 @@ literal_from_masks care value k one h looks has = (
     by_test true false b p q e = q refl
     by_test false true b p q e = p refl
     by_test false false b p q e = absurd (false≢true e)
+
+-- and back
+pub masks_from_literal : (value k : ℕ) (one : Bool) → k < 128 → bit_at value k ≡ (if one then 1 else 0) → beq (not (bit_and value (1 * 2 ^ k % 2 ^ 128) == 0)) one ≡ true
+masks_from_literal value k one h has = by_test (bit_and value (1 * 2 ^ k % 2 ^ 128) == 0) one (bit_at value k) (bit_from_mask value k h) (no_bit_from_mask value k h) has
+  where
+    by_test : (t one : Bool) (b : ℕ) → (t ≡ false → b ≡ 1) → (t ≡ true → b ≡ 0) → b ≡ (if one then 1 else 0) → beq (not t) one ≡ true
+    by_test true true b p q e = absurd (zero_is_not_one b (q refl) e)
+    by_test true false b p q e = refl
+    by_test false true b p q e = refl
+    by_test false false b p q e = absurd (zero_is_not_one b e (p refl))
+
+-- the highest 1 of a number
+pub highest_one : (n : ℕ) → 0 < n → n < 2 ^ 128 → (leading_zeros w128 n ≤ 127) × (bit_at n (127 - leading_zeros w128 n) ≡ 1)
+highest_one n some fits =
+    let top = leading_top 128 n some fits in
+    let same : 127 - leading_zeros w128 n ≡ top.0 = (let e = top.1 in omega arith) in
+    (let e = top.1 in omega arith, ap (bit_at n) same ∙ ap (λ q. q % 2) (once n (2 ^ top.0) (pow_pos top.0) top.2 (let e = top.3 in let p = pow_suc top.0 in omega arith)))
+  where
+    pow_suc : (j : ℕ) → 2 ^ suc j ≡ 2 * 2 ^ j
+    pow_suc j = grind arith
+
+    once : (n m : ℕ) → 0 < m → m ≤ n → n < 2 * m → n / m ≡ 1
+    once n m p low high =
+        let below = (div-lt_iff_lt-mul {k = m} {x = n} {y = 2} p).1 high in
+        let at_least : n < 1 * m → ⊥ = (λ h. omega arith) in
+        ⊎_elim (λ h. absurd (at_least ((div-lt_iff_lt-mul {k = m} {x = n} {y = 1} p).0 h))) (λ h. omega (arith, below)) (cases_lt (n / m) 1)

@@ -4,6 +4,8 @@ pub mod Lists
 pub mod Entries
 pub mod Nodes
 pub mod Planes
+pub mod Literals
+pub mod Groups
 pub mod Values
 pub mod Raising
 pub mod Gaps

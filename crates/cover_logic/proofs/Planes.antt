@@ -1,52 +1,64 @@
-use Rattle.std.proofs.Common.{◌≡◌, ℕ, ◌+◌, ◌-◌, ◌*◌, ◌%◌, ◌^◌, ◌<◌, ◌≤◌, ◌∙◌, true, max, bit_and, bit_or, List, [], ◌∷◌, ◌++◌, length, take, drop, get_or, ap, sym, subst, refl, ◌⊎◌, inl, inr, ⊎_elim, append_assoc, arith}
+use Rattle.std.proofs.Common.{◌≡◌, ◌↔◌, ℕ, ◌+◌, ◌-◌, ◌*◌, ◌%◌, ◌^◌, ◌<◌, ◌≤◌, ◌∙◌, true, bit_and, bit_or, List, [], ◌∷◌, ◌++◌, length, take, drop, get_or, ap, sym, subst, refl, ◌⊎◌, inl, inr, ⊎_elim, append_assoc, arith}
 use Rattle.std.specs.Int.{bit_at, bit_not, w128}
-use Rattle.std.specs.List.{Contains}
-use Rattle.std.proofs.lemmas.Bool.{false≢true, cases_Bool, cases_eq, cases_lt}
+use Rattle.std.specs.List.{All, Contains}
+use Rattle.std.proofs.lemmas.Bool.{false≢true, cases_eq, cases_lt}
 use Rattle.std.proofs.lemmas.List.{append-nil, get_or_default, get_or_append_left, get_or-append_right, length-append, drop-take, take-append-drop, take-take}
 use Rattle.std.proofs.lemmas.List.Elements.{Contains-append_cases, Contains-append_left, Contains-append_right, Contains-get_or, Contains-push, Contains-push_cases}
 use Rattle.std.proofs.lemmas.Nat.{and_le_l}
-use Rattle.std.proofs.lemmas.Nat.Bits.{bit_at-lt, bit_at-zero, bit_at_clear_other, bit_at_clear_same, bit_at_not, bit_at_or, bit_at_set_other}
+use Rattle.std.proofs.lemmas.Nat.Bits.{bit_at-lt, bit_at-zero, bit_at_clear_other, bit_at_clear_same, bit_at_not, bit_at_set_other, bit_at_set_same}
 use Rattle.cover_logic.specs.declared.bundles.Bundle.{Bundle}
 use Rattle.cover_logic.specs.declared.bundles.Entry.{Entry}
 use Rattle.cover_logic.specs.declared.bundles.Plane.{Plane}
 use Rattle.cover_logic.specs.declared.term.Term.{Term}
 use Rattle.cover_logic.specs.Inner.Bundles.{entries_in}
-use Rattle.cover_logic.specs.Inner.Entries.{AreMore, HasLiterals, IsAgainst, IsMet, IsPutAt, IsPutIn}
+use Rattle.cover_logic.specs.Inner.Entries.{AreMore, EntryFits, HasLiterals, IsAgainst, IsMet, IsPutAt, IsPutIn}
 use Rattle.cover_logic.specs.Inner.Pair.{HasLiteral, agree}
-use Rattle.cover_logic.specs.Inner.Planes.{AreTold}
-use Rattle.cover_logic.proofs.Bits.{bits_of_zero, zero_is_not_one, zero_or_one}
+use Rattle.cover_logic.specs.Inner.Planes.{ArePlanes}
+use Rattle.cover_logic.proofs.Bits.{below_width, bits_of_zero, zero_is_not_one, zero_or_one}
 use Rattle.cover_logic.proofs.Lists.{Contains-nil}
-use Rattle.cover_logic.proofs.Terms.{agree_at}
 
--- no place
-pub no_literals : (column bit : ℕ) (entries : List Entry) → HasLiterals column bit entries 0
-no_literals column bit entries k d below one = absurd (zero_is_not_one (bit_at 0 k) (bit_at-zero k) one)
+-- the set has the places of those of the first entries that have the literal, and none of a later one
+abbrev pub HasFirstLiterals : ℕ → ℕ → List Entry → ℕ → ℕ → Type 0
+HasFirstLiterals column bit entries count places =
+    (k : ℕ) (d : Entry) → k < length entries → (bit_at places k ≡ 1) ↔ ((k < count) × HasLiteral (get_or entries k d).term column bit)
 
--- one place more, of an entry with the literal
-pub literals_more : (column bit : ℕ) (entries : List Entry) (places place : ℕ) (e : Entry) → HasLiterals column bit entries places → place < 128 → place < length entries → e ≡ get_or entries place e → HasLiteral e.term column bit → HasLiterals column bit entries (bit_or places (1 * 2 ^ place % 2 ^ 128))
-literals_more column bit entries places place e h within below is has k d in' one = ⊎_elim
+pub literals_none : (column bit : ℕ) (entries : List Entry) → HasFirstLiterals column bit entries 0 0
+literals_none column bit entries k d below = (λ one. absurd (zero_is_not_one (bit_at 0 k) (bit_at-zero k) one), λ h. let none = h.0 in absurd (omega arith))
+
+-- one entry more, with the literal
+pub literals_more : (column bit : ℕ) (entries : List Entry) (places place : ℕ) (e : Entry) → HasFirstLiterals column bit entries place places → place < 128 → place < length entries → e ≡ get_or entries place e → HasLiteral e.term column bit → HasFirstLiterals column bit entries (place + 1) (bit_or places (1 * 2 ^ place % 2 ^ 128))
+literals_more column bit entries places place e h within below is has k d in' = ⊎_elim
     (λ same.
-    let entry : get_or entries k d ≡ e = ap (λ i. get_or entries i d) same ∙ (get_or_default entries place d e below ∙ sym is) in
-    subst (λ (f : Entry). HasLiteral f.term column bit) (sym entry) has)
-    (λ ne. h k d in' (sym (bit_at_set_other w128 places place within k ne) ∙ one)) (cases_eq k place)
+    let entry : get_or entries k d ≡ e = ap (λ i. get_or entries i d) same ∙ (get_or_default entries place d e below ∙ sym is) in (
+      λ one. (omega arith, subst (λ (f : Entry). HasLiteral f.term column bit) (sym entry) has),
+      λ l. ap (bit_at (bit_or places (1 * 2 ^ place % 2 ^ 128))) same ∙ bit_at_set_same w128 places place within,
+    ))
+    (λ ne.
+    let other = bit_at_set_other w128 places place within k ne in (
+      λ one. let l = (h k d in').0 (sym other ∙ one) in (let low = l.0 in omega arith, l.1),
+      λ l. other ∙ (h k d in').1 (let low = l.0 in omega arith, l.1),
+    )) (cases_eq k place)
 
--- a literal of the row is against the entries with the other one
-pub against_literal : (row : Term) (column bit other : ℕ) (entries : List Entry) (places : ℕ) → HasLiteral row column bit → (bit ≡ other → ⊥) → HasLiterals column other entries places → IsAgainst row entries places
-against_literal row column bit other entries places has differ h k d below one = ⊎_elim
-    (λ some.
-    let l = h k d below one in
-    absurd (differ (sym has.1 ∙ (agree_at row (get_or entries k d).term some column has.0 l.0 ∙ l.1))))
-    (λ none. none) (cases_Bool (agree row (get_or entries k d).term))
+-- and without it
+pub literals_passed : (column bit : ℕ) (entries : List Entry) (places place : ℕ) (e : Entry) → HasFirstLiterals column bit entries place places → place < length entries → e ≡ get_or entries place e → (HasLiteral e.term column bit → ⊥) → HasFirstLiterals column bit entries (place + 1) places
+literals_passed column bit entries places place e h below is has k d in' = (
+  λ one. let l = (h k d in').0 one in (let low = l.0 in omega arith, l.1),
+  λ l. ⊎_elim
+      (λ same.
+      let entry : get_or entries k d ≡ e = ap (λ i. get_or entries i d) same ∙ (get_or_default entries place d e below ∙ sym is) in
+      absurd (has (subst (λ (f : Entry). HasLiteral f.term column bit) entry l.1)))
+      (λ ne. (h k d in').1 (let low = l.0 in omega arith, l.1)) (cases_eq k place),
+)
 
-pub against_none : (row : Term) (entries : List Entry) → IsAgainst row entries 0
-against_none row entries k d below one = absurd (zero_is_not_one (bit_at 0 k) (bit_at-zero k) one)
+pub literals_all : (column bit : ℕ) (entries : List Entry) (count places : ℕ) → length entries ≤ count → HasFirstLiterals column bit entries count places → HasLiterals column bit entries places
+literals_all column bit entries count places all h k d below = (λ one. ((h k d below).0 one).1, λ l. (h k d below).1 (omega arith, l))
 
-pub against_either : (row : Term) (entries : List Entry) (a b : ℕ) → IsAgainst row entries a → IsAgainst row entries b → IsAgainst row entries (bit_or a b)
-against_either row entries a b p q k d below one =
-    ⊎_elim (λ l. p k d below l) (λ r. q k d below r) (either (bit_at a k) (bit_at b k) (bit_at-lt a k) (sym (bit_at_or a b k) ∙ one))
-  where
-    either : (m n : ℕ) → m < 2 → max m n ≡ 1 → (m ≡ 1) ⊎ (n ≡ 1)
-    either m n h e = ⊎_elim (λ zero. inr (omega arith)) (λ one. inl one) (zero_or_one m h)
+-- no entry has a literal from the width on
+pub literals_beyond : (width column bit : ℕ) (entries : List Entry) → All (EntryFits width) entries → width ≤ column → HasLiterals column bit entries 0
+literals_beyond width column bit entries fits beyond k d below = (
+  λ one. absurd (zero_is_not_one (bit_at 0 k) (bit_at-zero k) one),
+  λ l. let low = below_width width (get_or entries k d).term.care column (fits k d below) l.0 in absurd (omega (arith, low)),
+)
 
 -- nothing is put in
 pub more_none : (row : Term) (entries met : List Entry) → AreMore row entries met met
@@ -82,7 +94,7 @@ open_first row entries met against few fits h = record {
   more = more_none row entries met;
   all = λ k d below some. ⊎_elim
       (λ zero. inl (bit_at_not w128 against k fits (omega arith) ∙ ap (λ b. 1 - b) zero))
-      (λ one. absurd (false≢true (sym (h k d below one) ∙ some))) (zero_or_one (bit_at against k) (bit_at-lt against k));
+      (λ one. absurd (false≢true (sym ((h k d below).0 one) ∙ some))) (zero_or_one (bit_at against k) (bit_at-lt against k));
 }
 
 pub open_less : (row : Term) (entries before met after : List Entry) (open' place : ℕ) → length entries ≤ 128 → place < 128 → AreOpen row entries before met open' → IsPutAt row entries place met after → AreOpen row entries before after (bit_and open' (bit_not w128 (1 * 2 ^ place % 2 ^ 128)))
@@ -141,11 +153,14 @@ met_of_more row entries more met after m p e = (
 )
 
 -- a plane more
-pub told_none : (entries : List Entry) → length entries ≤ 128 → AreTold entries []
-told_none entries few = record { few = few; width = omega arith; zeros = λ i d below. absurd (omega arith); ones = λ i d below. absurd (omega arith) }
+pub planes_none_at : (entries : List Entry) (planes : List Plane) → planes ≡ [] → length entries ≤ 128 → ArePlanes entries planes
+planes_none_at entries planes none few = subst (λ (ps : List Plane). ArePlanes entries ps) (sym none) (planes_none entries few)
+  where
+    planes_none : (entries : List Entry) → length entries ≤ 128 → ArePlanes entries []
+    planes_none entries few = record { few = few; width = omega arith; zeros = λ i d below. absurd (omega arith); ones = λ i d below. absurd (omega arith) }
 
-pub told_more : (entries : List Entry) (planes : List Plane) (p : Plane) (column : ℕ) → AreTold entries planes → length planes ≡ column → column < 128 → HasLiterals column 0 entries p.zeros → HasLiterals column 1 entries p.ones → AreTold entries (planes ++ p ∷ [])
-told_more entries planes p column t size within zeros ones = record {
+pub planes_more : (entries : List Entry) (planes : List Plane) (p : Plane) (column : ℕ) → ArePlanes entries planes → length planes ≡ column → column < 128 → HasLiterals column 0 entries p.zeros → HasLiterals column 1 entries p.ones → ArePlanes entries (planes ++ p ∷ [])
+planes_more entries planes p column t size within zeros ones = record {
   few = t.few;
   width = let n = length-append planes (p ∷ []) in omega (arith, n);
   zeros = λ i d below. ⊎_elim

@@ -1,49 +1,64 @@
-use Rattle.std.proofs.Common.{ℕ, List, [], ◌∷◌, ◌++◌, not, ◌⊎◌, ⊎_elim, inl, inr, ap, get_or}
-use Rattle.std.specs.List.{All, filter}
+use Rattle.std.proofs.Common.{◌≡◌, ℕ, List, [], ◌∷◌, ◌++◌, not, false, ◌⊎◌, ⊎_elim, inl, inr, ap, subst}
+use Rattle.std.specs.List.{All, Contains, filter}
 use Rattle.std.proofs.lemmas.Bool.{cases_Bool}
-use Rattle.std.proofs.lemmas.List.Elements.{All-push, All-nil, All-filter, All-contains, Contains-append_left, Contains-get_or}
+use Rattle.std.proofs.lemmas.List.Elements.{All-push, All-nil, All-contains, Contains-append_left, Contains-push_cases}
 use Rattle.cover_logic.specs.declared.term.Term.{Term}
-use Rattle.cover_logic.specs.Term.{FitsWidth, IsCovered}
+use Rattle.cover_logic.specs.Term.{FitsWidth, Holds, IsCovered}
 use Rattle.cover_logic.specs.Inner.Pair.{Includes, refines}
-use Rattle.cover_logic.specs.Inner.Rows.{IsClear, IsPrime}
+use Rattle.cover_logic.specs.Inner.Rows.{ArePrimeRows, IsClear, IsPrime}
 use Rattle.cover_logic.proofs.Terms.{refines_includes}
-use Rattle.cover_logic.proofs.Lists.{held_push, held_push_cases, held_left, Contains-filter}
+use Rattle.cover_logic.proofs.Lists.{held_push, held_left, Contains-filter, Contains-from_filter}
 
 -- the rows and the terms that are left hold what on holds; the rows are prime and clear of off, and so are the terms left
-pub record ArePrimes (on off : List Term) (width : ℕ) (left rows : List Term) : Type 0 where
-  pub held : (x : ℕ) → IsCovered on x → IsCovered rows x ⊎ IsCovered left x
+pub record ArePrimes (on off : List Term) (width : ℕ) (Left : Term → Type 0) (rows : List Term) : Type 0 where
+  pub held : (x : ℕ) → IsCovered on x → IsCovered rows x ⊎ ((t : Term) × Left t × Holds t x)
   pub clear : All (IsClear off) rows
   pub prime : All (IsPrime off) rows
   pub fits : All (FitsWidth width) rows
-  pub left_clear : All (IsClear off) left
-  pub left_fits : All (FitsWidth width) left
+  pub left_clear : (t : Term) → Left t → IsClear off t
+  pub left_fits : (t : Term) → Left t → FitsWidth width t
 
-pub primes_none : (on off : List Term) (width : ℕ) → All (IsClear off) on → All (FitsWidth width) on → ArePrimes on off width on []
-primes_none on off width clear fits = record {
-  held = λ x h. inr h;
+pub primes_none : (on off : List Term) (width : ℕ) (Left : Term → Type 0) → ((t : Term) → Contains on t → Left t) → ((t : Term) → Left t → Contains on t) → All (IsClear off) on → All (FitsWidth width) on → ArePrimes on off width Left []
+primes_none on off width Left all among clear fits = record {
+  held = λ x h. inr (h.0, all h.0 h.1, h.2);
   clear = All-nil (IsClear off);
   prime = All-nil (IsPrime off);
   fits = All-nil (FitsWidth width);
-  left_clear = clear;
-  left_fits = fits;
+  left_clear = λ t l. All-contains (IsClear off) on t clear (among t l);
+  left_fits = λ t l. All-contains (FitsWidth width) on t fits (among t l);
 }
 
--- one more row, which holds what the seed holds, and the terms that it does not include
-pub primes_more : (on off : List Term) (width : ℕ) (left rows : List Term) (seed row : Term) → ArePrimes on off width (left ++ seed ∷ []) rows → Includes row seed → IsClear off row → IsPrime off row → FitsWidth width row → ArePrimes on off width (filter (λ t. not (refines row t)) left) (rows ++ row ∷ [])
-primes_more on off width left rows seed row p includes clear prime fits = record {
-  held = λ x h. ⊎_elim (λ k. inl (held_left rows (row ∷ []) x k)) (λ k. still x k) (p.held x h);
+-- one row more; what is no longer left it includes
+pub primes_more : (on off : List Term) (width : ℕ) (Before After : Term → Type 0) (rows : List Term) (row : Term) → ArePrimes on off width Before rows → ((t : Term) → Before t → Includes row t ⊎ After t) → ((t : Term) → After t → Before t) → IsClear off row → IsPrime off row → FitsWidth width row → ArePrimes on off width After (rows ++ row ∷ [])
+primes_more on off width Before After rows row p gone among clear prime fits = record {
+  held = λ x h. ⊎_elim (λ k. inl (held_left rows (row ∷ []) x k))
+      (λ k. ⊎_elim (λ includes. inl (held_push rows row x (includes x k.2))) (λ after. inr (k.0, after, k.2)) (gone k.0 k.1)) (p.held x h);
   clear = All-push (IsClear off) rows row p.clear clear;
   prime = All-push (IsPrime off) rows row p.prime prime;
   fits = All-push (FitsWidth width) rows row p.fits fits;
-  left_clear = All-filter (λ t. not (refines row t)) (IsClear off) left (front (IsClear off) p.left_clear);
-  left_fits = All-filter (λ t. not (refines row t)) (FitsWidth width) left (front (FitsWidth width) p.left_fits);
+  left_clear = λ t l. p.left_clear t (among t l);
+  left_fits = λ t l. p.left_fits t (among t l);
 }
-  where
-    front : (P : Term → Type 0) → All P (left ++ seed ∷ []) → All P left
-    front P h = λ k d below. All-contains P (left ++ seed ∷ []) (get_or left k d) h (Contains-append_left left (seed ∷ []) (get_or left k d) (Contains-get_or left k d below))
 
-    still : (x : ℕ) → IsCovered (left ++ seed ∷ []) x → IsCovered (rows ++ row ∷ []) x ⊎ IsCovered (filter (λ t. not (refines row t)) left) x
-    still x k =
-        ⊎_elim (λ h. ⊎_elim (λ e. inl (held_push rows row x (refines_includes row h.0 e x h.2)))
-        (λ e. inr (h.0, Contains-filter (λ t. not (refines row t)) left h.0 h.1 (ap not e), h.2)) (cases_Bool (refines row h.0)))
-        (λ q. inl (held_push rows row x (includes x q))) (held_push_cases left seed x k)
+pub primes_all : (on off : List Term) (width : ℕ) (Left : Term → Type 0) (rows : List Term) → ((t : Term) → Left t → ⊥) → ArePrimes on off width Left rows → ArePrimeRows on off width rows
+primes_all on off width Left rows none p = record {
+  covers = λ x h. ⊎_elim (λ k. k) (λ k. absurd (none k.0 k.1)) (p.held x h);
+  clear = p.clear;
+  prime = p.prime;
+  fits = p.fits;
+}
+
+-- of a list, without its last term and those that the row holds whole
+pub gone_from_list : (left : List Term) (seed row : Term) → Includes row seed → (t : Term) → Contains (left ++ seed ∷ []) t → Includes row t ⊎ Contains (filter (λ u. not (refines row u)) left) t
+gone_from_list left seed row includes t h = ⊎_elim
+    (λ k. ⊎_elim (λ e. inl (refines_includes row t e)) (λ e. inr (Contains-filter (λ u. not (refines row u)) left t k (ap not e))) (cases_Bool (refines row t)))
+    (λ same. inl (subst (λ (u : Term). Includes row u) same includes)) (Contains-push_cases left seed t h)
+
+pub left_in_list : (left : List Term) (seed row t : Term) → Contains (filter (λ u. not (refines row u)) left) t → Contains (left ++ seed ∷ []) t
+left_in_list left seed row t h = Contains-append_left left (seed ∷ []) t (Contains-from_filter (λ u. not (refines row u)) left t h).0
+
+-- the same of any other way to keep them
+pub gone_from : (row seed : Term) (Before Taken After : Term → Type 0) → Includes row seed → ((t : Term) → Before t → Taken t ⊎ (seed ≡ t)) → ((t : Term) → Taken t → refines row t ≡ false → After t) → (t : Term) → Before t → Includes row t ⊎ After t
+gone_from row seed Before Taken After includes rest left t h = ⊎_elim
+    (λ k. ⊎_elim (λ e. inl (refines_includes row t e)) (λ e. inr (left t k e)) (cases_Bool (refines row t)))
+    (λ same. inl (subst (λ (u : Term). Includes row u) same includes)) (rest t h)

@@ -2,7 +2,8 @@ use Rattle.std.proofs.Common.{◌≡◌, ◌≢◌, ℕ, ◌%◌, ◌<◌, ◌^�
 use Rattle.std.specs.Int.{bit_at, bit_not, w128}
 use Rattle.std.proofs.lemmas.Nat.Bits.{bit_at-lt, bit_at_and, bit_at_or, bit_at_clear_same, bit_at_clear_other, bit_at_set_same, bit_at_set_other, and_pow, same_from_bits}
 use Rattle.std.proofs.lemmas.Nat.{one_shl, or_disjoint, pow_pos}
-use Rattle.std.proofs.lemmas.Bool.{cases_eq, and_parts}
+use Rattle.std.proofs.lemmas.Bool.{cases_eq, and_parts, eq-eqb}
+use Rattle.std.specs.Cmp.Derive.{both_true}
 use Rattle.cover_logic.specs.declared.term.Term.{Term}
 use Rattle.cover_logic.specs.Term.{Holds, HoldsWithDash, LooksAt}
 use Rattle.cover_logic.specs.Inner.Pair.{Includes, IsColumnHalf, IsLooser, IsIntersection, ShareValue, agree, refines}
@@ -21,14 +22,17 @@ agree_at a b h i l m =
     same_where_both _ _ (bit_at a.care i) (bit_at b.care i) (bit_at-lt a.value i) (bit_at-lt b.value i)
     (sym (bit_at_differ a.value b.value a.care b.care i) ∙ bits_of_zero _ (zero_from_test _ h) i) l m
 
--- terms that share a value pass the test
-pub agree_from_shared : (a b : Term) (x : ℕ) → Holds a x → Holds b x → agree a b ≡ true
-unfolding Holds
-agree_from_shared a b x p q =
+-- terms that agree wherever both look pass the test
+pub agree_from_bits : (a b : Term) → ((i : ℕ) → LooksAt a i → LooksAt b i → bit_at a.value i ≡ bit_at b.value i) → agree a b ≡ true
+agree_from_bits a b h =
     test_from_zero _ (zero_from_bits _ (λ i.
     bit_at_differ a.value b.value a.care b.care i
-    ∙ none_differ _ _ (bit_at a.care i) (bit_at b.care i) (bit_at-lt a.value i) (bit_at-lt b.value i) (bit_at-lt a.care i) (bit_at-lt b.care i)
-    (λ l m. sym (p i l) ∙ q i m)))
+    ∙ none_differ _ _ (bit_at a.care i) (bit_at b.care i) (bit_at-lt a.value i) (bit_at-lt b.value i) (bit_at-lt a.care i) (bit_at-lt b.care i) (h i)))
+
+-- as terms that share a value do
+pub agree_from_shared : (a b : Term) (x : ℕ) → Holds a x → Holds b x → agree a b ≡ true
+unfolding Holds
+agree_from_shared a b x p q = agree_from_bits a b (λ i l m. sym (p i l) ∙ q i m)
 
 -- a term holds its own value
 pub holds_own : (t : Term) → Holds t t.value
@@ -272,6 +276,31 @@ pub refines_includes : (wide narrow : Term) → refines wide narrow ≡ true →
 refines_includes wide narrow h =
     let tests = and_parts _ _ h in
     includes_from wide narrow (equal_from_test _ _ tests.0) (equal_from_test _ _ tests.1)
+
+-- where a term has the literals of another
+pub refines_at : (wide narrow : Term) → refines wide narrow ≡ true → (i : ℕ) → LooksAt wide i → LooksAt narrow i × (bit_at narrow.value i ≡ bit_at wide.value i)
+refines_at wide narrow h i l =
+    let tests = and_parts _ _ h in (
+      (both_one _ _ (bit_at-lt wide.care i) (bit_at-lt narrow.care i) (sym (bit_at_and wide.care narrow.care i) ∙ (ap (λ n. bit_at n i) (equal_from_test _ _ tests.0) ∙ l))).1,
+      sym (sym (ap (λ n. bit_at n i) (equal_from_test _ _ tests.1)) ∙ (bit_at_and narrow.value wide.care i ∙ min_with_one _ _ (bit_at-lt narrow.value i) l)),
+    )
+
+pub refines_from : (wide narrow : Term) → ((i : ℕ) → LooksAt wide i → LooksAt narrow i × (bit_at narrow.value i ≡ bit_at wide.value i)) → refines wide narrow ≡ true
+refines_from wide narrow h = both_true (eq-eqb _ _ (same_from_bits _ _ care)) (eq-eqb _ _ (same_from_bits _ _ value))
+  where
+    care : (i : ℕ) → bit_at (bit_and wide.care narrow.care) i ≡ bit_at wide.care i
+    care i = bit_at_and wide.care narrow.care i ∙ ⊎_elim (λ none. zero_min _ _ none)
+        (λ one. min_with_one (bit_at wide.care i) (bit_at narrow.care i) (bit_at-lt wide.care i) (h i one).0) (zero_or_one (bit_at wide.care i) (bit_at-lt wide.care i))
+      where
+        zero_min : (a b : ℕ) → a ≡ 0 → min a b ≡ a
+        zero_min a b e = omega arith
+
+    value : (i : ℕ) → bit_at (bit_and narrow.value wide.care) i ≡ bit_at wide.value i
+    value i = bit_at_and narrow.value wide.care i ∙ ⊎_elim (λ none. zero_both _ _ _ none (dash_is_zero wide i none))
+        (λ one. min_with_one (bit_at narrow.value i) (bit_at wide.care i) (bit_at-lt narrow.value i) one ∙ (h i one).1) (zero_or_one (bit_at wide.care i) (bit_at-lt wide.care i))
+      where
+        zero_both : (a b c : ℕ) → b ≡ 0 → c ≡ 0 → min a b ≡ c
+        zero_both a b c e f = omega arith
 
 -- the test says whether two terms share a value
 pub agree_says : (a b : Term) → IsTrue (agree a b) ↔ ShareValue a b

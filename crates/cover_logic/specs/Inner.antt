@@ -4,5 +4,7 @@ pub mod Rows
 pub mod Entries
 pub mod Planes
 pub mod Bundles
+pub mod Groups
+pub mod Waiting
 pub mod Nodes
 pub mod Index

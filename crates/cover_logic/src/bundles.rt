@@ -1,8 +1,9 @@
 //! The terms of a list in bundles of 128, by their columns, so that one step asks all terms of a bundle
 //! whether they share a value with a row.
-ghost use Rattle.std.specs.Prelude.{◌<◌, ◌≤◌, All, IfOk, if◌then◌else◌, length};
+ghost use Rattle.std.specs.Prelude.{◌<◌, ◌≤◌, IfOk, if◌then◌else◌, length};
+ghost use Rattle.cover_logic.specs.Term.{FitsWidth};
 ghost use Rattle.cover_logic.specs.Inner.Entries.{HasLiterals, IsNumbered};
-ghost use Rattle.cover_logic.specs.Inner.Planes.{AreTold, AreTold-prop, IsLiteralOf};
+ghost use Rattle.cover_logic.specs.Inner.Planes.{AreLiteralsOf, AreTold, AreTold-prop, IsLiteralAt};
 
 use crate::term::Term;
 use std::alloc::{AllocError, Global};
@@ -16,7 +17,7 @@ pub struct Entry {
 
 /// A literal of a row: its column, and whether it is a 1.
 #[derive(Clone, Copy)]
-struct Literal {
+pub struct Literal {
     column: usize,
     one: bool,
 }
@@ -31,22 +32,23 @@ struct Plane {
 
 /// At most 128 terms of a list, with a plane for each column.
 #[derive(Drop)]
-struct Bundle {
-    entries: Vec<Entry>,
+pub struct Bundle {
+    pub entries: Vec<Entry>,
     planes: Vec<Plane>,
     ghost told: { AreTold entries.items planes.items } by { AreTold-prop entries.items planes.items },
 }
 
 impl Bundle {
-    ghost use Rattle.std.specs.Prelude.{◌≡◌, ◌≤◌, All, IfOk, OnOk, length};
+    ghost use Rattle.std.specs.Prelude.{◌≡◌, ◌≤◌, All, IfOk, OnOk, if◌then◌else◌, length};
     ghost use Rattle.cover_logic.specs.declared.term.Term.{Term};
-    ghost use Rattle.cover_logic.specs.Inner.Entries.{IsAgainst, IsPutAt, IsPutIn};
-    ghost use Rattle.cover_logic.specs.Inner.Planes.{IsLiteralOf};
+    ghost use Rattle.cover_logic.specs.Inner.Entries.{EntryFits, HasLiterals, IsAgainst, IsPutAt, IsPutIn, IsWithin};
+    ghost use Rattle.cover_logic.specs.Inner.Planes.{AreLiteralsOf};
 
     /// The bundle of the entries.
     fn new(alloc: Global, entries: &[Entry], width: u8) -> Result<Bundle, AllocError>
         requires width { width ≤ 128 }
         requires few { length entries.now ≤ 128 }
+        requires fits { All (EntryFits width) entries.now }
         ensures { IfOk result (λ bundle. bundle.entries.items ≡ entries.now) }
     {
         let mut planes = Vec::with_capacity(alloc, usize::from(width))?;
@@ -62,32 +64,54 @@ impl Bundle {
         })
     }
 
-    /// Places of terms that have the other literal at the column.
-    fn against_one(&self, literal: Literal) -> u128
-        ensures { (row : Term) → IsLiteralOf row literal → IsAgainst row self.now.entries.items result }
+    /// The number of terms.
+    pub fn len(&self) -> usize
+        ensures terms { result ≡ length self.now.entries.items }
+        ensures few { result ≤ 128 }
     {
-        if literal.column >= self.planes.len() {
+        self.entries.len()
+    }
+
+    /// Places of terms that have that literal at the column.
+    fn having(&self, column: usize, one: bool) -> u128
+        ensures { HasLiterals column (if one then 1 else 0) self.now.entries.items result }
+    {
+        if column >= self.planes.len() {
             return 0;
         }
-        let plane = self.planes[literal.column];
-        if literal.one {
-            return plane.zeros;
+        let plane = self.planes[column];
+        if one {
+            return plane.ones;
         }
-        plane.ones
+        plane.zeros
     }
 
     /// Places of terms that have the other literal at some column, found until no place is left.
     fn against(&self, literals: &[Literal]) -> u128
-        ensures { (row : Term) → All (IsLiteralOf row) literals.now → IsAgainst row self.now.entries.items result }
+        ensures { (row : Term) → AreLiteralsOf row literals.now → IsAgainst row self.now.entries.items result }
     {
         let mut against = 0;
         for literal in literals {
             if against == u128::MAX {
-                break;
+                return against;
             }
-            against |= self.against_one(*literal);
+            against |= self.having(literal.column, !literal.one);
         }
         against
+    }
+
+    /// Those of the places whose terms have each of the literals, looked for until no place is left.
+    pub fn within(&self, places: u128, literals: &[Literal]) -> u128
+        ensures { (row : Term) → AreLiteralsOf row literals.now → IsWithin row self.now.entries.items places result }
+    {
+        let mut within = places;
+        for literal in literals {
+            if within == 0 {
+                return within;
+            }
+            within &= self.having(literal.column, literal.one);
+        }
+        within
     }
 
     /// Puts the entry at the place behind the others if its term shares a value with the row.
@@ -111,7 +135,7 @@ impl Bundle {
         literals: &[Literal],
         met: &mut Vec<Entry>,
     ) -> Result<(), AllocError>
-        requires { All (IsLiteralOf row) literals.now }
+        requires { AreLiteralsOf row literals.now }
         ensures { OnOk result (IsPutIn row self.now.entries.items met.old.items met.new.items) }
     {
         let mut open = !self.against(literals);
@@ -127,19 +151,23 @@ impl Bundle {
 /// A list of terms in bundles, which is asked for the terms that share a value with a row.
 #[derive(Drop)]
 pub struct Bundles {
-    bundles: Vec<Bundle>,
+    pub bundles: Vec<Bundle>,
     width: u8,
+    ghost columns: { width ≤ 128 },
 }
 
 impl Bundles {
-    ghost use Rattle.std.specs.Prelude.{◌≤◌, IfOk};
+    ghost use Rattle.std.specs.Prelude.{◌≡◌, ◌≤◌, All, IfOk};
+    ghost use Rattle.cover_logic.specs.Term.{FitsWidth};
     ghost use Rattle.cover_logic.specs.Inner.Bundles.{entries_of, terms_in_bundles};
     ghost use Rattle.cover_logic.specs.Inner.Entries.{IsMet, IsNumbered};
     ghost use Rattle.cover_logic.specs.Inner.Rows.{HasSameTerms};
 
     /// The bundles of the terms, in the order of the list.
     pub fn new(alloc: Global, terms: &[Term], width: u8) -> Result<Bundles, AllocError>
-        requires { width ≤ 128 }
+        requires width { width ≤ 128 }
+        requires fits { All (FitsWidth width) terms.now }
+        ensures width { IfOk result (λ all. all.width ≡ width) }
         ensures terms { IfOk result (λ all. HasSameTerms terms.now (terms_in_bundles all)) }
         ensures numbers { IfOk result (λ all. IsNumbered terms.now (entries_of all)) }
     {
@@ -156,6 +184,7 @@ impl Bundles {
 
     /// The terms that share a value with the row.
     pub fn met_by(&self, alloc: Global, row: Term) -> Result<Vec<Entry>, AllocError>
+        requires { FitsWidth self.now.width row }
         ensures { IfOk result (λ met. IsMet row (entries_of self.now) met.items) }
     {
         let literals = literals_of(alloc, row, self.width)?;
@@ -181,17 +210,32 @@ fn numbered(alloc: Global, terms: &[Term]) -> Result<Vec<Entry>, AllocError>
     Ok(entries)
 }
 
-/// The literals of the row below the width, from the last column to the first.
-fn literals_of(alloc: Global, row: Term, width: u8) -> Result<Vec<Literal>, AllocError>
-    ensures { IfOk result (λ literals. All (IsLiteralOf row) literals.items) }
+/// The literal of the row at the column, if it has one there.
+fn literal_at(row: Term, column: usize) -> Option<Literal>
+    requires { column < 128 }
+    ensures { IsLiteralAt row column result }
+{
+    if row.has_literal(column as u32, true) {
+        return Some(Literal { column, one: true });
+    }
+    if row.has_literal(column as u32, false) {
+        return Some(Literal { column, one: false });
+    }
+    None
+}
+
+/// The literals of the row, from the last column to the first.
+pub fn literals_of(alloc: Global, row: Term, width: u8) -> Result<Vec<Literal>, AllocError>
+    requires width { width ≤ 128 }
+    requires fits { FitsWidth width row }
+    ensures { IfOk result (λ literals. AreLiteralsOf row literals.items) }
 {
     let mut literals = Vec::new(alloc);
-    let mut column = usize::from(width.min(128));
+    let mut column = usize::from(width);
     while column > 0 {
         column -= 1;
-        let one = row.has_literal(column as u32, true);
-        if one || row.has_literal(column as u32, false) {
-            literals.push(Literal { column, one })?;
+        if let Some(literal) = literal_at(row, column) {
+            literals.push(literal)?;
         }
     }
     Ok(literals)

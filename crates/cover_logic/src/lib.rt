@@ -40,6 +40,7 @@ mod spare;
 mod term;
 #[cfg(test)]
 mod tests;
+mod waiting;
 
 use distinct::distinct;
 use index::Index;

@@ -2,12 +2,13 @@ ghost use Rattle.std.specs.Prelude.{◌≡◌, ◌≤◌, All, IfOk, filter, not
 ghost use Rattle.cover_logic.specs.Term.{FitsWidth};
 ghost use Rattle.cover_logic.specs.Inner.Index.{terms_of};
 ghost use Rattle.cover_logic.specs.Inner.Pair.{refines};
-ghost use Rattle.cover_logic.specs.Inner.Rows.{Covers, IsClear, IsPrime, IsPrimeRow};
+ghost use Rattle.cover_logic.specs.Inner.Rows.{ArePrimeRows, IsClear, IsPrimeRow};
 
 use crate::index::Index;
 use crate::raise::{grow, raise, widened};
 use crate::slices::Slices;
 use crate::term::Term;
+use crate::waiting::Waiting;
 use std::alloc::{AllocError, Global};
 
 /// Drops each term whose values the row all holds.
@@ -116,24 +117,44 @@ fn guided_row(
     Ok(row)
 }
 
-/// The same, by the guide where there is one.
-fn prime_row(
+/// The rows, by passes over the list of the terms that lie in none yet.
+fn plain_rows(alloc: Global, on: &[Term], off: &Index, width: u8) -> Result<Vec<Term>, AllocError>
+    requires width { width ≤ 128 }
+    requires fits { All (FitsWidth width) on.now }
+    requires clear { All (IsClear (terms_of off.now)) on.now }
+    ensures { IfOk result (λ rows. ArePrimeRows on.now (terms_of off.now) width rows.items) }
+{
+    let mut left = Vec::from_slice(alloc, on)?;
+    let mut rows = Vec::new(alloc);
+    while let Some(seed) = left.pop() {
+        let row = plain_row(alloc, seed, &left, off, width)?;
+        drop_included(&mut left, row);
+        rows.push(row)?;
+    }
+    Ok(rows)
+}
+
+/// The same, by the guide and by bundles of those terms.
+fn guided_rows(
     alloc: Global,
-    seed: Term,
-    left: &[Term],
-    guide: &mut Option<Guide>,
+    on: &[Term],
+    mut guide: Guide,
     off: &Index,
     width: u8,
-) -> Result<Term, AllocError>
+) -> Result<Vec<Term>, AllocError>
     requires width { width ≤ 128 }
-    requires fits { FitsWidth width seed }
-    requires clear { IsClear (terms_of off.now) seed }
-    ensures { IfOk result (IsPrimeRow seed (terms_of off.now) width) }
+    requires fits { All (FitsWidth width) on.now }
+    requires clear { All (IsClear (terms_of off.now)) on.now }
+    ensures { IfOk result (λ rows. ArePrimeRows on.now (terms_of off.now) width rows.items) }
 {
-    match guide {
-        Some(guide) => guided_row(alloc, seed, guide, off, width),
-        None => plain_row(alloc, seed, left, off, width),
+    let mut waiting = Waiting::new(alloc, on, width)?;
+    let mut rows = Vec::new(alloc);
+    while let Some(seed) = waiting.pop() {
+        let row = guided_row(alloc, seed, &mut guide, off, width)?;
+        waiting.drop_included(alloc, row, width)?;
+        rows.push(row)?;
     }
+    Ok(rows)
 }
 
 /// Rows that hold every value of on and none of off, and that need each of their literals.
@@ -141,18 +162,10 @@ pub fn primes(alloc: Global, on: &[Term], off: &Index, width: u8) -> Result<Vec<
     requires width { width ≤ 128 }
     requires fits { All (FitsWidth width) on.now }
     requires clear { All (IsClear (terms_of off.now)) on.now }
-    ensures covers { IfOk result (λ rows. Covers rows.items on.now) }
-    ensures clear { IfOk result (λ rows. All (IsClear (terms_of off.now)) rows.items) }
-    ensures prime { IfOk result (λ rows. All (IsPrime (terms_of off.now)) rows.items) }
-    ensures fits { IfOk result (λ rows. All (FitsWidth width) rows.items) }
+    ensures { IfOk result (λ rows. ArePrimeRows on.now (terms_of off.now) width rows.items) }
 {
-    let mut guide = guide_for(alloc, on, off, width)?;
-    let mut left = Vec::from_slice(alloc, on)?;
-    let mut rows = Vec::new(alloc);
-    while let Some(seed) = left.pop() {
-        let row = prime_row(alloc, seed, &left, &mut guide, off, width)?;
-        drop_included(&mut left, row);
-        rows.push(row)?;
+    match guide_for(alloc, on, off, width)? {
+        Some(guide) => guided_rows(alloc, on, guide, off, width),
+        None => plain_rows(alloc, on, off, width),
     }
-    Ok(rows)
 }

@@ -1,6 +1,7 @@
 //! Which rows are to spare, in long lists: the rows and the terms of on that share a value with a row are
 //! asked of bundles.
 ghost use Rattle.std.specs.Prelude.{◌≡◌, ◌≤◌, [], All, Contains, IfOk, false, slice_index_or};
+ghost use Rattle.cover_logic.specs.Term.{FitsWidth};
 ghost use Rattle.cover_logic.specs.Inner.Entries.{HoldsRivals};
 ghost use Rattle.cover_logic.specs.Inner.Bundles.{terms_in_bundles};
 ghost use Rattle.cover_logic.specs.Inner.Rows.{Covers, EachNeeded, IsSole};
@@ -42,6 +43,7 @@ fn sole_value(
     on: &Bundles,
     others: &[Term],
 ) -> Result<Option<u128>, AllocError>
+    requires { FitsWidth on.now.width row }
     ensures { IfOk result (IsSole row (terms_in_bundles on.now) others.now) }
 {
     let near = on.met_by(alloc, row)?;
@@ -63,6 +65,8 @@ pub fn left_of_bundles(
     width: u8,
 ) -> Result<Vec<Term>, AllocError>
     requires width { width ≤ 128 }
+    requires fits { All (FitsWidth width) rows.now }
+    requires same { on.now.width ≡ width }
     requires covers { Covers rows.now (terms_in_bundles on.now) }
     ensures among { IfOk result (λ kept. All (Contains rows.now) kept.items) }
     ensures covers { IfOk result (λ kept. Covers kept.items (terms_in_bundles on.now)) }

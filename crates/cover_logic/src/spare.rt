@@ -1,4 +1,5 @@
 ghost use Rattle.std.specs.Prelude.{◌≡◌, ◌≤◌, ◌++◌, [], All, Contains, IfOk, filter};
+ghost use Rattle.cover_logic.specs.Term.{FitsWidth};
 ghost use Rattle.cover_logic.specs.Inner.Pair.{agree};
 ghost use Rattle.cover_logic.specs.Inner.Rows.{Covers, EachNeeded, IsSole};
 
@@ -68,6 +69,8 @@ pub fn without_spare(
     width: u8,
 ) -> Result<Vec<Term>, AllocError>
     requires width { width ≤ 128 }
+    requires fits { All (FitsWidth width) rows.now }
+    requires on_fits { All (FitsWidth width) on.now }
     requires covers { Covers rows.now on.now }
     ensures among { IfOk result (λ kept. All (Contains rows.now) kept.items) }
     ensures covers { IfOk result (λ kept. Covers kept.items on.now) }

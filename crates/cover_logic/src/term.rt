@@ -58,7 +58,7 @@ impl Term {
     /// Whether the term has that literal at the column.
     pub(crate) fn has_literal(self, column: u32, one: bool) -> bool
         requires { column < 128 }
-        ensures { IsTrue result → HasLiteral self column (if one then 1 else 0) }
+        ensures { IsTrue result ↔ HasLiteral self column (if one then 1 else 0) }
     {
         let bit = 1u128 << column;
         self.care & bit != 0 && (self.value & bit != 0) == one

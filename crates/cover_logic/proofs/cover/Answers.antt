@@ -30,6 +30,13 @@ without_spare-requires-clause-covers c =
     rw (c.deref-3.ensures.value, c.deref-4.ensures.value)
     (subst (λ (ts : List Term). Covers c.in_ok-rows.rows.items ts) c.deref-2.ensures.value c.in_ok-rows.ensures.covers)
 
+pub without_spare-requires-clause-fits : goal.without_spare-requires-clause-fits
+without_spare-requires-clause-fits c = rw c.deref-3.ensures.value c.in_ok-rows.ensures.fits
+
+pub without_spare-requires-clause-on_fits : goal.without_spare-requires-clause-on_fits
+without_spare-requires-clause-on_fits c =
+    rw c.deref-4.ensures.value (values_all (FitsWidth c.args.width) c.args.on.now c.in_ok-ones.ones.items c.in_ok-ones.ensures c.requires.on_fits)
+
 pub returns-clause-good : goal.returns-clause-good
 returns-clause-good c =
     let on = c.args.on.now in

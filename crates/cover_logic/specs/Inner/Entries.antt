@@ -3,7 +3,8 @@ use Rattle.std.specs.Prelude.{◌≡◌, ◌≢◌, ℕ, ◌<◌, ◌↔◌, Boo
 use Rattle.std.specs.Int.{bit_at}
 use Rattle.cover_logic.specs.declared.bundles.Entry.{Entry}
 use Rattle.cover_logic.specs.declared.term.Term.{Term}
-use Rattle.cover_logic.specs.Inner.Pair.{HasLiteral, agree}
+use Rattle.cover_logic.specs.Inner.Pair.{HasLiteral, agree, refines}
+use Rattle.cover_logic.specs.Term.{FitsWidth}
 
 abbrev pub terms_in : List Entry → List Term
 terms_in [] = []
@@ -22,15 +23,24 @@ pub record IsNumbered (terms : List Term) (entries : List Entry) : Type 0 where
 abbrev pub IsMet : Term → List Entry → List Entry → Type 0
 IsMet row entries met = (e : Entry) → Contains met e ↔ (Contains entries e × (agree row e.term ≡ true))
 
--- each place of the set is that of an entry with that literal at the column
+-- the term of the entry has no literal at or above the width
+abbrev pub EntryFits : ℕ → Entry → Type 0
+EntryFits width e = FitsWidth width e.term
+
+-- of the places of entries, the set has those of entries with that literal at the column
 abbrev pub HasLiterals : ℕ → ℕ → List Entry → ℕ → Type 0
 HasLiterals column bit entries places =
-    (k : ℕ) (d : Entry) → k < length entries → bit_at places k ≡ 1 → HasLiteral (slice_index_or entries k d).term column bit
+    (k : ℕ) (d : Entry) → k < length entries → (bit_at places k ≡ 1) ↔ HasLiteral (slice_index_or entries k d).term column bit
 
--- each place of the set is that of an entry whose term shares no value with the row
+-- of the places of entries, the set has those of entries whose terms share no value with the row
 abbrev pub IsAgainst : Term → List Entry → ℕ → Type 0
 IsAgainst row entries places =
-    (k : ℕ) (d : Entry) → k < length entries → bit_at places k ≡ 1 → agree row (slice_index_or entries k d).term ≡ false
+    (k : ℕ) (d : Entry) → k < length entries → (bit_at places k ≡ 1) ↔ (agree row (slice_index_or entries k d).term ≡ false)
+
+-- of the places of entries, the set has those of the other set at which the term looks wherever the row does, with the same bits
+abbrev pub IsWithin : Term → List Entry → ℕ → ℕ → Type 0
+IsWithin row entries places within =
+    (k : ℕ) (d : Entry) → k < length entries → (bit_at within k ≡ 1) ↔ ((bit_at places k ≡ 1) × (refines row (slice_index_or entries k d).term ≡ true))
 
 -- entries were put in whose terms share a value with the row, and none was taken out
 pub record AreMore (row : Term) (entries before after : List Entry) : Type 0 where

@@ -33,6 +33,17 @@ pub record IsPrimeRow (seed : Term) (off : List Term) (width : ℕ) (row : Term)
   pub prime : IsPrime off row
   pub fits : FitsWidth width row
 
+-- every value of on is held by a row
+abbrev pub Covers : List Term → List Term → Type 0
+Covers rows on = (x : ℕ) → IsCovered on x → IsCovered rows x
+
+-- rows that hold every value of on and no value of off, and that need each of their literals
+pub record ArePrimeRows (on off : List Term) (width : ℕ) (rows : List Term) : Type 0 where
+  pub covers : Covers rows on
+  pub clear : All (IsClear off) rows
+  pub prime : All (IsPrime off) rows
+  pub fits : All (FitsWidth width) rows
+
 -- a value of the term that the list does not hold, or none where it holds each of them
 abbrev pub IsUncovered : Term → List Term → Option ℕ → Type 0
 IsUncovered t terms gap =
@@ -43,10 +54,6 @@ abbrev pub IsSole : Term → List Term → List Term → Option ℕ → Type 0
 IsSole row on others sole =
     MatchOption sole ((x : ℕ) → Holds row x → IsCovered on x → IsCovered others x)
     (λ x. Holds row x × IsCovered on x × (IsCovered others x → ⊥))
-
--- every value of on is held by a row
-abbrev pub Covers : List Term → List Term → Type 0
-Covers rows on = (x : ℕ) → IsCovered on x → IsCovered rows x
 
 -- each row holds a value of on that neither another row nor the rest holds
 abbrev pub EachNeeded : List Term → List Term → List Term → Type 0

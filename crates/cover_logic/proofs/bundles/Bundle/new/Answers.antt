@@ -2,9 +2,14 @@ use Rattle.std.proofs.Common.{◌≡◌, List, ◌∷◌, [], ◌++◌, length, 
 use Rattle.cover_logic.specs.declared.bundles.Entry.{Entry}
 use Rattle.cover_logic.specs.declared.bundles.Plane.{Plane}
 use Rattle.cover_logic.specs.Inner.Planes.{AreTold}
-use Rattle.cover_logic.proofs.Planes.{told_more}
+use Rattle.cover_logic.proofs.Planes.{planes_more, planes_none_at}
 use Rattle.std.proofs.lemmas.List.{length-append}
+use Rattle.std.specs.List.{All}
+use Rattle.cover_logic.specs.Inner.Entries.{EntryFits}
 use Rattle.cover_logic.proofs.bundles.Bundle.new.Goals as goal
+
+pub loop-column-init : goal.loop-column-init
+loop-column-init c = (planes_none_at c.args.entries.now c.in_ok-planes.planes.items (search rules) c.requires.few, search rules)
 
 pub loop-column-preserved : goal.loop-column-preserved
 loop-column-preserved c =
@@ -15,11 +20,14 @@ loop-column-preserved c =
     let pushed : c.push.new.self.items ≡ planes ++ plane ∷ [] = search rules in
     let size : length planes ≡ column = c.loop-column.invariant.1 in
     rw pushed (
-      told_more entries planes plane column c.loop-column.invariant.0 size (let w = c.requires.width in let t = c.loop-column-test.true in omega arith) c.literals.ensures c.literals-in-loop-column.ensures,
+      planes_more entries planes plane column c.loop-column.invariant.0 size (let w = c.requires.width in let t = c.loop-column-test.true in omega arith) c.literals.ensures c.literals-in-loop-column.ensures,
       (let n = length-append planes (plane ∷ []) in omega (arith, n, size)),
     )
 
 pub invariant_of-result : goal.invariant_of-result
-invariant_of-result c = record {
-  told = subst (λ (es : List Entry). AreTold es c.loop-column.planes.items) (sym c.in_ok-from_slice.ensures.items) c.loop-column.invariant.0;
-}
+invariant_of-result c =
+    let all : length c.loop-column.planes.items ≡ c.args.width = search rules in
+    record {
+      told = subst (λ (es : List Entry). AreTold es c.loop-column.planes.items) (sym c.in_ok-from_slice.ensures.items)
+          (record { by_column = c.loop-column.invariant.0; fits = subst (λ n. All (EntryFits n) c.args.entries.now) (sym all) c.requires.fits });
+    }

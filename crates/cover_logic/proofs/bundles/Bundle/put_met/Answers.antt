@@ -6,7 +6,7 @@ use Rattle.cover_logic.proofs.bundles.Bundle.put_met.Goals as goal
 
 pub loop-open-init : goal.loop-open-init
 loop-open-init c =
-    open_first c.args.row c.args.self.now.entries.items c.args.met.now.items c.against-open.result c.args.self.now.told.few (search rules) (c.against-open.ensures c.args.row c.requires)
+    open_first c.args.row c.args.self.now.entries.items c.args.met.now.items c.against-open.result c.args.self.now.told.by_column.few (search rules) (c.against-open.ensures c.args.row c.requires)
 
 pub loop-open-smaller : goal.loop-open-smaller
 loop-open-smaller c =
@@ -20,5 +20,5 @@ loop-open-preserved c =
     let open' = c.loop-open.open in
     let fits : open' < 2 ^ 128 = search rules in
     let lowest = bit_at-trailing_zeros w128 open' (omega arith) fits in
-    open_less c.args.row c.args.self.now.entries.items c.args.met.now.items c.loop-open.met.items c.put_at.new.met.items open' (trailing_zeros w128 open') c.args.self.now.told.few lowest.0
+    open_less c.args.row c.args.self.now.entries.items c.args.met.now.items c.loop-open.met.items c.put_at.new.met.items open' (trailing_zeros w128 open') c.args.self.now.told.by_column.few lowest.0
     c.loop-open.invariant c.in_ok-put_at.ensures
