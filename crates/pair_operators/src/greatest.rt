@@ -1,9 +1,10 @@
 //! The greatest partition of a pair.
-ghost use Rattle.std.specs.Prelude.{ℕ, ◌≡◌, ◌<◌, ◌↔◌, IfNone, IfOk, IfSome, IsTrue, length};
+ghost use Rattle.std.specs.Prelude.{ℕ, ◌≡◌, ◌<◌, ◌↔◌, All, IfNone, IfOk, IfSome, IsTrue, length};
 ghost use Rattle.pair_operators.specs.Extremes.{IsHigh};
 ghost use Rattle.partition.specs.Partition.{IsPartition};
-ghost use Rattle.pair_operators.specs.Inner.Going.{AllGo, AreLabelsAhead, Goes};
+ghost use Rattle.pair_operators.specs.Inner.Going.{AllGo, Goes, IsAhead};
 
+use crate::ahead::{Ahead, labels_ahead};
 use machine_table::Machine;
 use partition::Partition;
 use std::alloc::{AllocError, Global};
@@ -16,49 +17,39 @@ pub fn high(alloc: Global, m: &Machine, q: &Partition) -> Result<Partition, Allo
     requires { length q.now ≡ length m.now.states }
     ensures { IfOk result (IsHigh m.now q.now) }
 {
-    let labels = labels_ahead(alloc, m, q)?;
+    let asked = labels_ahead(alloc, m, q)?;
     let mut p = Partition::zero(alloc, m.states())?;
     for s in 0..m.states() {
-        if let Some(first) = goes_with(m, &p, q, &labels, s) {
+        if let Some(first) = goes_with(m, &p, q, &asked, s) {
             p.merge(first, s);
         }
     }
     Ok(p)
 }
 
-/// For each state the label in q of its next state at symbol 0.
-fn labels_ahead(alloc: Global, m: &Machine, q: &Partition) -> Result<Vec<u16>, AllocError>
-    requires { length q.now ≡ length m.now.states }
-    ensures { IfOk result (λ labels. AreLabelsAhead m.now q.now labels.items) }
-{
-    let mut labels = Vec::with_capacity(alloc, m.states())?;
-    for s in 0..m.states() {
-        labels.push(q.label(m.next(s, 0)))?;
-    }
-    Ok(labels)
-}
-
-/// Whether the two states go, at each symbol, to states that are together in q. Most do not at symbol 0, which the
-/// labels tell at once.
-fn go_together(m: &Machine, q: &Partition, labels: &[u16], s: usize, t: usize) -> bool
+/// Whether the two states go, at each symbol, to states that are together in q. Where their labels differ at a symbol
+/// that is asked first, the other symbols are not asked.
+fn go_together(m: &Machine, q: &Partition, asked: &[Ahead], s: usize, t: usize) -> bool
     requires s { s < length m.now.states }
     requires t { t < length m.now.states }
     requires right { length q.now ≡ length m.now.states }
-    requires labels { AreLabelsAhead m.now q.now labels.now }
+    requires asked { All (IsAhead m.now q.now) asked.now }
     ensures { IsTrue result ↔ Goes m.now q.now s t }
 {
-    if labels[s] != labels[t] {
-        return false;
+    for ahead in asked {
+        if ahead.labels[s] != ahead.labels[t] {
+            return false;
+        }
     }
     m.pair_goes(s, t, q)
 }
 
 /// The first state below s that is the least of its block in p and goes, for each symbol, where s goes.
-fn goes_with(m: &Machine, p: &Partition, q: &Partition, labels: &[u16], s: usize) -> Option<usize>
+fn goes_with(m: &Machine, p: &Partition, q: &Partition, asked: &[Ahead], s: usize) -> Option<usize>
     requires s { s < length m.now.states }
     requires left { IsPartition (length m.now.states) p.now }
     requires right { length q.now ≡ length m.now.states }
-    requires labels { AreLabelsAhead m.now q.now labels.now }
+    requires asked { All (IsAhead m.now q.now) asked.now }
     requires together { AllGo m.now p.now q.now }
     ensures below { IfSome result (λ first. first < s) }
     ensures goes { IfSome result (λ first. Goes m.now q.now first s) }
@@ -68,7 +59,7 @@ fn goes_with(m: &Machine, p: &Partition, q: &Partition, labels: &[u16], s: usize
     let mut blocks = 0;
     for t in 0..s {
         if usize::from(p.label(t)) == blocks {
-            if go_together(m, q, labels, t, s) {
+            if go_together(m, q, asked, t, s) {
                 return Some(t);
             }
             blocks += 1;

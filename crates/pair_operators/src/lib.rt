@@ -10,6 +10,7 @@
 //! crates above, stands in `specs/Laws` and is promised by the functions of `laws`.
 #![tactic(auto)]
 
+mod ahead;
 mod greatest;
 mod laws;
 mod least;

@@ -1,0 +1,46 @@
+//! Where the states go at a few symbols, which tells most states apart.
+ghost use Rattle.std.specs.Prelude.{◌≡◌, ◌<◌, ◌^◌, All, IfOk, length};
+ghost use Rattle.pair_operators.specs.Inner.Going.{AreLabelsAhead, IsAhead};
+
+use machine_table::Machine;
+use partition::Partition;
+use std::alloc::{AllocError, Global};
+
+/// How many inputs are asked alone, at most.
+const INPUTS_ALONE: u8 = 7;
+
+/// For each state the label of its next state, at one symbol.
+#[derive(Drop)]
+pub(crate) struct Ahead {
+    pub(crate) labels: Vec<u16>,
+}
+
+/// The labels in q of the next states at symbol 0, and at the symbols at which one of the last inputs alone is 1.
+pub(crate) fn labels_ahead(
+    alloc: Global,
+    m: &Machine,
+    q: &Partition,
+) -> Result<Vec<Ahead>, AllocError>
+    requires { length q.now ≡ length m.now.states }
+    ensures { IfOk result (λ asked. All (IsAhead m.now q.now) asked.items) }
+{
+    let mut asked = Vec::new(alloc);
+    asked.push(labels_at(alloc, m, q, 0)?)?;
+    for j in 0..m.inputs().min(INPUTS_ALONE) {
+        asked.push(labels_at(alloc, m, q, 1 << j)?)?;
+    }
+    Ok(asked)
+}
+
+/// The labels in q of the next states at the symbol of that number.
+fn labels_at(alloc: Global, m: &Machine, q: &Partition, x: u32) -> Result<Ahead, AllocError>
+    requires states { length q.now ≡ length m.now.states }
+    requires x { x < 2 ^ m.now.inputs }
+    ensures { IfOk result (λ ahead. AreLabelsAhead m.now q.now x ahead.labels.items) }
+{
+    let mut labels = Vec::with_capacity(alloc, m.states())?;
+    for s in 0..m.states() {
+        labels.push(q.label(m.next(s, x)))?;
+    }
+    Ok(Ahead { labels })
+}
