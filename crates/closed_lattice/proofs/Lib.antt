@@ -9,3 +9,4 @@ pub mod Listed
 pub mod Grown
 pub mod Conditions
 pub mod Sifting
+pub mod Symbols

@@ -1,10 +1,10 @@
 -- Pairs of states that wait to be put together.
-use Rattle.std.proofs.Common.{◌≡◌, ℕ, inl, inr, List, [], ◌∷◌, ◌++◌, Contains, sym, ap, subst, arith}
+use Rattle.std.proofs.Common.{◌≡◌, ℕ, ◌<◌, inl, inr, List, [], ◌∷◌, ◌++◌, Contains, sym, ap, subst, arith}
 use Rattle.std.proofs.lemmas.List.Elements.{Contains-push, Contains-push_cases, Contains-append_left, Contains-append_right, Contains-append_cases}
 use Rattle.kiss2.specs.declared.kiss_file.KissFile.{KissFile}
 use Rattle.machine_table.specs.Covering.{IsImage}
 use Rattle.partition.specs.Partition.{Together}
-use Rattle.closed_lattice.specs.Inner.Waiting.{AreTogether, LeavesOut, TakesApart, AddsImages}
+use Rattle.closed_lattice.specs.Inner.Waiting.{AreStates, AreTogether, LeavesOut, TakesApart, AddsImages}
 
 pub leaves_all : (p : List ℕ) (pairs : List (ℕ × ℕ)) → LeavesOut p pairs pairs
 leaves_all p pairs = record { kept = λ u v among. among; taken = λ u v among. inl among }
@@ -60,3 +60,17 @@ adds_images F s t old images listed = record {
 
 pub last_among : (p : List ℕ) (old rest : List (ℕ × ℕ)) (s t : ℕ) → LeavesOut p old (rest ++ (s, t) ∷ []) → Contains old (s, t)
 last_among p old rest s t left = left.kept s t (Contains-push {X = ℕ × ℕ} rest (s, t))
+
+-- states that are left when a pair is taken off the end, and those of the pair
+pub states_left : (count : ℕ) (rest : List (ℕ × ℕ)) (s t : ℕ) → AreStates count (rest ++ (s, t) ∷ []) → AreStates count rest
+states_left count rest s t inside u v among = inside u v (Contains-append_left {X = ℕ × ℕ} rest ((s, t) ∷ []) (u, v) among)
+
+pub states_taken : (count : ℕ) (rest : List (ℕ × ℕ)) (s t : ℕ) → AreStates count (rest ++ (s, t) ∷ []) → (s < count) × (t < count)
+states_taken count rest s t inside = inside s t (Contains-push {X = ℕ × ℕ} rest (s, t))
+
+pub states_more : (count : ℕ) (pairs : List (ℕ × ℕ)) (s t : ℕ) → AreStates count pairs → s < count → t < count → AreStates count (pairs ++ (s, t) ∷ [])
+states_more count pairs s t inside in_s in_t u v among =
+    elim (Contains-push_cases {X = ℕ × ℕ} pairs (s, t) (u, v) among) [
+      | inl before ↦ inside u v before
+      | inr same ↦ subst (λ (pair : ℕ × ℕ). (pair.0 < count) × (pair.1 < count)) same (in_s, in_t)
+    ]

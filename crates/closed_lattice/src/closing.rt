@@ -13,6 +13,7 @@ ghost use Rattle.closed_lattice.specs.Inner.Waiting.{AddsImages, AreStates, AreT
 ghost use Rattle.machine_table.specs.Staying.{NeverLeaves};
 ghost use Rattle.partition.specs.Partition.{IsPartition, Together};
 
+use crate::ahead::{numbered, pairs_ahead};
 use crate::known::Known;
 use machine_table::Machine;
 use partition::Partition;
@@ -136,7 +137,47 @@ pub fn principal(alloc: Global, m: &Machine, s: usize, t: usize) -> Result<Parti
     principal_beside(alloc, m, &Known::none(alloc), s, t)
 }
 
-/// The least closed partition that holds s and t together, which is known from then on.
+/// Makes the least closed partition that holds s and t together, which is known from then on.
+fn make_known(
+    alloc: Global,
+    m: &Machine,
+    known: &mut Known,
+    s: u16,
+    t: u16,
+) -> Result<Partition, AllocError>
+    requires known { AreKnown m.now known.old.items.items }
+    requires s { s < length m.now.states }
+    requires t { t < length m.now.states }
+    ensures known { OnOk result (AreKnown m.now known.new.items.items) }
+    ensures principal { IfOk result (IsPrincipal m.now s t) }
+{
+    let p = principal_beside(alloc, m, known, usize::from(s), usize::from(t))?;
+    known.add(alloc, s, t, &p)?;
+    Ok(p)
+}
+
+/// Makes the least closed partitions of the pairs known, from the last one to the first.
+fn learn_pairs(
+    alloc: Global,
+    m: &Machine,
+    known: &mut Known,
+    pairs: Vec<(u16, u16)>,
+) -> Result<(), AllocError>
+    requires known { AreKnown m.now known.old.items.items }
+    requires states { AreStates (length m.now.states) pairs.items }
+    ensures { OnOk result (AreKnown m.now known.new.items.items) }
+{
+    let mut left = pairs;
+    while let Some((u, v)) = left.pop() {
+        if known.find(u, v).is_none() {
+            make_known(alloc, m, known, u, v)?;
+        }
+    }
+    Ok(())
+}
+
+/// The least closed partition that holds s and t together, which is known from then on, as are those of the pairs
+/// ahead of them.
 pub(crate) fn learn(
     alloc: Global,
     m: &Machine,
@@ -150,7 +191,11 @@ pub(crate) fn learn(
     ensures known { OnOk result (AreKnown m.now known.new.items.items) }
     ensures principal { IfOk result (IsPrincipal m.now s t) }
 {
-    let p = principal_beside(alloc, m, known, s, t)?;
-    known.add(alloc, s as u16, t as u16, &p)?;
-    Ok(p)
+    let (u, v) = (numbered(m, s), numbered(m, t));
+    if let Some(least) = known.find(u, v) {
+        return least.copy(alloc);
+    }
+    let pairs = pairs_ahead(alloc, m, known, u, v)?;
+    learn_pairs(alloc, m, known, pairs)?;
+    make_known(alloc, m, known, u, v)
 }

@@ -24,7 +24,7 @@ pub(crate) struct Known {
 }
 
 /// A number for two states, whichever comes first. Numbers of states are below 256.
-fn number_of(s: u16, t: u16) -> usize {
+pub(crate) fn number_of(s: u16, t: u16) -> usize {
     usize::from(s.max(t)) * 256 + usize::from(s.min(t))
 }
 

@@ -16,6 +16,7 @@
 //! strictly above it meets the condition. What stands in `specs/Inner` serves private functions alone.
 #![tactic(auto)]
 
+mod ahead;
 mod closing;
 mod collecting;
 mod growth;

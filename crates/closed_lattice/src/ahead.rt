@@ -1,0 +1,67 @@
+//! Pairs of states that two states lead to.
+//!
+//! The least closed partition of two states is above those of the pairs that they go to, and where these are
+//! known, it is a join or two away. So what lies ahead of two states is learnt before their own. What is followed
+//! here is advice: no partition rests on it, and where it leads nowhere, nothing is lost but time.
+
+ghost use Rattle.std.specs.Prelude.{◌≡◌, ◌<◌, IfOk, IfSome, length};
+ghost use Rattle.closed_lattice.specs.Inner.Waiting.{AreStates};
+
+use crate::known::{Known, number_of};
+use machine_table::Machine;
+use std::alloc::{AllocError, Global};
+
+/// How many pairs are followed at most.
+const MOST_AHEAD: usize = 256;
+
+/// The number of a state, of which there are at most 256.
+pub(crate) fn numbered(m: &Machine, s: usize) -> u16
+    requires { s < length m.now.states }
+    ensures { result ≡ s }
+{
+    s.min(m.states() - 1) as u16
+}
+
+/// Two states that the two go to at one of the first symbols: not the two again, and none whose least closed
+/// partition is known.
+fn pair_ahead(m: &Machine, known: &Known, s: u16, t: u16) -> Option<(u16, u16)>
+    requires s { s < length m.now.states }
+    requires t { t < length m.now.states }
+    ensures { IfSome result (λ pair. (pair.0 < length m.now.states) × (pair.1 < length m.now.states)) }
+{
+    for x in 0..1u32 << m.inputs().min(3) {
+        let u = numbered(m, m.next(usize::from(s), x));
+        let v = numbered(m, m.next(usize::from(t), x));
+        if u != v && number_of(u, v) != number_of(s, t) && known.find(u, v).is_none() {
+            return Some((u, v));
+        }
+    }
+    None
+}
+
+/// The pairs ahead of the two states, one after another, as far as they are not known and the two do not come again.
+pub(crate) fn pairs_ahead(
+    alloc: Global,
+    m: &Machine,
+    known: &Known,
+    s: u16,
+    t: u16,
+) -> Result<Vec<(u16, u16)>, AllocError>
+    requires s { s < length m.now.states }
+    requires t { t < length m.now.states }
+    ensures { IfOk result (λ pairs. AreStates (length m.now.states) pairs.items) }
+{
+    let mut pairs = Vec::new(alloc);
+    let mut last = (s, t);
+    while pairs.len() < MOST_AHEAD {
+        let Some((u, v)) = pair_ahead(m, known, last.0, last.1) else {
+            break;
+        };
+        if number_of(u, v) == number_of(s, t) {
+            break;
+        }
+        pairs.push((u, v))?;
+        last = (u, v);
+    }
+    Ok(pairs)
+}
