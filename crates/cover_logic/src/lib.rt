@@ -11,7 +11,8 @@
 //! The argument. A term of on is widened, first to hold other terms of on whole, and then by a dash for
 //! each literal in turn, as long as it shares no value with a term of off (`raise`). A literal that
 //! stays has a value of off as its reason, and the reason stands when later literals go, since the row
-//! only grows. Rows are made until each term of on lies whole within one (`primes`). Then each row is
+//! only grows. Rows are made until each term of on lies whole within one (`primes`); which terms a row
+//! holds whole is asked, in large gates, of 128 terms at once by their columns (`waiting`). Then each row is
 //! held against the others, and goes where they hold all its values of on; a row that stays has a value
 //! of its own, which stays its own when other rows go (`spare`). Which rows and which terms of on share
 //! a value with the row is asked, in long lists, of 128 terms at once by their columns (`bundles`, `rivals`):
