@@ -1,51 +1,52 @@
 #!/usr/bin/env bash
 # Times the listing of joins from outside, beside a plain baseline in the same run: joins of two of the
 # generators and nothing else, the generators that differ times the values where the listing is whole, and
-# one for each value where it stops at the limit. Each time is the least of three runs without that of a
-# run that joins nothing: the start, and the making of the generators; so are the instructions of the listing,
-# in millions, where valgrind is there to count them.
+# one for each value where it stops at the limit. Each time is the least of five runs, without that of a run
+# that does nothing: the start, and the making of the generators. That of a listing is the time of one, from
+# a run of many; so are the instructions of the listing, in millions, from a run of one, where valgrind is there
+# to count them.
 set -eu
 . "$(dirname "$0")/timing.sh"
 cd "$(dirname "$0")/../crates/bench_hs_lattice"
-rt run -- labels pairs 4 15 list > /dev/null 2>&1
+rt run -- labels pairs 4 15 list 1 > /dev/null 2>&1
 program=out/bench_hs_lattice
 
-# the least of three runs, in microseconds
+# the least of five runs, in microseconds
 least() {
-    least_of 3 "$program" "$@"
+    least_of 5 "$program" "$@"
 }
 
 printf '%-8s %-12s %10s  %-12s %10s %10s %7s %13s\n' kept generators different answer 'list (ms)' 'join (ms)' ratio instructions
-while read -r kind size different; do
+while read -r kind size different times; do
     for kept in labels bits; do
-        answer=$("$program" "$kept" "$kind" "$size" 10000 list | tail -n 1)
+        answer=$("$program" "$kept" "$kind" "$size" 10000 list 1 | tail -n 1)
         values=${answer#* }
         case $answer in
             whole*) joins=$((different * values)) ;;
             *) joins=$values ;;
         esac
-        none=$(least "$kept" "$kind" "$size" 0 join)
-        list=$(least "$kept" "$kind" "$size" 10000 list)
-        join=$(least "$kept" "$kind" "$size" "$joins" join)
-        counted=$(instructions_of "$program" "$kept" "$kind" "$size" 10000 list)
-        made=$(instructions_of "$program" "$kept" "$kind" "$size" 0 join)
+        none=$(least "$kept" "$kind" "$size" 10000 join 0)
+        list=$(least "$kept" "$kind" "$size" 10000 list "$times")
+        join=$(least "$kept" "$kind" "$size" 10000 join "$joins")
+        counted=$(instructions_of "$program" "$kept" "$kind" "$size" 10000 list 1)
+        made=$(instructions_of "$program" "$kept" "$kind" "$size" 10000 join 0)
         awk -v kept="$kept" -v gens="$kind $size" -v different="$different" -v answer="$answer" \
-            -v list="$((list - none))" -v join="$((join - none))" -v counted="$((counted - made))" \
-            'BEGIN { printf "%-8s %-12s %10d  %-12s %10.1f %10.1f %7.2f %13.1f\n", kept, gens, different, answer, list / 1000, join / 1000, list / join, counted / 1000000 }'
+            -v list="$((list - none))" -v times="$times" -v join="$((join - none))" -v counted="$((counted - made))" \
+            'BEGIN { one = list / times; printf "%-8s %-12s %10d  %-12s %10.2f %10.2f %7.2f %13.1f\n", kept, gens, different, answer, one / 1000, join / 1000, one / join, counted / 1000000 }'
     done
 done <<'CASES'
-pairs 6 15
-pairs 7 21
-pairs 8 28
-pairs 10 45
-pairs 50 1225
-chain 50 49
-chain 100 99
-chain 200 199
-product 8 8
-product 10 10
-product 13 13
-equal 64 8
-equal 128 8
-equal 256 8
+pairs 6 15 200
+pairs 7 21 40
+pairs 8 28 10
+pairs 10 45 5
+pairs 50 1225 3
+chain 50 49 100
+chain 100 99 20
+chain 200 199 5
+product 8 8 200
+product 10 10 50
+product 13 13 10
+equal 64 8 50
+equal 128 8 20
+equal 256 8 10
 CASES

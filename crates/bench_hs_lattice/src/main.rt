@@ -1,12 +1,12 @@
 //! Lists the joins of generators over partitions, and prints counts. The arguments are how partitions are
-//! kept, the kind of generators, their size, the limit of the listing, and the question.
+//! kept, the kind of generators, their size, the limit of the listing, the question, and how often.
 //!
 //! - `labels` keeps partitions as labels, `bits` as rows of bits.
 //! - `pairs` are the partitions that hold two of so many states together, `chain` those that hold the
 //!   first states together, two or more of so many, `product` so many that each hold two of 50 states
 //!   together, no state twice, and `equal` as many as so many states have pairs, eight of which differ.
-//! - `list` lists their joins up to the limit, and `join` joins the first generator and the last one as
-//!   many times as the limit says.
+//! - `list` lists their joins up to the limit so many times, and `join` joins the first generator and the
+//!   last one so many times.
 //!
 //! Nothing here is timed: a script does so from outside.
 #![tactic(auto)]
@@ -40,6 +40,26 @@ fn listed<W: JoinWorld>(
     }
 }
 
+/// The same of the last of so many listings, if there is one.
+fn listed_again<W: JoinWorld>(
+    alloc: Global,
+    world: &W,
+    generators: &[W::Item],
+    limit: usize,
+    times: usize,
+) -> Result<Option<(&'static str, usize)>, AllocError>
+    requires world { W.lawful world.now }
+    requires generators { All (λ x. W.fits world.now (W.meaning x)) generators.now }
+    requires positive { 1 ≤ limit }
+    requires bounded { limit ≤ 10000 }
+{
+    let mut last = None;
+    for _ in 0..times {
+        last = Some(listed(alloc, world, generators, limit)?);
+    }
+    Ok(last)
+}
+
 /// Joins the first generator and the last one so many times.
 fn join_again<W: JoinWorld>(
     alloc: Global,
@@ -68,16 +88,18 @@ fn ask<W: JoinWorld>(
     generators: &[W::Item],
     limit: usize,
     question: &str,
+    times: usize,
 ) -> Result<(), Error>
     requires world { W.lawful world.now }
     requires generators { All (λ x. W.fits world.now (W.meaning x)) generators.now }
 {
     match question {
         "list" if 1 <= limit && limit <= 10000 => {
-            let (kind, count) = listed(alloc, world, generators, limit)?;
-            println!(rt; "{kind} {count}")?;
+            if let Some((kind, count)) = listed_again(alloc, world, generators, limit, times)? {
+                println!(rt; "{kind} {count}")?;
+            }
         }
-        "join" => println!(rt; "joined {}", join_again(alloc, world, generators, limit)?)?,
+        "join" => println!(rt; "joined {}", join_again(alloc, world, generators, times)?)?,
         _ => bail!("no such question at this limit"),
     }
     Ok(())
@@ -90,13 +112,13 @@ fn main(rt: HostRuntime) -> Result<(), Error> {
     let (Some(kept), Some(kind), Some(size)) = (words.next(), words.next(), words.next()) else {
         bail!("how partitions are kept, a kind of generators and a size are needed");
     };
-    let (Some(limit), Some(question)) = (words.next(), words.next()) else {
-        bail!("a limit and a question are needed");
+    let (Some(limit), Some(question), Some(times)) = (words.next(), words.next(), words.next())
+    else {
+        bail!("a limit, a question and how often are needed");
     };
-    let (size, limit) = (
-        size.as_str().parse::<usize>()?,
-        limit.as_str().parse::<usize>()?,
-    );
+    let size: usize = size.as_str().parse()?;
+    let limit: usize = limit.as_str().parse()?;
+    let times: usize = times.as_str().parse()?;
     let Some((generators, n)) = generators_of(alloc, kind.as_str(), size)? else {
         bail!("no such generators");
     };
@@ -109,10 +131,19 @@ fn main(rt: HostRuntime) -> Result<(), Error> {
             &generators,
             limit,
             question.as_str(),
+            times,
         ),
         "bits" => {
-            let rows = in_bits(alloc, &generators, n)?;
-            ask(&rt, alloc, &BitWorld { n }, &rows, limit, question.as_str())
+            let rows = in_bits(alloc, generators, n)?;
+            ask(
+                &rt,
+                alloc,
+                &BitWorld { n },
+                &rows,
+                limit,
+                question.as_str(),
+                times,
+            )
         }
         _ => bail!("partitions are kept as labels or as bits"),
     }
