@@ -24,18 +24,18 @@ pub fn generators_of(
     }
 }
 
-/// The same partitions as rows of bits, in place of the labels.
+/// The same partitions as rows of bits.
 pub fn in_bits(
     alloc: Global,
-    generators: Vec<Partition>,
+    generators: &[Partition],
     n: usize,
 ) -> Result<Vec<BitPart>, AllocError>
-    requires { All (λ p. IsPartition n p) generators.items }
+    requires { All (λ p. IsPartition n p) generators.now }
     ensures { IfOk result (λ rows. All (λ p. IsPartition n p) rows.items) }
 {
     let mut rows = Vec::with_capacity(alloc, generators.len())?;
     for p in generators {
-        rows.push(BitPart::of(alloc, &p)?)?;
+        rows.push(BitPart::of(alloc, p)?)?;
     }
     Ok(rows)
 }

@@ -134,7 +134,8 @@ fn main(rt: HostRuntime) -> Result<(), Error> {
             times,
         ),
         "bits" => {
-            let rows = in_bits(alloc, generators, n)?;
+            let rows = in_bits(alloc, &generators, n)?;
+            drop(generators);
             ask(
                 &rt,
                 alloc,
