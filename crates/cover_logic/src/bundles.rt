@@ -1,5 +1,5 @@
 //! The terms of a list in bundles of 128, by their columns, so that one step asks all terms of a bundle
-//! whether they share a value with a row.
+//! whether they share a value with a row, or whether the row holds them whole.
 ghost use Rattle.std.specs.Prelude.{◌<◌, ◌≤◌, IfOk, if◌then◌else◌, length};
 ghost use Rattle.cover_logic.specs.Term.{FitsWidth};
 ghost use Rattle.cover_logic.specs.Inner.Entries.{HasLiterals, IsNumbered};

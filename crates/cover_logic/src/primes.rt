@@ -117,7 +117,7 @@ fn guided_row(
     Ok(row)
 }
 
-/// The rows, by passes over the list of the terms that lie in none yet.
+/// Rows for `primes`, by passes over the list of the terms that lie in none yet.
 fn plain_rows(alloc: Global, on: &[Term], off: &Index, width: u8) -> Result<Vec<Term>, AllocError>
     requires width { width ≤ 128 }
     requires fits { All (FitsWidth width) on.now }

@@ -29,7 +29,7 @@ impl Group {
         Group { bundle, live }
     }
 
-    /// Takes the last term.
+    /// Takes a term that is waiting: the last one.
     fn take_last(&mut self) -> Term
         requires { 0 < self.old.live }
         ensures { IsTaken self.old result self.new }
@@ -91,7 +91,7 @@ impl Waiting {
         Ok(Waiting { groups })
     }
 
-    /// The first group with a live place.
+    /// A group with a live place: the first one, which no clause asks for.
     fn first_live(&self) -> Option<usize>
         ensures { IsFirstLive self.now.groups.items result }
     {
@@ -103,7 +103,7 @@ impl Waiting {
         None
     }
 
-    /// Takes the last term of the list that is still waiting.
+    /// Takes a term that is still waiting: the last one of the list, which no clause asks for.
     pub fn pop(&mut self) -> Option<Term>
         ensures { MatchOption result ((t : Term) → IsWaiting self.old t → ⊥) (λ term. HasTaken self.old term self.new) }
     {

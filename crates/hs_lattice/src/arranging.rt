@@ -18,8 +18,8 @@ fn numbers(alloc: Global, count: usize) -> Result<Vec<usize>, AllocError>
 
 /// Puts at each place the item whose place the order gives. Each step moves one item to where it stays.
 ///
-/// Items are told by the places at which they stood at first: `standing` says which one stands at a place, and
-/// `places` where it stands.
+/// Items are told by the places at which they stood at first. Of those that are not where they stay, `standing`
+/// says which one stands at a place, and `places` where it stands.
 pub fn arrange<T>(alloc: Global, items: &mut [T], order: &[usize]) -> Result<(), AllocError>
     requires count { length order.now ≡ length items.old }
     requires within { All (λ i. i < length items.old) order.now }

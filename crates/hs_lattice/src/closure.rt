@@ -150,8 +150,8 @@ fn joins_of<W: JoinWorld>(
 /// The limit is on the values. Where there are more, the listing is [`Listing::More`] with limit + 1
 /// of them, also in ascending order; which ones is left open. Equal generators count once, and one that
 /// is a join of some that stand before it is joined with nothing: at most the values times the other
-/// generators are joined. The memory taken is at most that of the values and of the generators that
-/// differ, and of some numbers for each of them.
+/// generators are joined. The memory taken is that of the values and of the generators that differ, of
+/// three numbers for each of them, and of what vectors keep in reserve.
 pub fn join_closure<W: JoinWorld>(
     alloc: Global,
     world: &W,

@@ -10,7 +10,7 @@
 //!
 //! A [`Collection`] keeps different values as it grows, and says of each item whether its value stands
 //! there. Beside the items stand their places in ascending order, which are halved to find a value, so an
-//! insertion moves numbers and not items; in the end each item is moved to its place, once.
+//! insertion moves numbers and not items; in the end items change places, at most once for each place.
 //! `specs/Collection.antt` says what one is and what an addition changes.
 //!
 //! [`join_closure`] lists the joins of all lists of generators, proved once for every world. It puts the

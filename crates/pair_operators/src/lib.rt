@@ -2,8 +2,8 @@
 //!
 //! (p, q) is a pair where states that are together in p go, for each symbol, to states that are together in
 //! q. [`is_pair`] decides it, [`low`] gives the least q for a p, and [`high`] the greatest p for a q, each
-//! among all partitions of the machine's states. None of them goes over the symbols one by one: they ask the
-//! machine about two states at a time.
+//! among all partitions of the machine's states. None of them goes over all symbols: they ask the machine about
+//! two states at a time, and [`high`] looks at eight symbols before, at most.
 //!
 //! The definitions stand in `specs/`: `Pair` has pairs and closed partitions, `Extremes` the least and the
 //! greatest, and `Consistent` what the outputs of a machine ask of a partition. What follows of them, for the

@@ -185,12 +185,13 @@ fn is_one(alloc: Global, bits: &BitPart) -> Result<bool, AllocError> {
     Ok(bits.equal(&rows) && bits.blocks() == 1)
 }
 
-/// Whether the first of two stands before the second in a listing, and the second not before its copy.
+/// Whether the first of two stands before the second in a listing exactly where there are two states or more, and
+/// the second not before its copy.
 fn comes_first(alloc: Global, p: &BitPart, q: &BitPart) -> Result<bool, AllocError>
     requires { length q.now ≡ length p.now }
 {
     let copy = q.copy(alloc)?;
-    Ok(p.before(q) && !q.before(&copy))
+    Ok(p.before(q) == (p.len() > 1) && !q.before(&copy))
 }
 
 /// Whether two partitions have zero for their meet and one for their join, and zero comes first.
@@ -199,7 +200,7 @@ fn zero_and_one_are_found(alloc: Global, p: &BitPart, q: &BitPart) -> Result<boo
 {
     let meet = p.meet(alloc, q)?;
     let join = p.join(alloc, q)?;
-    let first = comes_first(alloc, &meet, &join)? == (p.len() > 1);
+    let first = comes_first(alloc, &meet, &join)?;
     Ok(first && is_zero(alloc, &meet)? && is_one(alloc, &join)?)
 }
 
