@@ -1,8 +1,9 @@
 //! Pairs of states that two states lead to.
 //!
-//! The least closed partition of two states is above those of the pairs that they go to, and where these are
-//! known, it is a join or two away. So what lies ahead of two states is learnt before their own. What is followed
-//! here is advice: no partition rests on it, and where it leads nowhere, nothing is lost but time.
+//! The least closed partition of two states is above those of the pairs that they go to. Where these are known, it
+//! is made by a join with each, and no chain of pairs has to be followed. So what lies ahead of two states is learnt
+//! before their own. What is followed here is advice: no partition rests on it, and where it leads nowhere, it costs
+//! time and memory alone.
 
 ghost use Rattle.std.specs.Prelude.{◌≡◌, ◌<◌, IfOk, IfSome, length};
 ghost use Rattle.closed_lattice.specs.Inner.Waiting.{AreStates};
@@ -39,7 +40,8 @@ fn pair_ahead(m: &Machine, known: &Known, s: u16, t: u16) -> Option<(u16, u16)>
     None
 }
 
-/// The pairs ahead of the two states, one after another, as far as they are not known and the two do not come again.
+/// The pairs ahead of the two states, one after another, as far as they are not known and the two do not come again,
+/// and 256 at most.
 pub(crate) fn pairs_ahead(
     alloc: Global,
     m: &Machine,

@@ -11,6 +11,7 @@ ghost use Rattle.closed_lattice.specs.Closed.{IsPrincipal};
 ghost use Rattle.closed_lattice.specs.Inner.Known.{AreKnown, Joins};
 ghost use Rattle.closed_lattice.specs.Inner.Waiting.{AddsImages, AreStates, AreTogether, TakesApart};
 ghost use Rattle.machine_table.specs.Staying.{NeverLeaves};
+ghost use Rattle.partition.specs.MeetAndJoin.{IsJoin};
 ghost use Rattle.partition.specs.Partition.{IsPartition, Together};
 
 use crate::ahead::{numbered, pairs_ahead};
@@ -34,6 +35,19 @@ fn next_apart(p: &Partition, waiting: &mut Vec<(u16, u16)>) -> Option<(usize, us
     None
 }
 
+/// The join, made from the side with fewer blocks: a join takes a number for each block of its first side, and goes
+/// through them for each tie of two.
+pub(crate) fn joined(alloc: Global, p: &Partition, q: &Partition) -> Result<Partition, AllocError>
+    requires { length q.now ≡ length p.now }
+    ensures { IfOk result (IsJoin p.now q.now) }
+{
+    if q.blocks() < p.blocks() {
+        q.join(alloc, p)
+    } else {
+        p.join(alloc, q)
+    }
+}
+
 /// Joins the partition with the known one of two states, if there is one, unless they are together.
 #[tactic(auto, using(crate::proofs::Joining::joins_none))]
 fn join_one(
@@ -52,7 +66,7 @@ fn join_one(
 {
     if !p.same(usize::from(u), usize::from(v)) {
         if let Some(least) = known.find(u, v) {
-            *p = p.join(alloc, least)?;
+            *p = joined(alloc, p, least)?;
         }
     }
     Ok(())

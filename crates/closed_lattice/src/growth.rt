@@ -10,7 +10,7 @@ ghost use Rattle.closed_lattice.specs.Inner.Known.{AreKnown};
 ghost use Rattle.closed_lattice.specs.Limits.{HoldsApart, IsGreatestGrown, IsStrictlyBelow, MeetInZero};
 ghost use Rattle.partition.specs.Partition.{IsPartition, IsZero, zero_of};
 
-use crate::closing::learn;
+use crate::closing::{joined, learn};
 use crate::known::Known;
 use machine_table::Machine;
 use partition::Partition;
@@ -102,7 +102,7 @@ fn grow_from<C: Condition>(
     let mut grown = start;
     for t in s + 1..m.states() {
         let least = learn(alloc, m, known, s, t)?;
-        let joined = grown.join(alloc, &least)?;
+        let joined = joined(alloc, &grown, &least)?;
         if condition.is_met(alloc, &joined)? {
             grown = joined;
         }

@@ -1,4 +1,4 @@
-use Rattle.std.proofs.Common.{ℕ, ◌<◌, ◌-◌, length, vec_len}
+use Rattle.std.proofs.Common.{◌<◌, ◌-◌, length, vec_len}
 use Rattle.closed_lattice.specs.Inner.Waiting.{AreStates}
 use Rattle.closed_lattice.proofs.ahead.pairs_ahead.Given as goal
 

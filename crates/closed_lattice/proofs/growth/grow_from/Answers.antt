@@ -14,5 +14,5 @@ loop-t-preserved g c =
       | else-branch w ↦ inr ((λ met. false≢true (sym w.if-branch.false ∙ c.in_ok-is_met.ensures.1 met)), w.grown-is)
     ] in
     let more = pair_taken (length c.args.m.now.states) (IsPrincipal c.args.m.now) Meets c.args.start c.loop-t.grown c.args.s c.loop-t.t c.in_ok-least.least c.in_ok-joined.joined c.if-branch.grown
-    c.loop-t.invariant.lawful c.loop-t.invariant.grown c.in_ok-least.ensures.principal c.in_ok-joined.ensures.join taken c.loop-t.auto.t in
+    c.loop-t.invariant.lawful c.loop-t.invariant.grown c.in_ok-least.ensures.principal c.in_ok-joined.ensures taken c.loop-t.auto.t in
     record { known = c.in_ok-least.ensures.known; lawful = more.0; grown = more.1 }
