@@ -18,8 +18,6 @@ mod judging;
 mod laws;
 mod reading;
 mod statement;
-#[cfg(test)]
-mod tests;
 
 pub use fault::{BlifFail, BlifFault, BlifKind, NetLimit};
 pub use laws::{

@@ -36,6 +36,3 @@ pub fn head_once()
 pub fn head_is_comments()
     ensures { HeadIsComments }
 {}
-
-#[cfg(test)]
-mod tests;

@@ -23,8 +23,6 @@ mod growth;
 mod known;
 mod laws;
 mod listing;
-#[cfg(test)]
-mod tests;
 
 pub use closing::principal;
 pub use collecting::principals_within;

@@ -39,8 +39,6 @@ mod rivals;
 mod slices;
 mod spare;
 mod term;
-#[cfg(test)]
-mod tests;
 mod waiting;
 
 use distinct::distinct;

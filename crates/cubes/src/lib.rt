@@ -13,8 +13,6 @@
 mod cube;
 mod gap;
 mod laws;
-#[cfg(test)]
-mod tests;
 
 pub use cube::{Cube, CubeFail};
 pub use gap::first_gap;

@@ -20,8 +20,6 @@ mod laws;
 mod numbers;
 mod reading;
 mod sets;
-#[cfg(test)]
-mod tests;
 
 pub use asking::{permits, permits_output};
 pub use laws::rule_is_least;

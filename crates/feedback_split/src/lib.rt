@@ -17,8 +17,6 @@
 mod carriers;
 mod feedback;
 mod laws;
-#[cfg(test)]
-mod tests;
 
 pub use carriers::carrier;
 pub use feedback::split;

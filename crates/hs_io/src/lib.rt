@@ -27,6 +27,3 @@ pub use memory_sink::MemSink;
 pub use naming::{Name, Names};
 pub use putting::{Sink, SinkFail};
 pub use std_sink::StdSink;
-
-#[cfg(test)]
-mod tests;

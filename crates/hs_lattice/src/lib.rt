@@ -45,6 +45,3 @@ pub enum Listing<T> {
     /// One member more than the limit, as evidence that there are more than the limit.
     More(Items<T>),
 }
-
-#[cfg(test)]
-mod tests;

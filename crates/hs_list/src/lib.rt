@@ -66,21 +66,3 @@ impl<T> From<Vec<T>> for Items<T> {
         Items { items }
     }
 }
-
-#[cfg(test)]
-mod tests {
-    use super::*;
-    use std::test::Fail;
-
-    #[test]
-    fn keeps_its_items_in_order(rt: HostRuntime) -> Result<(), Fail> {
-        let mut list = Items::<u16>::new(rt.alloc());
-        for x in [5u16, 3, 5] {
-            list.push(x)?;
-        }
-        assert_eq!(rt; list.as_slice(), [5u16, 3, 5].as_slice());
-        let again = Items::<u16>::from(list.into_vec());
-        assert_eq!(rt; again.as_slice().len(), 3);
-        Ok(())
-    }
-}

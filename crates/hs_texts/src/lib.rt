@@ -11,6 +11,3 @@ mod laws;
 pub mod reports;
 
 pub use laws::trial_lines_are_comments;
-
-#[cfg(test)]
-mod tests;

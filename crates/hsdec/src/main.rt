@@ -6,8 +6,6 @@
 mod arguments;
 mod help;
 mod program;
-#[cfg(test)]
-mod tests;
 
 use hs_io::{FileShelf, StdSink};
 use std::process::ExitCode;

@@ -52,6 +52,3 @@ pub use answers::Answer;
 pub use laws::one_text;
 pub(crate) use outcomes::{Bytes, Outcome};
 pub use running::run;
-
-#[cfg(test)]
-mod tests;

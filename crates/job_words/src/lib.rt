@@ -30,6 +30,3 @@ pub use judging::{job, judge};
 pub use laws::{judged_lines, limits_are_limits, parts_are_few, sizes_are_sizes};
 pub use table::{CommandOption, Form, OperandKind, built_forms};
 pub use words::Words;
-
-#[cfg(test)]
-mod tests;

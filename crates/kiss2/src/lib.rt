@@ -23,8 +23,6 @@ mod reader;
 mod record;
 mod said;
 mod state_names;
-#[cfg(test)]
-mod tests;
 mod words;
 mod writing;
 

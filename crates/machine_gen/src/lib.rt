@@ -14,8 +14,6 @@ mod laws;
 mod making;
 mod naming;
 mod rows;
-#[cfg(test)]
-mod tests;
 
 pub use laws::{one_machine, parallel_exists, parts_go, parts_of_42, words_of_42};
 pub use making::make;

@@ -24,8 +24,6 @@ mod pairs;
 mod places;
 mod question;
 mod searching;
-#[cfg(test)]
-mod tests;
 mod walking;
 
 pub use building::BuildFail;

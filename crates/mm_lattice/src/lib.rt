@@ -20,8 +20,6 @@
 mod collecting;
 mod laws;
 mod listing;
-#[cfg(test)]
-mod tests;
 mod top;
 mod worlds;
 

@@ -29,8 +29,6 @@ mod laws;
 mod numbering;
 mod ordering;
 mod ring;
-#[cfg(test)]
-mod tests;
 mod walking;
 mod worked;
 

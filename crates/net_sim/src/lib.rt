@@ -24,8 +24,6 @@ mod running;
 mod starting;
 mod stepping;
 mod symbols;
-#[cfg(test)]
-mod tests;
 
 pub use bit_texts::append_answer;
 pub use failing::SimFail;

@@ -13,8 +13,6 @@
 mod bits;
 mod deciding;
 mod listing;
-#[cfg(test)]
-mod tests;
 
 pub use bits::bit_partition;
 pub use deciding::is_consistent;

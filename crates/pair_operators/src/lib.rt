@@ -15,8 +15,6 @@ mod greatest;
 mod laws;
 mod least;
 mod pairs;
-#[cfg(test)]
-mod tests;
 
 pub use greatest::high;
 pub use laws::{

@@ -18,8 +18,6 @@ mod members;
 mod ordering;
 mod parallel;
 mod sparing;
-#[cfg(test)]
-mod tests;
 
 pub use laws::choice_is_one;
 pub use parallel::split;

@@ -18,8 +18,6 @@ mod inside;
 mod numbering;
 mod order;
 mod states;
-#[cfg(test)]
-mod tests;
 mod text;
 mod worlds;
 

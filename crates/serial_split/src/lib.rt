@@ -14,8 +14,6 @@ mod chain;
 mod laws;
 mod part;
 mod serial;
-#[cfg(test)]
-mod tests;
 
 pub use chain::cascade;
 pub use laws::{cascade_choice_is_one, serial_choice_is_one};

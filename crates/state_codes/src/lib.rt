@@ -18,8 +18,6 @@ mod coding;
 mod draft;
 mod laws;
 mod split;
-#[cfg(test)]
-mod tests;
 
 pub use coding::encode;
 use hs_list::Items;

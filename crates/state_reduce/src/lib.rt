@@ -20,8 +20,6 @@ mod laws;
 mod merging;
 mod refining;
 mod splitting;
-#[cfg(test)]
-mod tests;
 
 pub use judging::QuotientFail;
 pub use laws::{alike_has_quotient, classes_answer_alike};

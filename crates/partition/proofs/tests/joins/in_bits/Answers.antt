@@ -1,9 +1,0 @@
-use Rattle.std.proofs.Common.{subst, sym}
-use Rattle.std.proofs.lemmas.List.Elements.{All-push}
-use Rattle.partition.specs.Partition.{IsPartition}
-use Rattle.partition.proofs.tests.joins.in_bits.Goals as goal
-
-pub loop-p-preserved : goal.loop-p-preserved
-loop-p-preserved c =
-    let lawful : IsPartition 4 c.p-item.result = subst (IsPartition 4) (sym c.p-item.is) (c.requires c.loop-p.p-index c.p-item.result c.loop-p-test.true) in
-    rw c.in_ok-push.ensures.items (All-push (IsPartition 4) c.loop-p.rows.items c.in_ok-of.field-0 c.loop-p.invariant (subst (IsPartition 4) (sym c.in_ok-of.ensures.labels) lawful))
