@@ -1,11 +1,14 @@
 //! Laws of texts and their faults, and worked texts, each the contract of a function that does nothing.
 
-ghost use Rattle.std.specs.Prelude.{[], ◌∷◌, ◌++◌, codes, replicate};
+ghost use Rattle.std.specs.Prelude.{◌≡◌, List, [], ◌∷◌, ◌++◌, None, Some, codes, count_by, replicate};
+ghost use Rattle.net_core.specs.Limits.{is_names};
+ghost use Rattle.net_core.specs.Statements.{Names, Statement};
+ghost use Rattle.blif_in.specs.Faults.{form_fault};
 ghost use Rattle.blif_in.specs.Text.{FaultlessDenotes, NeverBoth, OneFault};
 ghost use Rattle.blif_in.specs.Worked.{IsRefused, long, many};
 ghost use Rattle.net_core.specs.declared.failing.NetFail.TheVariants.{TwoDrivers, Undriven};
 ghost use Rattle.blif_in.specs.declared.fault.BlifKind.TheVariants.{BadByte, BadFields, BadRow, Clocks, LatchKind, MixedCover, NoModel, OverLimit, Structure, Unsupported};
-ghost use Rattle.blif_in.specs.declared.fault.NetLimit.TheVariants.{GateInputs, Inputs, Latches, NameBytes, Outputs};
+ghost use Rattle.blif_in.specs.declared.fault.NetLimit.TheVariants.{GateInputs, Gates, Inputs, Latches, NameBytes, Outputs};
 
 /// A text is one of a network or has a first fault, never both, and at most one first fault. Where there are
 /// several cycles, any one of them may be told.
@@ -81,6 +84,36 @@ pub fn worked_limits()
     ensures many_outputs { IsRefused (codes ".model m" ∷ (codes ".outputs" ++ many 257) ∷ []) 2 (OverLimit Outputs 257) }
     ensures many_latches { IsRefused (codes ".model m" ∷ replicate 257 (codes ".latch a b")) 258 (OverLimit Latches 257) }
     ensures many_gate_inputs { IsRefused (codes ".model m" ∷ (codes ".names" ++ many 258) ∷ []) 2 (OverLimit GateInputs 257) }
+{}
+
+/// Lines with several faults: which of them is named, and where.
+pub fn worked_orders()
+    ensures clocks_before_latches { IsRefused (codes ".model m" ∷ (replicate 256 (codes ".latch a b re c") ++ codes ".latch a b re e" ∷ [])) 258 Clocks }
+    ensures long_before_latches { IsRefused (codes ".model m" ∷ (replicate 256 (codes ".latch a b") ++ (codes ".latch a " ++ long 65) ∷ [])) 258 (OverLimit NameBytes 65) }
+    ensures long_before_gate_inputs { IsRefused (codes ".model m" ∷ (codes ".names" ++ (many 258 ++ (codes " " ++ long 65))) ∷ []) 2 (OverLimit NameBytes 65) }
+    ensures first_named_clock { IsRefused (codes ".model m" ∷ codes ".latch a b re c" ∷ codes ".latch a d re c" ∷ codes ".clock c" ∷ codes ".names c" ∷ []) 2 Clocks }
+    ensures input_before_control { IsRefused (codes ".model m" ∷ (codes ".latch " ++ (long 66 ++ (codes " b re " ++ long 65))) ∷ []) 2 (OverLimit NameBytes 66) }
+    ensures long_latch_output { IsRefused (codes ".model m" ∷ (codes ".latch a " ++ long 65) ∷ []) 2 (OverLimit NameBytes 65) }
+    ensures long_output { IsRefused (codes ".model m" ∷ (codes ".outputs " ++ long 65) ∷ []) 2 (OverLimit NameBytes 65) }
+    ensures long_clock { IsRefused (codes ".model m" ∷ (codes ".clock " ++ long 65) ∷ []) 2 (OverLimit NameBytes 65) }
+{}
+
+/// Texts that reach a limit and do not go over it: their first fault is on the line after.
+pub fn worked_reaches()
+    ensures model_name { IsRefused ((codes ".model " ++ long 65) ∷ codes ".gate x" ∷ []) 2 Unsupported }
+    ensures name { IsRefused (codes ".model m" ∷ (codes ".inputs " ++ long 64) ∷ codes ".gate x" ∷ []) 3 Unsupported }
+    ensures inputs { IsRefused (codes ".model m" ∷ (codes ".inputs" ++ many 256) ∷ codes ".gate x" ∷ []) 3 Unsupported }
+    ensures outputs { IsRefused (codes ".model m" ∷ (codes ".outputs" ++ many 256) ∷ codes ".gate x" ∷ []) 3 Unsupported }
+    ensures latches { IsRefused (codes ".model m" ∷ (replicate 256 (codes ".latch a b") ++ codes ".gate x" ∷ [])) 258 Unsupported }
+    ensures gate_inputs { IsRefused (codes ".model m" ∷ (codes ".names" ++ many 257) ∷ codes ".gate x" ∷ []) 3 Unsupported }
+{}
+
+/// The limit of gates, and that the inputs of a gate are looked at before it.
+pub fn worked_gate_limit()
+    ensures reached { (earlier : List Statement) → count_by is_names earlier ≡ 65535 → form_fault earlier (Names (codes "z" ∷ [])) ≡ None }
+    ensures gone_over { (earlier : List Statement) → count_by is_names earlier ≡ 65536 → form_fault earlier (Names (codes "z" ∷ [])) ≡ Some (OverLimit Gates 65537) }
+    ensures inputs_before_gates { (earlier : List Statement) → count_by is_names earlier ≡ 65536
+        → form_fault earlier (Names (replicate 258 (codes "a"))) ≡ Some (OverLimit GateInputs 257) }
 {}
 
 /// Networks that are not sound, though each statement is right.

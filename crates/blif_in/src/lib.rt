@@ -21,7 +21,8 @@ mod statement;
 
 pub use fault::{BlifFail, BlifFault, BlifKind, NetLimit};
 pub use laws::{
-    faultless_denotes, one_fault, worked_beginnings, worked_clocks, worked_forms, worked_limits,
-    worked_rows, worked_structures,
+    faultless_denotes, one_fault, worked_beginnings, worked_clocks, worked_forms,
+    worked_gate_limit, worked_limits, worked_orders, worked_reaches, worked_rows,
+    worked_structures,
 };
 pub use reading::read;

@@ -48,23 +48,56 @@ fields_of-step xs =
           rw (slice_split_uncut is_blank xs past, whole, none) (sym (append-nil (fields_in (xs ∷ []))))
     ]
 
--- the fields of a text after one more run
+-- one run that is not empty
+pub fields_in_one : (run : List ℕ) → 0 < length run → fields_in (run ∷ []) ≡ run ∷ []
+fields_in_one [] some = absurd (omega arith)
+fields_in_one (b ∷ bs) some = grind (arith, nat_tests)
+
+pub fields_in_none : (run : List ℕ) → length run ≡ 0 → fields_in (run ∷ []) ≡ []
+fields_in_none [] none = refl
+fields_in_none (b ∷ bs) none = absurd (omega arith)
+
+-- the run before the first blank, and the fields after it
+pub first_run : (text : List ℕ) (end : ℕ) (rest : List ℕ) → end ≡ position_or_len is_blank text → 0 < length (take end text) → rest ≡ drop (end + 1) text → fields_of text ≡ take end text ∷ fields_of rest
+first_run text end rest place some is =
+    fields_of-step text
+    ∙ (ap (λ (n : ℕ). fields_in (take n text ∷ []) ++ fields_of (drop (n + 1) text)) (sym place)
+    ∙ (ap (λ fs. fs ++ fields_of (drop (end + 1) text)) (fields_in_one (take end text) some)
+    ∙ ap (λ (list : List ℕ). take end text ∷ fields_of list) (sym is)))
+
+-- a blank that comes first is passed
+pub past_blank : (text : List ℕ) (end : ℕ) (rest : List ℕ) → end ≡ position_or_len is_blank text → length (take end text) ≡ 0 → rest ≡ drop (end + 1) text → fields_of text ≡ fields_of rest
+past_blank text end rest place none is =
+    fields_of-step text
+    ∙ (ap (λ (n : ℕ). fields_in (take n text ∷ []) ++ fields_of (drop (n + 1) text)) (sym place)
+    ∙ (ap (λ fs. fs ++ fields_of (drop (end + 1) text)) (fields_in_none (take end text) none)
+    ∙ ap fields_of (sym is)))
+
+-- the fields of a text after its last one
+pub fields_done :
+    (fields more : List (List ℕ)) (field rest text : List ℕ) →
+    fields ++ field ∷ fields_of rest ≡ fields_of text → more ≡ fields ++ field ∷ [] → fields_of rest ≡ [] → more ≡ fields_of text
+fields_done fields more field rest text so_far is_more none =
+    is_more ∙ (ap (λ fs. fields ++ field ∷ fs) (sym none) ∙ so_far)
+
+-- the fields of a text after one more that is not the last
 pub fields_more :
-    (fields more : List (List ℕ)) (text rest run after : List ℕ) (end : ℕ) →
-    fields ++ fields_of rest ≡ fields_of text → end ≡ position_or_len is_blank rest → run ≡ take end rest → after ≡ drop (end + 1) rest →
-    more ≡ fields ++ fields_in (run ∷ []) → more ++ fields_of after ≡ fields_of text
-fields_more fields more text rest run after end so_far at is_run is_after is_more =
-    rw (is_more, is_after, is_run, at) (append_assoc fields _ _ ∙ (ap (λ fs. fields ++ fs) (sym (fields_of-step rest)) ∙ so_far))
+    (fields more : List (List ℕ)) (field rest next after text : List ℕ) →
+    fields ++ field ∷ fields_of rest ≡ fields_of text → more ≡ fields ++ field ∷ [] → fields_of rest ≡ next ∷ fields_of after → more ++ next ∷ fields_of after ≡ fields_of text
+fields_more fields more field rest next after text so_far is_more some =
+    ap (λ fs. fs ++ next ∷ fields_of after) is_more
+    ∙ (append_assoc fields (field ∷ []) (next ∷ fields_of after)
+    ∙ (ap (λ fs. fields ++ field ∷ fs) (sym some) ∙ so_far))
 
 -- the lines of a text after one more line
 pub lines_more :
-    (lines more : List Line) (bytes rest after : List ℕ) (end : ℕ) (read : Line) →
-    0 < length rest → lines ++ lines_from (length lines + 1) (physical_lines rest) ≡ lines_of bytes →
-    end ≡ position_or_len ends_line rest → after ≡ drop (end + 1) rest → read ≡ line_of (length lines + 1) (take end rest) → more ≡ lines ++ read ∷ [] →
+    (lines more : List Line) (bytes rest line after : List ℕ) (read : Line) →
+    lines ++ lines_from (length lines + 1) (physical_lines rest) ≡ lines_of bytes →
+    physical_lines rest ≡ line ∷ physical_lines after → read ≡ line_of (length lines + 1) line → more ≡ lines ++ read ∷ [] →
     more ++ lines_from (length more + 1) (physical_lines after) ≡ lines_of bytes
-lines_more lines more bytes rest after end read some so_far at is_after is_read is_more =
+lines_more lines more bytes rest line after read so_far first is_read is_more =
     let n : length (lines ++ read ∷ []) ≡ length lines + 1 = length_push lines read in
-    rw (is_more, n, is_after, is_read, at) (append_assoc lines _ _ ∙ (ap (λ ls. lines ++ lines_from (length lines + 1) ls) (sym (physical_lines-step rest some)) ∙ so_far))
+    rw (is_more, n, is_read) (append_assoc lines _ _ ∙ (ap (λ ls. lines ++ lines_from (length lines + 1) ls) (sym first) ∙ so_far))
 
 -- what is not empty has a length
 pub some_from_test : (n : ℕ) → eqb n 0 ≡ false → 0 < n

@@ -1,3 +1,4 @@
 pub mod Lookups
 pub mod Cuts
 pub mod Spelled
+pub mod Known

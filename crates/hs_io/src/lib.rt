@@ -8,22 +8,26 @@
 //!
 //! [`MemShelf`] and [`MemSink`] tell their bytes, fail where they are told to and nowhere else, and serve
 //! tests. [`FileShelf`] and [`StdSink`] stand on the system and tell nothing.
+//!
+//! Three forms of text are read as lines of fields. [`cut_lines`] gives all lines of a text at once, and
+//! [`first_line`], [`content_of`], [`is_clean`] and [`first_field`] read them one after another without
+//! memory. What the lines of a text are is said in `specs/Lines.antt`.
 #![tactic(auto)]
 
 mod file_shelf;
 mod lines;
-mod loading;
 mod memory_shelf;
 mod memory_sink;
-mod naming;
-mod putting;
+mod name;
+mod shelf;
+mod sink;
 mod std_sink;
 
 pub use file_shelf::FileShelf;
-pub use lines::{Fields, Line, cut_lines};
-pub use loading::{LoadFail, Shelf};
+pub use lines::{Fields, Line, content_of, cut_lines, first_field, first_line, is_clean};
 pub use memory_shelf::MemShelf;
 pub use memory_sink::MemSink;
-pub use naming::{Name, Names};
-pub use putting::{Sink, SinkFail};
+pub use name::{Name, Names, copied_names};
+pub use shelf::{LoadFail, Shelf};
+pub use sink::{Sink, SinkFail};
 pub use std_sink::StdSink;

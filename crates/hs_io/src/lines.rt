@@ -1,10 +1,12 @@
 //! Lines and their fields.
 
-mod cutting;
 mod fields;
+mod line_list;
+mod line_text;
 
-pub use cutting::cut_lines;
 pub use fields::Fields;
+pub use line_list::cut_lines;
+pub use line_text::{content_of, first_field, first_line, is_clean};
 
 /// A line of a text.
 #[derive(Debug, Drop)]

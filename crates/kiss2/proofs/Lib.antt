@@ -1,4 +1,3 @@
-pub mod Known
 pub mod Machine
 pub mod Digits
 pub mod Finding

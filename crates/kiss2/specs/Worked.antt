@@ -1,6 +1,7 @@
 -- Worked texts: what they say, and what they are refused for.
-use Rattle.std.specs.Prelude.{ℕ, List, [], ◌∷◌, codes}
+use Rattle.std.specs.Prelude.{ℕ, false, List, [], ◌∷◌, ◌++◌, codes}
 use Rattle.std.specs.List.{flat_map}
+use Rattle.hs_io.specs.declared.lines.Line.{Line}
 use Rattle.hs_io.specs.Spelling.{ended}
 use Rattle.kiss2.specs.declared.fault.KissKind.{KissKind}
 use Rattle.kiss2.specs.Kiss.{IsKissFault}
@@ -29,3 +30,14 @@ worked_lines =
     ∷ codes ".end of it"
     ∷ codes "junk"
     ∷ []
+
+-- a row to a state of that name, whose output field has a bad character
+abbrev pub row_to : List ℕ → List ℕ
+row_to name = codes "0 a " ++ name ++ codes " 2"
+
+-- a row of one input and one output that is good but for its output field, and one that is good but for its input field
+abbrev pub bad_output_line : Line
+bad_output_line = record { number = 3; fields = codes "0" ∷ codes "a" ∷ codes "a" ∷ codes "2" ∷ []; bad = false }
+
+abbrev pub bad_cube_line : Line
+bad_cube_line = record { number = 3; fields = codes "2" ∷ codes "a" ∷ codes "a" ∷ codes "0" ∷ []; bad = false }

@@ -11,7 +11,7 @@ ghost use Rattle.kiss2.specs.Inner.Judging.{Judges};
 use crate::StateNames;
 use crate::fault::{KissKind, KissLimit};
 use crate::words::{holds_backslash, number_in};
-use hs_io::{Name, Names};
+use hs_io::{Name, Names, copied_names};
 use std::alloc::{AllocError, Global};
 
 /// Why a line was not taken.
@@ -173,18 +173,7 @@ pub(crate) fn names_said(
     if stands_twice(alloc, others, fields)? {
         return Err(LineFail::Fault(KissKind::Repeated));
     }
-    Ok(copied(alloc, fields)?)
-}
-
-/// A copy of names.
-fn copied(alloc: Global, names: &[Name]) -> Result<Names, AllocError>
-    ensures { IfOk result (λ copy. copy ≡ names.now) }
-{
-    let mut copy = Names::new(alloc);
-    for name in names {
-        copy.push(Name::new(alloc, name.bytes())?)?;
-    }
-    Ok(copy)
+    Ok(copied_names(alloc, fields)?)
 }
 
 /// Names that may be given, as a list.

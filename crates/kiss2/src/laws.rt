@@ -1,13 +1,14 @@
 //! Laws of files and their machines, each the contract of a function that does nothing.
 
+ghost use Rattle.kiss2.specs.Faults.{row_fault};
 ghost use Rattle.kiss2.specs.Kiss.{AlwaysOne, Kiss, NeverBoth, OneFault, OneFile, ReadIsLawful};
-ghost use Rattle.std.specs.Prelude.{◌≡◌, [], ◌∷◌, None, Some, codes, map};
+ghost use Rattle.std.specs.Prelude.{◌≡◌, ◌<◌, ◌≤◌, ◌++◌, ℕ, List, [], ◌∷◌, None, Some, codes, length, map, replicate};
 ghost use Rattle.cubes.specs.Cube.{text_of};
 ghost use Rattle.kiss2.specs.declared.kiss_file.KissFile.{KissFile};
 ghost use Rattle.kiss2.specs.declared.fault.KissKind.TheVariants.{AnyState, BadByte, BadCube, BadFields, BadNumber, BadOutput, MissingCounts, NoRows, OverLimit, Repeated, ResetUnknown, UnknownWord};
-ghost use Rattle.kiss2.specs.declared.fault.KissLimit.TheVariants.{Inputs};
+ghost use Rattle.kiss2.specs.declared.fault.KissLimit.TheVariants.{Inputs, NameBytes, Outputs, Rows, States};
 ghost use Rattle.kiss2.specs.Written.{WrittenIsRead};
-ghost use Rattle.kiss2.specs.Worked.{IsRefused, text, worked_lines};
+ghost use Rattle.kiss2.specs.Worked.{IsRefused, bad_cube_line, bad_output_line, row_to, text, worked_lines};
 ghost use Rattle.kiss2.specs.Machine.{NextIsAState, RowsDecide};
 
 /// Bytes say one machine or have one first fault, and never both.
@@ -42,6 +43,36 @@ pub fn worked_faults()
     ensures unknown_word { IsRefused (codes ".i 1" ∷ codes ".o 1" ∷ codes ".type fr" ∷ []) 3 UnknownWord }
     ensures bad_fields { IsRefused (codes ".i 1" ∷ codes ".o 1" ∷ codes "0 a a 0" ∷ codes "1 a" ∷ []) 4 BadFields }
     ensures bad_byte { IsRefused ((0 ∷ []) ∷ []) 1 BadByte }
+{}
+
+/// Lines with several faults, and words before what they need: the first fault of the line's entry is named.
+pub fn worked_orders()
+    ensures cube_before_state { IsRefused (codes ".i 2" ∷ codes ".o 2" ∷ codes "0 * a 0" ∷ []) 3 BadCube }
+    ensures state_before_output { IsRefused (codes ".i 2" ∷ codes ".o 2" ∷ codes "00 * a 0" ∷ []) 3 AnyState }
+    ensures fields_before_cube { IsRefused (codes ".i 2" ∷ codes ".o 2" ∷ codes "0 * a" ∷ []) 3 BadFields }
+    ensures counts_before_fields { IsRefused (codes ".i 2" ∷ codes "0 * a" ∷ []) 2 MissingCounts }
+    ensures again_before_form { IsRefused (codes ".i 2" ∷ codes ".i" ∷ []) 2 Repeated }
+    ensures byte_before_again { IsRefused (codes ".i 2" ∷ (codes ".i " ++ 0 ∷ []) ∷ []) 2 BadByte }
+    ensures few_inputs { IsRefused (codes ".i 1" ∷ codes ".ilb a b" ∷ []) 2 BadFields }
+    ensures names_need_counts { IsRefused (codes ".ob a" ∷ codes ".i 1" ∷ codes ".o 1" ∷ []) 1 MissingCounts }
+    ensures shared_name { IsRefused (codes ".i 1" ∷ codes ".o 1" ∷ codes ".ob a" ∷ codes ".ilb a" ∷ []) 4 Repeated }
+    ensures rows_past_their_count { IsRefused (codes ".i 1" ∷ codes ".o 1" ∷ codes ".p 1" ∷ codes "0 a a 0" ∷ codes "1 a a 2" ∷ []) 5 BadOutput }
+{}
+
+/// Limits, each reached and gone over, and what is named first beside them.
+pub fn worked_limits()
+    ensures inputs { IsRefused (codes ".i 32" ∷ []) 0 NoRows }
+    ensures outputs { IsRefused (codes ".i 1" ∷ codes ".o 64" ∷ []) 0 NoRows }
+    ensures many_outputs { IsRefused (codes ".i 1" ∷ codes ".o 65" ∷ []) 2 (OverLimit Outputs 65) }
+    ensures long_name { IsRefused (codes ".i 1" ∷ codes ".o 1" ∷ row_to (replicate 64 97) ∷ []) 3 BadOutput }
+    ensures longer_name { IsRefused (codes ".i 1" ∷ codes ".o 1" ∷ row_to (replicate 65 97) ∷ []) 3 (OverLimit NameBytes 65) }
+    ensures longer_reset { IsRefused ((codes ".r " ++ replicate 65 97) ∷ []) 1 (OverLimit NameBytes 65) }
+    ensures longer_before_shared { IsRefused (codes ".i 2" ∷ (codes ".ilb a a" ++ replicate 64 97) ∷ []) 2 (OverLimit NameBytes 65) }
+    ensures rows { (states : List (List ℕ)) → length states ≤ 256
+        → row_fault (Some 1) (Some 1) 65535 states bad_output_line ≡ Some BadOutput }
+    ensures many_rows { (states : List (List ℕ)) → row_fault (Some 1) (Some 1) 65536 states bad_cube_line ≡ Some (OverLimit Rows 65537) }
+    ensures many_states { (states : List (List ℕ)) → 256 < length states
+        → row_fault (Some 1) (Some 1) 0 states bad_output_line ≡ Some (OverLimit States 257) }
 {}
 
 /// What a text says.

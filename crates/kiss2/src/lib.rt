@@ -30,8 +30,8 @@ pub use fault::{KissFail, KissFault, KissKind, KissLimit};
 pub use fill::Fill;
 pub use kiss_file::{KissFile, KissRow, Rows};
 pub use laws::{
-    next_is_a_state, read_is_lawful, read_once, rows_decide, worked_faults, worked_text,
-    written_is_read,
+    next_is_a_state, read_is_lawful, read_once, rows_decide, worked_faults, worked_limits,
+    worked_orders, worked_text, written_is_read,
 };
 pub use reader::read;
 pub use state_names::StateNames;

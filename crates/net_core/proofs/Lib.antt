@@ -7,7 +7,6 @@ pub mod WorkedSteps
 pub mod Limits
 pub mod Counted
 pub mod Numbered
-pub mod Known
 pub mod Stages
 pub mod Turning
 pub mod Permuted

@@ -10,7 +10,7 @@ ghost use Rattle.net_core.specs.Inner.Told.{TellsAgain, TellsOutside};
 use crate::failing::NetFail;
 use crate::ordering::NumberedGate;
 use crate::{Gate, Latch, Network};
-use hs_io::{Name, Names};
+use hs_io::{Name, copied_names};
 use hs_list::Items;
 use indexmap::IndexSet;
 use std::alloc::{AllocError, Global};
@@ -173,7 +173,7 @@ impl Signals {
     {
         Ok(NumberedGate {
             inputs: self.numbers(gate.inputs.as_slice())?,
-            rows: copied(self.alloc, gate.rows.as_slice())?,
+            rows: copied_names(self.alloc, gate.rows.as_slice())?,
             on: gate.on,
         })
     }
@@ -190,15 +190,4 @@ impl Signals {
         }
         Ok(numbered.into_vec())
     }
-}
-
-/// A copy of names.
-fn copied(alloc: Global, names: &[Name]) -> Result<Names, AllocError>
-    ensures { IfOk result (λ copy. copy ≡ names.now) }
-{
-    let mut copy = Names::new(alloc);
-    for name in names {
-        copy.push(Name::new(alloc, name.bytes())?)?;
-    }
-    Ok(copy)
 }

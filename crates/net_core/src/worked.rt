@@ -2,10 +2,11 @@
 //! contracts of functions that do nothing.
 
 ghost use Rattle.std.specs.Prelude.{◌≡◌, true, false, [], ◌∷◌, map, codes};
+ghost use Rattle.net_core.specs.declared.Start.TheVariants.{Zero};
 ghost use Rattle.net_core.specs.Denotes.{Denotes};
 ghost use Rattle.net_core.specs.Statements.{statements_of};
 ghost use Rattle.net_core.specs.Step.{Step, gate_value};
-ghost use Rattle.net_core.specs.Worked.{DenotesNothing, HasNoStep, empty_network, gate, network, toggle, reads_later, own_contrary, own_value, joined_text, joined_network, starts_text, starts_network, controls_text, controls_network, gates_text, gates_network};
+ghost use Rattle.net_core.specs.Worked.{DenotesNothing, HasNoStep, empty_network, gate, network, toggle, reads_later, own_contrary, own_value, joined_text, joined_network, starts_text, starts_network, controls_text, controls_network, gates_text, gates_network, latch};
 
 /// Lines that are joined, cut short, skipped, bad or behind the end.
 pub fn worked_lines()
@@ -63,6 +64,19 @@ pub fn worked_gates()
     ensures row_alone { DenotesNothing (codes ".model m\n1 1\n") }
     ensures row_behind_outputs { DenotesNothing (codes ".model m\n.names a z\n1 1\n.outputs z\n0 1\n") }
     ensures no_names { DenotesNothing (codes ".model m\n.names\n") }
+{}
+
+/// Readings that are near at hand and wrong: a clock need not be an input, no type but the rising edge is read,
+/// a start is one digit, and blank lines and comments end no gate's rows where other statements do.
+pub fn worked_readings()
+    ensures clock_beside_inputs { Denotes (codes ".model m\n.inputs a\n.latch a p re c 0\n") (network (codes "a") [] (latch (codes "a") (codes "p") Zero ∷ []) []) }
+    ensures active_high { DenotesNothing (codes ".model m\n.latch a p ah c 0\n") }
+    ensures active_low { DenotesNothing (codes ".model m\n.latch a p al c 0\n") }
+    ensures asynchronous { DenotesNothing (codes ".model m\n.latch a p as c 0\n") }
+    ensures two_digits { DenotesNothing (codes ".model m\n.latch a p 00\n") }
+    ensures skipped_lines { Denotes (codes ".model m\n.inputs a\n.names a z\n\n# rows\n1 1\n") (network (codes "a") [] [] (gate (codes "a") (codes "z") (codes "1" ∷ []) true ∷ [])) }
+    ensures row_behind_latch { DenotesNothing (codes ".model m\n.names a z\n.latch a p\n1 1\n") }
+    ensures row_behind_clock { DenotesNothing (codes ".model m\n.names a z\n.clock c\n1 1\n") }
 {}
 
 /// The values of gates: rows list the on-set or the off-set, and there may be none.

@@ -3,7 +3,6 @@ pub mod Rows
 pub mod Evaluating
 pub mod Known
 pub mod Stepped
-pub mod FieldByField
 pub mod Taking
 pub mod Progress
 pub mod Beginning

@@ -11,7 +11,7 @@
 //! and what a run is in `specs/Run.antt`. What stands in `specs/Inner` serves private functions alone.
 //!
 //! Before the first symbol a run makes tables of the gates that have few inputs, and cubes of the rows of most
-//! others (`forms`). It reads the file line by line (`lines`).
+//! others (`forms`). It reads the file line by line (`said`).
 #![tactic(auto)]
 
 mod bit_texts;
@@ -19,8 +19,8 @@ mod failing;
 mod forms;
 mod gate_values;
 mod laws;
-mod lines;
 mod running;
+mod said;
 mod starting;
 mod stepping;
 mod symbols;

@@ -7,7 +7,8 @@ ghost use Rattle.net_sim.specs.declared.symbols.SymbolFail.TheVariants.{NoMemory
 ghost use Rattle.net_sim.specs.Symbols.{IsSymbolFault, IsSymbolFile, TellsRefused};
 ghost use Rattle.net_sim.specs.Inner.Numbers.{AddedLine, TellsRefusedLine};
 
-use crate::lines::{Said, first_line, read_line};
+use crate::said::{Said, read_line};
+use hs_io::first_line;
 use hs_list::Items;
 use std::alloc::{AllocError, Global};
 

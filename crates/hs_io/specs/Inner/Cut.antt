@@ -1,8 +1,8 @@
 -- For private functions and proofs alone: what a text is cut at.
 use Rattle.std.specs.Prelude.{ℕ, Bool}
 use Rattle.hs_io.specs.Lines.{begins_comment, ends_line, is_blank}
-use Rattle.hs_io.specs.declared.lines.cutting.Cut.{Cut}
-use Rattle.hs_io.specs.declared.lines.cutting.Cut.TheVariants.{Line, Comment, Field}
+use Rattle.hs_io.specs.declared.lines.line_text.Cut.{Cut}
+use Rattle.hs_io.specs.declared.lines.line_text.Cut.TheVariants.{Line, Comment, Field}
 
 -- the bytes at which it is cut
 abbrev pub cuts : Cut → ℕ → Bool

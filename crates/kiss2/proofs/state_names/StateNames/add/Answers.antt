@@ -1,12 +1,20 @@
-use Rattle.std.proofs.Common.{◌≡◌, ◌++◌, ◌∷◌, [], sym, ◌∙◌, ap, subst, List, ℕ, map, slice_get, length, Some, Contains, Vec, Global}
+use Rattle.std.proofs.Common.{◌≡◌, ◌≢◌, ◌++◌, ◌∷◌, [], sym, ◌∙◌, ap, subst, List, ℕ, map, slice_get, length, Some, Contains, Vec, Global}
 use Rattle.std.proofs.lemmas.List.{length-map}
+use Rattle.std.proofs.lemmas.List.Elements.{Contains-get_or}
+use Rattle.std.proofs.lemmas.List.Quantifiers.{all_pairs_push}
 use Rattle.kiss2.specs.Names.{AreDistinct}
-use Rattle.kiss2.proofs.Known.{distinct_with, last_at, names_with}
+use Rattle.hs_io.proofs.Known.{last_at, names_with}
 use Rattle.kiss2.proofs.state_names.StateNames.add.Goals as goal
 
 -- the bytes of a key
 items_of : Vec ℕ Global → List ℕ
 items_of v = v.items
+
+-- a new name keeps the names distinct
+distinct_with : (names : List (List ℕ)) (name : List ℕ) → AreDistinct names → (Contains names name → ⊥) → AreDistinct (names ++ name ∷ [])
+distinct_with names name distinct new =
+    all_pairs_push (λ a b. a ≢ b) names name distinct
+    (λ k d lt same. new (subst (Contains names) same (Contains-get_or names k d lt)))
 
 -- a new name goes last
 names_after : (c : goal.In_ok-insert_full) → map items_of c.insert_full.new.self.keys ≡ c.args.self.now ++ c.args.name.now ∷ []

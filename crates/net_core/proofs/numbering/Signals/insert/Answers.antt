@@ -3,7 +3,7 @@ use Rattle.std.proofs.lemmas.Slice.Eq.{bytes_eq-Decides}
 use Rattle.std.specs.Str.{bytes_eq}
 use Rattle.net_core.specs.Causes.{AreOnce}
 use Rattle.net_core.proofs.Counted.{once_push}
-use Rattle.net_core.proofs.Known.{names_with}
+use Rattle.hs_io.proofs.Known.{names_with}
 use Rattle.net_core.proofs.numbering.Signals.insert.Goals as goal
 
 -- the bytes of a key

@@ -1,6 +1,6 @@
 use Rattle.std.proofs.Common.{◌≡◌, subst, List, ℕ, slice_get, Some, Contains, IfSome, IfNone}
 use Rattle.net_core.proofs.numbering.Signals.number.Goals as goal
-use Rattle.net_core.proofs.Known.{number_some, number_none}
+use Rattle.hs_io.proofs.Known.{number_some, number_none}
 
 pub returns-clause-some : goal.returns-clause-some
 returns-clause-some c =

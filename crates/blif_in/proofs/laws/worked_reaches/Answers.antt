@@ -1,0 +1,20 @@
+use Rattle.std.proofs.Common.{inl, refl}
+use Rattle.blif_in.proofs.laws.worked_reaches.Goals as goal
+
+pub returns-clause-model_name : goal.returns-clause-model_name
+returns-clause-model_name c = inl refl
+
+pub returns-clause-name : goal.returns-clause-name
+returns-clause-name c = inl refl
+
+pub returns-clause-inputs : goal.returns-clause-inputs
+returns-clause-inputs c = inl refl
+
+pub returns-clause-outputs : goal.returns-clause-outputs
+returns-clause-outputs c = inl refl
+
+pub returns-clause-latches : goal.returns-clause-latches
+returns-clause-latches c = inl refl
+
+pub returns-clause-gate_inputs : goal.returns-clause-gate_inputs
+returns-clause-gate_inputs c = inl refl
