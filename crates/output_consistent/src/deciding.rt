@@ -1,8 +1,7 @@
 //! Whether the outputs respect a partition.
 
-ghost use Rattle.std.specs.Prelude.{◌≡◌, ◌<◌, ◌↔◌, IsTrue, length};
+ghost use Rattle.std.specs.Prelude.{◌≡◌, ◌↔◌, IsTrue, length};
 ghost use Rattle.pair_operators.specs.Consistent.{Consistent};
-ghost use Rattle.partition.specs.Inside.{least_of};
 
 use machine_table::Machine;
 use partition::Partition;
@@ -15,22 +14,9 @@ pub fn is_consistent(m: &Machine, p: &Partition) -> bool
     ensures { IsTrue result ↔ Consistent m.now p.now }
 {
     for s in 0..m.states() {
-        if !m.outputs_agree(least_of(p, s), s) {
+        if !m.outputs_agree(p.least_of(s), s) {
             return false;
         }
     }
     true
-}
-
-/// The least state that is together with s.
-fn least_of(p: &Partition, s: usize) -> usize
-    requires { s < length p.now }
-    ensures { result ≡ least_of p.now s }
-{
-    for t in 0..s {
-        if p.same(t, s) {
-            return t;
-        }
-    }
-    s
 }

@@ -1,11 +1,11 @@
 -- A pair by the least states of blocks.
-use Rattle.std.proofs.Common.{◌≡◌, ◌≢◌, ◌∙◌, ℕ, ◌+◌, ◌<◌, List, length, get_or, eqb, sym, subst, refl, inl, inr, arith}
+use Rattle.std.proofs.Common.{◌≡◌, ℕ, ◌+◌, ◌<◌, List, length, get_or, eqb, sym, subst, refl, inl, inr, arith}
 use Rattle.std.proofs.lemmas.Bool.{cases_eq, eqb-true}
 use Rattle.std.proofs.lemmas.List.Sums.{passes_at_first}
 use Rattle.kiss2.specs.declared.kiss_file.KissFile.{KissFile}
 use Rattle.partition.specs.Partition.{Together}
 use Rattle.partition.specs.Inside.{least_of}
-use Rattle.partition.proofs.Nesting.{least_of-first, least_of-le, least_of-same}
+use Rattle.partition.proofs.Nesting.{least_of-le, least_of-same}
 use Rattle.pair_operators.specs.Pair.{Pair}
 use Rattle.pair_operators.specs.Inner.Going.{Goes}
 use Rattle.pair_operators.proofs.Going.{goes_each, goes_in_pair, goes_turned, goes_on}
@@ -34,8 +34,3 @@ pair_from_firsts F p q firsts s t x held size =
 
 pub firsts_from_pair : (F : KissFile) (p q : List ℕ) → Pair F p q → (s : ℕ) → s < length p → Goes F q (least_of p s) s
 firsts_from_pair F p q pair s within = goes_in_pair F p q (least_of p s) s pair (least_of-together p s within)
-
--- a state that is together with s, and no earlier one is
-pub least_found : (p : List ℕ) (s t : ℕ) → Together p t s → ((u : ℕ) → u < t → get_or p u 0 ≢ get_or p s 0) → t ≡ least_of p s
-least_found p s t held none =
-    sym (least_of-first p t held.0 (λ u below same. none u below (same ∙ held.2))) ∙ least_of-same p t s held.2

@@ -2,9 +2,10 @@
 ghost use Rattle.std.specs.Prelude.{ℕ, ◌≡◌, ◌<◌, ◌↔◌, All, IfNone, IfOk, IfSome, IsTrue, length};
 ghost use Rattle.pair_operators.specs.Extremes.{IsHigh};
 ghost use Rattle.partition.specs.Partition.{IsPartition};
-ghost use Rattle.pair_operators.specs.Inner.Going.{AllGo, Goes, IsAhead};
+ghost use Rattle.partition.specs.Inner.Splitting.{AreRelated};
+ghost use Rattle.pair_operators.specs.Inner.Going.{Goes, AreNextLabels};
 
-use crate::ahead::{Ahead, labels_ahead};
+use crate::next_labels::{NextLabels, at_few_symbols};
 use machine_table::Machine;
 use partition::Partition;
 use std::alloc::{AllocError, Global};
@@ -17,7 +18,7 @@ pub fn high(alloc: Global, m: &Machine, q: &Partition) -> Result<Partition, Allo
     requires { length q.now ≡ length m.now.states }
     ensures { IfOk result (IsHigh m.now q.now) }
 {
-    let asked = labels_ahead(alloc, m, q)?;
+    let asked = at_few_symbols(alloc, m, q)?;
     let mut p = Partition::zero(alloc, m.states())?;
     for s in 0..m.states() {
         if let Some(first) = goes_with(m, &p, q, &asked, s) {
@@ -29,15 +30,15 @@ pub fn high(alloc: Global, m: &Machine, q: &Partition) -> Result<Partition, Allo
 
 /// Whether the two states go, at each symbol, to states that are together in q. Where their labels differ at a symbol
 /// that is asked first, the other symbols are not asked.
-fn go_together(m: &Machine, q: &Partition, asked: &[Ahead], s: usize, t: usize) -> bool
+fn go_together(m: &Machine, q: &Partition, asked: &[NextLabels], s: usize, t: usize) -> bool
     requires s { s < length m.now.states }
     requires t { t < length m.now.states }
     requires right { length q.now ≡ length m.now.states }
-    requires asked { All (IsAhead m.now q.now) asked.now }
+    requires asked { All (AreNextLabels m.now q.now) asked.now }
     ensures { IsTrue result ↔ Goes m.now q.now s t }
 {
-    for ahead in asked {
-        if ahead.labels[s] != ahead.labels[t] {
+    for next in asked {
+        if next.labels[s] != next.labels[t] {
             return false;
         }
     }
@@ -45,12 +46,18 @@ fn go_together(m: &Machine, q: &Partition, asked: &[Ahead], s: usize, t: usize) 
 }
 
 /// The first state below s that is the least of its block in p and goes, for each symbol, where s goes.
-fn goes_with(m: &Machine, p: &Partition, q: &Partition, asked: &[Ahead], s: usize) -> Option<usize>
+fn goes_with(
+    m: &Machine,
+    p: &Partition,
+    q: &Partition,
+    asked: &[NextLabels],
+    s: usize,
+) -> Option<usize>
     requires s { s < length m.now.states }
     requires left { IsPartition (length m.now.states) p.now }
     requires right { length q.now ≡ length m.now.states }
-    requires asked { All (IsAhead m.now q.now) asked.now }
-    requires together { AllGo m.now p.now q.now }
+    requires asked { All (AreNextLabels m.now q.now) asked.now }
+    requires related { AreRelated (Goes m.now q.now) p.now }
     ensures below { IfSome result (λ first. first < s) }
     ensures goes { IfSome result (λ first. Goes m.now q.now first s) }
     ensures none { IfNone result ((t : ℕ) → t < s → ¬ Goes m.now q.now t s) }

@@ -5,7 +5,6 @@ ghost use Rattle.partition.specs.Partition.{IsPartition};
 ghost use Rattle.pair_operators.specs.Extremes.{IsLow};
 ghost use Rattle.pair_operators.specs.Inner.Going.{HoldsNext};
 
-use crate::pairs::least_of;
 use machine_table::Machine;
 use partition::Partition;
 use std::alloc::{AllocError, Global};
@@ -20,7 +19,7 @@ pub fn low(alloc: Global, m: &Machine, p: &Partition) -> Result<Partition, Alloc
 {
     let mut q = Partition::zero(alloc, m.states())?;
     for s in 0..m.states() {
-        let first = least_of(p, s);
+        let first = p.least_of(s);
         if first < s {
             hold_next(alloc, m, first, s, &mut q)?;
         }

@@ -10,10 +10,10 @@
 //! crates above, stands in `specs/Laws` and is promised by the functions of `laws`.
 #![tactic(auto)]
 
-mod ahead;
 mod greatest;
 mod laws;
 mod least;
+mod next_labels;
 mod pairs;
 
 pub use greatest::high;

@@ -1,6 +1,5 @@
 //! Whether two partitions are a pair.
-ghost use Rattle.std.specs.Prelude.{◌≡◌, ◌<◌, ◌↔◌, IsTrue, length};
-ghost use Rattle.partition.specs.Inside.{least_of};
+ghost use Rattle.std.specs.Prelude.{◌≡◌, ◌↔◌, IsTrue, length};
 ghost use Rattle.pair_operators.specs.Pair.{Pair};
 
 use machine_table::Machine;
@@ -15,22 +14,9 @@ pub fn is_pair(m: &Machine, p: &Partition, q: &Partition) -> bool
     ensures { IsTrue result ↔ Pair m.now p.now q.now }
 {
     for s in 0..m.states() {
-        if !m.pair_goes(least_of(p, s), s, q) {
+        if !m.pair_goes(p.least_of(s), s, q) {
             return false;
         }
     }
     true
-}
-
-/// The least state that is together with s.
-pub(crate) fn least_of(p: &Partition, s: usize) -> usize
-    requires { s < length p.now }
-    ensures { result ≡ least_of p.now s }
-{
-    for t in 0..s {
-        if p.same(t, s) {
-            return t;
-        }
-    }
-    s
 }

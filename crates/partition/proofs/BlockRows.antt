@@ -8,13 +8,13 @@ use Rattle.std.specs.Int.{bit_at}
 use Rattle.std.specs.Int.RustNames.{bit_or}
 use Rattle.partition.specs.Partition.{Together}
 use Rattle.partition.specs.Bits.{bit_of}
-use Rattle.partition.specs.Inner.Rows.{Has, words_for, four_of, place_in, AreRows, AreRowsOf, AreTwo, AreNumbers}
+use Rattle.partition.specs.Inner.Rows.{Has, words_for, four_of, place_in, AreRows, AreRowsOf, AreTwo, AreRowNumbers}
 use Rattle.partition.proofs.Words.{bit_of_past, bit_of-lt, bits_of_four, with_bit, bit_set, bits_set_other}
 
 two_more : (p : List ℕ) (s label : ℕ) → AreTwo p s label → AreTwo p (s + 1) label
 two_more p s label two = record { one = two.one; other = two.other; apart = two.apart; within = omega (arith, two.within); first = two.first; second = two.second }
 
-pub numbers_none : (p numbers : List ℕ) → ((label : ℕ) → get_or numbers label 0 ≡ 0) → AreNumbers p numbers 0 0
+pub numbers_none : (p numbers : List ℕ) → ((label : ℕ) → get_or numbers label 0 ≡ 0) → AreRowNumbers p numbers 0 0
 numbers_none p numbers none = record {
   few = omega arith;
   small = λ label. omega (arith, none label);
@@ -27,7 +27,7 @@ numbers_none p numbers none = record {
 }
 
 -- no earlier state has the label of state s
-pub numbers_first : (p numbers : List ℕ) (count s : ℕ) → AreNumbers p numbers count s → get_or p s 0 < length numbers → get_or numbers (get_or p s 0) 0 ≡ 0 → AreNumbers p (set numbers (get_or p s 0) 1) count (s + 1)
+pub numbers_first : (p numbers : List ℕ) (count s : ℕ) → AreRowNumbers p numbers count s → get_or p s 0 < length numbers → get_or numbers (get_or p s 0) 0 ≡ 0 → AreRowNumbers p (set numbers (get_or p s 0) 1) count (s + 1)
 numbers_first p numbers count s so_far room none = record {
   few = omega (arith, so_far.few);
   small = λ label. elim (cases_eq label (get_or p s 0)) [
@@ -78,7 +78,7 @@ numbers_first p numbers count s so_far room none = record {
     earlier t below same = absurd (omega (arith, so_far.some t below, ap (λ (label : ℕ). get_or numbers label 0) same, none))
 
 -- one earlier state has the label of state s
-pub numbers_second : (p numbers : List ℕ) (count s : ℕ) → AreNumbers p numbers count s → get_or p s 0 < length numbers → get_or numbers (get_or p s 0) 0 ≡ 1 → AreNumbers p (set numbers (get_or p s 0) (count + 2)) (count + 1) (s + 1)
+pub numbers_second : (p numbers : List ℕ) (count s : ℕ) → AreRowNumbers p numbers count s → get_or p s 0 < length numbers → get_or numbers (get_or p s 0) 0 ≡ 1 → AreRowNumbers p (set numbers (get_or p s 0) (count + 2)) (count + 1) (s + 1)
 numbers_second p numbers count s so_far room one = record {
   few = omega (arith, so_far.few);
   small = λ label. elim (cases_eq label (get_or p s 0)) [
@@ -135,7 +135,7 @@ numbers_second p numbers count s so_far room one = record {
         ]
 
 -- more than one earlier state has the label of state s
-pub numbers_later : (p numbers : List ℕ) (count s : ℕ) → AreNumbers p numbers count s → get_or numbers (get_or p s 0) 0 ≢ 0 → get_or numbers (get_or p s 0) 0 ≢ 1 → AreNumbers p numbers count (s + 1)
+pub numbers_later : (p numbers : List ℕ) (count s : ℕ) → AreRowNumbers p numbers count s → get_or numbers (get_or p s 0) 0 ≢ 0 → get_or numbers (get_or p s 0) 0 ≢ 1 → AreRowNumbers p numbers count (s + 1)
 numbers_later p numbers count s so_far some more = record {
   few = omega (arith, so_far.few);
   small = so_far.small;
@@ -228,7 +228,7 @@ put_no labels numbers words width s so_far low i t within =
     )
 
 -- the rows of all states are those of the blocks
-pub rows_are : (p numbers words : List ℕ) (width count : ℕ) → length words ≡ count * width → length p ≤ 64 * width → AreNumbers p numbers count (length p) → ArePut p numbers words width (length p) → AreRows p words width count
+pub rows_are : (p numbers words : List ℕ) (width count : ℕ) → length words ≡ count * width → length p ≤ 64 * width → AreRowNumbers p numbers count (length p) → ArePut p numbers words width (length p) → AreRows p words width count
 rows_are p numbers words width count size wide are put = record {
   size = size;
   block = λ i s t within in_s in_t on.

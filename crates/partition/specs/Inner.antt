@@ -3,4 +3,5 @@ pub mod Rows
 pub mod Pieces
 pub mod Ties
 pub mod Relabelled
+pub mod Splitting
 pub mod Gathering

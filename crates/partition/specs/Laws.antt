@@ -6,3 +6,4 @@ pub mod Joins
 pub mod Precedence
 pub mod World
 pub mod Merging
+pub mod Splitting

@@ -8,7 +8,8 @@
 //! are two worlds of joins, `PartWorld` and `BitWorld`.
 #![tactic(auto)]
 
-ghost use Rattle.std.specs.Prelude.{◌≡◌, ◌<◌, ◌↔◌, length, slice_index, IsTrue, IfOk};
+ghost use Rattle.std.specs.Prelude.{◌≡◌, ◌<◌, ◌≤◌, ◌↔◌, length, slice_index, IsTrue, IfOk};
+ghost use Rattle.partition.specs.Inside.{least_of};
 ghost use Rattle.partition.specs.Partition.{IsPartition, IsStateCount, IsZero, IsOne, IsHold, Together, blocks_of, zero_of};
 
 mod bits;
@@ -162,6 +163,20 @@ impl Partition {
         ensures { IsTrue result ↔ Together self.now s t }
     {
         self.labels[s] == self.labels[t]
+    }
+
+    /// The least state that is together with s.
+    pub fn least_of(&self, s: usize) -> usize
+        requires { s < length self.now }
+        ensures least { result ≡ least_of self.now s }
+        ensures below { result ≤ s }
+    {
+        for t in 0..s {
+            if self.same(t, s) {
+                return t;
+            }
+        }
+        s
     }
 
     /// The same partition again.

@@ -2,7 +2,6 @@ pub mod Accepting
 pub mod AllNamed
 pub mod Answered
 pub mod Appearing
-pub mod Blocks
 pub mod Counted
 pub mod Judged
 pub mod Lawfully
@@ -11,7 +10,6 @@ pub mod Members
 pub mod Names
 pub mod Numbers
 pub mod Ordered
-pub mod Refused
 pub mod Rounds
 pub mod Unrefused
 pub mod Working

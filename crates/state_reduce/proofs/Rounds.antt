@@ -9,7 +9,7 @@ use Rattle.partition.specs.Partition.{Le, Together}
 use Rattle.state_reduce.specs.Alike.{Alike, IsEquivalence, IsWord}
 use Rattle.machine_table.specs.Staying.{NeverLeaves}
 use Rattle.state_reduce.specs.Inner.Refining.{AgreeAlways, IsRound, StayTogether}
-use Rattle.state_reduce.specs.Inner.Splitting.{IsSplitBy}
+use Rattle.partition.specs.Inner.Splitting.{IsSplitBy}
 
 -- both relations are symmetric and transitive
 pub agree_turned : (F : KissFile) (s t : ℕ) → AgreeAlways F s t → AgreeAlways F t s

@@ -1,5 +1,4 @@
 -- What private functions and proofs need; no public contract cites it.
-pub mod Splitting
 pub mod Refining
 pub mod Demanded
 pub mod Named

@@ -4,7 +4,6 @@ ghost use Rattle.machine_table.specs.Pairs.{AtEachSymbol, IsFirstWithout};
 ghost use Rattle.partition.specs.Partition.{IsPartition};
 ghost use Rattle.state_reduce.specs.Inner.Demanded.{IsFirstBehind, IsFirstUnmet, IsMet, IsMetBehind, IsMetByAll};
 
-use crate::block::least_in_block;
 use machine_table::Machine;
 use partition::Partition;
 use std::alloc::AllocError;
@@ -51,7 +50,7 @@ pub(crate) fn first_against(m: &Machine, p: &Partition, demand: Demand) -> Optio
     ensures partition { IsPartition (length p.now) p.now }
 {
     for s in 0..p.len() {
-        if least_in_block(p, s) != s {
+        if p.least_of(s) != s {
             continue;
         }
         if let Some((t, x)) = first_behind(m, p, demand, s) {

@@ -13,13 +13,11 @@
 //! `specs/WorkMachine` says on which machine a job works, with `--reduce` and without.
 #![tactic(auto)]
 
-mod block;
 mod copying;
 mod judging;
 mod laws;
 mod merging;
 mod refining;
-mod splitting;
 
 pub use judging::QuotientFail;
 pub use laws::{alike_has_quotient, classes_answer_alike};

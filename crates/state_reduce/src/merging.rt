@@ -14,7 +14,6 @@ ghost use Rattle.state_reduce.specs.Cause.{Caused};
 ghost use Rattle.state_reduce.specs.Inner.Named.{AreAllNamed, currents_of};
 ghost use Rattle.state_reduce.specs.Quotient.{AnswersAsMembers, AreBlocksInOrder, AreNamed, HaveRowsInOrder, IsQuotient, block_name, block_names, block_number, kept_rows, row_of_blocks};
 
-use crate::block::least_in_block;
 use crate::copying::copied_given;
 use crate::judging::{Demand, QuotientFail, first_against};
 use kiss2::{KissFile, KissRow, Rows, StateNames};
@@ -172,7 +171,7 @@ fn is_kept(p: &Partition, row: &KissRow) -> bool
     ensures { result ≡ (least_of p.now row.now.from == row.now.from) }
 {
     let from = usize::from(row.from);
-    least_in_block(p, from) == from
+    p.least_of(from) == from
 }
 
 /// The number of the block of a state among the names. A new name goes last.
@@ -191,5 +190,5 @@ fn number_of(
         → OnOk result (states.new ≡ states.old ++ block_name file.now p.now s ∷ []) }
     ensures distinct { AreDistinct states.new }
 {
-    states.add(file.states.name(least_in_block(p, usize::from(s))))
+    states.add(file.states.name(p.least_of(usize::from(s))))
 }

@@ -1,13 +1,12 @@
 //! The partition of alike states, by rounds in which states are told apart.
-ghost use Rattle.std.specs.Prelude.{◌≡◌, ◌<◌, IfOk, All, length};
+ghost use Rattle.std.specs.Prelude.{◌≡◌, ◌<◌, ◌↔◌, ℕ, IfNone, IfOk, IfSome, IsTrue, length};
+ghost use Rattle.partition.specs.Inner.Splitting.{AreRelated, IsSplitBy};
 ghost use Rattle.partition.specs.Partition.{IsPartition};
 ghost use Rattle.state_reduce.specs.Alike.{IsEquivalence};
 ghost use Rattle.state_reduce.specs.Inner.Refining.{AgreeAlways, IsRound, StayTogether};
-ghost use Rattle.state_reduce.specs.Inner.Splitting.{IsFirstBlock, IsSplitBy, IsSplitting};
 
-use crate::splitting::Splitting;
 use machine_table::Machine;
-use partition::{PartFail, Partition};
+use partition::Partition;
 use std::alloc::{AllocError, Global};
 
 /// The partition of the states in which two are together exactly where they are alike.
@@ -29,12 +28,13 @@ pub fn equivalence(alloc: Global, m: &Machine) -> Result<Partition, AllocError>
 fn agreeing(alloc: Global, m: &Machine) -> Result<Partition, AllocError>
     ensures { IfOk result (IsSplitBy (AgreeAlways m.now) (length m.now.states)) }
 {
-    let mut splitting = Splitting::new(alloc);
+    let mut p = Partition::zero(alloc, m.states())?;
     for s in 0..m.states() {
-        let block = first_agreeing(m, splitting.firsts.as_slice(), s);
-        splitting.put(s, block)?;
+        if let Some(first) = first_agreeing(m, &p, s) {
+            p.merge(first, s);
+        }
     }
-    partition_of(alloc, &splitting)
+    Ok(p)
 }
 
 /// The partition one round finer: states stay together where they go into one block at each symbol.
@@ -42,55 +42,64 @@ fn refined(alloc: Global, m: &Machine, p: &Partition) -> Result<Partition, Alloc
     requires { length p.now ≡ length m.now.states }
     ensures { IfOk result (IsSplitBy (StayTogether m.now p.now) (length m.now.states)) }
 {
-    let mut splitting = Splitting::new(alloc);
+    let mut finer = Partition::zero(alloc, m.states())?;
     for s in 0..m.states() {
-        let block = first_staying(m, p, splitting.firsts.as_slice(), s);
-        splitting.put(s, block)?;
-    }
-    partition_of(alloc, &splitting)
-}
-
-/// The first block whose first state agrees with the state in all outputs.
-fn first_agreeing(m: &Machine, firsts: &[u16], s: usize) -> usize
-    requires firsts { All (λ first. first < length m.now.states) firsts.now }
-    requires s { s < length m.now.states }
-    ensures { IsFirstBlock (AgreeAlways m.now) firsts.now s result }
-{
-    for (block, first) in firsts.iter().enumerate() {
-        if m.outputs_agree(usize::from(*first), s) {
-            return block;
+        if let Some(first) = first_staying(m, p, &finer, s) {
+            finer.merge(first, s);
         }
     }
-    firsts.len()
+    Ok(finer)
 }
 
-/// The first block whose first state stays together with the state.
-fn first_staying(m: &Machine, p: &Partition, firsts: &[u16], s: usize) -> usize
+/// The first state below s that is the least of its block so far and agrees with s in all outputs.
+fn first_agreeing(m: &Machine, so_far: &Partition, s: usize) -> Option<usize>
+    requires lawful { IsPartition (length m.now.states) so_far.now }
+    requires s { s < length m.now.states }
+    requires related { AreRelated (AgreeAlways m.now) so_far.now }
+    ensures below { IfSome result (λ first. first < s) }
+    ensures agrees { IfSome result (λ first. AgreeAlways m.now first s) }
+    ensures none { IfNone result ((t : ℕ) → t < s → ¬ AgreeAlways m.now t s) }
+{
+    let mut blocks = 0;
+    for t in 0..s {
+        if usize::from(so_far.label(t)) == blocks {
+            if m.outputs_agree(t, s) {
+                return Some(t);
+            }
+            blocks += 1;
+        }
+    }
+    None
+}
+
+/// The first state below s that is the least of its block so far and stays together with s.
+fn first_staying(m: &Machine, p: &Partition, so_far: &Partition, s: usize) -> Option<usize>
     requires p { length p.now ≡ length m.now.states }
-    requires firsts { All (λ first. first < length m.now.states) firsts.now }
+    requires lawful { IsPartition (length m.now.states) so_far.now }
     requires s { s < length m.now.states }
-    ensures { IsFirstBlock (StayTogether m.now p.now) firsts.now s result }
+    requires related { AreRelated (StayTogether m.now p.now) so_far.now }
+    ensures below { IfSome result (λ first. first < s) }
+    ensures stays { IfSome result (λ first. StayTogether m.now p.now first s) }
+    ensures none { IfNone result ((t : ℕ) → t < s → ¬ StayTogether m.now p.now t s) }
 {
-    for (block, first) in firsts.iter().enumerate() {
-        let first = usize::from(*first);
-        if p.same(first, s) && m.pair_goes(first, s, p) {
-            return block;
+    let mut blocks = 0;
+    for t in 0..s {
+        if usize::from(so_far.label(t)) == blocks {
+            if stay_together(m, p, t, s) {
+                return Some(t);
+            }
+            blocks += 1;
         }
     }
-    firsts.len()
+    None
 }
 
-/// The partition with the labels of all states.
-fn partition_of(alloc: Global, splitting: &Splitting) -> Result<Partition, AllocError>
-    requires { IsPartition (length splitting.now.labels.items) splitting.now.labels.items }
-    ensures { IfOk result (λ p. p ≡ splitting.now.labels.items) }
+/// Whether the states are together and at each symbol go to states that are.
+fn stay_together(m: &Machine, p: &Partition, s: usize, t: usize) -> bool
+    requires p { length p.now ≡ length m.now.states }
+    requires s { s < length m.now.states }
+    requires t { t < length m.now.states }
+    ensures { IsTrue result ↔ StayTogether m.now p.now s t }
 {
-    match Partition::from_labels(alloc, splitting.labels.as_slice()) {
-        Ok(p) => Ok(p),
-        Err(PartFail::NoMemory) => Err(AllocError),
-        Err(PartFail::Empty) => unreachable!(),
-        Err(PartFail::NotCanonical { .. }) => unreachable!(),
-        Err(PartFail::BadText { .. }) => unreachable!(),
-        Err(PartFail::WrongLength { .. }) => unreachable!(),
-    }
+    p.same(s, t) && m.pair_goes(s, t, p)
 }

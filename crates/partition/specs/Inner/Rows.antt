@@ -42,7 +42,7 @@ pub record AreTwo (p : List ℕ) (s label : ℕ) : Type 0 where
 
 -- Numbers of the labels of the first s states: 0 where none of them has the label, 1 where one has it, and else
 -- the number of a row plus 2, another one for each label. So many rows have a label.
-pub record AreNumbers (p numbers : List ℕ) (count s : ℕ) : Type 0 where
+pub record AreRowNumbers (p numbers : List ℕ) (count s : ℕ) : Type 0 where
   pub few : count ≤ s
   pub small : (label : ℕ) → slice_index numbers label < count + 2
   pub some : (t : ℕ) → t < s → 1 ≤ slice_index numbers (slice_index p t)

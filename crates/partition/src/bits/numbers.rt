@@ -1,7 +1,7 @@
 //! The rows that a partition needs, one for each block of two states or more.
 
 ghost use Rattle.std.specs.Prelude.{◌≡◌, ℕ, ◌<◌, ◌≤◌, length, slice_index};
-ghost use Rattle.partition.specs.Inner.Rows.{AreNumbers};
+ghost use Rattle.partition.specs.Inner.Rows.{AreRowNumbers};
 
 /// Gives each label a number: 0 where no state has it, 1 where one state has it, and else the number of the
 /// row of its block plus 2. Answers the number of rows.
@@ -9,7 +9,7 @@ pub fn number_rows(labels: &[u16], numbers: &mut [u16]) -> usize
     requires labels { (s : ℕ) → s < length labels.now → slice_index labels.now s < length numbers.old }
     requires few { length labels.now ≤ 256 }
     requires none { (label : ℕ) → slice_index numbers.old label ≡ 0 }
-    ensures { AreNumbers labels.now numbers.new result (length labels.now) }
+    ensures { AreRowNumbers labels.now numbers.new result (length labels.now) }
 {
     let mut count: u16 = 0;
     for label in labels {

@@ -2,12 +2,11 @@ use Rattle.std.proofs.Common.{ℕ, List, length, refl, sym, subst, ◌∙◌, ar
 use Rattle.std.proofs.lemmas.Bool.{true≢false}
 use Rattle.kiss2.specs.declared.kiss_file.KissFile.{KissFile}
 use Rattle.machine_table.specs.Pairs.{AgreeAt, AtEachSymbol}
-use Rattle.partition.proofs.Nesting.{least_of-le}
 use Rattle.output_consistent.proofs.Agreeing.{FirstsAgree, consistent_from_firsts, firsts_from_consistent, firsts_more}
 use Rattle.output_consistent.proofs.deciding.is_consistent.Goals as goal
 
 pub outputs_agree-requires-clause-s : goal.outputs_agree-requires-clause-s
-outputs_agree-requires-clause-s c = omega (arith, c.least_of.ensures, least_of-le c.args.p.now c.loop-s.s c.loop-s.s refl, c.requires)
+outputs_agree-requires-clause-s c = omega (arith, c.least_of.ensures.below, c.requires)
 
 pub returns-then-not-outputs_agree : goal.returns-then-not-outputs_agree
 returns-then-not-outputs_agree c =
@@ -17,7 +16,7 @@ returns-then-not-outputs_agree c =
       (λ is. absurd (true≢false (sym is))),
       (λ consistent.
           let agree = firsts_from_consistent F p consistent s (omega (arith, c.requires)) in
-          absurd (true≢false (sym (c.outputs_agree.ensures.1 (subst (λ (u : ℕ). AtEachSymbol F.inputs (AgreeAt F u s)) (sym c.least_of.ensures) agree)) ∙ c.if-not-outputs_agree.true))),
+          absurd (true≢false (sym (c.outputs_agree.ensures.1 (subst (λ (u : ℕ). AtEachSymbol F.inputs (AgreeAt F u s)) (sym c.least_of.ensures.least) agree)) ∙ c.if-not-outputs_agree.true))),
     )
 
 pub loop-s-preserved : goal.loop-s-preserved
@@ -25,7 +24,7 @@ loop-s-preserved c =
     let F : KissFile = c.args.m.now in
     let p : List ℕ = c.args.p.now in
     let s : ℕ = c.loop-s.s in
-    firsts_more F p s c.loop-s.invariant (subst (λ (u : ℕ). AtEachSymbol F.inputs (AgreeAt F u s)) c.least_of.ensures (c.outputs_agree.ensures.0 c.if-not-outputs_agree.false))
+    firsts_more F p s c.loop-s.invariant (subst (λ (u : ℕ). AtEachSymbol F.inputs (AgreeAt F u s)) c.least_of.ensures.least (c.outputs_agree.ensures.0 c.if-not-outputs_agree.false))
 
 pub returns : goal.returns
 returns c =

@@ -1,7 +1,10 @@
-use Rattle.std.proofs.Common.{◌+◌, ℕ, List, sym, subst, ◌∙◌, arith}
+use Rattle.std.proofs.Common.{◌+◌, ℕ, List, length, sym, subst, ◌∙◌, arith}
 use Rattle.std.proofs.lemmas.Bool.{true≢false}
 use Rattle.kiss2.specs.declared.kiss_file.KissFile.{KissFile}
-use Rattle.pair_operators.proofs.Classes.{IsSearched, searched_first, searched_later}
+use Rattle.partition.specs.Inner.Splitting.{IsSearched}
+use Rattle.partition.specs.Laws.Splitting.{searched_first, searched_later}
+use Rattle.pair_operators.specs.Inner.Going.{Goes}
+use Rattle.pair_operators.proofs.Going.{goes_on}
 use Rattle.pair_operators.proofs.greatest.goes_with.Goals as goal
 use Rattle.pair_operators.proofs.greatest.goes_with.Goals.{then-from-blocks+else-go_together, else-from-blocks}
 
@@ -14,7 +17,7 @@ loop-t-preserved c =
     let t : ℕ = c.loop-t.t in
     elim c.if-from-blocks.branch [
       | then-from-blocks+else-go_together w ↦
-          subst (λ (n : ℕ). IsSearched F p q s (t + 1) n) (sym w.blocks-is) (searched_first F p q s t c.loop-t.blocks (omega (arith, c.requires.left.length)) (sym c.label.ensures ∙ sym c.from.ensures ∙ w.if-from-blocks.true) (λ goes. true≢false (sym (w.go_together.ensures.1 goes) ∙ w.if-go_together.false)) c.loop-t.invariant)
+          subst (λ (n : ℕ). IsSearched (Goes F q) p s (t + 1) n) (sym w.blocks-is) (searched_first (Goes F q) p s t c.loop-t.blocks (omega (arith, c.requires.left.length)) (sym c.label.ensures ∙ sym c.from.ensures ∙ w.if-from-blocks.true) (λ goes. true≢false (sym (w.go_together.ensures.1 goes) ∙ w.if-go_together.false)) c.loop-t.invariant)
       | else-from-blocks w ↦
-          subst (λ (n : ℕ). IsSearched F p q s (t + 1) n) (sym w.blocks-is) (searched_later F p q s t c.loop-t.blocks c.requires.left c.requires.together (omega (arith, c.requires.left.length)) (λ same. w.if-from-blocks.false (c.from.ensures ∙ c.label.ensures ∙ same)) c.loop-t.invariant)
+          subst (λ (n : ℕ). IsSearched (Goes F q) p s (t + 1) n) (sym w.blocks-is) (searched_later (Goes F q) (goes_on F q) (length F.states) p s t c.loop-t.blocks c.requires.left c.requires.related (omega (arith, c.requires.left.length)) (λ same. w.if-from-blocks.false (c.from.ensures ∙ c.label.ensures ∙ same)) c.loop-t.invariant)
     ]

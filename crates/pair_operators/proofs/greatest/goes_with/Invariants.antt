@@ -1,5 +1,6 @@
-use Rattle.pair_operators.proofs.Classes.{IsSearched}
+use Rattle.partition.specs.Inner.Splitting.{IsSearched}
+use Rattle.pair_operators.specs.Inner.Going.{Goes}
 use Rattle.pair_operators.proofs.greatest.goes_with.Given as goal
 
 abbrev pub invariant-loop-t : goal.invariant-loop-t
-invariant-loop-t l = IsSearched l.m l.p l.q l.s l.t l.blocks
+invariant-loop-t l = IsSearched (Goes l.m l.q) l.p l.s l.t l.blocks

@@ -1,29 +1,40 @@
 use Rattle.std.proofs.Common.{◌<◌, ◌+◌, ℕ, List, length, sym, subst, arith}
 use Rattle.kiss2.specs.declared.kiss_file.KissFile.{KissFile}
+use Rattle.partition.specs.Inner.Splitting.{IsSplitUpTo}
 use Rattle.partition.specs.Laws.Labels.{IsPartition-of}
-use Rattle.pair_operators.proofs.Classes.{IsHighSoFar, high_none, high_joined, high_alone, high_all}
+use Rattle.partition.specs.Laws.Splitting.{split_none, split_joined, split_alone, split_all}
+use Rattle.pair_operators.specs.Inner.Going.{Goes}
+use Rattle.pair_operators.proofs.Classes.{high_all}
+use Rattle.pair_operators.proofs.Going.{goes_on, goes_turned}
 use Rattle.pair_operators.proofs.greatest.high.Goals as goal
 use Rattle.pair_operators.proofs.greatest.high.Goals.{in-Some, in_default}
 
 pub loop-s-init : goal.loop-s-init
 loop-s-init c =
-    high_none c.args.m.now c.args.q.now c.in_ok-p.p c.states.ensures.inside c.requires (IsPartition-of c.states.ensures.count c.in_ok-p.ensures.lawful) c.in_ok-p.ensures.zero
+    let F : KissFile = c.args.m.now in
+    split_none (Goes F c.args.q.now) (length F.states) c.in_ok-p.p (IsPartition-of c.states.ensures.count c.in_ok-p.ensures.lawful) c.in_ok-p.ensures.zero
 
 pub loop-s-preserved : goal.loop-s-preserved
 loop-s-preserved c =
     let F : KissFile = c.args.m.now in
     let q : List ℕ = c.args.q.now in
+    let n : ℕ = length F.states in
     let s : ℕ = c.loop-s.s in
-    let within : s < length F.states = omega (arith, c.states-s-end.ensures.count) in
+    let within : s < n = omega (arith, c.states-s-end.ensures.count) in
     elim c.match-goes_with.branch [
       | in-Some w ↦
           let found = w.in-Some.ensures in
-          subst (λ (r : List ℕ). IsHighSoFar F q (s + 1) r) (sym w.p-is)
-          (high_joined F q s w.in-Some.first c.loop-s.p w.merge.new.self c.states.ensures.inside c.requires within found.below found.goes c.loop-s.invariant w.merge.ensures)
+          subst (λ (r : List ℕ). IsSplitUpTo (Goes F q) n (s + 1) r) (sym w.p-is)
+          (split_joined (Goes F q) (goes_turned F q) (goes_on F q) n s w.in-Some.first c.loop-s.p w.merge.new.self within found.below found.goes c.loop-s.invariant w.merge.ensures)
       | in_default w ↦
           let found = w.in_default.ensures in
-          subst (λ (r : List ℕ). IsHighSoFar F q (s + 1) r) (sym w.p-is) (high_alone F q s c.loop-s.p within found.none c.loop-s.invariant)
+          subst (λ (r : List ℕ). IsSplitUpTo (Goes F q) n (s + 1) r) (sym w.p-is)
+          (split_alone (Goes F q) (goes_turned F q) (goes_on F q) n s c.loop-s.p within found.none c.loop-s.invariant)
     ]
 
 pub returns : goal.returns
-returns c = high_all c.args.m.now c.args.q.now c.loop-s.s c.loop-s.p (omega (arith, c.states-s-end.ensures.count, c.loop-s-test.false)) c.loop-s.invariant
+returns c =
+    let F : KissFile = c.args.m.now in
+    let q : List ℕ = c.args.q.now in
+    high_all F q c.loop-s.p c.states.ensures.inside c.requires
+    (split_all (Goes F q) (length F.states) c.loop-s.s c.loop-s.p (omega (arith, c.states-s-end.ensures.count, c.loop-s-test.false)) c.loop-s.invariant)

@@ -13,10 +13,10 @@ loop-s-preserved c =
     elim c.if-first-s.branch [
       | then-first-s+in_ok-hold_next w ↦
           subst (λ (r : List ℕ). IsLowSoFar F p (s + 1) r) (sym w.q-is)
-          (low_held F p s c.least_of-first.result c.loop-s.q w.hold_next.new.q (omega (arith, c.requires)) c.least_of-first.ensures c.loop-s.invariant w.in_ok-hold_next.ensures)
+          (low_held F p s c.least_of-first.result c.loop-s.q w.hold_next.new.q (omega (arith, c.requires)) c.least_of-first.ensures.least c.loop-s.invariant w.in_ok-hold_next.ensures)
       | else-first-s w ↦
           subst (λ (r : List ℕ). IsLowSoFar F p (s + 1) r) (sym w.q-is)
-          (low_alone F p s c.least_of-first.result c.loop-s.q c.states.ensures.inside within c.least_of-first.ensures w.if-first-s.false c.loop-s.invariant)
+          (low_alone F p s c.least_of-first.result c.loop-s.q c.states.ensures.inside within c.least_of-first.ensures.least w.if-first-s.false c.loop-s.invariant)
     ]
 
 pub returns : goal.returns

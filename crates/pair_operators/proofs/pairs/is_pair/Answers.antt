@@ -1,13 +1,12 @@
 use Rattle.std.proofs.Common.{ℕ, List, length, refl, sym, subst, ◌∙◌, arith}
 use Rattle.std.proofs.lemmas.Bool.{true≢false}
 use Rattle.kiss2.specs.declared.kiss_file.KissFile.{KissFile}
-use Rattle.partition.proofs.Nesting.{least_of-le}
 use Rattle.pair_operators.specs.Inner.Going.{Goes}
 use Rattle.pair_operators.proofs.Firsts.{FirstsGo, firsts_from_pair, firsts_more, pair_from_firsts}
 use Rattle.pair_operators.proofs.pairs.is_pair.Goals as goal
 
 pub pair_goes-requires-clause-s : goal.pair_goes-requires-clause-s
-pair_goes-requires-clause-s c = omega (arith, c.least_of.ensures, least_of-le c.args.p.now c.loop-s.s c.loop-s.s refl, c.requires.left)
+pair_goes-requires-clause-s c = omega (arith, c.least_of.ensures.below, c.requires.left)
 
 pub returns-then-not-pair_goes : goal.returns-then-not-pair_goes
 returns-then-not-pair_goes c =
@@ -18,7 +17,7 @@ returns-then-not-pair_goes c =
       (λ is. absurd (true≢false (sym is))),
       (λ pair.
           let goes = firsts_from_pair F p q pair s (omega (arith, c.requires.left)) in
-          absurd (true≢false (sym (c.pair_goes.ensures.1 (subst (λ (u : ℕ). Goes F q u s) (sym c.least_of.ensures) goes)) ∙ c.if-not-pair_goes.true))),
+          absurd (true≢false (sym (c.pair_goes.ensures.1 (subst (λ (u : ℕ). Goes F q u s) (sym c.least_of.ensures.least) goes)) ∙ c.if-not-pair_goes.true))),
     )
 
 pub loop-s-preserved : goal.loop-s-preserved
@@ -27,7 +26,7 @@ loop-s-preserved c =
     let p : List ℕ = c.args.p.now in
     let q : List ℕ = c.args.q.now in
     let s : ℕ = c.loop-s.s in
-    firsts_more F p q s c.loop-s.invariant (subst (λ (u : ℕ). Goes F q u s) c.least_of.ensures (c.pair_goes.ensures.0 c.if-not-pair_goes.false))
+    firsts_more F p q s c.loop-s.invariant (subst (λ (u : ℕ). Goes F q u s) c.least_of.ensures.least (c.pair_goes.ensures.0 c.if-not-pair_goes.false))
 
 pub returns : goal.returns
 returns c =

@@ -7,8 +7,8 @@ use Rattle.state_reduce.proofs.merging.number_of.Goals as goal
 -- the name that is added
 added : (c : goal.After-add) → c.name.result.now ≡ block_name c.args.file.now c.args.p.now c.args.s
 added c =
-    sym (get_or_from_slice_get c.args.file.now.states c.least_in_block.result c.name.result.now [] c.name.ensures)
-    ∙ ap (λ (k : ℕ). get_or c.args.file.now.states k []) (c.least_in_block.ensures.least ∙ ap (least_of c.args.p.now) c.from.ensures)
+    sym (get_or_from_slice_get c.args.file.now.states c.least_of.result c.name.result.now [] c.name.ensures)
+    ∙ ap (λ (k : ℕ). get_or c.args.file.now.states k []) (c.least_of.ensures.least ∙ ap (least_of c.args.p.now) c.from.ensures)
 
 pub returns-clause-known : goal.returns-clause-known
 returns-clause-known c there = c.add.ensures.known (subst (Contains c.args.states.now) (sym (added c)) there)

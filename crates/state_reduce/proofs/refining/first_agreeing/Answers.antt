@@ -1,10 +1,22 @@
-use Rattle.std.proofs.Common.{ℕ, ◌∙◌, below_more, subst, sym}
-use Rattle.std.proofs.lemmas.Bool.{false≢true}
+use Rattle.std.proofs.Common.{◌+◌, ℕ, List, length, sym, subst, ◌∙◌, arith}
+use Rattle.std.proofs.lemmas.Bool.{true≢false}
+use Rattle.kiss2.specs.declared.kiss_file.KissFile.{KissFile}
+use Rattle.partition.specs.Inner.Splitting.{IsSearched}
+use Rattle.partition.specs.Laws.Splitting.{searched_first, searched_later}
 use Rattle.state_reduce.specs.Inner.Refining.{AgreeAlways}
+use Rattle.state_reduce.proofs.Rounds.{agree_on}
 use Rattle.state_reduce.proofs.refining.first_agreeing.Goals as goal
+use Rattle.state_reduce.proofs.refining.first_agreeing.Goals.{then-from-blocks+else-outputs_agree, else-from-blocks}
 
-pub loop-block-preserved : goal.loop-block-preserved
-loop-block-preserved c =
-    below_more _ _ c.loop-block.invariant
-    (λ agree. false≢true (sym c.if-outputs_agree.false ∙ c.outputs_agree.ensures.1
-    (subst (λ (u : ℕ). AgreeAlways c.args.m.now u c.args.s) (sym c.from.ensures) agree)))
+pub loop-t-preserved : goal.loop-t-preserved
+loop-t-preserved c =
+    let F : KissFile = c.args.m.now in
+    let p : List ℕ = c.args.so_far.now in
+    let s : ℕ = c.args.s in
+    let t : ℕ = c.loop-t.t in
+    elim c.if-from-blocks.branch [
+      | then-from-blocks+else-outputs_agree w ↦
+          subst (λ (n : ℕ). IsSearched (AgreeAlways F) p s (t + 1) n) (sym w.blocks-is) (searched_first (AgreeAlways F) p s t c.loop-t.blocks (omega (arith, c.requires.lawful.length)) (sym c.label.ensures ∙ sym c.from.ensures ∙ w.if-from-blocks.true) (λ like. true≢false (sym (w.outputs_agree.ensures.1 like) ∙ w.if-outputs_agree.false)) c.loop-t.invariant)
+      | else-from-blocks w ↦
+          subst (λ (n : ℕ). IsSearched (AgreeAlways F) p s (t + 1) n) (sym w.blocks-is) (searched_later (AgreeAlways F) (agree_on F) (length F.states) p s t c.loop-t.blocks c.requires.lawful c.requires.related (omega (arith, c.requires.lawful.length)) (λ same. w.if-from-blocks.false (c.from.ensures ∙ c.label.ensures ∙ same)) c.loop-t.invariant)
+    ]

@@ -1,6 +1,6 @@
-use Rattle.std.proofs.Common.{ℕ, ◌<◌, get_or}
+use Rattle.partition.specs.Inner.Splitting.{IsSearched}
 use Rattle.state_reduce.specs.Inner.Refining.{AgreeAlways}
 use Rattle.state_reduce.proofs.refining.first_agreeing.Given as goal
 
-abbrev pub invariant-loop-block : goal.invariant-loop-block
-invariant-loop-block l = (k : ℕ) → k < l.block → AgreeAlways l.m (get_or l.firsts k 0) l.s → ⊥
+abbrev pub invariant-loop-t : goal.invariant-loop-t
+invariant-loop-t l = IsSearched (AgreeAlways l.m) l.so_far l.s l.t l.blocks

@@ -1,6 +1,6 @@
 //! Where the states go at a few symbols, which tells most states apart.
 ghost use Rattle.std.specs.Prelude.{◌≡◌, ◌<◌, ◌^◌, All, IfOk, length};
-ghost use Rattle.pair_operators.specs.Inner.Going.{AreLabelsAhead, IsAhead};
+ghost use Rattle.pair_operators.specs.Inner.Going.{AreLabelsAt, AreNextLabels};
 
 use machine_table::Machine;
 use partition::Partition;
@@ -11,18 +11,18 @@ const INPUTS_ALONE: u8 = 7;
 
 /// For each state the label of its next state, at one symbol.
 #[derive(Drop)]
-pub(crate) struct Ahead {
+pub(crate) struct NextLabels {
     pub(crate) labels: Vec<u16>,
 }
 
 /// The labels in q of the next states at symbol 0, and at the symbols at which one of the last inputs alone is 1.
-pub(crate) fn labels_ahead(
+pub(crate) fn at_few_symbols(
     alloc: Global,
     m: &Machine,
     q: &Partition,
-) -> Result<Vec<Ahead>, AllocError>
+) -> Result<Vec<NextLabels>, AllocError>
     requires { length q.now ≡ length m.now.states }
-    ensures { IfOk result (λ asked. All (IsAhead m.now q.now) asked.items) }
+    ensures { IfOk result (λ asked. All (AreNextLabels m.now q.now) asked.items) }
 {
     let mut asked = Vec::new(alloc);
     asked.push(labels_at(alloc, m, q, 0)?)?;
@@ -33,14 +33,14 @@ pub(crate) fn labels_ahead(
 }
 
 /// The labels in q of the next states at the symbol of that number.
-fn labels_at(alloc: Global, m: &Machine, q: &Partition, x: u32) -> Result<Ahead, AllocError>
+fn labels_at(alloc: Global, m: &Machine, q: &Partition, x: u32) -> Result<NextLabels, AllocError>
     requires states { length q.now ≡ length m.now.states }
     requires x { x < 2 ^ m.now.inputs }
-    ensures { IfOk result (λ ahead. AreLabelsAhead m.now q.now x ahead.labels.items) }
+    ensures { IfOk result (λ next. AreLabelsAt m.now q.now x next.labels.items) }
 {
     let mut labels = Vec::with_capacity(alloc, m.states())?;
     for s in 0..m.states() {
         labels.push(q.label(m.next(s, x)))?;
     }
-    Ok(Ahead { labels })
+    Ok(NextLabels { labels })
 }

@@ -1,7 +1,7 @@
 use Rattle.std.proofs.Common.{ℕ, ◌≡◌, ◌<◌, slice_index, vec_len}
 use Rattle.cubes.specs.Symbol.{symbol_of}
 use Rattle.kiss2.specs.Machine.{next}
-use Rattle.pair_operators.proofs.ahead.labels_at.Given as goal
+use Rattle.pair_operators.proofs.next_labels.labels_at.Given as goal
 
 abbrev pub invariant-loop-s : goal.invariant-loop-s
 invariant-loop-s l = record {

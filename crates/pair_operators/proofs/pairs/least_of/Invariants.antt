@@ -1,5 +1,0 @@
-use Rattle.std.proofs.Common.{◌≢◌, ℕ, ◌<◌, get_or}
-use Rattle.pair_operators.proofs.pairs.least_of.Given as goal
-
-abbrev pub invariant-loop-t : goal.invariant-loop-t
-invariant-loop-t l = (u : ℕ) → u < l.t → get_or l.p u 0 ≢ get_or l.p l.s 0
