@@ -15,7 +15,8 @@ use Rattle.net_core.specs.Step.{AreStarts, Step}
 use Rattle.pair_operators.specs.Pair.{Closed}
 use Rattle.partition.specs.Laws.Labels.{same_labels}
 use Rattle.realise.specs.Carries.{Carries}
-use Rattle.realise.specs.Codes.{code_bits, code_of}
+use Rattle.gate_rows.specs.Bits.{code_bits}
+use Rattle.realise.specs.Codes.{code_of}
 use Rattle.state_reduce.specs.Alike.{IsEquivalence}
 use Rattle.state_reduce.specs.Quotient.{AreBlocksInOrder}
 use Rattle.state_reduce.specs.WorkMachine.{IsFileItself, IsMachineOfClasses, IsWorkMachine}

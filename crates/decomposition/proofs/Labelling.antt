@@ -13,8 +13,8 @@ use Rattle.partition.specs.Partition.{IsNumbered, IsPartition, IsStateCount}
 use Rattle.partition.specs.Laws.Labels.{IsNumbered-none, IsNumbered-push, blocks_of-le, blocks_of-push, label-lt-blocks_of}
 use Rattle.state_codes.specs.declared.Codes.{Codes}
 use Rattle.state_codes.specs.Agreement.{CodesAgreeAt, IsBitPartition}
-use Rattle.decomposition.specs.Inner.Headed.{AreNotes, IsNoteOf}
-use Rattle.decomposition.specs.Inner.Labelled.{AreLabelled, IsPartitionOn, IsSeenAt}
+use Rattle.decomposition.specs.Notes.{AreNotes, IsNoteOf, IsPartitionOn}
+use Rattle.decomposition.specs.Inner.Labelled.{AreLabelled, IsSeenAt}
 
 -- ---- words that agree on a set
 -- words with the same bits of the set agree there

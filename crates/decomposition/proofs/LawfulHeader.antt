@@ -23,7 +23,8 @@ use Rattle.state_codes.specs.declared.split.Split.{Split}
 use Rattle.state_codes.specs.Code.{IsCode}
 use Rattle.state_codes.specs.Laws.Codes.{owner-lt}
 use Rattle.state_codes.specs.Split.{IsPart}
-use Rattle.decomposition.specs.Inner.Headed.{HasSmallReads, IsHeaderOf, IsNoteOf, words_by}
+use Rattle.decomposition.specs.Inner.Headed.{HasSmallReads, IsHeaderOf, words_by}
+use Rattle.decomposition.specs.Notes.{AreNotes, IsNoteOf}
 use Rattle.decomposition.specs.Work.{AreClasses}
 use Rattle.decomposition.proofs.Carrying.{ArePrinted, IsImage}
 use Rattle.decomposition.proofs.Enough.{no_bit_past}
@@ -49,8 +50,8 @@ below_from_bits (suc k) number none =
     let half : number / 2 < 2 ^ k = below_from_bits k (number / 2) (λ i past. sym (bit_at-suc number i) ∙ none (suc i) (omega arith)) in
     omega (arith, half, pow-suc 2 k)
 
-module _ (F W : KissFile) (class : ℕ → ℕ) (split : Split) (codes : Codes) (sets : List ReadSet) (grouping : Option (List ℕ)) (H : Header) (lawful : IsLawful F) (image : IsImage F W class) (code : IsCode (length W.states) split.parts codes)
-    (parts : All (IsPart (length W.states)) split.parts) (few : length split.parts ≤ 256) (reads : All HasSmallReads split.parts) (count : length sets ≡ codes.bits) (header : IsHeaderOf F.states grouping split codes sets H)
+module _ (F W : KissFile) (class : ℕ → ℕ) (split : Split) (codes : Codes) (sets : List ReadSet) (notes : List LatchNote) (grouping : Option (List ℕ)) (H : Header) (lawful : IsLawful F) (image : IsImage F W class) (code : IsCode (length W.states) split.parts codes)
+    (parts : All (IsPart (length W.states)) split.parts) (few : length split.parts ≤ 256) (reads : All HasSmallReads split.parts) (count : length sets ≡ codes.bits) (header : IsHeaderOf F.states grouping split codes notes H) (noted : AreNotes codes sets H.latches)
     (printed : ArePrinted F class codes.words (words_by grouping codes.words)) where
   abbrev states : ℕ
   states = length W.states
@@ -72,9 +73,9 @@ module _ (F W : KissFile) (class : ℕ → ℕ) (split : Split) (codes : Codes) 
   note_lawful : All IsLawfulNote H.latches
   note_lawful i d lt =
       let note : LatchNote = get_or H.latches i d in
-      let in_i : i < codes.bits = omega (arith, lt, header.latches.count, count) in
+      let in_i : i < codes.bits = omega (arith, lt, noted.count, count) in
       let set = item_at sets i (omega (arith, in_i, count)) in
-      let is : IsNoteOf codes i set.0 note = header.latches.each i set.0 note set.1 (slice_get-get_or H.latches i d lt) in
+      let is : IsNoteOf codes i set.0 note = noted.each i set.0 note set.1 (slice_get-get_or H.latches i d lt) in
       record {
         part = omega (arith, is.part, owner-lt states split.parts codes code i in_i);
         from = own_labels (length codes.words) note.from is.from.lawful;
@@ -83,7 +84,7 @@ module _ (F W : KissFile) (class : ℕ → ℕ) (split : Split) (codes : Codes) 
 
   pub header_lawful : (reduce : Bool) → AreClasses reduce F grouping → IsLawfulHeader H
   header_lawful reduce are =
-      let bits : length H.latches ≡ codes.bits = header.latches.count ∙ count in
+      let bits : length H.latches ≡ codes.bits = noted.count ∙ count in
       let Below : ℕ → ℕ → Type 0 = λ bits word. word < 2 ^ bits in
       record {
         classes = subst (λ (o : Option (List ℕ)). IfSome o IsLawfulPartition) (sym header.classes) (classes_lawful reduce F grouping are);

@@ -6,5 +6,7 @@ pub mod Pairs
 pub mod Carrying
 pub mod Writable
 pub mod LawfulHeader
+pub mod Refused
 pub mod Unrefused
+pub mod Networks
 pub mod Whole

@@ -25,7 +25,7 @@ use Rattle.state_codes.specs.Agreement.{IsBitPartition}
 use Rattle.state_codes.specs.Code.{IsCode}
 use Rattle.state_codes.specs.Laws.Codes.{carrier_bits_tell, owner-lt, part_bits_tell}
 use Rattle.state_codes.specs.Split.{IsPart}
-use Rattle.decomposition.specs.Inner.Headed.{AreNotes, IsNoteOf}
+use Rattle.decomposition.specs.Notes.{AreNotes, IsNoteOf}
 use Rattle.decomposition.specs.OwnPairs.{HasOwnPair, OwnPairs}
 use Rattle.decomposition.specs.OwnPairs.{Reads as ReadsBit}
 use Rattle.decomposition.specs.Within.{IsBitOf, IsCarrierBit, IsPartOf, IsWithinParts, MayRead}

@@ -29,7 +29,7 @@ use Rattle.net_core.specs.Statements.{is_plane_character}
 use Rattle.net_core.specs.Step.{AreStarts, bit_of_start, character_holds, row_holds}
 use Rattle.realise.specs.Names.{AreNames, input_letter, next_letter, output_letter, own_name, own_names, prefix, state_letter}
 use Rattle.realise.specs.Realised.{AreCounted, AreEnough, IsRealised, name_at}
-use Rattle.realise.specs.Rows.{IsGoodCover}
+use Rattle.gate_rows.specs.Covers.{IsGoodCover}
 use Rattle.realise.proofs.Gates.{IsSomeGate, driven_names, each_gate}
 
 -- ---- own names

@@ -6,17 +6,23 @@
 //! that what is special to a kind of decomposition is its split alone. The text that it writes denotes a network
 //! that answers as the machine of the file does, and all that `specs/Decomposition` says besides.
 //!
+//! [`network_of_split`] goes as far as the network, for any machine and any names of its signals; `specs/Network`
+//! says all that is known of it.
+//!
 //! [`work_machine`] makes the machine that is split: that of the file, or of the classes of its alike states
-//! (`specs/Work`). The other definitions are `Named` for names, `OwnPairs` for the partition pair of each
-//! latch, and `Within` for what the gates of a part read.
+//! (`specs/Work`). The other definitions are `Named` for names, `Notes` and `OwnPairs` for the partition pair of
+//! each latch, and `Within` for what the gates of a part read.
 #![tactic(auto)]
 
 mod header;
 mod labels;
 mod laws;
+mod network;
+mod notes;
 mod work;
 mod writing;
 
 pub use laws::{flow_permits, own_pairs_permit};
+pub use network::{SplitNetwork, network_of_split};
 pub use work::{WorkMachine, state_name, work_machine};
 pub use writing::text_of_split;

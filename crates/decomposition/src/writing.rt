@@ -12,9 +12,9 @@ ghost use Rattle.decomposition.specs.Work.{IsWork};
 
 use crate::WorkMachine;
 use crate::header::header_of;
-use dependence::{reads, rule_is_least};
+use crate::network::network_of_split;
 use kiss2::KissFile;
-use realise::{names, network};
+use realise::names;
 use state_codes::{Codes, Split};
 use std::alloc::{AllocError, Global};
 
@@ -40,18 +40,9 @@ pub fn text_of_split(
     ensures { (reduce : Bool) → IsWork reduce file work
         → IfOk result (λ text. IsTextOf reduce file work.machine split.kind split.parts text.items) }
 {
-    rule_is_least();
     work.machine.keeps_its_states();
-    let sets = reads(alloc, &work.machine, &split, &codes)?;
     let signals = names(alloc, &file, codes.bits)?;
-    let net = network(alloc, &work.machine, &codes, &sets, &signals)?;
-    let header = header_of(
-        alloc,
-        file.states,
-        work.classes,
-        split,
-        codes,
-        sets.latches.as_slice(),
-    )?;
-    blif_out::text(alloc, &net, &header)
+    let made = network_of_split(alloc, &work.machine, &split, &codes, &signals)?;
+    let header = header_of(alloc, file.states, work.classes, split, codes, made.notes)?;
+    blif_out::text(alloc, &made.network, &header)
 }

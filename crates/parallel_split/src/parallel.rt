@@ -19,13 +19,9 @@ fn lone_parts(alloc: Global, partitions: Vec<Partition>) -> Result<Parts, AllocE
 {
     let mut parts = Parts::new(alloc);
     for partition in partitions {
-        let carrier = partition.copy(alloc)?;
         let reads = PartNumbers::new(alloc);
-        parts.push(Part {
-            partition,
-            carrier,
-            reads,
-        })?;
+        let part = Part::new(alloc, partition, reads)?;
+        parts.push(part)?;
     }
     Ok(parts)
 }

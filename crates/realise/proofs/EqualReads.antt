@@ -5,13 +5,13 @@ use Rattle.std.proofs.lemmas.List.{length-map}
 use Rattle.cubes.specs.Symbol.{bit}
 use Rattle.cubes.proofs.Bits.{same_digits}
 use Rattle.dependence.specs.declared.sets.ReadSet.{ReadSet}
+use Rattle.gate_rows.specs.Columns.{input_of}
+use Rattle.gate_rows.proofs.Items.{get_behind}
 use Rattle.kiss2.specs.declared.kiss_file.KissFile.{KissFile}
 use Rattle.net_core.proofs.Members.{agree_from_map}
 use Rattle.net_core.proofs.Valuations.{parts_of_append}
 use Rattle.realise.specs.Laws.{EqualReads}
 use Rattle.realise.specs.Realised.{IsEnough}
-use Rattle.realise.specs.Rows.{input_of}
-use Rattle.realise.proofs.Literals.{get_behind}
 
 -- bits that do not differ are one
 same_unless : (a b : Bool) → ((a ≡ b → ⊥) → ⊥) → a ≡ b

@@ -9,11 +9,12 @@ use Rattle.std.proofs.lemmas.List.{ext_get_or, length-map, length-take-le, take_
 use Rattle.std.proofs.lemmas.Option.{get_or_from_slice_get, slice_get-get_or, slice_get_within}
 use Rattle.std.proofs.lemmas.List.FromFn.{get_or-map-range_with_len, length-map-range_with_len}
 use Rattle.std.proofs.lemmas.Simd.{map-map}
-use Rattle.cover_logic.specs.declared.term.Term.{Term}
 use Rattle.cubes.specs.Symbol.{bit}
 use Rattle.dependence.specs.declared.sets.ReadSet.{ReadSet}
 use Rattle.dependence.specs.declared.sets.Reads.{Reads}
 use Rattle.dependence.specs.Permits.{next_value, output_value}
+use Rattle.gate_rows.specs.Covers.{IsGoodCover}
+use Rattle.gate_rows.proofs.Items.{get_behind, get_cases, get_first}
 use Rattle.kiss2.specs.declared.kiss_file.KissFile.{KissFile}
 use Rattle.net_core.specs.declared.Gate.{Gate}
 use Rattle.net_core.specs.declared.Latch.{Latch}
@@ -25,12 +26,9 @@ use Rattle.realise.specs.declared.signals.Signal.{Signal}
 use Rattle.realise.specs.Realised.{AreEnough, IsGateFor, IsRealised, name_at}
 use Rattle.realise.specs.Rows.{GivesAt}
 use Rattle.realise.specs.Inner.Adding.{AddsGates, IsGateAt}
-use Rattle.realise.specs.Inner.Lists.{IsTermCover, width_of}
+use Rattle.realise.specs.Inner.Lists.{width_of}
 use Rattle.realise.specs.Inner.Signals.{value_of}
-use Rattle.realise.specs.Inner.Texts.{AreLatches, latch_of, row_text}
-use Rattle.realise.proofs.Literals.{get_behind, get_cases, get_first}
-use Rattle.realise.proofs.ReadNumbers.{read_length}
-use Rattle.realise.proofs.RowTexts.{good_cover, widths}
+use Rattle.realise.specs.Inner.Latches.{AreLatches, latch_of}
 
 -- one gate more
 module _ (F : KissFile) (words : List ℕ) (names : SignalNames) (value : ℕ → ℕ → List Bool → Bool) (outputs : List (List ℕ)) (sets : List ReadSet) (set : ReadSet) (old new : List Gate) (gate : Gate) (before : AddsGates F words names value outputs sets old new) (is : IsGateFor F words names set (value (length sets)) (name_at outputs (length sets)) gate) where
@@ -69,10 +67,6 @@ gates_more F words names value outputs sets more set old new pushed gate i is_mo
     (subst (λ (list : List ReadSet). AddsGates F words names value outputs list old (new ++ gate ∷ [])) (sym is_more)
     (gates_whole F words names value outputs sets set old new gate before
     (subst (λ (k : ℕ). IsGateFor F words names set (value k) (name_at outputs k) gate) (sym count) is)))
-
--- what is read is as long as the columns are many
-pub gives_length : (F : KissFile) (words : List ℕ) (set : ReadSet) (value : ℕ → List Bool → Bool) (given : Bool) (read : List Bool) → GivesAt F words set value given read → length read ≡ width_of set
-gives_length F words set value given read h = ap length h.read_there ∙ read_length words set h.s h.x
 
 -- ---- latches
 start_bit : (b : Bool) → bit_of_start (if b then One else Zero) ≡ Some b
@@ -140,14 +134,12 @@ items_more {X} xs i x is = take_more xs i x (slice_get_within xs i x is) ∙ ap 
 pub items_count : {X : Type 0} (xs : List X) (i : ℕ) (x : X) → slice_get xs i ≡ Some x → length (take i xs) ≡ i
 items_count xs i x is = length-take-le i xs (let lt = slice_get_within xs i x is in omega arith)
 
--- the gate of a cover, whose rows are texts in order
-pub gate_of : (F : KissFile) (words : List ℕ) (names : SignalNames) (set : ReadSet) (value : ℕ → List Bool → Bool) (name : List ℕ) (gate : Gate) (terms lent : List Term) (width : ℕ)
+-- the gate of a good cover, whose rows are in order
+pub gate_of : (F : KissFile) (words : List ℕ) (names : SignalNames) (set : ReadSet) (value : ℕ → List Bool → Bool) (name : List ℕ) (gate : Gate)
     → gate.on ≡ true → gate.output ≡ name → gate.inputs ≡ map (name_at names.inputs) set.inputs ++ map (name_at names.latch_outputs) set.latches
-    → IsTermCover (GivesAt F words set value true) (GivesAt F words set value false) (width_of set) terms → lent ≡ terms → width ≡ width_of set
-    → IsPermutation (map (row_text width) lent) gate.rows → IsSorted (slice_cmp nat_cmp) gate.rows → IsGateFor F words names set value name gate
-gate_of F words names set value name gate terms lent width on output inputs cover is_lent is_width moved in_order =
-    let there : IsPermutation (map (row_text (width_of set)) terms) gate.rows =
-    subst (λ (w : ℕ). IsPermutation (map (row_text w) terms) gate.rows) is_width (subst (λ (list : List Term). IsPermutation (map (row_text width) list) gate.rows) is_lent moved) in
+    → IsGoodCover (GivesAt F words set value true) (GivesAt F words set value false) gate.rows → All (λ row. length row ≡ width_of set) gate.rows
+    → IsSorted (slice_cmp nat_cmp) gate.rows → IsGateFor F words names set value name gate
+gate_of F words names set value name gate on output inputs cover widths in_order =
     let count : length gate.inputs ≡ width_of set =
     omega (
       arith,
@@ -160,17 +152,15 @@ gate_of F words names set value name gate terms lent width on output inputs cove
       inputs = inputs;
       output = output;
       on = on;
-      cover = good_cover (GivesAt F words set value true) (GivesAt F words set value false) (width_of set) terms gate.rows (gives_length F words set value true) (gives_length F words set value false) cover there;
-      widths = subst (λ (n : ℕ). All (λ row. length row ≡ n) gate.rows) (sym count)
-          (widths (GivesAt F words set value true) (GivesAt F words set value false) (width_of set) terms gate.rows (gives_length F words set value true) (gives_length F words set value false) cover there);
+      cover = cover;
+      widths = subst (λ (n : ℕ). All (λ row. length row ≡ n) gate.rows) (sym count) widths;
       in_order = in_order;
     }
 
-pub signal_gate : (F : KissFile) (words used : List ℕ) (names : SignalNames) (set : ReadSet) (signal : Signal) (name : List ℕ) (gate : Gate) (terms lent : List Term) (width : ℕ)
-    → gate.on ≡ true → gate.output ≡ name → gate.inputs ≡ map (name_at names.inputs) set.inputs ++ map (name_at names.latch_outputs) set.latches
-    → IsTermCover (GivesAt F used set (value_of F used signal) true) (GivesAt F used set (value_of F used signal) false) (width_of set) terms → used ≡ words → lent ≡ terms → width ≡ width_of set
-    → IsPermutation (map (row_text width) lent) gate.rows → IsSorted (slice_cmp nat_cmp) gate.rows → IsGateFor F words names set (value_of F words signal) name gate
-signal_gate F words used names set signal name gate terms lent width on output inputs cover is_used is_lent is_width moved in_order =
-    gate_of F words names set (value_of F words signal) name gate terms lent width on output inputs
-    (subst (λ (list : List ℕ). IsTermCover (GivesAt F list set (value_of F list signal) true) (GivesAt F list set (value_of F list signal) false) (width_of set) terms) is_used cover)
-    is_lent is_width moved in_order
+pub signal_gate : (F : KissFile) (words used : List ℕ) (names : SignalNames) (set : ReadSet) (signal : Signal) (name : List ℕ) (gate : Gate)
+    → gate.on ≡ true → gate.output ≡ name → gate.inputs ≡ map (name_at names.inputs) set.inputs ++ map (name_at names.latch_outputs) set.latches → used ≡ words
+    → IsGoodCover (GivesAt F used set (value_of F used signal) true) (GivesAt F used set (value_of F used signal) false) gate.rows → All (λ row. length row ≡ width_of set) gate.rows
+    → IsSorted (slice_cmp nat_cmp) gate.rows → IsGateFor F words names set (value_of F words signal) name gate
+signal_gate F words used names set signal name gate on output inputs is_used cover widths in_order =
+    gate_of F words names set (value_of F words signal) name gate on output inputs
+    (subst (λ (list : List ℕ). IsGoodCover (GivesAt F list set (value_of F list signal) true) (GivesAt F list set (value_of F list signal) false) gate.rows) is_used cover) widths in_order

@@ -5,10 +5,6 @@ pub mod FlatNetworks
 pub mod Free
 pub mod GateLists
 pub mod Gates
-pub mod Literals
-pub mod Ranges
-pub mod ReadNumbers
-pub mod RowTexts
 pub mod StatePieces
 pub mod Stepping
 pub mod TermLists

@@ -8,6 +8,7 @@ use Rattle.cubes.specs.Cube.{HoldsNumber}
 use Rattle.cubes.specs.Symbol.{bit, symbol_of}
 use Rattle.cubes.proofs.Ends.{greatest_held, greatest_within, least_held, value_le}
 use Rattle.cubes.proofs.Numbers.{length-symbol_of}
+use Rattle.gate_rows.proofs.Items.{Contains-image}
 use Rattle.kiss2.specs.declared.kiss_file.KissFile.{KissFile}
 use Rattle.kiss2.specs.Machine.{output_bit}
 use Rattle.machine_table.specs.declared.covering.Piece.{Piece}
@@ -18,10 +19,6 @@ use Rattle.realise.specs.declared.signals.Signal.{Signal}
 use Rattle.realise.specs.declared.signals.Signal.TheVariants.{Next, Output}
 use Rattle.realise.specs.Inner.Pieces.{ArePieces, ArePiecesBelow, IsStatePiece, with_state}
 use Rattle.realise.specs.Inner.Signals.{IsAmong, piece_value, value_of}
-
--- the image of an item is among the images
-pub Contains-image : {X Y : Type 0} (f : X → Y) (xs : List X) (x : X) → Contains xs x → Contains (map f xs) (f x)
-Contains-image f xs x (k, lt, is) = (k, omega (arith, lt, length-map xs f), get_or-map f xs k x (f x) lt ∙ ap f is)
 
 -- the least symbol of a piece leads to its next state
 next_within : (F : KissFile) (s : ℕ) (piece : Piece) → s < length F.states → NeverLeaves F → IsPiece F s piece → piece.next < length F.states

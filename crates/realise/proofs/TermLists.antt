@@ -6,41 +6,35 @@ use Rattle.std.proofs.lemmas.Bool.{false≢true}
 use Rattle.std.proofs.lemmas.List.{length-map}
 use Rattle.std.proofs.lemmas.List.Elements.{All-append, Contains-append_cases, Contains-append_left, Contains-append_right}
 use Rattle.cover_logic.specs.declared.term.Term.{Term}
-use Rattle.cover_logic.specs.Cover.{CanCover, GoodCover}
+use Rattle.cover_logic.specs.Cover.{CanCover}
 use Rattle.cover_logic.specs.Term.{FitsWidth, Holds}
 use Rattle.cubes.specs.Symbol.{number_of, symbol_of}
 use Rattle.cubes.proofs.Numbers.{length-symbol_of, number_below, symbol_of-number_of}
 use Rattle.dependence.specs.declared.sets.ReadSet.{ReadSet}
+use Rattle.gate_rows.specs.Bits.{code_bits}
+use Rattle.gate_rows.specs.Columns.{IsReadIn, IsTermOf}
+use Rattle.gate_rows.specs.Covers.{HoldValues, IsGoodCover}
+use Rattle.gate_rows.proofs.ReadNumbers.{read_length}
+use Rattle.gate_rows.proofs.RowTexts.{number_for}
+use Rattle.gate_rows.proofs.TermCovers.{same_cover}
 use Rattle.kiss2.specs.declared.kiss_file.KissFile.{KissFile}
 use Rattle.net_core.proofs.Members.{Contains-cons, Contains-here, Contains-none}
 use Rattle.realise.specs.declared.pieces.StatePiece.{StatePiece}
 use Rattle.realise.specs.declared.signals.Signal.{Signal}
-use Rattle.realise.specs.Codes.{code_bits}
 use Rattle.realise.specs.Realised.{IsEnough, IsWithin}
 use Rattle.realise.specs.Rows.{GivesAt, read_values}
-use Rattle.realise.specs.Inner.Columns.{AllowsFrom, IsTermOf, code_character, columns_of, input_character}
-use Rattle.realise.specs.Inner.Lists.{HoldWhatIsAllowed, IsAllowed, IsTermCover, width_of}
+use Rattle.realise.specs.Inner.Lists.{HoldWhatIsRead, IsReadAt, width_of}
 use Rattle.realise.specs.Inner.Pieces.{ArePieces, IsStatePiece}
 use Rattle.realise.specs.Inner.Signals.{IsAmong, piece_value, value_of}
 use Rattle.realise.proofs.EqualReads.{equal_reads}
-use Rattle.realise.proofs.ReadNumbers.{allowed_there, read_there}
 use Rattle.realise.proofs.StatePieces.{piece_gives}
 
 -- ---- the loop over the pieces
-pub allowed_start : (words : List ℕ) (set : ReadSet) (signal : Signal) (given : Bool) → HoldWhatIsAllowed words set signal given [] []
-allowed_start words set signal given = record {
+pub read_start : (words : List ℕ) (set : ReadSet) (signal : Signal) (given : Bool) → HoldWhatIsRead words set signal given [] []
+read_start words set signal given = record {
   fits = λ k d lt. absurd (omega arith);
   held = λ v. (λ h. absurd (Contains-none h.0 h.1), λ h. absurd (Contains-none h.at h.among));
 }
-
-columns_count : (set : ReadSet) (at : StatePiece) (words : List ℕ) → length (columns_of set at.piece.cube (slice_index words at.state)) ≡ width_of set
-columns_count set at words =
-    omega (
-      arith,
-      length-append (map (input_character at.piece.cube) set.inputs) (map (code_character (slice_index words at.state)) set.latches),
-      length-map set.inputs (input_character at.piece.cube),
-      length-map set.latches (code_character (slice_index words at.state)),
-    )
 
 all_one : {X : Type 0} (P : X → Type 0) (x : X) → P x → All P (x ∷ [])
 all_one P x p zero d lt = p
@@ -51,53 +45,64 @@ among_one : {X : Type 0} (x y : X) → Contains (x ∷ []) y → x ≡ y
 among_one x y h = elim (Contains-cons x y [] h) [ inl here ↦ here | inr later ↦ absurd (Contains-none y later) ]
 
 module _ (words : List ℕ) (set : ReadSet) (signal : Signal) (given : Bool) (pieces : List StatePiece) (at : StatePiece) where
-  allowed_later : (v : ℕ) → IsAllowed words set signal given pieces v → IsAllowed words set signal given (pieces ++ at ∷ []) v
-  allowed_later v h = record { at = h.at; among = Contains-append_left pieces (at ∷ []) h.at h.among; gives = h.gives; allows = h.allows }
+  read_later : (read : List Bool) → IsReadAt words set signal given pieces read → IsReadAt words set signal given (pieces ++ at ∷ []) read
+  read_later read h = record { at = h.at; among = Contains-append_left pieces (at ∷ []) h.at h.among; gives = h.gives; is_read = h.is_read }
 
-  pub allowed_more : (old new : List Term) (t : Term) → HoldWhatIsAllowed words set signal given pieces old → piece_value words signal at.piece ≡ given
-      → IsTermOf (columns_of set at.piece.cube (slice_index words at.state)) t → new ≡ old ++ t ∷ [] → HoldWhatIsAllowed words set signal given (pieces ++ at ∷ []) new
-  allowed_more old new t before gives is pushed =
-      let whole : HoldWhatIsAllowed words set signal given (pieces ++ at ∷ []) (old ++ t ∷ []) =
+  read_more : (old new : List Term) (t : Term) → HoldWhatIsRead words set signal given pieces old → piece_value words signal at.piece ≡ given
+      → IsTermOf set.inputs set.latches at.piece.cube (slice_index words at.state) t → new ≡ old ++ t ∷ [] → HoldWhatIsRead words set signal given (pieces ++ at ∷ []) new
+  read_more old new t before gives is pushed =
+      let whole : HoldWhatIsRead words set signal given (pieces ++ at ∷ []) (old ++ t ∷ []) =
       record {
-        fits = All-append (FitsWidth (width_of set)) old (t ∷ []) before.fits
-            (all_one (FitsWidth (width_of set)) t (subst (λ (n : ℕ). t.care < 2 ^ n) (columns_count set at words) is.fits));
+        fits = All-append (FitsWidth (width_of set)) old (t ∷ []) before.fits (all_one (FitsWidth (width_of set)) t is.fits);
         held = λ v. (
           λ h.
               elim (Contains-append_cases old (t ∷ []) h.0 h.1) [
-                | inl first ↦ allowed_later v ((before.held v).0 (h.0, first, h.2))
+                | inl first ↦ read_later (code_bits (width_of set) v) ((before.held v).0 (h.0, first, h.2))
                 | inr last ↦
                     let same : t ≡ h.0 = among_one t h.0 last in
-                    record { at = at; among = Contains-append_right pieces (at ∷ []) at (Contains-here at []); gives = gives; allows = (is.holds v).0 (subst (λ (u : Term). Holds u v) (sym same) h.2) }
+                    record { at = at; among = Contains-append_right pieces (at ∷ []) at (Contains-here at []); gives = gives; is_read = (is.holds v).0 (subst (λ (u : Term). Holds u v) (sym same) h.2) }
               ],
           λ h.
               elim (Contains-append_cases pieces (at ∷ []) h.at h.among) [
                 | inl first ↦
-                    let found = (before.held v).1 (record { at = h.at; among = first; gives = h.gives; allows = h.allows }) in
+                    let found = (before.held v).1 (record { at = h.at; among = first; gives = h.gives; is_read = h.is_read }) in
                     (found.0, Contains-append_left old (t ∷ []) found.0 found.1, found.2)
                 | inr last ↦
                     let same : at ≡ h.at = among_one at h.at last in (
                       t,
                       Contains-append_right old (t ∷ []) t (Contains-here t []),
-                      (is.holds v).1 (subst (λ (p : StatePiece). AllowsFrom 0 (columns_of set p.piece.cube (slice_index words p.state)) v) (sym same) h.allows),
+                      (is.holds v).1 (subst (λ (p : StatePiece). IsReadIn set.inputs set.latches p.piece.cube (slice_index words p.state) (code_bits (width_of set) v)) (sym same) h.is_read),
                     )
               ],
         );
       } in
-      subst (HoldWhatIsAllowed words set signal given (pieces ++ at ∷ [])) (sym pushed) whole
+      subst (HoldWhatIsRead words set signal given (pieces ++ at ∷ [])) (sym pushed) whole
 
-  pub allowed_skip : (old : List Term) → HoldWhatIsAllowed words set signal given pieces old → (piece_value words signal at.piece ≡ given → ⊥)
-      → HoldWhatIsAllowed words set signal given (pieces ++ at ∷ []) old
-  allowed_skip old before other = record {
+  -- so with the lists that were lent
+  pub read_more_at : (inputs latches : List ℕ) (old new : List Term) (t : Term) → inputs ≡ set.inputs → latches ≡ set.latches → HoldWhatIsRead words set signal given pieces old → piece_value words signal at.piece ≡ given
+      → IsTermOf inputs latches at.piece.cube (slice_index words at.state) t → new ≡ old ++ t ∷ [] → HoldWhatIsRead words set signal given (pieces ++ at ∷ []) new
+  read_more_at inputs latches old new t same_inputs same_latches before gives is pushed =
+      read_more old new t before gives
+      (subst (λ (list : List ℕ). IsTermOf list set.latches at.piece.cube (slice_index words at.state) t) same_inputs
+      (subst (λ (list : List ℕ). IsTermOf inputs list at.piece.cube (slice_index words at.state) t) same_latches is)) pushed
+
+  pub read_skip : (old : List Term) → HoldWhatIsRead words set signal given pieces old → (piece_value words signal at.piece ≡ given → ⊥)
+      → HoldWhatIsRead words set signal given (pieces ++ at ∷ []) old
+  read_skip old before other = record {
     fits = before.fits;
     held = λ v. (
-      λ h. allowed_later v ((before.held v).0 h),
+      λ h. read_later (code_bits (width_of set) v) ((before.held v).0 h),
       λ h.
           elim (Contains-append_cases pieces (at ∷ []) h.at h.among) [
-            | inl first ↦ (before.held v).1 (record { at = h.at; among = first; gives = h.gives; allows = h.allows })
+            | inl first ↦ (before.held v).1 (record { at = h.at; among = first; gives = h.gives; is_read = h.is_read })
             | inr last ↦ absurd (other (ap (λ (p : StatePiece). piece_value words signal p.piece) (among_one at h.at last) ∙ h.gives))
           ],
     );
   }
+
+-- what is read is as long as the columns are many
+pub gives_length : (F : KissFile) (words : List ℕ) (set : ReadSet) (value : ℕ → List Bool → Bool) (given : Bool) (read : List Bool) → GivesAt F words set value given read → length read ≡ width_of set
+gives_length F words set value given read h = ap length h.read_there ∙ read_length set.inputs set.latches h.x (slice_index words h.s)
 
 -- ---- what the terms hold
 -- numbers that ascend below a bound are no more than it
@@ -126,25 +131,24 @@ module _ (F : KissFile) (words : List ℕ) (bits : ℕ) (set : ReadSet) (signal 
   inputs_inside : (at : StatePiece) → IsStatePiece F at → All (λ a. a < at.piece.cube.width) set.inputs
   inputs_inside at is = subst (λ (w : ℕ). All (λ a. a < w) set.inputs) (sym is.piece.width) within.inputs_within
 
-  -- the bit is given where the pieces that give it allow the number
-  from_allowed : (given : Bool) (v : ℕ) → IsAllowed words set signal given pieces v → GivesAt F words set (value_of F words signal) given (code_bits (width_of set) v)
-  from_allowed given v h =
+  -- the bit is given where the values are read at a piece that gives it
+  from_read : (given : Bool) (read : List Bool) → IsReadAt words set signal given pieces read → GivesAt F words set (value_of F words signal) given read
+  from_read given read h =
       let at : StatePiece = h.at in
       let is : IsStatePiece F at = state_piece at h.among in
-      let there = read_there at.piece.cube set (slice_index words at.state) (inputs_inside at is) within.inputs_ascend v h.allows words at.state refl in
-      let n : ℕ = there.0 in
-      let low : n < 2 ^ F.inputs = subst (λ (w : ℕ). n < 2 ^ w) is.piece.width there.1 in
+      let n : ℕ = h.is_read.0 in
+      let low : n < 2 ^ F.inputs = subst (λ (w : ℕ). n < 2 ^ w) is.piece.width h.is_read.1 in
       record {
         s = at.state;
         x = symbol_of F.inputs n;
         state = is.state;
         symbol = length-symbol_of F.inputs n;
-        read_there = there.3 ∙ ap (λ (w : ℕ). read_values words set at.state (symbol_of w n)) is.piece.width;
-        gives = piece_gives F words bits signal at.state n at.piece is.piece low there.2 place ∙ h.gives;
+        read_there = h.is_read.3 ∙ ap (λ (w : ℕ). read_values words set at.state (symbol_of w n)) is.piece.width;
+        gives = piece_gives F words bits signal at.state n at.piece is.piece low h.is_read.2 place ∙ h.gives;
       }
 
-  to_allowed : (given : Bool) (v : ℕ) → GivesAt F words set (value_of F words signal) given (code_bits (width_of set) v) → IsAllowed words set signal given pieces v
-  to_allowed given v h =
+  to_read : (given : Bool) (read : List Bool) → GivesAt F words set (value_of F words signal) given read → IsReadAt words set signal given pieces read
+  to_read given read h =
       let n : ℕ = number_of h.x in
       let low : n < 2 ^ F.inputs = subst (λ (w : ℕ). n < 2 ^ w) h.symbol (number_below h.x) in
       let whole : symbol_of F.inputs n ≡ h.x = ap (λ (w : ℕ). symbol_of w n) (sym h.symbol) ∙ symbol_of-number_of h.x in
@@ -158,11 +162,30 @@ module _ (F : KissFile) (words : List ℕ) (bits : ℕ) (set : ReadSet) (signal 
         at = at;
         among = found.1;
         gives = sym (piece_gives F words bits signal at.state n at.piece is.piece low found.3 place) ∙ given_there;
-        allows = allowed_there at.piece.cube set (slice_index words at.state) (inputs_inside at is) words at.state v n refl found.3
-            (h.read_there ∙ (ap (λ (s : ℕ). read_values words set s h.x) (sym found.2) ∙ ap (read_values words set at.state) (sym same_symbol)));
+        is_read = (
+          n,
+          subst (λ (w : ℕ). n < 2 ^ w) (sym is.piece.width) low,
+          found.3,
+          h.read_there ∙ (ap (λ (s : ℕ). read_values words set s h.x) (sym found.2) ∙ ap (read_values words set at.state) (sym same_symbol)),
+        );
       }
 
-  module _ (enough : IsEnough F words (value_of F words signal) set) (on off : List Term) (on_is : HoldWhatIsAllowed words set signal true pieces on) (off_is : HoldWhatIsAllowed words set signal false pieces off) where
+  -- so the terms hold the values at which the bit is given
+  module _ (given : Bool) (terms : List Term) (hold : HoldWhatIsRead words set signal given pieces terms) where
+    from_terms : (read : List Bool) → HoldValues (width_of set) terms read → GivesAt F words set (value_of F words signal) given read
+    from_terms read (v, low, same, covered) =
+        subst (GivesAt F words set (value_of F words signal) given) same (from_read given (code_bits (width_of set) v) ((hold.held v).0 covered))
+
+    to_terms : (read : List Bool) → GivesAt F words set (value_of F words signal) given read → HoldValues (width_of set) terms read
+    to_terms read h =
+        let number = number_for read (width_of set) (gives_length F words set (value_of F words signal) given read h) in (
+          number.0,
+          number.1,
+          number.2,
+          (hold.held number.0).1 (to_read given (code_bits (width_of set) number.0) (subst (GivesAt F words set (value_of F words signal) given) (sym number.2) h)),
+        )
+
+  module _ (enough : IsEnough F words (value_of F words signal) set) (on off : List Term) (on_is : HoldWhatIsRead words set signal true pieces on) (off_is : HoldWhatIsRead words set signal false pieces off) where
     -- the terms of both bits share no number
     pub can_cover : F.inputs ≤ 32 → bits ≤ 64 → CanCover (width_of set) on off
     can_cover few short =
@@ -171,41 +194,33 @@ module _ (F : KissFile) (words : List ℕ) (bits : ℕ) (set : ReadSet) (signal 
           on_fits = on_is.fits;
           off_fits = off_is.fits;
           apart = λ v low is_on is_off.
-              let one = from_allowed true v ((on_is.held v).0 is_on) in
-              let none = from_allowed false v ((off_is.held v).0 is_off) in
+              let one = from_read true (code_bits (width_of set) v) ((on_is.held v).0 is_on) in
+              let none = from_read false (code_bits (width_of set) v) ((off_is.held v).0 is_off) in
               let same = equal_reads F words set (value_of F words signal) enough none.s one.s none.x one.x none.state one.state none.symbol one.symbol (sym none.read_there ∙ one.read_there) in
               false≢true (sym none.gives ∙ (same ∙ one.gives));
         }
 
-    pub term_cover : (rows : List Term) → GoodCover (width_of set) rows on off → All (FitsWidth (width_of set)) rows
-        → IsTermCover (GivesAt F words set (value_of F words signal) true) (GivesAt F words set (value_of F words signal) false) (width_of set) rows
-    term_cover rows good fits =
-        record {
-          fits = fits;
-          on_held = λ v low h. good.on_held v low ((on_is.held v).1 (to_allowed true v h));
-          off_free = λ v low h. good.off_free v low ((off_is.held v).1 (to_allowed false v h));
-          literals_needed = λ k d lt column looks.
-              let found = good.literals_needed k d lt column looks in
-              (found.0, found.1, from_allowed false found.0 ((off_is.held found.0).0 found.2), found.3);
-          rows_needed = λ i lt.
-              let found = good.rows_needed i lt in
-              (found.0, found.1, from_allowed true found.0 ((on_is.held found.0).0 found.2), found.3);
-        }
+    -- and a good cover of what they hold is one of what the gate gives
+    pub gives_cover : (rows : List (List ℕ)) → IsGoodCover (HoldValues (width_of set) on) (HoldValues (width_of set) off) rows
+        → IsGoodCover (GivesAt F words set (value_of F words signal) true) (GivesAt F words set (value_of F words signal) false) rows
+    gives_cover rows good =
+        same_cover (HoldValues (width_of set) on) (HoldValues (width_of set) off) (GivesAt F words set (value_of F words signal) true) (GivesAt F words set (value_of F words signal) false) rows
+        (from_terms true on on_is) (to_terms true on on_is) (from_terms false off off_is) (to_terms false off off_is) good
 
 -- ---- with the values of a call
 pub can_cover_at : (F : KissFile) (words : List ℕ) (bits : ℕ) (set : ReadSet) (signal : Signal) (pieces : List StatePiece) (width : ℕ) (on off : List Term) → ArePieces F pieces → IsWithin F.inputs bits set → IsAmong bits F.outputs signal
     → IsEnough F words (value_of F words signal) set → F.inputs ≤ 32 → bits ≤ 64 → width ≡ width_of set
-    → HoldWhatIsAllowed words set signal true pieces on → HoldWhatIsAllowed words set signal false pieces off → CanCover width on off
+    → HoldWhatIsRead words set signal true pieces on → HoldWhatIsRead words set signal false pieces off → CanCover width on off
 can_cover_at F words bits set signal pieces width on off right within place enough few short same on_is off_is =
     subst (λ (w : ℕ). CanCover w on off) (sym same) (can_cover F words bits set signal pieces right within place enough on off on_is off_is few short)
 
-pub term_cover_at : (F : KissFile) (words : List ℕ) (bits : ℕ) (set : ReadSet) (signal : Signal) (pieces : List StatePiece) (width : ℕ) (on off rows : List Term) → ArePieces F pieces → IsWithin F.inputs bits set → IsAmong bits F.outputs signal
+pub gives_cover_at : (F : KissFile) (words : List ℕ) (bits : ℕ) (set : ReadSet) (signal : Signal) (pieces : List StatePiece) (width : ℕ) (on off : List Term) (rows : List (List ℕ)) → ArePieces F pieces → IsWithin F.inputs bits set → IsAmong bits F.outputs signal
     → IsEnough F words (value_of F words signal) set → width ≡ width_of set
-    → HoldWhatIsAllowed words set signal true pieces on → HoldWhatIsAllowed words set signal false pieces off → GoodCover width rows on off → All (FitsWidth width) rows
-    → IsTermCover (GivesAt F words set (value_of F words signal) true) (GivesAt F words set (value_of F words signal) false) (width_of set) rows
-term_cover_at F words bits set signal pieces width on off rows right within place enough same on_is off_is good fits =
-    term_cover F words bits set signal pieces right within place enough on off on_is off_is rows
-    (subst (λ (w : ℕ). GoodCover w rows on off) same good) (subst (λ (w : ℕ). All (FitsWidth w) rows) same fits)
+    → HoldWhatIsRead words set signal true pieces on → HoldWhatIsRead words set signal false pieces off → IsGoodCover (HoldValues width on) (HoldValues width off) rows
+    → IsGoodCover (GivesAt F words set (value_of F words signal) true) (GivesAt F words set (value_of F words signal) false) rows
+gives_cover_at F words bits set signal pieces width on off rows right within place enough same on_is off_is good =
+    gives_cover F words bits set signal pieces right within place enough on off on_is off_is rows
+    (subst (λ (w : ℕ). IsGoodCover (HoldValues w on) (HoldValues w off) rows) same good)
 
 -- ---- a test of two bits
 pub same_from_test : (a b : Bool) → beq a b ≡ true → a ≡ b

@@ -1,11 +1,6 @@
 -- Codes as lists of bits.
-use Rattle.std.specs.Prelude.{ℕ, Bool, List, map, slice_index}
-use Rattle.std.specs.List.{range_with_len}
-use Rattle.cubes.specs.Symbol.{bit}
-
--- so many bits of a word, bit 0 first
-abbrev pub code_bits : ℕ → ℕ → List Bool
-code_bits count word = map (bit word) (range_with_len 0 count)
+use Rattle.std.specs.Prelude.{ℕ, Bool, List, slice_index}
+use Rattle.gate_rows.specs.Bits.{code_bits}
 
 -- the code of a state
 abbrev pub code_of : ℕ → List ℕ → ℕ → List Bool

@@ -1,8 +1,7 @@
 -- Definitions that private functions and proofs need; no public contract cites them.
 pub mod Free
 pub mod Signals
-pub mod Columns
 pub mod Pieces
 pub mod Lists
-pub mod Texts
+pub mod Latches
 pub mod Adding

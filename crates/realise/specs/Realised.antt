@@ -7,13 +7,14 @@ use Rattle.dependence.specs.declared.sets.ReadSet.{ReadSet}
 use Rattle.dependence.specs.declared.sets.Reads.{Reads}
 use Rattle.dependence.specs.Permits.{PermitsValue, next_value, output_value}
 use Rattle.dependence.specs.Inputs.{Matters}
+use Rattle.gate_rows.specs.Covers.{IsGoodCover}
 use Rattle.kiss2.specs.declared.kiss_file.KissFile.{KissFile}
 use Rattle.net_core.specs.declared.Gate.{Gate}
 use Rattle.net_core.specs.declared.Network.{Network}
 use Rattle.net_core.specs.declared.SignalNames.{SignalNames}
 use Rattle.net_core.specs.Step.{AreStarts}
 use Rattle.realise.specs.Codes.{code_of}
-use Rattle.realise.specs.Rows.{GivesAt, IsGoodCover}
+use Rattle.realise.specs.Rows.{GivesAt}
 
 -- what a gate reads is enough for what it gives: its bits permit the value, and every input that matters is read
 pub record IsEnough (F : KissFile) (words : List ℕ) (value : ℕ → List Bool → Bool) (set : ReadSet) : Type 0 where

@@ -7,14 +7,14 @@ ghost use Rattle.realise.specs.Realised.{AreCounted, AreEnough, IsEnough, IsGate
 ghost use Rattle.realise.specs.Inner.Adding.{AddsGates};
 ghost use Rattle.realise.specs.Inner.Pieces.{ArePieces};
 ghost use Rattle.realise.specs.Inner.Signals.{IsAmong, value_of};
-ghost use Rattle.realise.specs.Inner.Texts.{AreLatches, latch_of};
+ghost use Rattle.realise.specs.Inner.Latches.{AreLatches, latch_of};
 
 use crate::copying::{copied, copied_name};
-use crate::lists::{column_count, row_terms};
+use crate::lists::gate_rows_of;
 use crate::pieces::{StatePiece, state_pieces};
-use crate::planes::row_texts;
-use crate::signals::{Signal, bit};
+use crate::signals::Signal;
 use dependence::{ReadSet, Reads};
+use gate_rows::bit;
 use hs_io::{Name, Names};
 use machine_table::Machine;
 use net_core::{Gate, Gates, Latch, Latches, Network, SignalNames, Start};
@@ -166,7 +166,7 @@ fn gate(
     requires signal { IsAmong codes.now.bits m.now.outputs signal }
     ensures { IfOk result (IsGateFor m.now codes.now.words names.now set.now (value_of m.now codes.now.words signal) name) }
 {
-    let terms = row_terms(
+    let rows = gate_rows_of(
         alloc,
         m,
         pieces,
@@ -175,11 +175,10 @@ fn gate(
         set,
         signal,
     )?;
-    let width = column_count(set);
     Ok(Gate {
         inputs: listed_names(alloc, names, set)?,
         output: name,
-        rows: row_texts(alloc, &terms, width)?,
+        rows,
         on: true,
     })
 }

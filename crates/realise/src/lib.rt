@@ -8,18 +8,16 @@
 //! for a file: the given ones, and own names beside them that are kept apart by the least prefix.
 //!
 //! The definitions stand in `specs/`: `Names` has the names, `Codes` codes as bits, `Carries` what carrying a
-//! machine is, `Rows` what the rows of a gate hold, and `Realised` the network of codes. What follows of them
+//! machine is, `Rows` where a gate gives a bit, and `Realised` the network of codes. What follows of them
 //! is promised by the functions of `laws`.
 #![tactic(auto)]
 
 mod building;
-mod columns;
 mod copying;
 mod laws;
 mod lists;
 mod own_names;
 mod pieces;
-mod planes;
 mod signals;
 
 pub use building::network;

@@ -1,22 +1,27 @@
-//! The terms of a gate: those at which it gives 1 or 0, and those of its rows.
+//! The rows of a gate, from the terms at which it gives 1 and 0.
 
-ghost use Rattle.std.specs.Prelude.{◌≡◌, ◌<◌, ◌≤◌, All, IfOk, OnOk, length, true, false};
+ghost use Rattle.std.specs.Prelude.{◌≡◌, ◌<◌, ◌≤◌, All, IfOk, length, true, false};
+ghost use Rattle.std.specs.Cmp.Lexicographic.{slice_cmp};
+ghost use Rattle.std.specs.List.Sorted.{IsSorted};
+ghost use Rattle.std.specs.Ordering.{nat_cmp};
+ghost use Rattle.gate_rows.specs.Covers.{IsGoodCover};
 ghost use Rattle.realise.specs.Realised.{IsEnough, IsWithin};
 ghost use Rattle.realise.specs.Rows.{GivesAt};
-ghost use Rattle.realise.specs.Inner.Lists.{HoldWhatIsAllowed, IsTermCover, width_of};
+ghost use Rattle.realise.specs.Inner.Lists.{HoldWhatIsRead, width_of};
 ghost use Rattle.realise.specs.Inner.Pieces.{ArePieces, IsStatePiece};
 ghost use Rattle.realise.specs.Inner.Signals.{IsAmong, number_of, value_of};
 
-use crate::columns::term_of;
 use crate::pieces::StatePiece;
 use crate::signals::{Signal, value_at};
-use cover_logic::{Term, cover};
+use cover_logic::Term;
 use dependence::ReadSet;
+use gate_rows::{rows, term_of};
+use hs_io::Names;
 use machine_table::Machine;
 use std::alloc::{AllocError, Global};
 
-/// The terms of the rows of a gate.
-pub fn row_terms(
+/// The rows of a gate.
+pub fn gate_rows_of(
     alloc: Global,
     m: &Machine,
     pieces: &[StatePiece],
@@ -24,26 +29,26 @@ pub fn row_terms(
     bits: usize,
     set: &ReadSet,
     signal: Signal,
-) -> Result<Vec<Term>, AllocError>
+) -> Result<Names, AllocError>
     requires pieces { ArePieces m.now pieces.now }
     requires words { length words.now ≡ length m.now.states }
     requires short { bits ≤ 64 }
     requires within { IsWithin m.now.inputs bits set.now }
     requires enough { IsEnough m.now words.now (value_of m.now words.now signal) set.now }
     requires signal { IsAmong bits m.now.outputs signal }
-    ensures narrow { OnOk result (width_of set.now ≤ 128) }
-    ensures cover { IfOk result (λ rows. IsTermCover (GivesAt m.now words.now set.now (value_of m.now words.now signal) true)
-        (GivesAt m.now words.now set.now (value_of m.now words.now signal) false) (width_of set.now) rows.items) }
+    ensures cover { IfOk result (IsGoodCover (GivesAt m.now words.now set.now (value_of m.now words.now signal) true)
+        (GivesAt m.now words.now set.now (value_of m.now words.now signal) false)) }
+    ensures widths { IfOk result (All (λ row. length row ≡ width_of set.now)) }
+    ensures in_order { IfOk result (IsSorted (slice_cmp nat_cmp)) }
 {
     let _limits = (m.inputs(), m.outputs());
     let on = terms(alloc, m, pieces, words, set, signal, true)?;
     let off = terms(alloc, m, pieces, words, set, signal, false)?;
-    let rows = cover(alloc, &on, &off, column_count(set) as u8)?;
-    Ok(rows)
+    rows(alloc, &on, &off, column_count(set) as u8)
 }
 
 /// The number of columns of a gate.
-pub fn column_count(set: &ReadSet) -> usize
+fn column_count(set: &ReadSet) -> usize
     requires { width_of set.now ≤ 128 }
     ensures { result ≡ width_of set.now }
 {
@@ -65,13 +70,18 @@ fn terms(
     requires within { IsWithin m.now.inputs 64 set.now }
     requires width { width_of set.now ≤ 128 }
     requires signal { number_of signal < 64 }
-    ensures { IfOk result (λ terms. HoldWhatIsAllowed words.now set.now signal given pieces.now terms.items) }
+    ensures { IfOk result (λ terms. HoldWhatIsRead words.now set.now signal given pieces.now terms.items) }
 {
     let _inputs = m.inputs();
     let mut terms = Vec::new(alloc);
     for at in pieces {
         if value_at(&at.piece, words, signal) == given {
-            terms.push(term_of(&at.piece.cube, words[at.state], set))?;
+            terms.push(term_of(
+                &at.piece.cube,
+                set.inputs.as_slice(),
+                words[at.state],
+                set.latches.as_slice(),
+            ))?;
         }
     }
     Ok(terms)

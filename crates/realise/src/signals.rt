@@ -1,9 +1,9 @@
 //! What gates give.
 
 ghost use Rattle.std.specs.Prelude.{◌≡◌, ◌<◌, length};
-ghost use Rattle.cubes.specs.Symbol as symbols;
 ghost use Rattle.realise.specs.Inner.Signals.{number_of, piece_value};
 
+use gate_rows::bit;
 use machine_table::Piece;
 
 /// What a gate gives.
@@ -25,12 +25,4 @@ pub fn value_at(piece: &Piece, words: &[u64], signal: Signal) -> bool
         Signal::Next(i) => bit(words[usize::from(piece.next)], i),
         Signal::Output(b) => bit(piece.outputs, b),
     }
-}
-
-/// Whether a bit of a word is 1.
-pub fn bit(word: u64, place: usize) -> bool
-    requires { place < 64 }
-    ensures { result ≡ symbols.bit word place }
-{
-    word >> place & 1 == 1
 }

@@ -17,13 +17,8 @@ pub(crate) fn part_after(
     requires { number ≤ 256 }
     ensures { IfOk result (λ part. part ≡ part_after partition number) }
 {
-    let carrier = partition.copy(alloc)?;
     let reads = numbers_below(alloc, number)?;
-    Ok(Part {
-        partition,
-        carrier,
-        reads,
-    })
+    Part::new(alloc, partition, reads)
 }
 
 /// The numbers of the parts before this one.

@@ -14,6 +14,10 @@ pub record IsPart (n : ℕ) (part : Part) : Type 0 where
 abbrev pub TogetherInAll : List Part → ℕ → ℕ → Type 0
 TogetherInAll parts s t = All (λ part. Together part.partition s t) parts
 
+-- the part that has this partition, is its own carrier and reads the parts of these numbers
+abbrev pub own_part : List ℕ → List ℕ → Part
+own_part partition reads = record { partition = partition; carrier = partition; reads = reads }
+
 -- the numbers of all parts but j, ascending, where there are so many parts
 abbrev pub others : ℕ → ℕ → List ℕ
 others count j = filter (λ part. not (part == j)) (range_with_len 0 count)
@@ -22,8 +26,8 @@ others count j = filter (λ part. not (part == j)) (range_with_len 0 count)
 -- carrier and may read all others
 abbrev pub given_parts : ℕ → ℕ → List (List ℕ) → List Part
 given_parts count j [] = []
-given_parts count j (partition ∷ partitions) = record { partition = partition; carrier = partition; reads = others count j } ∷ given_parts count (suc j) partitions
+given_parts count j (partition ∷ partitions) = own_part partition (others count j) ∷ given_parts count (suc j) partitions
 
 -- the part that has this partition, is its own carrier and reads nothing else
 abbrev pub lone_part : List ℕ → Part
-lone_part partition = record { partition = partition; carrier = partition; reads = [] }
+lone_part partition = own_part partition []

@@ -42,6 +42,23 @@ pub struct Part {
     pub reads: PartNumbers,
 }
 
+impl Part {
+    ghost use Rattle.std.specs.Prelude.{◌≡◌, IfOk};
+    ghost use Rattle.state_codes.specs.Split.{own_part};
+
+    /// The part that is its own carrier.
+    pub fn new(alloc: Global, partition: Partition, reads: PartNumbers) -> Result<Part, AllocError>
+        ensures { IfOk result (λ part. part ≡ own_part partition reads) }
+    {
+        let carrier = partition.copy(alloc)?;
+        Ok(Part {
+            partition,
+            carrier,
+            reads,
+        })
+    }
+}
+
 /// The parts into which the state of a machine is split, numbered from 0.
 #[derive(Debug, Drop)]
 pub struct Split {
@@ -57,14 +74,10 @@ pub fn one_part(alloc: Global, n: usize) -> Result<Split, AllocError>
     ensures few { IfOk result (λ split. length split.parts ≤ 256) }
     ensures lawful { IfOk result (λ split. All (IsPart n) split.parts) }
 {
-    let partition = Partition::zero(alloc, n)?;
-    let carrier = partition.copy(alloc)?;
+    let zero = Partition::zero(alloc, n)?;
+    let part = Part::new(alloc, zero, PartNumbers::new(alloc))?;
     let mut parts = Parts::new(alloc);
-    parts.push(Part {
-        partition,
-        carrier,
-        reads: PartNumbers::new(alloc),
-    })?;
+    parts.push(part)?;
     Ok(Split {
         kind: Kind::Code,
         parts,
@@ -95,13 +108,9 @@ fn own_carriers(alloc: Global, partitions: Vec<Partition>) -> Result<Parts, Allo
     let count = partitions.len();
     let mut parts = Parts::new(alloc);
     for (j, partition) in partitions.into_iter().enumerate() {
-        let carrier = partition.copy(alloc)?;
         let reads = all_but(alloc, count, j)?;
-        parts.push(Part {
-            partition,
-            carrier,
-            reads,
-        })?;
+        let part = Part::new(alloc, partition, reads)?;
+        parts.push(part)?;
     }
     Ok(parts)
 }

@@ -1,12 +1,6 @@
 -- Labels of words by a set of their bits, in the order in which the words appear.
-use Rattle.std.specs.Prelude.{◌≡◌, ◌≢◌, ℕ, ◌<◌, ◌≤◌, ◌↔◌, ◌++◌, ◌∷◌, [], List, bit_and, length, slice_index}
-use Rattle.dependence.specs.Permits.{AgreeOn}
-use Rattle.partition.specs.Partition.{IsNumbered, IsPartition, Together, blocks_of}
-
--- two states are together where their words agree on the set
-pub record IsPartitionOn (words : List ℕ) (R : ℕ → Type 0) (p : List ℕ) : Type 0 where
-  pub lawful : IsPartition (length words) p
-  pub together : (s t : ℕ) → s < length words → t < length words → Together p s t ↔ AgreeOn words R s t
+use Rattle.std.specs.Prelude.{◌≡◌, ◌≢◌, ℕ, ◌<◌, ◌≤◌, ◌++◌, ◌∷◌, [], List, bit_and, length, slice_index}
+use Rattle.partition.specs.Partition.{IsNumbered, blocks_of}
 
 -- the block of a value among those seen; one that was not seen begins a block
 pub record IsSeenAt (old : List ℕ) (value block : ℕ) (new : List ℕ) : Type 0 where

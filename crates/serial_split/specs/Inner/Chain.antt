@@ -7,11 +7,12 @@ use Rattle.partition.specs.Inside.{IsInside}
 use Rattle.closed_lattice.specs.Limits.{IsGreatestGrown, IsStrictlyBelow}
 use Rattle.state_codes.specs.declared.split.Part.{Part}
 use Rattle.state_codes.specs.Kinds.{IsOwnCarrier}
+use Rattle.state_codes.specs.Split.{own_part}
 use Rattle.serial_split.specs.Choice.{IsBelow}
 
 -- the part that has this partition for its own carrier and reads so many parts before it
 abbrev pub part_after : List ℕ → ℕ → Part
-part_after partition number = record { partition = partition; carrier = partition; reads = range_with_len 0 number }
+part_after partition number = own_part partition (range_with_len 0 number)
 
 -- one step down, and the part that it gives
 pub record IsStep (F : KissFile) (c : List ℕ) (part : Part) (next : List ℕ) : Type 0 where

@@ -1,5 +1,5 @@
 use Rattle.std.proofs.Common.{Err, ap, ◌∙◌}
-use Rattle.state_reduce.proofs.Refused.{never_refused}
+use Rattle.decomposition.proofs.Refused.{never_refused}
 use Rattle.decomposition.proofs.labels.partition_of.Goals as goal
 
 pub unreachable-requires : goal.unreachable-requires

@@ -1,7 +1,7 @@
 use Rattle.std.proofs.Common.{ℕ, List, [], map, slice_index, ap, ◌∙◌, arith}
 use Rattle.std.specs.List.{range_with_len}
-use Rattle.realise.specs.Inner.Texts.{latch_of}
-use Rattle.realise.proofs.Ranges.{map-range-push}
+use Rattle.realise.specs.Inner.Latches.{latch_of}
+use Rattle.gate_rows.proofs.Ranges.{map-range-push}
 use Rattle.realise.proofs.GateLists.{latches_at}
 use Rattle.realise.proofs.building.latches.Goals as goal
 

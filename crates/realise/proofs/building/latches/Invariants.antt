@@ -1,7 +1,7 @@
 -- The latches so far.
 use Rattle.std.proofs.Common.{◌≡◌, map}
 use Rattle.std.specs.List.{range_with_len}
-use Rattle.realise.specs.Inner.Texts.{latch_of}
+use Rattle.realise.specs.Inner.Latches.{latch_of}
 use Rattle.realise.proofs.building.latches.Given as goal
 
 abbrev pub invariant-loop-i : goal.invariant-loop-i

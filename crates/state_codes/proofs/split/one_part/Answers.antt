@@ -5,8 +5,6 @@ use Rattle.state_codes.proofs.split.one_part.Goals as goal
 
 pub returns-clause-parts : goal.returns-clause-parts
 returns-clause-parts c =
-    let zero : c.in_ok-partition.partition ≡ zero_of c.args.n = zero_once c.args.n c.in_ok-partition.partition (zero_of c.args.n) c.in_ok-partition.ensures.lawful (zero_of_is_partition c.args.n c.requires) c.in_ok-partition.ensures.zero (zero_of_is_zero c.args.n) in
-    let carrier : c.in_ok-carrier.carrier ≡ c.in_ok-partition.partition = c.in_ok-carrier.ensures.same in
-    let pushed = c.in_ok-push.ensures.ok in
+    let zero : c.in_ok-zero.zero ≡ zero_of c.args.n = zero_once c.args.n c.in_ok-zero.zero (zero_of c.args.n) c.in_ok-zero.ensures.lawful (zero_of_is_partition c.args.n c.requires) c.in_ok-zero.ensures.zero (zero_of_is_zero c.args.n) in
     let none : c.new.result ≡ [] = c.new.ensures in
-    rw (pushed, c.new-parts.ensures, none, carrier, zero) refl
+    rw (c.in_ok-push.ensures.ok, c.new-parts.ensures, c.in_ok-part.ensures, none, zero) refl

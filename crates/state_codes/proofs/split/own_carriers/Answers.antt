@@ -1,7 +1,7 @@
 use Rattle.std.proofs.Common.{◌≡◌, ℕ, List, [], ◌∷◌, ◌++◌, length, map, ap, sym, ◌∙◌, arith}
 use Rattle.std.proofs.lemmas.List.{length-map, length_push, map_push}
 use Rattle.state_codes.specs.declared.split.Part.{Part}
-use Rattle.state_codes.specs.Split.{others, given_parts}
+use Rattle.state_codes.specs.Split.{others, given_parts, own_part}
 use Rattle.state_codes.specs.Laws.Splits.{given_parts-push}
 use Rattle.state_codes.proofs.split.own_carriers.Goals as goal
 
@@ -13,14 +13,13 @@ loop-j-preserved c =
     let partitions : List (List ℕ) = map second c.loop-j.yielded in
     let size : length partitions ≡ length c.loop-j.yielded = length-map c.loop-j.yielded second in
     let steps = c.in-Some.ensures.steps in
-    let carrier : c.in_ok-carrier.carrier ≡ partition = c.in_ok-carrier.ensures.same in
     let reads : c.in_ok-reads.reads ≡ others count c.in-Some.j = c.in_ok-reads.ensures in
-    let part : List ℕ → List ℕ → Part = λ labels numbers. record { partition = partition; carrier = labels; reads = numbers } in
+    let part : c.in_ok-part.part ≡ own_part partition c.in_ok-reads.reads = c.in_ok-part.ensures in
     record {
       count = omega (arith, length_push c.loop-j.yielded (c.in-Some.j, partition), steps.2);
       list = c.in_ok-push.ensures.ok
-          ∙ ap (λ (front : List Part). front ++ part c.in_ok-carrier.carrier c.in_ok-reads.reads ∷ []) c.loop-j.invariant.list
-          ∙ ap (λ (labels : List ℕ). given_parts count 0 partitions ++ part labels c.in_ok-reads.reads ∷ []) carrier
-          ∙ ap (λ (numbers : List ℕ). given_parts count 0 partitions ++ part partition numbers ∷ []) reads
+          ∙ ap (λ (front : List Part). front ++ c.in_ok-part.part ∷ []) c.loop-j.invariant.list
+          ∙ ap (λ (last : Part). given_parts count 0 partitions ++ last ∷ []) part
+          ∙ ap (λ (numbers : List ℕ). given_parts count 0 partitions ++ own_part partition numbers ∷ []) reads
           ∙ sym (ap (given_parts count 0) (map_push second c.loop-j.yielded (c.in-Some.j, partition)) ∙ given_parts-push count 0 c.in-Some.j partitions partition (omega (arith, size, steps.1)));
     }

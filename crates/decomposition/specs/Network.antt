@@ -1,0 +1,34 @@
+-- The network of a machine, a split and its codes, with what is noted of its latches.
+use Rattle.std.specs.Prelude.{◌≡◌, List, length}
+use Rattle.blif_out.specs.declared.header.LatchNote.{LatchNote}
+use Rattle.blif_out.specs.Order.{HasKnownStarts, HasRowsInOrder}
+use Rattle.dependence.specs.declared.sets.Reads.{Reads}
+use Rattle.dependence.specs.Reads.{AreReads}
+use Rattle.kiss2.specs.declared.kiss_file.KissFile.{KissFile}
+use Rattle.net_core.specs.declared.Network.{Network}
+use Rattle.net_core.specs.declared.SignalNames.{SignalNames}
+use Rattle.net_core.specs.Sound.{Sound}
+use Rattle.realise.specs.Carries.{Carries}
+use Rattle.realise.specs.Realised.{AreEnough, IsRealised}
+use Rattle.state_codes.specs.declared.Codes.{Codes}
+use Rattle.state_codes.specs.declared.split.Part.{Part}
+use Rattle.decomposition.specs.Notes.{AreNotes}
+use Rattle.decomposition.specs.OwnPairs.{OwnPairs}
+use Rattle.decomposition.specs.Within.{IsWithinParts}
+
+-- Each gate reads by the rule, which is enough for what it gives. The network has a latch for each bit. It is sound, starts
+-- at the code of the reset state, and goes from code to code as the machine goes from state to state. Each gate of a latch
+-- reads only what the latch's own pair and its part permit.
+pub record IsNetworkOf (W : KissFile) (parts : List Part) (codes : Codes) (names : SignalNames) (N : Network) (notes : List LatchNote) : Type 0 where
+  pub sets : Reads
+  pub by_rule : AreReads W parts codes sets
+  pub enough : AreEnough W codes.bits codes.words sets
+  pub realised : IsRealised W codes.bits codes.words sets names N
+  pub noted : AreNotes codes sets.latches notes
+  pub latches : length N.latches ≡ codes.bits
+  pub rows : HasRowsInOrder N
+  pub starts : HasKnownStarts N
+  pub sound : Sound N
+  pub carries : Carries W N codes.words
+  pub pairs : OwnPairs W N codes.words notes
+  pub within : IsWithinParts W N codes.words notes parts

@@ -1,0 +1,6 @@
+pub mod Items
+pub mod Literals
+pub mod Ranges
+pub mod ReadNumbers
+pub mod RowTexts
+pub mod TermCovers

@@ -1,0 +1,3 @@
+-- Definitions that private functions and proofs need; no public contract cites them.
+pub mod Literals
+pub mod Texts

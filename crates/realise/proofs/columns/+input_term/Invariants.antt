@@ -1,5 +1,0 @@
-use Rattle.std.proofs.Common.{length}
-use Rattle.realise.proofs.columns.+input_term.Given as goal
-
-abbrev pub decreases-input_term : goal.decreases-input_term
-decreases-input_term l = length l.inputs.now

@@ -1,8 +1,0 @@
--- The characters so far.
-use Rattle.std.proofs.Common.{◌≡◌, map}
-use Rattle.std.specs.List.{range_with_len}
-use Rattle.realise.specs.Inner.Texts.{byte_at}
-use Rattle.realise.proofs.planes.text_of.Given as goal
-
-abbrev pub invariant-loop-column : goal.invariant-loop-column
-invariant-loop-column l = l.text.items ≡ map (byte_at l.term) (range_with_len 0 l.column)
