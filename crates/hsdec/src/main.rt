@@ -6,6 +6,8 @@
 mod arguments;
 mod help;
 mod program;
+#[cfg(test)]
+mod tests;
 
 use hs_io::{FileShelf, StdSink};
 use std::process::ExitCode;

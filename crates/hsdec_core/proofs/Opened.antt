@@ -65,7 +65,7 @@ module _ (job : Job) (holds : List ℕ → Option (List ℕ)) (Faulted : Type 0)
   right_start N made blif (lacks, (line, is_line, is)) =
       refused_for job holds Faulted SymbolRefused line made tt
       (cause_of_bytes job holds bytes SymbolRefused loads is_text.1 (subst (λ (s : Source). CallsForBySource s job bytes SymbolRefused) (sym source) (is_text.0, (N, blif, lacks))))
-      (line_of_bytes job holds bytes SymbolRefused line loads (λ e. cc, λ e. cc, λ e. cc, λ e. cc) is_text (subst (λ (s : Source). IsBytesLine s job bytes SymbolRefused line) (sym source) (N, blif, is_line))) is
+      (line_of_bytes job holds bytes SymbolRefused line loads (λ e. cc, λ e. cc, λ e. cc, λ e. cc) is_text (subst (λ (s : Source). IsBytesLine s job bytes SymbolRefused line) (sym source) (N, blif, lacks, is_line))) is
 
 -- ---- the same of what may want memory
 pub read_of_builts : (job : Job) (bytes : List ℕ) (F : KissFile) (result : Result OpenedMachine AllocError) → IsShortText bytes → Kiss bytes F → IsLawful F → IfOk result (IsBuiltOf job F) → IfOk result (IsReadOf job bytes)

@@ -15,6 +15,7 @@ use Rattle.hsdec_core.specs.Calls.{AwaitsSymbols}
 use Rattle.hsdec_core.specs.Generated.{OfGenerated}
 use Rattle.hsdec_core.specs.Line.{IsTextLine}
 use Rattle.hsdec_core.specs.Loading.{IsText, IsTooLong}
+use Rattle.hsdec_core.specs.NetCause.{LacksStart}
 use Rattle.hsdec_core.specs.NetTexts.{fault_line}
 use Rattle.hsdec_core.specs.Operands.{OfMachine, OfNetwork, OfNumbers, Source, source_of}
 use Rattle.hsdec_core.specs.Splits.{HasCodeOf}
@@ -26,10 +27,11 @@ abbrev pub IsStartLine : Network → Option (List ℕ) → List ℕ → Type 0
 IsStartLine N (Some text) line = line ≡ bad_start_line
 IsStartLine N None line = (name : List ℕ) × IsFirstUnknown N.latches name × (line ≡ start_unknown_line name)
 
--- the line of an answer to the bytes of a network: it names the first fault of bytes that say none
+-- the line of an answer to the bytes of a network: it names the first fault of bytes that say none, or tells that a network
+-- has no values to begin with
 abbrev pub IsNetworkLine : Job → List ℕ → Answer → List ℕ → Type 0
 IsNetworkLine job bytes NetRefused line = (fault : BlifFault) × IsBlifFault bytes fault × (line ≡ fault_line fault)
-IsNetworkLine job bytes SymbolRefused line = (N : Network) × Blif bytes N × IsStartLine N job.start line
+IsNetworkLine job bytes SymbolRefused line = (N : Network) × Blif bytes N × LacksStart N job.start × IsStartLine N job.start line
 IsNetworkLine job bytes _ line = ⊥
 
 abbrev pub IsBytesLine : Source → Job → List ℕ → Answer → List ℕ → Type 0
