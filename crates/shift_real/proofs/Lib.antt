@@ -1,0 +1,4 @@
+pub mod Meeting
+pub mod Telling
+pub mod RisingMembers
+pub mod LastMember

@@ -1,0 +1,24 @@
+-- The chain of a machine: zero, M(zero), M(M(zero)) and so on (source: Hartmanis and Stearns, the operator M).
+use Rattle.std.specs.Prelude.{◌≡◌, ◌≢◌, ℕ, ◌+◌, ◌-◌, ◌<◌, ◌↔◌, List, Some, length, slice_get}
+use Rattle.kiss2.specs.declared.kiss_file.KissFile.{KissFile}
+use Rattle.pair_operators.specs.Extremes.{IsHigh}
+use Rattle.partition.specs.Partition.{IsPartition, IsZero, Le, Together}
+use Rattle.shift_real.specs.Words.{MeetAfter}
+
+-- states that are together in p are together in q, which is another partition
+abbrev pub IsStrictlyBelow : List ℕ → List ℕ → Type 0
+IsStrictlyBelow p q = Le p q × (p ≢ q)
+
+-- The first member is zero, each other one is M of the one before it and strictly above it, and M leaves the last as it is.
+pub record IsChain (F : KissFile) (members : List (List ℕ)) : Type 0 where
+  pub first : (p : List ℕ) × (slice_get members 0 ≡ Some p) × IsPartition (length F.states) p × IsZero p
+  pub each : (j : ℕ) (p q : List ℕ) → slice_get members j ≡ Some p → slice_get members (j + 1) ≡ Some q → IsHigh F p q × IsStrictlyBelow p q
+  pub last : (p : List ℕ) × (slice_get members (length members - 1) ≡ Some p) × IsHigh F p p
+
+-- states are together in a partition exactly where every word of j symbols brings them to one
+abbrev pub TellsAfter : KissFile → ℕ → List ℕ → Type 0
+TellsAfter F j p = (s t : ℕ) → s < length F.states → t < length F.states → Together p s t ↔ MeetAfter F j s t
+
+-- so it is for each member, by its place
+abbrev pub AreTogetherAfter : KissFile → List (List ℕ) → Type 0
+AreTogetherAfter F members = (j : ℕ) (p : List ℕ) → slice_get members j ≡ Some p → IsPartition (length F.states) p × TellsAfter F j p

@@ -1,0 +1,31 @@
+-- Definite machines (source: Perles, Rabin and Shamir, the theory of definite automata).
+use Rattle.std.specs.Prelude.{◌≡◌, ℕ, ◌<◌, ◌≤◌, ◌⊎◌, ⊤, length}
+use Rattle.kiss2.specs.declared.kiss_file.KissFile.{KissFile}
+use Rattle.shift_real.specs.declared.orders.OrderFail.{OrderFail}
+use Rattle.shift_real.specs.declared.orders.OrderFail.TheVariants.{NotDefinite, NoMemory}
+use Rattle.shift_real.specs.Words.{MeetAfter}
+
+-- every word of k symbols brings all states to one
+abbrev pub Definite : KissFile → ℕ → Type 0
+Definite F k = (s t : ℕ) → s < length F.states → t < length F.states → MeetAfter F k s t
+
+-- the least such k
+pub record IsOrder (F : KissFile) (k : ℕ) : Type 0 where
+  pub definite : Definite F k
+  pub least : (fewer : ℕ) → Definite F fewer → k ≤ fewer
+
+-- the first two come before the other two, by the first of them and then by the second
+abbrev pub ComeBefore : ℕ → ℕ → ℕ → ℕ → Type 0
+ComeBefore u v s t = (u < s) ⊎ ((u ≡ s) × (v < t))
+
+-- two states that words of every length keep apart, and the least two such
+pub record AreFirstApart (F : KissFile) (s t : ℕ) : Type 0 where
+  pub first_state : s < length F.states
+  pub second_state : t < length F.states
+  pub apart : (k : ℕ) → MeetAfter F k s t → ⊥
+  pub least : (u v : ℕ) → u < length F.states → v < length F.states → ComeBefore u v s t → (k : ℕ) × MeetAfter F k u v
+
+-- why a machine has no order
+abbrev pub IsOrderCause : KissFile → OrderFail → Type 0
+IsOrderCause F (NotDefinite s t) = AreFirstApart F s t
+IsOrderCause F NoMemory = ⊤

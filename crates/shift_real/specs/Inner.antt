@@ -1,0 +1,2 @@
+-- Definitions that private functions and proofs need; no public contract cites them.
+pub mod Rising

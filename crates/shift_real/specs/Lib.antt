@@ -1,0 +1,4 @@
+pub mod Words
+pub mod Definite
+pub mod Chain
+pub mod Inner

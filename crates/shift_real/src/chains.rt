@@ -1,0 +1,31 @@
+//! How states come together, symbol by symbol.
+
+ghost use Rattle.std.specs.Prelude.{IfOk};
+ghost use Rattle.shift_real.specs.Chain.{AreTogetherAfter, IsChain};
+
+use hs_list::Items;
+use machine_table::Machine;
+use pair_operators::high;
+use partition::Partition;
+use std::alloc::{AllocError, Global};
+
+/// Partitions in order.
+pub type Chain = Items<Partition>;
+
+/// Zero, M(zero), M(M(zero)) and so on, up to and including the first that M leaves as it is. Member j, counted
+/// from 0, tells which states every word of j symbols brings to one state.
+pub fn chain(alloc: Global, m: &Machine) -> Result<Chain, AllocError>
+    ensures chain { IfOk result (IsChain m.now) }
+    ensures together { IfOk result (AreTogetherAfter m.now) }
+{
+    let mut members = Chain::new(alloc);
+    let mut last = Partition::zero(alloc, m.states())?;
+    let mut next = high(alloc, m, &last)?;
+    'rising: while !next.equal(&last) {
+        members.push(last)?;
+        last = next;
+        next = high(alloc, m, &last)?;
+    }
+    members.push(last)?;
+    Ok(members)
+}

@@ -1,0 +1,60 @@
+//! The order of a definite machine.
+
+ghost use Rattle.std.specs.Prelude.{◌≡◌, ◌≢◌, ℕ, ◌<◌, IfErr, IfNone, IfOk, IfSome, length, slice_index};
+ghost use Rattle.shift_real.specs.Definite.{IsOrder, IsOrderCause};
+
+use crate::chains::chain;
+use machine_table::Machine;
+use partition::Partition;
+use std::alloc::{AllocError, Global};
+
+/// Why a machine has no order.
+#[derive(Debug, Drop, PartialEq)]
+pub enum OrderFail {
+    /// Words of every length keep these two states apart. They are the least two such, by s and then by t.
+    NotDefinite { s: u16, t: u16 },
+    /// There is no memory left.
+    NoMemory,
+}
+
+impl From<AllocError> for OrderFail {
+    ghost use Rattle.std.specs.Prelude.{◌≡◌};
+    ghost use Rattle.shift_real.specs.declared.orders.OrderFail.TheVariants.{NoMemory};
+
+    ghost from_gives = { λ _ fail. fail ≡ NoMemory };
+
+    fn from(_: AllocError) -> Self {
+        OrderFail::NoMemory
+    }
+}
+
+/// The least number of symbols after which the state is known, whatever it was before.
+pub fn order(alloc: Global, m: &Machine) -> Result<usize, OrderFail>
+    ensures order { IfOk result (IsOrder m.now) }
+    ensures refused { IfErr result (IsOrderCause m.now) }
+{
+    let _states = m.states();
+    let chain = chain(alloc, m)?;
+    let members = chain.as_slice();
+    let last = members.len() - 1;
+    match first_apart(&members[last]) {
+        None => Ok(last),
+        Some(t) => Err(OrderFail::NotDefinite { s: 0, t: t as u16 }),
+    }
+}
+
+/// The least state that is not together with state 0.
+fn first_apart(p: &Partition) -> Option<usize>
+    requires { 0 < length p.now }
+    ensures within { IfSome result (λ t. t < length p.now) }
+    ensures apart { IfSome result (λ t. slice_index p.now t ≢ slice_index p.now 0) }
+    ensures first { IfSome result (λ t. (u : ℕ) → u < t → slice_index p.now u ≡ slice_index p.now 0) }
+    ensures none { IfNone result ((u : ℕ) → u < length p.now → slice_index p.now u ≡ slice_index p.now 0) }
+{
+    for t in 0..p.len() {
+        if p.label(t) != p.label(0) {
+            return Some(t);
+        }
+    }
+    None
+}

@@ -1,0 +1,145 @@
+//! A judge of words that looks at each word by itself and counts what stands before it.
+
+use crate::forms::FORMS;
+use job_words::{CommandOption, Form, OperandKind};
+use std::str;
+
+/// The number of the refused word, counted from 1, or 0 where the words are a job.
+pub fn refused_word(words: &[&[u8]]) -> usize {
+    let Some(form) = form_of(words) else {
+        return 1;
+    };
+    for place in 1..words.len() {
+        if !can_stand(&form, words, place) {
+            return place + 1;
+        }
+    }
+    if operands_before(words, words.len()) < form.operands.len() || is_taken(words, words.len()) {
+        return words.len().saturating_add(1);
+    }
+    0
+}
+
+/// The row of the first word.
+fn form_of(words: &[&[u8]]) -> Option<Form> {
+    if words.is_empty() {
+        return None;
+    }
+    for form in FORMS {
+        if form.command.word() == words[0] {
+            return Some(form);
+        }
+    }
+    None
+}
+
+/// Whether a word can stand at its place behind those before it.
+fn can_stand(form: &Form, words: &[&[u8]], place: usize) -> bool {
+    if place == 0 || place >= words.len() {
+        return false;
+    }
+    let word = words[place];
+    if is_taken(words, place) {
+        return can_be_taken(words[place - 1], word);
+    }
+    if word.starts_with(b"--".as_slice()) {
+        return has_option(form, word) && !stands_before(words, place);
+    }
+    let number = operands_before(words, place);
+    !word.is_empty()
+        && number < form.operands.len()
+        && is_of_kind(form.operands[number], words, place)
+}
+
+/// Whether an option takes the word at a place.
+fn is_taken(words: &[&[u8]], place: usize) -> bool {
+    let mut taken = false;
+    for i in 1..place.min(words.len()) {
+        taken = !taken && takes_word(words[i]);
+    }
+    taken
+}
+
+/// Whether a word is an option that takes the next one.
+fn takes_word(word: &[u8]) -> bool {
+    word == b"--limit".as_slice() || word == b"--start".as_slice() || word == b"--fill".as_slice()
+}
+
+/// Whether an option can take a word.
+fn can_be_taken(option: &[u8], word: &[u8]) -> bool {
+    if option == b"--limit".as_slice() {
+        return is_between(1, 10_000, word);
+    }
+    option == b"--start".as_slice() || word == b"hold".as_slice()
+}
+
+/// Whether the row has the option of a word.
+fn has_option(form: &Form, word: &[u8]) -> bool {
+    for option in form.options {
+        let name: &[u8] = match option {
+            CommandOption::Limit => b"--limit",
+            CommandOption::Reduce => b"--reduce",
+            CommandOption::Start => b"--start",
+            CommandOption::Fill => b"--fill",
+        };
+        if name == word {
+            return true;
+        }
+    }
+    false
+}
+
+/// Whether the word at a place stands before it as an option.
+fn stands_before(words: &[&[u8]], place: usize) -> bool {
+    for i in 1..place.min(words.len()) {
+        if place < words.len() && words[i] == words[place] && !is_taken(words, i) {
+            return true;
+        }
+    }
+    false
+}
+
+/// How many operands stand before a place.
+fn operands_before(words: &[&[u8]], place: usize) -> usize {
+    let mut count = 0usize;
+    for i in 1..place.min(words.len()) {
+        if !is_taken(words, i) && !words[i].starts_with(b"--".as_slice()) {
+            count = count.saturating_add(1);
+        }
+    }
+    count
+}
+
+/// Whether the word at a place is an operand of a kind. B stands right behind A here.
+fn is_of_kind(kind: OperandKind, words: &[&[u8]], place: usize) -> bool {
+    if place == 0 || place >= words.len() {
+        return false;
+    }
+    let word = words[place];
+    match kind {
+        OperandKind::Seed => is_between(0, 999_999_999, word),
+        OperandKind::A => is_between(2, 128, word),
+        OperandKind::B => { is_between(2, 128, word) && product(words[place - 1], word) <= 256 }
+        OperandKind::K => is_between(1, 8, word),
+        _ => true,
+    }
+}
+
+/// The product of two numbers.
+fn product(a: &[u8], b: &[u8]) -> u64 {
+    value(a).saturating_mul(value(b))
+}
+
+/// Whether a word is a number in a range.
+fn is_between(low: u64, high: u64, word: &[u8]) -> bool {
+    let digits = word.iter().all(|byte| b"0123456789".contains(byte));
+    digits && !word.is_empty() && word.len() < 10 && low <= value(word) && value(word) <= high
+}
+
+/// The value of a text of digits.
+fn value(word: &[u8]) -> u64 {
+    match str::from_utf8(word) {
+        Ok(text) => text.parse::<u64>().unwrap_or(0),
+        Err(_) => 0,
+    }
+}

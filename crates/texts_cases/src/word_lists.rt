@@ -1,0 +1,114 @@
+//! Every short list of words, beside a plain judge of each word by itself.
+
+use crate::forms::FORMS;
+use crate::plain_words::refused_word;
+use anyhow::bail;
+use job_words::{JobFail, Words, judge};
+use std::alloc::{AllocError, Global};
+
+/// Words that stand for commands, operands, options, and numbers at each limit and past it.
+const ALPHABET: [&[u8]; 18] = [
+    b"closed",
+    b"sim",
+    b"gen",
+    b"code",
+    b"f",
+    b"",
+    b"--",
+    b"--limit",
+    b"--start",
+    b"--fill",
+    b"--reduce",
+    b"hold",
+    b"0",
+    b"10000",
+    b"10001",
+    b"000000002",
+    b"0000000002",
+    b"+2",
+];
+
+/// Numbers at each limit of a generator and past it.
+const NUMBERS: [&[u8]; 9] = [
+    b"0",
+    b"1",
+    b"2",
+    b"8",
+    b"9",
+    b"32",
+    b"128",
+    b"129",
+    b"--reduce",
+];
+
+/// Whether all lists agree. Prints how many there are, and each that differs.
+pub fn agree<R: AllocGlobal + Print>(rt: &R) -> anyhow::Result<bool> {
+    let mut all = true;
+    for (count, lists) in [(0, 1), (1, 18), (2, 324), (3, 5832), (4, 104_976)] {
+        let agree = agree_on(rt, None, &ALPHABET, count, lists)?;
+        all = all && agree;
+    }
+    let agree = agree_on(rt, Some(b"gen"), &NUMBERS, 4, 6561)?;
+    Ok(all && agree)
+}
+
+/// Whether the lists of so many words agree.
+fn agree_on<R: AllocGlobal + Print>(
+    rt: &R,
+    first: Option<&[u8]>,
+    alphabet: &[&'static [u8]],
+    count: u32,
+    lists: usize,
+) -> anyhow::Result<bool> {
+    let mut all = true;
+    for number in 0..lists {
+        if !agrees(rt.alloc(), first, alphabet, count, number)? {
+            println!(rt; "lists of {count} words: list {number} differs")?;
+            all = false;
+        }
+    }
+    if all {
+        println!(rt; "lists of {count} words: {lists} cases")?;
+    }
+    Ok(all)
+}
+
+/// Whether the plain judge refuses the same word of a list. The digits of the number say which words of the
+/// alphabet are in the list, after a first word if there is one.
+fn agrees(
+    alloc: Global,
+    first: Option<&[u8]>,
+    alphabet: &[&'static [u8]],
+    count: u32,
+    number: usize,
+) -> anyhow::Result<bool> {
+    let mut plain = Vec::new(alloc);
+    let mut words = Words::new(alloc);
+    if let Some(word) = first {
+        plain.push(word)?;
+        words.push(word)?;
+    }
+    let mut left = number;
+    for _ in 0..count {
+        if alphabet.is_empty() {
+            break;
+        }
+        let word = alphabet[left % alphabet.len()];
+        left /= alphabet.len();
+        plain.push(word)?;
+        words.push(word)?;
+    }
+    Ok(refused(alloc, &words)? == refused_word(plain.as_slice()))
+}
+
+/// The number of the refused word, or 0.
+fn refused(alloc: Global, words: &Words) -> anyhow::Result<usize> {
+    if words.count() >= 0xffff_ffff {
+        bail!("too many words");
+    }
+    match judge(alloc, &FORMS, words) {
+        Ok(_) => Ok(0),
+        Err(JobFail::Usage { word }) => Ok(word as usize),
+        Err(JobFail::NoMemory) => Err(AllocError)?,
+    }
+}
