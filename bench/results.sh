@@ -1,0 +1,105 @@
+#!/usr/bin/env bash
+# What each decomposition of the controllers in examples/ costs, as rows of the table in docs/RESULTS.md: latches,
+# literals of the gates' rows, and AND nodes after one script of Berkeley ABC. Beside them the binary and the one-hot
+# coding of the same table that Yosys makes. ABC proves each network equal to that of `code`.
+#
+# Needs the packages berkeley-abc and yosys. It takes about five minutes, most of them for the 60 states.
+set -eu
+[ $# -eq 0 ] || { echo "results.sh: takes no words" >&2; exit 2; }
+for tool in berkeley-abc yosys awk; do
+    command -v "$tool" >/dev/null || { echo "results.sh: $tool is missing" >&2; exit 2; }
+done
+cd "$(dirname "$0")/../crates/hsdec"
+program=${HSDEC:-$PWD/out/hsdec}
+if [ ! -x "$program" ]; then
+    echo "results.sh: proving and building the program first" >&2
+    rt run >/dev/null 2>&1
+fi
+examples=$PWD/../../examples
+room=$(mktemp -d)
+trap 'rm -rf "$room"' EXIT
+
+resyn='balance; rewrite; refactor; balance; rewrite; rewrite -z; balance; refactor -z; rewrite -z; balance'
+
+# the AND nodes of a BLIF text after the script, twice
+nodes() {
+    berkeley-abc -c "read_blif $1; strash; $resyn; $resyn; print_stats" 2>&1 |
+        sed -n 's/.*and = *\([0-9]*\).*/\1/p' | tail -n 1
+}
+
+# latches, literals and AND nodes of a network
+figures() {
+    awk -v ands="$(nodes "$1")" '
+        /^\.latch/ { latches++ }
+        /^[01-]+ 1$/ { literals += gsub(/[01]/, "", $1) }
+        END { printf "%d / %d / %s", latches, literals, ands }' "$1"
+}
+
+# equal or not to the network of `code`
+proved_equal() {
+    berkeley-abc -c "dsec $1 $2" 2>&1 | grep -q 'Networks are equivalent'
+}
+
+# the table of a machine as a Verilog module, for the coding tool
+verilog() {
+    awk '
+        function number(name) { if (!(name in state)) { state[name] = count; names[count++] = name } return state[name] }
+        { sub(/#.*/, "") }
+        $1 == ".i" { inputs = $2 } $1 == ".o" { outputs = $2 } $1 == ".r" { reset = $2 }
+        NF == 4 && $1 !~ /^\./ { row[rows++] = $0; number($2) }
+        END {
+            if (reset == "") reset = names[0]
+            for (r = 0; r < rows; r++) { split(row[r], f); if (f[3] !~ /^[-*]$/) number(f[3]) }
+            for (bits = 1; 2 ^ bits < count; bits++);
+            printf "module machine(input clk, input rst, input [0:%d] x, output reg [0:%d] z);\n", inputs - 1, outputs - 1
+            printf "(* fsm_encoding = \"auto\" *) reg [%d:0] s;\nreg [%d:0] n;\nalways @(posedge clk or posedge rst) if (rst) s <= %d; else s <= n;\n", bits - 1, bits - 1, state[reset]
+            print "always @* begin n = 0; z = 0; case (s)"
+            for (c = 0; c < count; c++) {
+                printf "%d: begin casez (x)\n", c
+                whole = 0
+                for (r = 0; r < rows; r++) {
+                    split(row[r], f)
+                    if (f[2] != names[c]) continue
+                    cube = f[1]; gsub(/-/, "?", cube)
+                    whole = whole || cube !~ /[01]/
+                    label = cube ~ /[01]/ ? inputs "'"'"'b" cube : "default"
+                    gsub(/-/, "0", f[4])
+                    next_state = f[3] ~ /^[-*]$/ ? c : state[f[3]]
+                    printf "%s: begin n = %d; z = %d'"'"'b%s; end\n", label, next_state, outputs, f[4]
+                }
+                if (!whole) printf "default: begin n = %d; z = 0; end\n", c
+                print "endcase end"
+            }
+            print "default: begin n = " bits "'"'"'bx; z = " outputs "'"'"'bx; end\nendcase end\nendmodule"
+        }' "$1"
+}
+
+# latches and AND nodes of the coding that the tool makes
+coded() {
+    local machine=$1 coding=$2
+    verilog "$examples/$machine.kiss" >"$room/$machine.v"
+    yosys -q -p "read_verilog $room/$machine.v; proc; opt; fsm_detect; fsm_extract; fsm_opt; fsm_recode -encoding $coding; fsm_map; opt -full; expose -evert-dff; opt -full; techmap; opt -full; aigmap; opt_clean; write_blif $room/$machine.$coding.blif" >"$room/yosys.log" 2>&1 || { echo "failed"; return; }
+    echo "$(awk '/^\.outputs/ { for (i = 2; i <= NF; i++) if ($i ~ /\.d\[?|\.d$/) latches++ } END { printf "%d", latches }' "$room/$machine.$coding.blif") / $(nodes "$room/$machine.$coding.blif")"
+}
+
+# the network of a command, or why there is none
+network() {
+    local machine=$1 command=$2 out=$room/$1.$2.blif status=0
+    "$program" "$command" "$examples/$machine.kiss" --fill hold >"$out" 2>"$room/err" || status=$?
+    case $status in
+        0) proved_equal "$room/$machine.code.blif" "$out" && figures "$out" || echo "not shown equal" ;;
+        1) echo "none" ;;
+        *) echo "status $status" ;;
+    esac
+}
+
+echo "machine | states | code | parallel | serial | cascade | feedback | binary | one-hot"
+for machine in ${MACHINES:-traffic uart jtag detector shift3 decade elevator arbiter vending counter8 seconds}; do
+    echo "results.sh: $machine" >&2
+    states=$("$program" check "$examples/$machine.kiss" --fill hold | sed -n 's/^states //p')
+    line="$machine | $states"
+    for command in code parallel serial cascade feedback; do
+        line="$line | $(network "$machine" "$command")"
+    done
+    echo "$line | $(coded "$machine" binary) | $(coded "$machine" one-hot)"
+done
