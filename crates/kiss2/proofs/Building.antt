@@ -86,6 +86,23 @@ column_row place names lines i line inside here row =
     ap (λ rows. once_after names (names_in_column place rows)) (rows_row lines i line inside here row)
     ∙ (ap (once_after names) (names_in_column-append place (row_lines (take i lines)) (line ∷ [])) ∙ once_after-append names (names_in_column place (row_lines (take i lines))) (filter is_name (field_at place line ∷ [])))
 
+-- names to which a row's field was added are those of a column with a row more
+pub row_added : (place : ℕ) (names before after : List (List ℕ)) (lines : List Line) (i : ℕ) (line : Line) (field : List ℕ) → i < length lines → line ≡ get_or lines i line → is_of_kind Row line ≡ true
+    → before ≡ once_after names (names_in_column place (row_lines (take i lines))) → field ≡ field_at place line → after ≡ once_after before (filter is_name (field ∷ []))
+    → after ≡ once_after names (names_in_column place (row_lines (take (i + 1) lines)))
+row_added place names before after lines i line field inside here row begun is added =
+    added
+    ∙ (ap (λ f. once_after before (filter is_name (f ∷ []))) is
+    ∙ (ap (λ front. once_after front (filter is_name (field_at place line ∷ []))) begun
+    ∙ sym (column_row place names lines i line inside here row)))
+
+-- those of another line are those of the column without it
+pub other_skipped : (place : ℕ) (names before : List (List ℕ)) (lines : List Line) (i : ℕ) (line : Line) → i < length lines → line ≡ get_or lines i line → is_of_kind Row line ≡ false
+    → before ≡ once_after names (names_in_column place (row_lines (take i lines)))
+    → before ≡ once_after names (names_in_column place (row_lines (take (i + 1) lines)))
+other_skipped place names before lines i line inside here other begun =
+    begun ∙ ap (λ rows. once_after names (names_in_column place rows)) (sym (rows_other lines i line inside here other))
+
 -- the first names are no more than all
 pub column_few : (place : ℕ) (names : List (List ℕ)) (lines : List Line) (i : ℕ)
     → length (once_after names (names_in_column place (row_lines (take i lines)))) ≤ length (once_after names (names_in_column place (row_lines lines)))

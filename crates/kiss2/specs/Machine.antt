@@ -1,6 +1,6 @@
 -- The machine of a file (source: Hartmanis and Stearns, the machine of Mealy). A symbol is a list of bits, one for each
 -- input.
-use Rattle.std.specs.Prelude.{◌≡◌, ◌≢◌, ℕ, ◌<◌, ◌==◌, ◌⊎◌, Bool, true, false, ◌&&◌, Contains, IsNone, IsSome, List, [], ◌∷◌, Option, Some, None, filter, length, map, slice_get, slice_index_or}
+use Rattle.std.specs.Prelude.{◌≡◌, ◌≢◌, ℕ, ◌<◌, ◌==◌, ◌⊎◌, Bool, true, false, ◌&&◌, Contains, IsNone, IsSome, List, [], ◌∷◌, Option, Some, filter, length, map, slice_get, slice_index_or}
 use Rattle.std.specs.List.{filter_map, range_with_len}
 use Rattle.cubes.specs.Cube.{holds, Holds, Meets}
 use Rattle.cubes.specs.Field.{character}

@@ -67,7 +67,7 @@ pub fn worked_limits()
     ensures long_name { IsRefused (codes ".i 1" ∷ codes ".o 1" ∷ row_to (replicate 64 97) ∷ []) 3 BadOutput }
     ensures longer_name { IsRefused (codes ".i 1" ∷ codes ".o 1" ∷ row_to (replicate 65 97) ∷ []) 3 (OverLimit NameBytes 65) }
     ensures longer_reset { IsRefused ((codes ".r " ++ replicate 65 97) ∷ []) 1 (OverLimit NameBytes 65) }
-    ensures longer_before_shared { IsRefused (codes ".i 2" ∷ (codes ".ilb a a" ++ replicate 64 97) ∷ []) 2 (OverLimit NameBytes 65) }
+    ensures longer_before_shared { IsRefused (codes ".i 3" ∷ (codes ".ilb a a a" ++ replicate 64 97) ∷ []) 2 (OverLimit NameBytes 65) }
     ensures rows { (states : List (List ℕ)) → length states ≤ 256
         → row_fault (Some 1) (Some 1) 65535 states bad_output_line ≡ Some BadOutput }
     ensures many_rows { (states : List (List ℕ)) → row_fault (Some 1) (Some 1) 65536 states bad_cube_line ≡ Some (OverLimit Rows 65537) }

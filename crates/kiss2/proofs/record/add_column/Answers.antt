@@ -1,9 +1,5 @@
-use Rattle.std.proofs.Common.{◌≡◌, [], ◌∷◌, length, sym, ◌∙◌, ap, arith}
-use Rattle.std.specs.Prelude.{filter}
-use Rattle.kiss2.specs.Inner.Judging.{once_after}
-use Rattle.kiss2.specs.Standing.{names_in_column}
-use Rattle.kiss2.specs.Words.{field_at, is_name}
-use Rattle.kiss2.proofs.Building.{column_few, column_row, row_has, rows_other}
+use Rattle.std.proofs.Common.{◌≡◌, length, sym, ◌∙◌, ap, arith}
+use Rattle.kiss2.proofs.Building.{column_few, other_skipped, row_added, row_has}
 use Rattle.kiss2.proofs.record.add_column.Goals as goal
 use Rattle.kiss2.proofs.record.add_column.Goals.{then-is_row+in_ok-add_name, else-is_row}
 
@@ -26,12 +22,9 @@ loop-line-preserved c =
     elim c.if-is_row.branch [
       | then-is_row+in_ok-add_name w ↦
           w.names-is
-          ∙ (w.in_ok-add_name.ensures
-          ∙ (ap (λ field. once_after c.loop-line.names (filter is_name (field ∷ []))) w.field_of.ensures
-          ∙ (ap (λ front. once_after front (filter is_name (field_at place line ∷ []))) c.loop-line.invariant
-          ∙ sym (column_row place names lines i line c.loop-line-test.true c.line-item.is (sym c.is_row.ensures ∙ w.if-is_row.true)))))
+          ∙ row_added place names c.loop-line.names _ lines i line _ c.loop-line-test.true c.line-item.is (sym c.is_row.ensures ∙ w.if-is_row.true)
+          c.loop-line.invariant w.field_of.ensures w.in_ok-add_name.ensures
       | else-is_row w ↦
           w.names-is
-          ∙ (c.loop-line.invariant
-          ∙ ap (λ rows. once_after names (names_in_column place rows)) (sym (rows_other lines i line c.loop-line-test.true c.line-item.is (sym c.is_row.ensures ∙ w.if-is_row.false))))
+          ∙ other_skipped place names c.loop-line.names lines i line c.loop-line-test.true c.line-item.is (sym c.is_row.ensures ∙ w.if-is_row.false) c.loop-line.invariant
     ]
