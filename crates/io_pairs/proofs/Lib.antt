@@ -1,0 +1,13 @@
+pub mod Going
+pub mod Tying
+pub mod Marking
+pub mod Parting
+pub mod Refused
+pub mod Found
+pub mod Reached
+pub mod Generating
+pub mod Listed
+pub mod OwnWords
+pub mod Gathering
+pub mod Words
+pub mod Functions

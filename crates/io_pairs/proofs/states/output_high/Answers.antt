@@ -1,0 +1,13 @@
+use Rattle.std.proofs.Common.{length}
+use Rattle.io_pairs.specs.Inner.Families.{functions_of}
+use Rattle.io_pairs.specs.Inner.OwnGoing.{GoAtSymbols}
+use Rattle.io_pairs.specs.Outputs.{occurring}
+use Rattle.io_pairs.proofs.OwnWords.{high_answer}
+use Rattle.io_pairs.proofs.states.output_high.Goals as goal
+
+pub returns : goal.returns
+returns c =
+    let F = c.args.m.now in
+    let family = c.in_ok-family.family in
+    let made = c.in_ok-family.ensures in
+    high_answer (length F.states) (length (occurring F)) (functions_of family) (GoAtSymbols F) made.going family.members family.values made.members made.values c.greatest_partner.result c.args.q.now c.greatest_partner.ensures

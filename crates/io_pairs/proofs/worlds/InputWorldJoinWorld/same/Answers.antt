@@ -1,0 +1,12 @@
+use Rattle.std.proofs.Common.{◌^◌, ap, length}
+use Rattle.io_pairs.specs.Inputs.{InPair}
+use Rattle.io_pairs.specs.Laws.{in_pairs_grow, same_right_of}
+use Rattle.io_pairs.specs.Sides.{Sides, sides_of}
+use Rattle.io_pairs.proofs.worlds.InputWorldJoinWorld.same.Goals as goal
+
+pub returns : goal.returns
+returns c =
+    let F = c.args.self.now.machine.now in (
+      (λ equal. same_right_of (2 ^ F.inputs) (length F.states) (InPair F) (in_pairs_grow F) (sides_of c.args.a.now) (sides_of c.args.b.now) c.requires.left.high c.requires.right.high (c.equal.ensures.0 equal)),
+      (λ same. c.equal.ensures.1 (ap (λ (x : Sides). x.1) same)),
+    )

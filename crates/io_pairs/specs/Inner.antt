@@ -1,0 +1,7 @@
+-- Definitions that only private functions and proofs need.
+pub mod Families
+pub mod Marks
+pub mod Collected
+pub mod Words
+pub mod Lists
+pub mod OwnGoing

@@ -1,0 +1,6 @@
+pub mod Sides
+pub mod Partners
+pub mod Inputs
+pub mod Outputs
+pub mod Laws
+pub mod Inner

@@ -1,0 +1,74 @@
+//! The greatest partition of members that a partition of values makes a pair with.
+//!
+//! Members are in one class at first. Function after function, classes are split by the labels of the values, and
+//! numbered anew by first appearance.
+
+ghost use Rattle.std.specs.Prelude.{◌≡◌, ◌<◌, ◌+◌, ◌*◌, ℕ, IfOk, length, slice_index};
+ghost use Rattle.io_pairs.specs.Inner.Families.{IsFamily, IsParted, functions_of};
+ghost use Rattle.partition.specs.Partition.{IsPartition};
+
+use crate::family::Family;
+use crate::marks::{Mark, numbered};
+use partition::{PartFail, Partition};
+use std::alloc::{AllocError, Global};
+
+/// For each member a number for its class and the label of its value.
+fn splits(
+    alloc: Global,
+    classes: &[u16],
+    function: &[u16],
+    q: &Partition,
+) -> Result<Vec<u16>, AllocError>
+    requires classes { IsPartition (length classes.now) classes.now }
+    requires function { length function.now ≡ length classes.now }
+    requires values { (x : ℕ) → x < length classes.now → slice_index function.now x < length q.now }
+    ensures count { IfOk result (λ v. length v.items ≡ length classes.now) }
+    ensures numbers { IfOk result (λ v. (x : ℕ) → x < length classes.now
+        → slice_index v.items x ≡ slice_index classes.now x * length q.now + slice_index q.now (slice_index function.now x)) }
+{
+    let labels = q.len();
+    let mut numbers = Vec::with_capacity(alloc, classes.len())?;
+    for (x, class) in classes.iter().enumerate() {
+        let label = q.label(usize::from(function[x]));
+        let number = usize::from(*class) * labels + usize::from(label);
+        numbers.push(number as u16)?;
+    }
+    Ok(numbers)
+}
+
+/// The partition with these labels.
+fn partition_of(alloc: Global, labels: &[u16]) -> Result<Partition, AllocError>
+    requires { IsPartition (length labels.now) labels.now }
+    ensures { IfOk result (λ p. p ≡ labels.now) }
+{
+    match Partition::from_labels(alloc, labels) {
+        Ok(p) => Ok(p),
+        Err(PartFail::NoMemory) => Err(AllocError),
+        Err(PartFail::Empty) => unreachable!(),
+        Err(PartFail::NotCanonical { .. }) => unreachable!(),
+        Err(PartFail::BadText { .. }) => unreachable!(),
+        Err(PartFail::WrongLength { .. }) => unreachable!(),
+    }
+}
+
+/// The greatest partition of the members that makes a pair with q: two are together exactly where they go together.
+pub(crate) fn greatest_partner(
+    alloc: Global,
+    family: &Family,
+    q: &Partition,
+) -> Result<Partition, AllocError>
+    requires family { IsFamily family.now }
+    requires values { length q.now ≡ family.now.values }
+    ensures { IfOk result (IsParted family.now.members (functions_of family.now) q.now) }
+{
+    let none = Mark { turn: 0, class: 0 };
+    let mut table = vec![in alloc; none; family.members * q.len()]?;
+    let marks = table.as_mut_slice();
+    let mut classes = vec![in alloc; 0; family.members]?;
+    for k in 0..family.functions.len() {
+        let function = family.functions[k].as_slice();
+        let numbers = splits(alloc, classes.as_slice(), function, q)?;
+        classes = numbered(alloc, marks, k as u16 + 1, numbers.as_slice())?;
+    }
+    partition_of(alloc, classes.as_slice())
+}
