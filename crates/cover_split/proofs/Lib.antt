@@ -1,0 +1,12 @@
+pub mod Reading
+pub mod ReadingBlocks
+pub mod Within
+pub mod Holding
+pub mod PairLemmas
+pub mod Outcomes
+pub mod PartLemmas
+pub mod PartSizes
+pub mod JointLemmas
+pub mod RowLemmas
+pub mod NameLemmas
+pub mod Expanded

@@ -1,0 +1,32 @@
+-- The text of one block.
+use Rattle.std.specs.Prelude.{◌≡◌, ℕ, ◌<◌, ◌==◌, List, length, map}
+use Rattle.std.specs.List.{slice_split}
+use Rattle.std.specs.Fmt.{decimal}
+use Rattle.cover_split.specs.Cover.{IsBlock}
+use Rattle.cover_split.specs.Refusal.{IsStatePiece}
+use Rattle.cover_split.specs.declared.cover.CoverFail.{CoverFail}
+use Rattle.cover_split.specs.declared.cover.CoverFail.TheVariants.{BadText, Contained, Missing, TooMany, Trivial, NoMemory}
+
+-- what is between the commas
+abbrev pub pieces_in : List ℕ → List (List ℕ)
+pieces_in text = slice_split (λ byte. byte == 44) text
+
+-- it has the numbers of these states
+pub record IsBlockText (n : ℕ) (text block : List ℕ) : Type 0 where
+  pub lawful : IsBlock n block
+  pub spelled : pieces_in text ≡ map decimal block
+
+-- the first piece that is not the number of a state, greater than the one before it
+pub record IsFirstBadPiece (n : ℕ) (pieces : List (List ℕ)) (place : ℕ) : Type 0 where
+  pub within : place < length pieces
+  pub bad : IsStatePiece n pieces place → ⊥
+  pub before : (earlier : ℕ) → earlier < place → IsStatePiece n pieces earlier
+
+-- why it is not that of the block of that number, or memory was wanting
+abbrev pub IsBlockFault : ℕ → List ℕ → ℕ → CoverFail → Type 0
+IsBlockFault n text number (BadText block place) = (block ≡ number) × IsFirstBadPiece n (pieces_in text) place
+IsBlockFault n text number (Contained a b) = ⊥
+IsBlockFault n text number (Missing s) = ⊥
+IsBlockFault n text number (TooMany found) = ⊥
+IsBlockFault n text number Trivial = ⊥
+IsBlockFault n text number NoMemory = Unit {0}

@@ -1,0 +1,6 @@
+pub mod Text
+pub mod Cover
+pub mod Refusal
+pub mod Expansion
+pub mod Parts
+pub mod Inner
