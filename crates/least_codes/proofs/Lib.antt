@@ -1,0 +1,13 @@
+pub mod Pairs
+pub mod Telling
+pub mod Ascending
+pub mod Choosing
+pub mod LeastSets
+pub mod Rows
+pub mod Costs
+pub mod Trying
+pub mod Turning
+pub mod Halves
+pub mod Least
+pub mod Refused
+pub mod BitParts

@@ -1,0 +1,7 @@
+-- Definitions that only private functions and proofs need.
+pub mod Apart
+pub mod Choice
+pub mod Table
+pub mod Costs
+pub mod Lists
+pub mod Parts

@@ -1,0 +1,70 @@
+-- Codes that are tried one after another, in the order of their texts.
+use Rattle.std.specs.Prelude.{◌≡◌, ◌⊎◌, ℕ, ◌^◌, ◌<◌, ◌≤◌, ⊤, List, Option, Some, None, length, slice_index}
+use Rattle.std.specs.Int.{bit_at}
+use Rattle.kiss2.specs.declared.kiss_file.KissFile.{KissFile}
+use Rattle.least_codes.specs.declared.code.Best.{Best}
+use Rattle.least_codes.specs.Cost.{IsCost}
+use Rattle.least_codes.specs.Inner.Table.{IsTable}
+use Rattle.least_codes.specs.LeastCode.{AreCodes, TextsBefore}
+use Rattle.least_codes.specs.declared.table.Images.{Images}
+
+-- a state before s has the same code
+abbrev pub IsUsed : List ℕ → ℕ → Type 0
+IsUsed words s = (u : ℕ) × (u < s) × (slice_index words u ≡ slice_index words s)
+
+-- codes of the states before s, all different, the first i bits of that of s, and no other bits
+pub record IsDraft (bits : ℕ) (words : List ℕ) (s i : ℕ) : Type 0 where
+  pub state : s ≤ length words
+  pub bit : i ≤ bits
+  pub short : (u : ℕ) → u < s → slice_index words u < 2 ^ bits
+  pub distinct : (u v : ℕ) → u < s → v < s → slice_index words u ≡ slice_index words v → u ≡ v
+  pub begun : (c : ℕ) → i ≤ c → bit_at (slice_index words s) c ≡ 0
+  pub later : (u : ℕ) → s < u → slice_index words u ≡ 0
+
+-- these codes have a 0 at a place before bit i of s, where the words have a 1, and before it they are the same
+pub record AreBefore (words : List ℕ) (s i : ℕ) (others : List ℕ) : Type 0 where
+  pub order : TextsBefore others words
+  pub early : (order.state < s) ⊎ ((order.state ≡ s) × (order.bit < i))
+
+-- these codes are the same up to bit i of s
+pub record BeginSame (words : List ℕ) (s i : ℕ) (others : List ℕ) : Type 0 where
+  pub states : (u : ℕ) → u < s → slice_index others u ≡ slice_index words u
+  pub bits : (c : ℕ) → c < i → bit_at (slice_index others s) c ≡ bit_at (slice_index words s) c
+
+abbrev pub AreSeen : List ℕ → (s i : ℕ) → List ℕ → Type 0
+AreSeen words s i others = AreBefore words s i others ⊎ BeginSame words s i others
+
+-- of the codes that were seen these cost least, and of those that cost as much they have the first texts
+pub record IsBest (F : KissFile) (bits : ℕ) (Seen : List ℕ → Type 0) (best : Best) : Type 0 where
+  pub codes : AreCodes (length F.states) bits best.words.items
+  pub seen : Seen best.words.items
+  pub cost : IsCost F best.words.items bits best.cost
+  pub least : (others : List ℕ) (other : ℕ) → AreCodes (length F.states) bits others → Seen others → IsCost F others bits other → best.cost ≤ other
+  pub first : (others : List ℕ) → AreCodes (length F.states) bits others → Seen others → IsCost F others bits best.cost → (others ≡ best.words.items) ⊎ TextsBefore best.words.items others
+
+-- the best of those that were seen, if any were
+abbrev pub IsKept : KissFile → ℕ → (List ℕ → Type 0) → Option Best → Type 0
+IsKept F bits Seen None = (others : List ℕ) → AreCodes (length F.states) bits others → Seen others → ⊥
+IsKept F bits Seen (Some best) = IsBest F bits Seen best
+
+-- the cost is below that of the best, if there is one
+abbrev pub IsLessThan : ℕ → Option Best → Type 0
+IsLessThan cost None = ⊤
+IsLessThan cost (Some best) = cost < best.cost
+
+-- codes that cost less take the place of the best
+pub record Takes (words : List ℕ) (cost : ℕ) (old new : Option Best) : Type 0 where
+  pub less : IsLessThan cost old
+  pub best : Best
+  pub is : new ≡ Some best
+  pub words_are : best.words.items ≡ words
+  pub cost_is : best.cost ≡ cost
+
+-- or the best stays
+pub record Stays (cost : ℕ) (old new : Option Best) : Type 0 where
+  pub not_less : IsLessThan cost old → ⊥
+  pub same : new ≡ old
+
+abbrev pub IsJudged : List Images → ℕ → List ℕ → Option Best → Option Best → Type 0
+IsJudged table bits words old new =
+    (cost : ℕ) × ((F : KissFile) → IsTable F table → length F.states ≡ length words → IsCost F words bits cost) × (Takes words cost old new ⊎ Stays cost old new)

@@ -1,0 +1,31 @@
+-- The code of as few bits as the states need whose latches read the fewest (source: this project).
+use Rattle.std.specs.Prelude.{◌≡◌, ◌⊎◌, ℕ, ◌<◌, ◌≤◌, ◌^◌, List, length, slice_index}
+use Rattle.std.specs.Int.{bit_at}
+use Rattle.kiss2.specs.declared.kiss_file.KissFile.{KissFile}
+use Rattle.state_codes.specs.Agreement.{AreDistinct}
+use Rattle.state_codes.specs.Code.{need}
+use Rattle.least_codes.specs.Cost.{IsCost}
+
+-- codes of n states of so many bits, different for different states
+pub record AreCodes (n bits : ℕ) (words : List ℕ) : Type 0 where
+  pub count : length words ≡ n
+  pub short : (s : ℕ) → s < n → slice_index words s < 2 ^ bits
+  pub distinct : AreDistinct n words
+
+-- The texts of the codes, in the order of the states and bit 0 of each first, have a 0 at the first place where they
+-- differ from those of the others, which have a 1 there.
+pub record TextsBefore (words others : List ℕ) : Type 0 where
+  pub state : ℕ
+  pub bit : ℕ
+  pub states_before : (s : ℕ) → s < state → slice_index words s ≡ slice_index others s
+  pub bits_before : (i : ℕ) → i < bit → bit_at (slice_index words state) i ≡ bit_at (slice_index others state) i
+  pub zero : bit_at (slice_index words state) bit ≡ 0
+  pub one : bit_at (slice_index others state) bit ≡ 1
+
+-- no codes of so few bits cost less, and of those that cost as much these have the first texts
+pub record IsLeastCode (F : KissFile) (words : List ℕ) : Type 0 where
+  pub codes : AreCodes (length F.states) (need (length F.states)) words
+  pub cost : ℕ
+  pub costs : IsCost F words (need (length F.states)) cost
+  pub least : (others : List ℕ) (other : ℕ) → AreCodes (length F.states) (need (length F.states)) others → IsCost F others (need (length F.states)) other → cost ≤ other
+  pub first : (others : List ℕ) → AreCodes (length F.states) (need (length F.states)) others → IsCost F others (need (length F.states)) cost → (others ≡ words) ⊎ TextsBefore words others

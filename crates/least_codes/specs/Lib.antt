@@ -1,0 +1,6 @@
+pub mod Bits
+pub mod LeastReads
+pub mod Cost
+pub mod LeastCode
+pub mod Kind
+pub mod Inner

@@ -1,0 +1,66 @@
+//! How many bits the latches of a code read at least.
+
+ghost use Rattle.std.specs.Prelude.{◌≡◌, ◌↔◌, ◌<◌, ◌≤◌, ℕ, All, IfOk, length};
+ghost use Rattle.kiss2.specs.declared.kiss_file.KissFile.{KissFile};
+ghost use Rattle.dependence.specs.Permits.{InWord};
+ghost use Rattle.least_codes.specs.Cost.{IsCost, IsLatchCost};
+ghost use Rattle.least_codes.specs.Inner.Table.{IsInside, IsTable};
+ghost use Rattle.least_codes.specs.LeastCode.{AreCodes};
+
+use crate::choice::{Question, least_choice};
+use crate::table::{Images, apart_at};
+use std::alloc::{AllocError, Global};
+
+/// The bits below a number.
+fn bits_below(bits: u32) -> u64
+    requires { bits ≤ 3 }
+    ensures { (c : ℕ) → InWord result c ↔ (c < bits) }
+{
+    (1 << bits) - 1
+}
+
+/// How many bits the gate of a latch reads at least.
+fn latch_cost(
+    alloc: Global,
+    table: &[Images],
+    words: &[u64],
+    bits: u32,
+    i: u32,
+) -> Result<u32, AllocError>
+    requires bits { bits ≤ 3 }
+    requires latch { i < bits }
+    requires inside { All (IsInside (length words.now)) table.now }
+    requires codes { AreCodes (length words.now) bits words.now }
+    ensures cost { IfOk result (λ cost. (F : KissFile) → IsTable F table.now → length F.states ≡ length words.now
+        → IsLatchCost F words.now bits i cost) }
+    ensures few { IfOk result (λ cost. cost ≤ 3) }
+{
+    let apart = apart_at(alloc, table, words, i)?;
+    let question = Question {
+        words,
+        apart: apart.as_slice(),
+        candidates: bits_below(bits),
+        bits,
+    };
+    Ok(least_choice(&question).size)
+}
+
+/// The sum of what the gates of the latches read at least.
+pub(crate) fn code_cost(
+    alloc: Global,
+    table: &[Images],
+    words: &[u64],
+    bits: u32,
+) -> Result<u32, AllocError>
+    requires bits { bits ≤ 3 }
+    requires inside { All (IsInside (length words.now)) table.now }
+    requires codes { AreCodes (length words.now) bits words.now }
+    ensures { IfOk result (λ cost. (F : KissFile) → IsTable F table.now → length F.states ≡ length words.now
+        → IsCost F words.now bits cost) }
+{
+    let mut cost = 0;
+    for i in 0..bits {
+        cost += latch_cost(alloc, table, words, bits, i)?;
+    }
+    Ok(cost)
+}
