@@ -2,3 +2,8 @@ pub mod Meeting
 pub mod Telling
 pub mod RisingMembers
 pub mod LastMember
+pub mod LongerWords
+pub mod Blocks
+pub mod ContentLists
+pub mod StartContent
+pub mod Shifting

@@ -1,0 +1,51 @@
+//! What the register of a definite machine starts at.
+
+ghost use Rattle.std.specs.Prelude.{◌≡◌, ℕ, ◌*◌, ◌≤◌, IfErr, IfOk};
+ghost use Rattle.shift_real.specs.Definite.{IsOrder};
+ghost use Rattle.shift_real.specs.Register.{HasShortOrder};
+ghost use Rattle.shift_real.specs.Start.{IsRegisterCause, WritesStart};
+
+use crate::contents::{contents, first_reaching};
+use crate::orders::{OrderFail, order};
+use machine_table::Machine;
+use std::alloc::{AllocError, Global};
+
+/// Why there is no register of a definite machine.
+#[derive(Debug, Drop, PartialEq)]
+pub enum RegisterFail {
+    /// No word of as many symbols as the order leads to the reset state.
+    NotReached,
+    /// There is no memory left.
+    NoMemory,
+}
+
+impl From<AllocError> for RegisterFail {
+    ghost use Rattle.std.specs.Prelude.{◌≡◌};
+    ghost use Rattle.shift_real.specs.declared.starts.RegisterFail.TheVariants.{NoMemory};
+
+    ghost from_gives = { λ _ fail. fail ≡ NoMemory };
+
+    fn from(_: AllocError) -> Self {
+        RegisterFail::NoMemory
+    }
+}
+
+/// The values of the latches before the first symbol, latch i at 2^i. Latch j times the inputs plus i holds bit i
+/// of the symbol that came j + 1 steps ago. The content is the least one, read as a binary number with the oldest
+/// symbol first, after which the machine is in its reset state.
+pub fn start(alloc: Global, m: &Machine) -> Result<u64, RegisterFail>
+    requires { (k : ℕ) × HasShortOrder m.now k }
+    ensures start { IfOk result (λ number. (k : ℕ) → IsOrder m.now k → WritesStart m.now k number) }
+    ensures refused { IfErr result (IsRegisterCause m.now) }
+{
+    let k = match order(alloc, m) {
+        Ok(k) => k,
+        Err(OrderFail::NoMemory) => return Err(RegisterFail::NoMemory),
+        Err(OrderFail::NotDefinite { s: _, t: _ }) => unreachable!(),
+    };
+    let contents = contents(alloc, m, k)?;
+    match first_reaching(&contents, m.reset()) {
+        Some(first) => Ok(contents[first].latches),
+        None => Err(RegisterFail::NotReached),
+    }
+}
