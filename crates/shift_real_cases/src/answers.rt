@@ -2,7 +2,7 @@
 
 use anyhow::bail;
 use machine_table::Machine;
-use shift_real::{OrderFail, chain, order};
+use shift_real::{OrderFail, RegisterFail, chain, order, start};
 use std::alloc::Global;
 
 /// The answer of a call for a machine.
@@ -10,6 +10,7 @@ pub fn answer(alloc: Global, call: &str, m: &Machine) -> anyhow::Result<String> 
     match call {
         "chain" => chain_text(alloc, m),
         "order" => order_text(alloc, m),
+        "start" => start_text(alloc, m),
         _ => bail!("no such call"),
     }
 }
@@ -36,5 +37,25 @@ fn order_text(alloc: Global, m: &Machine) -> anyhow::Result<String> {
         Ok(order) => Ok(format!(in alloc; "{order}")?),
         Err(OrderFail::NotDefinite { s, t }) => Ok(format!(in alloc; "apart {s} {t}")?),
         Err(OrderFail::NoMemory) => bail!("no memory"),
+    }
+}
+
+/// What the latches of the register start at, as a number, or that the reset state is not reached.
+fn start_text(alloc: Global, m: &Machine) -> anyhow::Result<String> {
+    let k = match order(alloc, m) {
+        Ok(k) => k,
+        Err(_) => bail!("the machine is not definite"),
+    };
+    let inputs = usize::from(m.inputs());
+    if k > 12 {
+        bail!("the order is above 12");
+    }
+    if k * inputs > 12 {
+        bail!("the register is too long");
+    }
+    match start(alloc, m) {
+        Ok(number) => Ok(format!(in alloc; "{number}")?),
+        Err(RegisterFail::NotReached) => Ok(String::from_str(alloc, "not reached")?),
+        Err(RegisterFail::NoMemory) => bail!("no memory"),
     }
 }
