@@ -86,6 +86,10 @@ code_bits_line bits = as_line (codes "hsdec: code has " ++ decimal bits ++ codes
 abbrev pub no_split_line : List ℕ → List ℕ
 no_split_line kind = as_line (codes "hsdec: no " ++ kind ++ codes " decomposition")
 
+-- the line of a machine that is not definite, with the names of two states that words of every length keep apart
+abbrev pub not_definite_line : List ℕ → List ℕ → List ℕ
+not_definite_line state other = as_line (codes "hsdec: not definite, states " ++ state ++ codes " and " ++ other)
+
 -- the line of a text that could not be put whole
 abbrev pub cannot_write_line : List ℕ
 cannot_write_line = as_line (codes "hsdec: cannot write")

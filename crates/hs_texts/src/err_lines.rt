@@ -4,7 +4,7 @@ ghost use Rattle.std.specs.Prelude.{◌≡◌, ◌++◌, IfOk, OnOk, codes};
 ghost use Rattle.std.specs.Fmt.{decimal};
 ghost use Rattle.std.specs.List.{flat_map};
 ghost use Rattle.hs_io.specs.Spelling.{spaced};
-ghost use Rattle.hs_texts.specs.ErrLines.{as_line, usage_line, cannot_read_line, too_long_line, kiss_line, net_line, two_drivers_line, undriven_line, cycle_line, bad_start_line, start_unknown_line, symbol_line, conflict_line, more_line, unspecified_line, part_length_line, part_place_line, not_apart_line, code_bits_line, no_split_line};
+ghost use Rattle.hs_texts.specs.ErrLines.{as_line, usage_line, cannot_read_line, too_long_line, kiss_line, net_line, two_drivers_line, undriven_line, cycle_line, bad_start_line, start_unknown_line, symbol_line, conflict_line, more_line, unspecified_line, part_length_line, part_place_line, not_apart_line, code_bits_line, no_split_line, not_definite_line};
 
 use hs_io::Name;
 use std::alloc::{AllocError, Global};
@@ -191,6 +191,18 @@ pub fn no_split(alloc: Global, kind: &[u8]) -> Result<Vec<u8>, AllocError>
     let mut line = Vec::from_slice(alloc, b"hsdec: no ")?;
     line.extend_from_slice(kind)?;
     line.extend_from_slice(b" decomposition\n")?;
+    Ok(line)
+}
+
+/// The line of a machine that is not definite, by the names of two states that words of every length keep apart.
+pub fn not_definite(alloc: Global, state: &[u8], other: &[u8]) -> Result<Vec<u8>, AllocError>
+    ensures { IfOk result (λ line. line.items ≡ not_definite_line state.now other.now) }
+{
+    let mut line = Vec::from_slice(alloc, b"hsdec: not definite, states ")?;
+    line.extend_from_slice(state)?;
+    line.extend_from_slice(b" and ")?;
+    line.extend_from_slice(other)?;
+    line.push(b'\n')?;
     Ok(line)
 }
 

@@ -40,6 +40,7 @@ built =
     ∷ row commands.Sim (Net ∷ Symbols ∷ []) (Start ∷ [])
     ∷ row commands.Gen (Seed ∷ A ∷ B ∷ K ∷ []) []
     ∷ row commands.Trial (Seed ∷ A ∷ B ∷ K ∷ []) []
+    ∷ row commands.Definite (File ∷ []) (Reduce ∷ Fill ∷ [])
     ∷ []
 
 -- the commands of rows

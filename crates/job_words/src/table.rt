@@ -60,7 +60,7 @@ const NUMBERS: &[OperandKind] = &[
 ];
 
 /// The commands that are built.
-const BUILT: [Form; 17] = [
+const BUILT: [Form; 18] = [
     Form {
         command: Command::Check,
         operands: &[OperandKind::File],
@@ -145,6 +145,11 @@ const BUILT: [Form; 17] = [
         command: Command::Trial,
         operands: NUMBERS,
         options: &[],
+    },
+    Form {
+        command: Command::Definite,
+        operands: &[OperandKind::File],
+        options: &[CommandOption::Reduce, CommandOption::Fill],
     },
 ];
 
