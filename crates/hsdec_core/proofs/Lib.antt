@@ -3,6 +3,7 @@ pub mod Bits
 pub mod Built
 pub mod Codes
 pub mod Decomposing
+pub mod Defining
 pub mod Flows
 pub mod Granting
 pub mod KissLaws

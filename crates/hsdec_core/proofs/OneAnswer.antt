@@ -27,9 +27,10 @@ use Rattle.partition.proofs.Faults.{no_fault_of_partition}
 use Rattle.state_codes.specs.declared.split.Kind.{Kind}
 use Rattle.state_codes.specs.declared.split.Kind.TheVariants.{Parallel}
 use Rattle.hsdec_core.specs.declared.answers.Answer.{Answer}
-use Rattle.hsdec_core.specs.declared.answers.Answer.TheVariants.{Done, KissRefused, Conflict, Unspecified, More, PartRefused, CodeTooLong, NetRefused, SymbolRefused, TooLong}
+use Rattle.hsdec_core.specs.declared.answers.Answer.TheVariants.{Done, KissRefused, Conflict, Unspecified, More, PartRefused, CodeTooLong, NetRefused, SymbolRefused, TooLong, NotDefinite}
 use Rattle.hsdec_core.specs.Calls.{AwaitsFor, CallsFor, CallsForBySource, FirstCallsFor, SymbolsCallFor}
-use Rattle.hsdec_core.specs.Cause.{CallsForBy, CanServe, CommandCallsFor, FileCallsFor, HasFew, HasMore, IsNoMachine, IsNoPartText, IsOpen, IsPartText, ListsMore, MachineCallsFor, RefusesPart, ReportCallsFor, SaysMachine, WorkCallsFor}
+use Rattle.hsdec_core.specs.Cause.{CallsForBy, CanServe, CommandCallsFor, FileCallsFor, HasFew, HasMore, IsNoMachine, IsNoPartText, IsOpen, IsPartText, LacksOrder, ListsMore, MachineCallsFor, RefusesPart, ReportCallsFor, SaysMachine, WorkCallsFor}
+use Rattle.hsdec_core.specs.DefiniteText.{IsDefinite}
 use Rattle.hsdec_core.specs.Fill.{fill_of}
 use Rattle.hsdec_core.specs.Generated.{GenCallsFor, NumbersCallFor, OfGenerated, TrialCallsFor}
 use Rattle.hsdec_core.specs.Inner.RightFor.{IsCalledFor}
@@ -76,26 +77,64 @@ served_or_more commands.Output job F h k =
 served_or_more commands.Pairs job F h k = few_or_more (IsMmPair F) RightBefore (IsMmPair F) job.limit (rights_order F) (λ x pair. pair) h k
 served_or_more _ job F h k = absurd k
 
-refused_or_more : (c : Command) (job : Job) (F : KissFile) → RefusesPart c job F → ListsMore c job F → ⊥
-refused_or_more commands.Closed job F h k = h
-refused_or_more commands.Output job F h k = h
-refused_or_more commands.Pairs job F h k = h
-refused_or_more _ job F h k = absurd k
+definite_or_not : (c : Command) (job : Job) (F : KissFile) → CanServe c job F → LacksOrder c job F → ⊥
+definite_or_not commands.Definite job F (W, work, definite) (V, other, none) =
+    none (subst IsDefinite (one_work job F W V work other) definite)
+definite_or_not _ job F h k = absurd k
+
+-- a command that can do its work has no other answer
+served_alone : (c : Command) (job : Job) (F : KissFile) (a : Answer) → CanServe c job F → ReportCallsFor a c job F → a ≡ Done
+served_alone c job F Done h k = refl
+served_alone c job F PartRefused h k = absurd (served_or_refused c job F h k)
+served_alone c job F More h k = absurd (served_or_more c job F h k)
+served_alone c job F NotDefinite h k = absurd (definite_or_not c job F h k)
+served_alone c job F _ h k = absurd k
+
+-- and each command has at most one refusal of its own
+abbrev refusal_of : Command → Answer
+refusal_of commands.Low = PartRefused
+refusal_of commands.High = PartRefused
+refusal_of commands.Closed = More
+refusal_of commands.Output = More
+refusal_of commands.Pairs = More
+refusal_of commands.Definite = NotDefinite
+refusal_of _ = Done
+
+of_part : (c : Command) (job : Job) (F : KissFile) → RefusesPart c job F → PartRefused ≡ refusal_of c
+of_part commands.Low job F h = refl
+of_part commands.High job F h = refl
+of_part _ job F h = absurd h
+
+of_more : (c : Command) (job : Job) (F : KissFile) → ListsMore c job F → More ≡ refusal_of c
+of_more commands.Closed job F h = refl
+of_more commands.Output job F h = refl
+of_more commands.Pairs job F h = refl
+of_more _ job F h = absurd h
+
+of_order : (c : Command) (job : Job) (F : KissFile) → LacksOrder c job F → NotDefinite ≡ refusal_of c
+of_order commands.Definite job F h = refl
+of_order _ job F h = absurd h
+
+done_or_refused : (c : Command) (job : Job) (F : KissFile) (a : Answer) → ReportCallsFor a c job F → (a ≡ Done) ⊎ (a ≡ refusal_of c)
+done_or_refused c job F Done h = inl refl
+done_or_refused c job F PartRefused h = inr (of_part c job F h)
+done_or_refused c job F More h = inr (of_more c job F h)
+done_or_refused c job F NotDefinite h = inr (of_order c job F h)
+done_or_refused c job F _ h = absurd h
 
 report_calls_for_one : (c : Command) (job : Job) (F : KissFile) (a b : Answer) → ReportCallsFor a c job F → ReportCallsFor b c job F → a ≡ b
-report_calls_for_one c job F Done Done h k = refl
-report_calls_for_one c job F PartRefused PartRefused h k = refl
-report_calls_for_one c job F Done PartRefused h k = absurd (served_or_refused c job F h k)
-report_calls_for_one c job F PartRefused Done h k = absurd (served_or_refused c job F k h)
-report_calls_for_one c job F More More h k = refl
-report_calls_for_one c job F Done More h k = absurd (served_or_more c job F h k)
-report_calls_for_one c job F More Done h k = absurd (served_or_more c job F k h)
-report_calls_for_one c job F PartRefused More h k = absurd (refused_or_more c job F h k)
-report_calls_for_one c job F More PartRefused h k = absurd (refused_or_more c job F k h)
-report_calls_for_one c job F Done _ h k = absurd k
-report_calls_for_one c job F PartRefused _ h k = absurd k
-report_calls_for_one c job F More _ h k = absurd k
-report_calls_for_one c job F _ b h k = absurd h
+report_calls_for_one c job F a b h k =
+    elim (done_or_refused c job F a h) [
+      | inl e ↦
+          let served : CanServe c job F = subst (λ (x : Answer). ReportCallsFor x c job F) e h in
+          e ∙ sym (served_alone c job F b served k)
+      | inr e ↦ elim (done_or_refused c job F b k) [
+        | inl g ↦
+            let served : CanServe c job F = subst (λ (x : Answer). ReportCallsFor x c job F) g k in
+            served_alone c job F a served h ∙ sym g
+        | inr g ↦ e ∙ sym g
+      ]
+    ]
 
 -- a command that writes a decomposition works on one machine
 calls_by_for_one : (o : Option Kind) (c : Command) (job : Job) (F : KissFile) (a b : Answer) → CallsForBy o a c job F → CallsForBy o b c job F → a ≡ b
@@ -247,6 +286,7 @@ walk_reports_none : HasNoReport commands.Walk
 walk_reports_none Done job F h = h
 walk_reports_none PartRefused job F h = h
 walk_reports_none More job F h = h
+walk_reports_none NotDefinite job F h = h
 walk_reports_none _ job F h = absurd h
 
 -- where symbols are awaited, nothing before calls for an answer

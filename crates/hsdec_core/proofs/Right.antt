@@ -12,7 +12,7 @@ use Rattle.kiss2.specs.Lawful.{IsLawful}
 use Rattle.kiss2.specs.Machine.{Accepted}
 use Rattle.state_codes.specs.declared.split.Kind.{Kind}
 use Rattle.hsdec_core.specs.declared.answers.Answer.{Answer}
-use Rattle.hsdec_core.specs.declared.answers.Answer.TheVariants.{Done, NoSplit, Usage, KissRefused, More, PartRefused, CodeTooLong, ReadFault, TooLong, WriteFault}
+use Rattle.hsdec_core.specs.declared.answers.Answer.TheVariants.{Done, NoSplit, Usage, KissRefused, More, PartRefused, CodeTooLong, ReadFault, TooLong, WriteFault, NotDefinite}
 use Rattle.hsdec_core.specs.declared.outcomes.Outcome.{Outcome}
 use Rattle.hsdec_core.specs.Cause.{CallsForBy, CanServe, CommandCallsFor, FileCallsFor, ListsMore, MachineCallsFor, RefusesPart, ReportCallsFor, WorkCallsFor}
 use Rattle.hsdec_core.specs.Fill.{fill_of}
@@ -85,12 +85,14 @@ IsForeign NoSplit = ⊥
 IsForeign PartRefused = ⊥
 IsForeign CodeTooLong = ⊥
 IsForeign More = ⊥
+IsForeign NotDefinite = ⊥
 IsForeign _ = ⊤
 
 no_report : (answer : Answer) (c : Command) (job : Job) (F : KissFile) → IsForeign answer → ReportCallsFor answer c job F → ⊥
 no_report Done c job F foreign calls = foreign
 no_report PartRefused c job F foreign calls = foreign
 no_report More c job F foreign calls = foreign
+no_report NotDefinite c job F foreign calls = foreign
 no_report _ c job F foreign calls = absurd calls
 
 no_work : (answer : Answer) (kind : Kind) (job : Job) (W : KissFile) → IsForeign answer → WorkCallsFor answer kind job W → ⊥
@@ -110,6 +112,7 @@ no_file_call answer job F foreign calls = no_call (kind_of job.command) answer j
 no_report_line : (answer : Answer) (job : Job) (F : KissFile) (line : List ℕ) → IsForeign answer → IsReportLine job F answer line → ⊥
 no_report_line PartRefused job F line foreign is = foreign
 no_report_line More job F line foreign is = foreign
+no_report_line NotDefinite job F line foreign is = foreign
 no_report_line _ job F line foreign is = absurd is
 
 no_work_line : (answer : Answer) (kind : Kind) (job : Job) (W : KissFile) (line : List ℕ) → IsForeign answer → IsWorkLine kind job W answer line → ⊥

@@ -19,7 +19,8 @@ use Rattle.state_codes.specs.declared.split.Kind.TheVariants.{Assign}
 use Rattle.state_codes.specs.declared.split.Part.{Part}
 use Rattle.state_codes.specs.Fault.{FirstTogether}
 use Rattle.hsdec_core.specs.declared.answers.Answer.{Answer}
-use Rattle.hsdec_core.specs.declared.answers.Answer.TheVariants.{Done, NoSplit, KissRefused, Conflict, Unspecified, More, PartRefused, CodeTooLong, TooLong}
+use Rattle.hsdec_core.specs.declared.answers.Answer.TheVariants.{Done, NoSplit, KissRefused, Conflict, Unspecified, More, PartRefused, CodeTooLong, TooLong, NotDefinite}
+use Rattle.hsdec_core.specs.DefiniteText.{IsDefinite}
 use Rattle.hsdec_core.specs.Fill.{fill_of}
 use Rattle.hsdec_core.specs.Loading.{IsTooLong, IsShortText}
 use Rattle.hsdec_core.specs.PartTexts.{IsFirstBadPart, IsTextOfPartition}
@@ -52,6 +53,7 @@ CanServe commands.High job F = (p : List ℕ) × IsPartText F job.second p
 CanServe commands.Closed job F = HasFew Before (IsClosedPartition F) job.limit
 CanServe commands.Output job F = HasFew Before (IsClosedAndConsistent F) job.limit
 CanServe commands.Pairs job F = HasFew RightBefore (IsMmPair F) job.limit
+CanServe commands.Definite job F = OnWork job F IsDefinite
 CanServe _ job F = ⊥
 
 -- it is handed a text that is no partition of the machine's states
@@ -67,11 +69,17 @@ ListsMore commands.Output job F = HasMore Before (IsClosedAndConsistent F) job.l
 ListsMore commands.Pairs job F = HasMore RightBefore (IsMmPair F) job.limit
 ListsMore _ job F = ⊥
 
+-- it asks for a definite machine, and the one that it works on is not
+abbrev pub LacksOrder : Command → Job → KissFile → Type 0
+LacksOrder commands.Definite job F = OnWork job F (λ W. IsDefinite W → ⊥)
+LacksOrder _ job F = ⊥
+
 -- the machine calls for an answer
 abbrev pub ReportCallsFor : Answer → Command → Job → KissFile → Type 0
 ReportCallsFor Done command job F = CanServe command job F
 ReportCallsFor PartRefused command job F = RefusesPart command job F
 ReportCallsFor More command job F = ListsMore command job F
+ReportCallsFor NotDefinite command job F = LacksOrder command job F
 ReportCallsFor _ command job F = ⊥
 
 -- ---- of a command that writes a decomposition of the machine W that it works on

@@ -2,6 +2,7 @@ pub mod Answer
 pub mod Calls
 pub mod Cause
 pub mod CheckReport
+pub mod DefiniteText
 pub mod Digits
 pub mod ExtremeTexts
 pub mod Fill

@@ -19,7 +19,8 @@ use Rattle.state_codes.specs.declared.split.Kind.{Kind}
 use Rattle.state_codes.specs.declared.split.Part.{Part}
 use Rattle.state_codes.specs.Fault.{FirstTogether}
 use Rattle.hsdec_core.specs.declared.answers.Answer.{Answer}
-use Rattle.hsdec_core.specs.declared.answers.Answer.TheVariants.{NoSplit, KissRefused, Conflict, Unspecified, More, PartRefused, CodeTooLong}
+use Rattle.hsdec_core.specs.declared.answers.Answer.TheVariants.{NoSplit, KissRefused, Conflict, Unspecified, More, PartRefused, CodeTooLong, NotDefinite}
+use Rattle.hsdec_core.specs.DefiniteText.{IsNotDefiniteLine}
 use Rattle.hsdec_core.specs.Digits.{digit}
 use Rattle.hsdec_core.specs.KissTexts.{kind_text}
 use Rattle.hsdec_core.specs.PartTexts.{IsFirstBadPart}
@@ -65,11 +66,13 @@ IsWorkLine kind job W PartRefused line = IsPartsLine job W line
 IsWorkLine kind job W CodeTooLong line = (bits : ℕ) × HasCodeOf kind job W bits × (line ≡ code_bits_line bits)
 IsWorkLine kind job W _ line = ⊥
 
--- the line of an answer of a command that prints what it finds: the first fault of a text that is no partition, or the limit
+-- the line of an answer of a command that prints what it finds: the first fault of a text that is no partition, the limit, or
+-- two states of the machine that it works on
 abbrev pub IsReportLine : Job → KissFile → Answer → List ℕ → Type 0
 IsReportLine job F PartRefused line =
     (fail : PartFail) × TextFault (length F.states) job.second fail × (line ≡ part_line 0 (length F.states) fail)
 IsReportLine job F More line = line ≡ more_line job.limit
+IsReportLine job F NotDefinite line = OnWork job F (λ W. IsNotDefiniteLine W line)
 IsReportLine job F _ line = ⊥
 
 -- by the kind of decomposition that the command writes, if it writes one

@@ -18,6 +18,7 @@ use Rattle.net_sim.specs.Symbols.{IsSymbolFile}
 use Rattle.output_consistent.specs.Outputs.{IsClosedAndConsistent}
 use Rattle.partition.specs.Before.{Before}
 use Rattle.hsdec_core.specs.CheckReport.{IsChecked}
+use Rattle.hsdec_core.specs.DefiniteText.{IsChainText}
 use Rattle.hsdec_core.specs.ExtremeTexts.{IsHighText, IsLowText}
 use Rattle.hsdec_core.specs.Fill.{fill_of}
 use Rattle.hsdec_core.specs.Generated.{IsNumbersText}
@@ -37,6 +38,7 @@ IsReport commands.High job F text = IsHighText F job.second text
 IsReport commands.Closed job F text = IsListText partition_line Before (IsClosedPartition F) job.limit text
 IsReport commands.Output job F text = IsListText partition_line Before (IsClosedAndConsistent F) job.limit text
 IsReport commands.Pairs job F text = IsListText pair_line RightBefore (IsMmPair F) job.limit text
+IsReport commands.Definite job F text = IsChainText job F text
 IsReport _ job F text = ⊥
 
 -- by the kind of decomposition that the command writes, if it writes one

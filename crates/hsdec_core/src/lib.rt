@@ -26,6 +26,7 @@
 mod answers;
 mod binary;
 mod check_command;
+mod definite_command;
 mod delivery;
 mod extreme_commands;
 mod gen_command;

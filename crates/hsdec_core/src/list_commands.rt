@@ -81,7 +81,7 @@ fn lines(alloc: Global, parts: &[BitPart]) -> Result<Vec<u8>, AllocError>
 }
 
 /// The lines of partitions that are kept as labels.
-fn label_lines(alloc: Global, parts: &[Partition]) -> Result<Vec<u8>, AllocError>
+pub(crate) fn label_lines(alloc: Global, parts: &[Partition]) -> Result<Vec<u8>, AllocError>
     ensures { IfOk result (λ text. text.items ≡ lines_of partition_line parts.now) }
 {
     let mut text = Vec::new(alloc);

@@ -13,6 +13,7 @@ ghost use Rattle.hsdec_core.specs.Operands.{AreGranted, OfMachine, source_of, ta
 
 use crate::Outcome;
 use crate::check_command::check;
+use crate::definite_command::definite;
 use crate::extreme_commands::{high, low};
 use crate::list_commands::{closed, output, pairs};
 use crate::opening::{OpenedMachine, open_machine};
@@ -73,6 +74,7 @@ fn command(
         Command::Closed => closed(alloc, job, &machine),
         Command::Output => output(alloc, job, &machine),
         Command::Pairs => pairs(alloc, job, &machine),
+        Command::Definite => definite(alloc, job, &file, machine),
         Command::Code
         | Command::Assign
         | Command::Parallel

@@ -4,6 +4,7 @@ ghost use Rattle.std.specs.Prelude.{◌≡◌, ℕ, ◌<◌, ◌≤◌, ◌^◌,
 ghost use Rattle.cubes.specs.Symbol.{symbol_of};
 ghost use Rattle.hs_texts.specs.ErrLines.{bad_start_line, code_bits_line, conflict_line, kiss_line, start_unknown_line, symbol_line};
 ghost use Rattle.decomposition.specs.Work.{IsWork};
+ghost use Rattle.hsdec_core.specs.DefiniteText.{IsStatesLine};
 ghost use Rattle.hsdec_core.specs.Digits.{digit};
 ghost use Rattle.hsdec_core.specs.Inner.Made.{IsRefusal};
 ghost use Rattle.hsdec_core.specs.KissTexts.{kind_text};
@@ -115,6 +116,26 @@ pub fn code_too_long(alloc: Global, bits: usize) -> Result<Outcome, AllocError>
 {
     let line = err_lines::code_bits(alloc, bits)?;
     Ok(Outcome::refused(alloc, Answer::CodeTooLong, line))
+}
+
+/// The refusal of a machine that a job works on and that is not definite, by two states that words of every
+/// length keep apart.
+pub fn not_definite(
+    alloc: Global,
+    file: &KissFile,
+    work: &WorkMachine,
+    state: usize,
+    other: usize,
+) -> Result<Outcome, AllocError>
+    requires work { (reduce : Bool) × IsWork reduce file.now work.now }
+    requires state { state < length work.now.machine.states }
+    requires other { other < length work.now.machine.states }
+    ensures { IfOk result (IsRefusal Answer.NotDefinite (IsStatesLine work.now.machine state other)) }
+{
+    let name = state_name(file, work, state);
+    let other_name = state_name(file, work, other);
+    let line = err_lines::not_definite(alloc, name, other_name)?;
+    Ok(Outcome::refused(alloc, Answer::NotDefinite, line))
 }
 
 /// The text of what is missing.

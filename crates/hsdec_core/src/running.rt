@@ -53,6 +53,8 @@ pub fn run<F: Shelf, O: Sink, E: Sink>(
         ExactlyWhereRead result Answer.NoSplit (FirstCallsFor job bytes Answer.NoSplit)) }
     ensures code_too_long { IfTold words.now (F.holds shelf.old) (λ job bytes.
         ExactlyWhereRead result Answer.CodeTooLong (FirstCallsFor job bytes Answer.CodeTooLong)) }
+    ensures not_definite { IfTold words.now (F.holds shelf.old) (λ job bytes.
+        ExactlyWhereRead result Answer.NotDefinite (FirstCallsFor job bytes Answer.NotDefinite)) }
     ensures more { IfTold words.now (F.holds shelf.old) (λ job bytes.
         ExactlyWherePut result Answer.More (FirstCallsFor job bytes Answer.More)) }
     ensures write_fault { result ≡ Answer.WriteFault → Rose (O.faults out.old) (O.faults out.new) }

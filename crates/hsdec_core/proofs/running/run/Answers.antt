@@ -1,4 +1,4 @@
-use Rattle.hsdec_core.specs.declared.answers.Answer.TheVariants.{CodeTooLong, Conflict, KissRefused, NetRefused, NoSplit, PartRefused, SymbolRefused, TooLong, Unspecified}
+use Rattle.hsdec_core.specs.declared.answers.Answer.TheVariants.{CodeTooLong, Conflict, KissRefused, NetRefused, NoSplit, NotDefinite, PartRefused, SymbolRefused, TooLong, Unspecified}
 use Rattle.hsdec_core.proofs.OneAnswer.{its_sizes}
 use Rattle.hsdec_core.proofs.Runs.{IsAnswered, all_of, answered, complete_of, evidence_of, first_of, front_of, headline_of, line_is, loads_of, made_in_memory, more_of, no_text_of, put_fault_of, read_fault_of, text_of_done, usage_of}
 use Rattle.job_words.specs.Job.{JobOf}
@@ -63,6 +63,11 @@ pub returns-clause-code_too_long : goal.returns-clause-code_too_long
 returns-clause-code_too_long g c =
     let a : IsAnswered c.perform-made.result c.deliver.result = answered _ _ _ _ _ _ c.deliver.ensures.text c.deliver.ensures.no_text in
     first_of _ _ (JobOf c.args.words.now) c.perform-made.result _ CodeTooLong (its_sizes c.args.words.now) c.perform-made.ensures.right a tt (λ h. h)
+
+pub returns-clause-not_definite : goal.returns-clause-not_definite
+returns-clause-not_definite g c =
+    let a : IsAnswered c.perform-made.result c.deliver.result = answered _ _ _ _ _ _ c.deliver.ensures.text c.deliver.ensures.no_text in
+    first_of _ _ (JobOf c.args.words.now) c.perform-made.result _ NotDefinite (its_sizes c.args.words.now) c.perform-made.ensures.right a tt (λ h. h)
 
 pub returns-clause-more : goal.returns-clause-more
 returns-clause-more g c =
