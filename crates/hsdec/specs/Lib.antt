@@ -1,1 +1,4 @@
+pub mod Words
+pub mod Phrases
+pub mod Pages
 pub mod Status

@@ -1,42 +1,80 @@
-//! The words of the arguments.
+//! The arguments of the program, and their words.
 
-ghost use Rattle.std.specs.Prelude.{◌-◌, ◌^◌, ◌<◌, IfOk, length};
+ghost use Rattle.std.specs.Prelude.{◌≡◌, ℕ, ◌-◌, ◌^◌, ◌<◌, List, None, Option, IfOk, IfSome, length, slice_get};
+ghost use Rattle.hsdec.specs.Words.{AreTold, IsWordOf};
 
+use hs_io::Name;
 use job_words::Words;
 use std::alloc::{AllocError, Global};
 use std::env::FillError;
 use std::rt::Env;
 use std::str;
 
-/// The arguments after the program's name. One that is not text is an empty word.
-pub fn words_of<R: Env>(alloc: Global, arguments: &R) -> Result<Words, AllocError>
-    ensures { IfOk result (λ words. length words < 2 ^ 32 - 1) }
-{
-    let mut words = Words::new(alloc);
-    for i in 1..4_294_967_295 {
-        let Some(word) = argument(alloc, arguments, i)? else {
-            break;
-        };
-        match str::from_utf8(word.as_slice()) {
-            Ok(text) => words.push(text.as_bytes())?,
-            Err(_) => words.push(b"")?,
-        }
-    }
-    Ok(words)
+/// The arguments after the program's name.
+pub trait Arguments {
+    /// All of them in order, where they are told.
+    ghost given: { Self → Option (List (List ℕ)) };
+
+    /// The argument of a number, counted from 0, if there is one.
+    fn argument(&self, alloc: Global, number: usize) -> Result<Option<Name>, AllocError>
+        requires { number < 2 ^ 32 }
+        ensures { IfOk result (λ argument. IfSome (given self.now) (λ all. argument ≡ slice_get all number)) };
 }
 
-/// The bytes of the argument of a number, if there is one.
-fn argument<R: Env>(alloc: Global, arguments: &R, i: usize) -> Result<Option<Vec<u8>>, AllocError> {
-    for doublings in 8u32..40 {
-        let mut bytes = vec![in alloc; 0u8; 1 << doublings]?;
-        match arguments.arg(i, bytes.as_mut_slice()) {
-            Ok(length) => {
-                bytes.truncate(length);
-                return Ok(Some(bytes));
+/// The arguments of the system. It tells none of them.
+#[derive(Drop)]
+pub struct SystemArguments<R: Env> {
+    environment: R,
+}
+
+impl<R: Env> SystemArguments<R> {
+    /// The arguments that this environment has after the program's name.
+    pub fn new(environment: R) -> SystemArguments<R> {
+        SystemArguments { environment }
+    }
+}
+
+impl<R: Env> Arguments for SystemArguments<R> {
+    ghost given = { λ _. None };
+
+    fn argument(&self, alloc: Global, number: usize) -> Result<Option<Name>, AllocError> {
+        for doublings in 8u32..40 {
+            let mut bytes = vec![in alloc; 0u8; 1 << doublings]?;
+            match self.environment.arg(number + 1, bytes.as_mut_slice()) {
+                Ok(length) => {
+                    bytes.truncate(length);
+                    return Ok(Some(Name::new(alloc, bytes.as_slice())?));
+                }
+                Err(FillError::NotPresent) => return Ok(None),
+                Err(FillError::TooLong) => {}
             }
-            Err(FillError::NotPresent) => return Ok(None),
-            Err(FillError::TooLong) => {}
         }
+        Err(AllocError)
+    }
+}
+
+/// The words of the arguments. More of them than words may be are taken for want of memory.
+#[tactic(auto, using(crate::proofs::ToldWords::told_none, crate::proofs::ToldWords::told_more, crate::proofs::ToldWords::told_all))]
+pub fn words_of<A: Arguments>(alloc: Global, arguments: &A) -> Result<Words, AllocError>
+    ensures few { IfOk result (λ words. length words < 2 ^ 32 - 1) }
+    ensures told { IfOk result (λ words. AreTold (A.given arguments.now) words) }
+{
+    let mut words = Words::new(alloc);
+    for number in 0..4_294_967_295 {
+        let Some(argument) = arguments.argument(alloc, number)? else {
+            return Ok(words);
+        };
+        words.push(word_of(argument.bytes()))?;
     }
     Err(AllocError)
+}
+
+/// The word of an argument: one that is not text is an empty word.
+fn word_of(argument: &[u8]) -> &[u8]
+    ensures { IsWordOf argument.now result.now }
+{
+    match str::from_utf8(argument) {
+        Ok(text) => text.as_bytes(),
+        Err(_) => &[],
+    }
 }

@@ -1,89 +1,88 @@
 //! What the program does with its arguments.
 
-ghost use Rattle.std.specs.Prelude.{◌≡◌, ◌≢◌, ◌⊎◌, ℕ, ◌-◌, ◌^◌, ◌<◌, IfOk, IsSome, List, length};
+ghost use Rattle.std.specs.Prelude.{◌≡◌, ◌≢◌, ◌⊎◌, ℕ, ◌-◌, ◌^◌, ◌<◌, List, None, Some, IfOk, MatchOption, length};
 ghost use Rattle.hs_io.specs.Counts.{Rose};
+ghost use Rattle.hs_io.specs.Pieces.{Appends, AppendsFront};
 ghost use Rattle.hs_texts.specs.ErrLines.{cannot_write_line};
 ghost use Rattle.hsdec_core.specs.Answer.{answer_code};
 ghost use Rattle.hsdec_core.specs.Put.{LinePut};
-ghost use Rattle.hsdec.specs.Status.{IsAnswerTo};
+ghost use Rattle.hsdec.specs.Pages.{page_asked};
+ghost use Rattle.hsdec.specs.Status.{IsAnswerTo, IsComplete, IsLineTo};
+ghost use Rattle.hsdec.specs.Words.{AreTold};
 
-use crate::arguments::words_of;
+use crate::arguments::{Arguments, words_of};
 use crate::help::page_of;
 use hs_io::{Shelf, Sink};
 use hs_texts::err_lines::{CANNOT_WRITE, NO_MEMORY};
 use hsdec_core::{Answer, run};
 use job_words::Words;
 use std::alloc::{AllocError, Global};
-use std::rt::Env;
 
-/// The exit status of the program: its words are the arguments after the program's name. `--help` and
-/// `--version` are answered here, all else by `run`.
-pub fn status<R: Env, F: Shelf, O: Sink, E: Sink>(
+/// The exit status of the program. `--help` and `--version` are answered here, all else by `run`.
+pub fn status<A: Arguments, F: Shelf, O: Sink, E: Sink>(
     alloc: Global,
-    arguments: &R,
+    arguments: &A,
     shelf: &mut F,
     out: &mut O,
     err: &mut E,
 ) -> u8
     requires { (name : List ℕ) → F.grants shelf.old name }
 
-    // It is the number of the answer to some words: which words the arguments are is not told.
-    ensures { (answer : Answer) × (words : List (List ℕ)) × (result ≡ answer_code answer)
-        × IsAnswerTo words (F.holds shelf.old) answer
+    // It is the number of the answer to the words of the arguments, if memory is not wanting. The answer comes
+    // where they and the texts of the shelf call for it, and out is given what they ask for. A fault comes
+    // only where a count rose, a refusal leaves out as it was, and every answer but `Done` hands its line to
+    // err.
+    ensures { (words : List (List ℕ)) × (answer : Answer) × (result ≡ answer_code answer)
+        × (answer ≢ Answer.NoMemory → AreTold (A.given arguments.now) words)
+        × IsAnswerTo words (F.holds shelf.old) answer (O.given out.old) (O.given out.new)
+        × IsComplete words (F.holds shelf.old) answer
+        (Rose (F.faults shelf.old) (F.faults shelf.new) ⊎ Rose (O.faults out.old) (O.faults out.new))
         × (answer ≡ Answer.ReadFault → Rose (F.faults shelf.old) (F.faults shelf.new))
         × (answer ≡ Answer.WriteFault → Rose (O.faults out.old) (O.faults out.new))
         × (answer ≢ Answer.Done → answer ≢ Answer.More → answer ≢ Answer.WriteFault → out.new ≡ out.old)
         × (answer ≡ Answer.Done → err.new ≡ err.old)
-        × (answer ≢ Answer.Done → (line : List ℕ)
+        × (answer ≢ Answer.Done → (line : List ℕ) × IsLineTo words (F.holds shelf.old) answer line
         × LinePut line (E.given err.old) (E.given err.new) (E.faults err.old) (E.faults err.new)) }
 {
-    let answer = answer_of(alloc, arguments, shelf, out, err);
-    answer.code()
+    match words_of(alloc, arguments) {
+        Ok(words) => answer_to(alloc, &words, shelf, out, err).code(),
+        Err(_) => refuse(Answer::NoMemory, NO_MEMORY, err).code(),
+    }
 }
 
-/// The answer to the arguments.
-fn answer_of<R: Env, F: Shelf, O: Sink, E: Sink>(
+/// The answer to the words.
+fn answer_to<F: Shelf, O: Sink, E: Sink>(
     alloc: Global,
-    arguments: &R,
+    words: &Words,
     shelf: &mut F,
     out: &mut O,
     err: &mut E,
 ) -> Answer
-    requires { (name : List ℕ) → F.grants shelf.old name }
-    ensures cause { (words : List (List ℕ)) × IsAnswerTo words (F.holds shelf.old) result }
+    requires few { length words.now < 2 ^ 32 - 1 }
+    requires granted { (name : List ℕ) → F.grants shelf.old name }
+    ensures answer { IsAnswerTo words.now (F.holds shelf.old) result (O.given out.old) (O.given out.new) }
+    ensures complete { IsComplete words.now (F.holds shelf.old) result
+        (Rose (F.faults shelf.old) (F.faults shelf.new) ⊎ Rose (O.faults out.old) (O.faults out.new)) }
     ensures read_fault { result ≡ Answer.ReadFault → Rose (F.faults shelf.old) (F.faults shelf.new) }
     ensures write_fault { result ≡ Answer.WriteFault → Rose (O.faults out.old) (O.faults out.new) }
     ensures untouched { result ≢ Answer.Done → result ≢ Answer.More → result ≢ Answer.WriteFault
         → out.new ≡ out.old }
     ensures silent { result ≡ Answer.Done → err.new ≡ err.old }
-    ensures line { result ≢ Answer.Done → (line : List ℕ)
+    ensures line { result ≢ Answer.Done → (line : List ℕ) × IsLineTo words.now (F.holds shelf.old) result line
         × LinePut line (E.given err.old) (E.given err.new) (E.faults err.old) (E.faults err.new) }
 {
-    match words_and_page(alloc, arguments) {
-        Ok((words, page)) => match page {
-            Some(page) => put_page(page.as_slice(), out, err),
-            None => run(alloc, &words, shelf, out, err),
-        },
+    match page_of(alloc, words) {
+        Ok(None) => run(alloc, words, shelf, out, err),
+        Ok(Some(page)) => put_page(page.as_slice(), out, err),
         Err(_) => refuse(Answer::NoMemory, NO_MEMORY, err),
     }
-}
-
-/// The words, and the page that they ask for.
-fn words_and_page<R: Env>(
-    alloc: Global,
-    arguments: &R,
-) -> Result<(Words, Option<Vec<u8>>), AllocError>
-    ensures few { IfOk result (λ both. length both.0 < 2 ^ 32 - 1) }
-    ensures page { IfOk result (λ both. IsSome both.1 → length both.0 ≡ 1) }
-{
-    let words = words_of(alloc, arguments)?;
-    let page = page_of(alloc, &words)?;
-    Ok((words, page))
 }
 
 /// Puts a page.
 fn put_page<O: Sink, E: Sink>(page: &[u8], out: &mut O, err: &mut E) -> Answer
     ensures answer { (result ≡ Answer.Done) ⊎ (result ≡ Answer.WriteFault) }
+    ensures whole { result ≡ Answer.Done → Appends (O.given out.old) page.now (O.given out.new) }
+    ensures front { result ≡ Answer.WriteFault → AppendsFront (O.given out.old) page.now (O.given out.new) }
     ensures write_fault { result ≡ Answer.WriteFault → Rose (O.faults out.old) (O.faults out.new) }
     ensures silent { result ≡ Answer.Done → err.new ≡ err.old }
     ensures line { result ≢ Answer.Done → LinePut cannot_write_line

@@ -1,0 +1,72 @@
+-- The pages of `--help` and `--version`, and which words ask for them.
+use Rattle.std.specs.Prelude.{ℕ, if◌then◌else◌, List, [], ◌∷◌, ◌++◌, Option, Some, None, codes}
+use Rattle.std.specs.List.{flat_map}
+use Rattle.std.specs.Option.{option_map}
+use Rattle.std.specs.Str.{bytes_eq}
+use Rattle.hs_io.specs.Spelling.{ended, spaced}
+use Rattle.job_words.specs.declared.table.CommandOption.{CommandOption}
+use Rattle.job_words.specs.declared.table.CommandOption.TheVariants.{Limit, Reduce, Start, Fill}
+use Rattle.job_words.specs.declared.table.OperandKind.{OperandKind}
+use Rattle.job_words.specs.declared.table.OperandKind.TheVariants.{File, Net, Part, Parts, Symbols, Seed, A, B, K}
+use Rattle.job_words.specs.Command.{command_word}
+use Rattle.job_words.specs.Job.{row_named}
+use Rattle.job_words.specs.Table.{Row, built}
+use Rattle.hsdec.specs.declared.help.TheConstants.{ANSWERS, USAGE}
+use Rattle.hsdec.specs.Phrases.{example_of, operand_note, operand_word, option_note, option_words, phrase_of}
+
+-- a line of each operand, and of each option
+abbrev pub operand_lines : List OperandKind → List ℕ
+operand_lines operands = flat_map (λ kind. ended (operand_note kind)) operands
+
+abbrev pub option_lines : List CommandOption → List ℕ
+option_lines options = flat_map (λ option. ended (option_note option)) options
+
+-- the words of a command: its own, its operands and its options
+abbrev pub form_words : Row → List ℕ
+form_words row =
+    codes "  hsdec " ++ command_word row.command ++ flat_map (λ kind. spaced (operand_word kind)) row.operands
+    ++ flat_map (λ option. spaced (option_words option)) row.options
+
+-- two lines of a command: its words, and what it does
+abbrev pub form_lines : Row → List ℕ
+form_lines row = form_words row ++ 10 ∷ codes "      " ++ ended (phrase_of row.command)
+
+-- the line of an example
+abbrev pub example_line : List ℕ → List ℕ
+example_line words = codes "  hsdec " ++ ended words
+
+-- the page about a command: its lines, what its operands and options are, and an example
+abbrev pub command_page : Row → List ℕ
+command_page row =
+    form_lines row ++ ended [] ++ operand_lines row.operands ++ option_lines row.options ++ ended [] ++ ended (codes "Example:")
+    ++ example_line (example_of row.command)
+
+-- how the program is called, and the answers with what to do
+unfoldable pub usage_text : List ℕ
+usage_text = USAGE.now
+
+unfoldable pub answers_text : List ℕ
+answers_text = ANSWERS.now
+
+-- a page about commands, operands and options
+abbrev pub help_page_of : List Row → List OperandKind → List CommandOption → List ℕ
+help_page_of rows operands options =
+    usage_text ++ flat_map form_lines rows ++ ended [] ++ ended (codes "Operands and options:") ++ operand_lines operands
+    ++ option_lines options ++ answers_text
+
+-- the page about the program: each command that is built, and all operands and options
+unfoldable pub help_page : List ℕ
+help_page = help_page_of built (File ∷ Net ∷ Symbols ∷ Part ∷ Parts ∷ Seed ∷ A ∷ B ∷ K ∷ []) (Limit ∷ Reduce ∷ Start ∷ Fill ∷ [])
+
+-- the page of the version
+abbrev pub version_page : List ℕ
+version_page = ended (codes "hsdec 0.1.0")
+
+-- the page that words ask for: that about the program or its version, by one lone word, or that about a command that is
+-- built, by two
+abbrev pub page_asked : List (List ℕ) → Option (List ℕ)
+page_asked [] = None
+page_asked (word ∷ []) =
+    if bytes_eq word (codes "--help") then Some help_page else (if bytes_eq word (codes "--version") then Some version_page else None)
+page_asked (word ∷ command ∷ []) = if bytes_eq word (codes "--help") then option_map command_page (row_named built command) else None
+page_asked (word ∷ command ∷ more ∷ words) = None

@@ -1,0 +1,126 @@
+//! Files, and standard input under the name `-`.
+
+ghost use Rattle.std.specs.Prelude.{◌≡◌, ◌≢◌, ℕ, ◌+◌, ◌^◌, ◌<◌, ◌≤◌, [], None, Err, IfOk, IsErrOf, OnOk, vec_len, ⊤};
+ghost use Rattle.hs_io.specs.Counts.{next_count};
+
+use hs_io::{FileShelf, LoadFail, Shelf};
+use std::io::Read;
+use std::marker::Model;
+use std::rt::Files;
+
+/// The name of standard input.
+const INPUT: &[u8] = b"-";
+
+/// How many bytes one read asks for at most.
+const PIECE: usize = 4096;
+
+/// The files of the system, each under its path, and standard input under the name `-`. The first load of
+/// `-` reads the input to its end, and later ones find nothing more there. It tells no bytes, and grants
+/// every name. Contracts see its count of faults alone, which rises at each error of the system and at a
+/// name that is no path.
+#[derive(Drop)]
+pub struct InputShelf<R: Files, I: Read + Drop> {
+    files: FileShelf<R>,
+    input: Option<I>,
+    faults: u64,
+}
+
+impl<R: Files, I: Read + Drop> Model for InputShelf<R, I> {
+    ghost Value = { ℕ };
+
+    ghost view = { λ s. s.faults };
+}
+
+impl<R: Files, I: Read + Drop> InputShelf<R, I> {
+    /// A shelf of these files and this input, with no fault so far.
+    pub fn new(files: R, input: I) -> InputShelf<R, I>
+        ensures { result ≡ 0 }
+    {
+        InputShelf {
+            files: FileShelf::new(files),
+            input: Some(input),
+            faults: 0,
+        }
+    }
+}
+
+impl<R: Files, I: Read + Drop> Shelf for InputShelf<R, I> {
+    ghost holds = { λ _ _. None };
+
+    ghost grants = { λ _ _. ⊤ };
+
+    ghost faults = { λ count. count };
+
+    fn load(&mut self, name: &[u8], limit: usize, into: &mut Vec<u8>) -> Result<(), LoadFail>
+        requires empty { into.old.items ≡ [] }
+        requires limited { limit < 2 ^ 32 }
+        ensures within { OnOk result (vec_len into.new ≤ limit) }
+        ensures one_more { IsErrOf result LoadFail.TooLong → vec_len into.new ≡ limit + 1 }
+        ensures never_falls { self.old ≤ self.new }
+
+        // It counts each failure and nothing else.
+        ensures counted { IsErrOf result LoadFail.Failed → self.new ≡ next_count self.old }
+        ensures not_counted { ¬ IsErrOf result LoadFail.Failed → self.new ≡ self.old }
+    {
+        let loaded = if name == INPUT {
+            load_input(&mut self.input, limit, into)
+        } else {
+            self.files.load(name, limit, into)
+        };
+        if loaded == Err(LoadFail::Failed) {
+            self.faults = self.faults.saturating_add(1);
+        }
+        loaded
+    }
+}
+
+/// Loads what is left of the input: all of it, or nothing where it was loaded before.
+fn load_input<I: Read + Drop>(
+    input: &mut Option<I>,
+    limit: usize,
+    into: &mut Vec<u8>,
+) -> Result<(), LoadFail>
+    requires empty { into.old.items ≡ [] }
+    requires limited { limit < 2 ^ 32 }
+    ensures within { OnOk result (vec_len into.new ≤ limit) }
+    ensures one_more { IsErrOf result LoadFail.TooLong → vec_len into.new ≡ limit + 1 }
+{
+    match input.take() {
+        Some(mut reader) => read_to_end(&mut reader, limit, into),
+        None => Ok(()),
+    }
+}
+
+/// Reads to the end, or one byte more than the limit.
+fn read_to_end(reader: &mut impl Read, limit: usize, into: &mut Vec<u8>) -> Result<(), LoadFail>
+    requires empty { into.old.items ≡ [] }
+    requires limited { limit < 2 ^ 32 }
+    ensures within { OnOk result (vec_len into.new ≤ limit) }
+    ensures one_more { IsErrOf result LoadFail.TooLong → vec_len into.new ≡ limit + 1 }
+{
+    for _ in 0..limit + 1 {
+        if read_piece(reader, limit + 1, into)? == 0 {
+            return Ok(());
+        }
+        if into.len() > limit {
+            return Err(LoadFail::TooLong);
+        }
+    }
+    unreachable!("each turn takes a byte")
+}
+
+/// Appends some of the bytes that are left, and says how many; at the end there are none.
+fn read_piece(reader: &mut impl Read, most: usize, into: &mut Vec<u8>) -> Result<usize, LoadFail>
+    requires { vec_len into.old < most }
+    ensures ok { IfOk result (λ n. vec_len into.new ≡ vec_len into.old + n) }
+    ensures most { OnOk result (vec_len into.new ≤ most) }
+    ensures err { result ≢ Err LoadFail.TooLong }
+{
+    let mut piece = [0u8; PIECE];
+    let room = PIECE.min(most - into.len());
+    let count = reader
+        .read(&mut piece[..room])
+        .map_err(|_| LoadFail::Failed)?;
+    into.extend_from_slice(&piece[..count])?;
+    Ok(count)
+}
