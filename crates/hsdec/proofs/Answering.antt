@@ -1,6 +1,5 @@
 -- The answer to words, by whether they ask for a page.
 use Rattle.std.proofs.Common.{◌≡◌, ◌≢◌, ◌⊎◌, ℕ, List, Option, Some, None, Result, Ok, Err, IfOk, IfSome, MatchOption, inl, inr, refl}
-use Rattle.hs_io.specs.Pieces.{Appends, AppendsFront}
 use Rattle.hs_texts.specs.ErrLines.{cannot_write_line, no_memory_line}
 use Rattle.job_words.specs.declared.jobs.Job.{Job}
 use Rattle.job_words.specs.Job.{JobOf}

@@ -13,6 +13,8 @@ mod help;
 mod input_shelf;
 mod phrases;
 mod program;
+#[cfg(test)]
+mod tests;
 
 use arguments::SystemArguments;
 use hs_io::StdSink;
