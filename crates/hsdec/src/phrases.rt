@@ -22,7 +22,7 @@ pub fn phrase(command: Command) -> &'static [u8]
         Command::Parallel => b"splits the machine into parts that run side by side",
         Command::Serial => b"splits the machine into a part and a second one that reads it",
         Command::Cascade =>
-            b"splits the machine along a chain of closed partitions, each part reading those before it",
+            b"splits the machine into a chain of parts, each reading those before it",
         Command::Feedback =>
             b"splits the machine into two parts that read each other as little as they can",
         Command::Walk => b"prints the machine's answers to a file of symbols",

@@ -32,7 +32,7 @@ pub fn status<A: Arguments, F: Shelf, O: Sink, E: Sink>(
     // where they and the texts of the shelf call for it, and out is given what they ask for. A fault comes
     // only where a count rose, a refusal leaves out as it was, and every answer but `Done` hands its line to
     // err.
-    ensures { (words : List (List ℕ)) × (answer : Answer) × (result ≡ answer_code answer)
+    ensures { (answer : Answer) × (result ≡ answer_code answer) × ((words : List (List ℕ))
         × (answer ≢ Answer.NoMemory → AreTold (A.given arguments.now) words)
         × IsAnswerTo words (F.holds shelf.old) answer (O.given out.old) (O.given out.new)
         × IsComplete words (F.holds shelf.old) answer
@@ -42,11 +42,36 @@ pub fn status<A: Arguments, F: Shelf, O: Sink, E: Sink>(
         × (answer ≢ Answer.Done → answer ≢ Answer.More → answer ≢ Answer.WriteFault → out.new ≡ out.old)
         × (answer ≡ Answer.Done → err.new ≡ err.old)
         × (answer ≢ Answer.Done → (line : List ℕ) × IsLineTo words (F.holds shelf.old) answer line
+        × LinePut line (E.given err.old) (E.given err.new) (E.faults err.old) (E.faults err.new))) }
+{
+    let answer = answer_of(alloc, arguments, shelf, out, err);
+    answer.code()
+}
+
+/// The answer to the arguments.
+fn answer_of<A: Arguments, F: Shelf, O: Sink, E: Sink>(
+    alloc: Global,
+    arguments: &A,
+    shelf: &mut F,
+    out: &mut O,
+    err: &mut E,
+) -> Answer
+    requires { (name : List ℕ) → F.grants shelf.old name }
+    ensures { (words : List (List ℕ))
+        × (result ≢ Answer.NoMemory → AreTold (A.given arguments.now) words)
+        × IsAnswerTo words (F.holds shelf.old) result (O.given out.old) (O.given out.new)
+        × IsComplete words (F.holds shelf.old) result
+        (Rose (F.faults shelf.old) (F.faults shelf.new) ⊎ Rose (O.faults out.old) (O.faults out.new))
+        × (result ≡ Answer.ReadFault → Rose (F.faults shelf.old) (F.faults shelf.new))
+        × (result ≡ Answer.WriteFault → Rose (O.faults out.old) (O.faults out.new))
+        × (result ≢ Answer.Done → result ≢ Answer.More → result ≢ Answer.WriteFault → out.new ≡ out.old)
+        × (result ≡ Answer.Done → err.new ≡ err.old)
+        × (result ≢ Answer.Done → (line : List ℕ) × IsLineTo words (F.holds shelf.old) result line
         × LinePut line (E.given err.old) (E.given err.new) (E.faults err.old) (E.faults err.new)) }
 {
     match words_of(alloc, arguments) {
-        Ok(words) => answer_to(alloc, &words, shelf, out, err).code(),
-        Err(_) => refuse(Answer::NoMemory, NO_MEMORY, err).code(),
+        Ok(words) => answer_to(alloc, &words, shelf, out, err),
+        Err(_) => refuse(Answer::NoMemory, NO_MEMORY, err),
     }
 }
 

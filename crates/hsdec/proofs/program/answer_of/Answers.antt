@@ -4,13 +4,11 @@ use Rattle.hs_io.specs.Counts.{Rose}
 use Rattle.hs_texts.specs.ErrLines.{no_memory_line}
 use Rattle.hsdec.specs.Pages.{page_asked}
 use Rattle.hsdec.proofs.Answering.{completed_by_want, line_by_want}
-use Rattle.hsdec.proofs.program.status.Goals as goal
+use Rattle.hsdec.proofs.program.answer_of.Goals as goal
 
 pub returns-in-Err : goal.returns-in-Err
 returns-in-Err g c = (
   [],
-  c.refuse.result,
-  c.code-in-Err.ensures,
   λ had. absurd (had c.refuse.ensures.answer),
   inr c.refuse.ensures.answer,
   completed_by_want (page_asked []) [] (g.F.Shelf.holds c.args.shelf.now) c.refuse.result
