@@ -11,7 +11,6 @@ use Rattle.job_words.specs.declared.table.OperandKind.TheVariants.{File, Net, Pa
 use Rattle.job_words.specs.Command.{command_word}
 use Rattle.job_words.specs.Job.{row_named}
 use Rattle.job_words.specs.Table.{Row, built}
-use Rattle.hsdec.specs.declared.help.TheConstants.{ANSWERS, USAGE}
 use Rattle.hsdec.specs.Phrases.{example_of, operand_note, operand_word, option_note, option_words, phrase_of}
 
 -- a line of each operand, and of each option
@@ -41,12 +40,44 @@ command_page row =
     form_lines row ++ ended [] ++ operand_lines row.operands ++ option_lines row.options ++ ended [] ++ ended (codes "Example:")
     ++ example_line (example_of row.command)
 
--- how the program is called, and the answers with what to do
+-- how the program is called, and the answers with what to do, line by line
 unfoldable pub usage_text : List ℕ
-usage_text = USAGE.now
+usage_text =
+    flat_map ended (
+    codes "Usage:"
+    ∷ codes "  hsdec COMMAND OPERAND.. OPTION.."
+    ∷ codes "  hsdec --help COMMAND"
+    ∷ codes "  hsdec --version"
+    ∷ []
+    ∷ codes "Commands:"
+    ∷ []
+    )
 
 unfoldable pub answers_text : List ℕ
-answers_text = ANSWERS.now
+answers_text =
+    flat_map ended (
+    []
+    ∷ codes "Exit status, and what to do:"
+    ∷ codes "  0   the text was written whole"
+    ∷ codes "  1   the machine has no decomposition of that kind: another kind may exist"
+    ∷ codes "  2   the words are refused; word 1 is the command: see hsdec --help COMMAND"
+    ∷ codes "  3   the text of the machine is refused, at the line that is named"
+    ∷ codes "  4   two rows of the machine conflict; rows are counted from 1"
+    ∷ codes "  5   the machine leaves something open: --fill hold fills it"
+    ∷ codes "  7   there are more than the limit: --limit takes up to 10,000"
+    ∷ codes "  8   a partition is refused, or two states are together in all; parts and"
+    ∷ codes "      labels are counted from 0"
+    ∷ codes "  9   the codes have more than 64 bits: serial or cascade often need fewer"
+    ∷ codes "      than parallel"
+    ∷ codes "  10  the text of the network is refused, at the line that is named"
+    ∷ codes "  11  a start or a symbol is refused: --start gives the latches first values"
+    ∷ codes "  12  a file cannot be read"
+    ∷ codes "  13  a file is longer than 4,194,304 bytes"
+    ∷ codes "  14  the text could not be written whole"
+    ∷ codes "  15  memory ran out"
+    ∷ codes "  19  the machine is not definite"
+    ∷ []
+    )
 
 -- a page about commands, operands and options
 abbrev pub help_page_of : List Row → List OperandKind → List CommandOption → List ℕ

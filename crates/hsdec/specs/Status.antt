@@ -4,7 +4,7 @@ use Rattle.hs_io.specs.Pieces.{Appends, AppendsFront}
 use Rattle.hs_texts.specs.ErrLines.{cannot_write_line, no_memory_line}
 use Rattle.job_words.specs.Job.{JobOf}
 use Rattle.hsdec_core.specs.declared.answers.Answer.{Answer}
-use Rattle.hsdec_core.specs.declared.answers.Answer.TheVariants.{Done, NoSplit, Usage, KissRefused, Conflict, Unspecified, More, PartRefused, CodeTooLong, NetRefused, SymbolRefused, ReadFault, TooLong, WriteFault, NoMemory}
+use Rattle.hsdec_core.specs.declared.answers.Answer.TheVariants.{Done, NoSplit, Usage, KissRefused, Conflict, Unspecified, More, PartRefused, CodeTooLong, NetRefused, SymbolRefused, ReadFault, TooLong, WriteFault, NoMemory, NotDefinite}
 use Rattle.hsdec_core.specs.Answer.{ExactlyWhere, ExactlyWherePut, ExactlyWhereRead}
 use Rattle.hsdec_core.specs.Calls.{CallsFor, FirstCallsFor, IsUnrefused}
 use Rattle.hsdec_core.specs.LineFor.{IsLineFor}
@@ -36,6 +36,7 @@ pub record IsJudged (words : List (List ℕ)) (holds : List ℕ → Option (List
   pub symbol_refused : ComesOfAll words holds given SymbolRefused
   pub no_split : ComesOfFile words holds given NoSplit
   pub code_too_long : ComesOfFile words holds given CodeTooLong
+  pub not_definite : ComesOfFile words holds given NotDefinite
   pub more : IfTold words holds (λ job bytes. ExactlyWherePut given More (FirstCallsFor job bytes More))
 
 -- out is given the whole text that the job asks for, a whole decomposition where it decomposes, or the evidence that there

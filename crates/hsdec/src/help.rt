@@ -65,7 +65,7 @@ Exit status, and what to do:
   12  a file cannot be read
   13  a file is longer than 4,194,304 bytes
   14  the text could not be written whole
-  15  memory was wanting
+  15  memory ran out
   19  the machine is not definite
 ";
 

@@ -64,7 +64,7 @@ pub fn example(command: Command) -> &'static [u8]
         Command::Trial => b"trial 42 4 4 1",
         Command::Least => b"least modulo4.kiss",
         Command::Cover => b"cover modulo4.kiss 0,1,2/0,2,3",
-        Command::Definite => b"definite shift3.kiss",
+        Command::Definite => b"definite three_ones.kiss",
         Command::Shift => b"shift shift3.kiss",
         Command::Ispairs => b"ispairs modulo4.kiss --limit 100",
         Command::Sopairs => b"sopairs modulo4.kiss --limit 100",

@@ -20,6 +20,7 @@ returns-in-Ok-None-clause-answer g c =
       symbol_refused = c.run.ensures.symbol_refused;
       no_split = c.run.ensures.no_split;
       code_too_long = c.run.ensures.code_too_long;
+      not_definite = c.run.ensures.not_definite;
       more = c.run.ensures.more;
     })
     (record {
