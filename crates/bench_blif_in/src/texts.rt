@@ -88,7 +88,7 @@ fn chain(alloc: Global, signal: &[u8], size: usize) -> Result<Text, AllocError> 
 ///   same without fields;
 /// - `line` is one line with a field of so many bytes, `fields` a line `.outputs` with so many names;
 /// - `refused` is a fault on the first line, and then so many rows.
-pub fn text_of(alloc: Global, kind: &str, size: usize) -> Result<Vec<u8>, Error>
+pub(crate) fn text_of(alloc: Global, kind: &str, size: usize) -> Result<Vec<u8>, Error>
     ensures { IfOk result (λ bytes. vec_len bytes ≤ 4194304) }
 {
     let mut text = Text::new(alloc, b"")?;

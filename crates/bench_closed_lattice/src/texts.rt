@@ -49,7 +49,7 @@ impl Text {
 }
 
 /// The text of the machine of that kind and size.
-pub fn text_of(alloc: Global, kind: &str, size: usize) -> Result<Vec<u8>, Error>
+pub(crate) fn text_of(alloc: Global, kind: &str, size: usize) -> Result<Vec<u8>, Error>
     ensures { IfOk result (λ text. vec_len text ≤ 4194304) }
 {
     let mut text = Text::new(alloc);

@@ -26,7 +26,7 @@ fn term(care: u128, value: u128) -> Term
 }
 
 /// A random function of 10 columns, with at most `size` values in on and half as many in off.
-pub fn minterms(alloc: Global, size: usize) -> Result<Gate, AllocError>
+pub(crate) fn minterms(alloc: Global, size: usize) -> Result<Gate, AllocError>
     ensures { IfOk result (λ gate. gate.width ≡ 10) }
 {
     let mut rng = Pcg64Mcg::seed_from_u64(1);
@@ -46,7 +46,7 @@ pub fn minterms(alloc: Global, size: usize) -> Result<Gate, AllocError>
 }
 
 /// A random function of so many columns, with half of its values in on and the others in off.
-pub fn dense(alloc: Global, columns: u8) -> Result<Gate, AllocError>
+pub(crate) fn dense(alloc: Global, columns: u8) -> Result<Gate, AllocError>
     requires { columns ≤ 16 }
     ensures { IfOk result (λ gate. gate.width ≡ columns) }
 {
@@ -73,7 +73,7 @@ pub fn dense(alloc: Global, columns: u8) -> Result<Gate, AllocError>
 }
 
 /// The next value of one bit of a counter with an enable, which is column 0; the state follows.
-pub fn counter_bit(alloc: Global, bits: u8, bit: u8) -> Result<Gate, AllocError>
+pub(crate) fn counter_bit(alloc: Global, bits: u8, bit: u8) -> Result<Gate, AllocError>
     requires states { bits ≤ 16 }
     requires bit { bit < bits }
     ensures { IfOk result (λ gate. gate.width ≡ bits + 1) }
@@ -95,7 +95,7 @@ pub fn counter_bit(alloc: Global, bits: u8, bit: u8) -> Result<Gate, AllocError>
 }
 
 /// Random terms of 40 columns with about 30 literals, `size` in on and at most `size` in off.
-pub fn terms(alloc: Global, size: usize) -> Result<Gate, AllocError>
+pub(crate) fn terms(alloc: Global, size: usize) -> Result<Gate, AllocError>
     ensures { IfOk result (λ gate. gate.width ≡ 40) }
 {
     let mut rng = Pcg64Mcg::seed_from_u64(1);

@@ -13,7 +13,7 @@ pub enum Kind {
 }
 
 /// The kind of that name.
-pub fn kind_of(name: &str) -> Option<Kind> {
+pub(crate) fn kind_of(name: &str) -> Option<Kind> {
     match name {
         "adder" => Some(Kind::Adder),
         "random" => Some(Kind::Random),

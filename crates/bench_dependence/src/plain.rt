@@ -126,7 +126,12 @@ fn inputs_read(alloc: Global, m: &Machine, words: &[u64]) -> Result<u64, AllocEr
 }
 
 /// How many bits and how many inputs all gates read.
-pub fn reads(alloc: Global, m: &Machine, codes: &Codes, way: Way) -> Result<(u64, u64), AllocError>
+pub(crate) fn reads(
+    alloc: Global,
+    m: &Machine,
+    codes: &Codes,
+    way: Way,
+) -> Result<(u64, u64), AllocError>
     requires words { length codes.now.words ≡ length m.now.states }
     requires short { codes.now.bits ≤ 64 }
 {

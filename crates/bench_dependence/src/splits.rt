@@ -60,7 +60,7 @@ fn given_split(alloc: Global, kind: Kind, n: usize, count: usize) -> Result<Spli
 }
 
 /// The split of a case.
-pub fn split_of(alloc: Global, kind: Kind, n: usize, size: usize) -> Result<Split, Error>
+pub(crate) fn split_of(alloc: Global, kind: Kind, n: usize, size: usize) -> Result<Split, Error>
     requires { IsStateCount n }
     ensures few { IfOk result (λ split. length split.parts ≤ 256) }
     ensures lawful { IfOk result (λ split. All (IsPart n) split.parts) }

@@ -134,7 +134,7 @@ fn machine_text(alloc: Global, shape: Shape) -> Result<Text, AllocError> {
 }
 
 /// The text of the case.
-pub fn text_of(alloc: Global, kind: Kind, size: usize) -> Result<Vec<u8>, Error>
+pub(crate) fn text_of(alloc: Global, kind: Kind, size: usize) -> Result<Vec<u8>, Error>
     ensures { IfOk result (λ bytes. vec_len bytes ≤ 4194304) }
 {
     let (states, inputs, depth) = match kind {

@@ -7,7 +7,7 @@ use partition::{BitPart, Partition};
 use std::alloc::{AllocError, Global};
 
 /// The partitions of a kind and a size, and the number of their states.
-pub fn generators_of(
+pub(crate) fn generators_of(
     alloc: Global,
     kind: &str,
     size: usize,
@@ -25,7 +25,7 @@ pub fn generators_of(
 }
 
 /// The same partitions as rows of bits.
-pub fn in_bits(
+pub(crate) fn in_bits(
     alloc: Global,
     generators: &[Partition],
     n: usize,

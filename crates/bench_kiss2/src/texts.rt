@@ -79,7 +79,7 @@ fn rows(alloc: Global, front: &[u8], size: usize) -> Result<Text, AllocError> {
 /// - `comments` are so many short comment lines before the toggle, `blanks` so many empty ones;
 /// - `line` is one line that is one field of so many bytes, `fields` a line `.ilb` with so many names;
 /// - `refused` is a fault on the first line, and then so many rows.
-pub fn text_of(alloc: Global, kind: &str, size: usize) -> Result<Vec<u8>, Error>
+pub(crate) fn text_of(alloc: Global, kind: &str, size: usize) -> Result<Vec<u8>, Error>
     ensures { IfOk result (λ bytes. vec_len bytes ≤ 4194304) }
 {
     let toggle = b".i 1\n.o 1\n0 a a 0\n1 a b 1\n0 b b 1\n1 b a 0\n.e\n";

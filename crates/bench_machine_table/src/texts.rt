@@ -135,7 +135,7 @@ fn machine_text(alloc: Global, shape: Shape) -> Result<Text, AllocError> {
 /// - `long` has one state, with a row for each symbol of so many inputs;
 /// - `cubes` has so many states, each with 256 cubes of 32 inputs of its own;
 /// - `sparse` has so many states, each with 16 cubes of 27 inputs of its own.
-pub fn text_of(alloc: Global, kind: &str, size: usize) -> Result<Vec<u8>, Error>
+pub(crate) fn text_of(alloc: Global, kind: &str, size: usize) -> Result<Vec<u8>, Error>
     ensures { IfOk result (λ bytes. vec_len bytes ≤ 4194304) }
 {
     let (states, inputs, depth) = match kind {

@@ -5,7 +5,11 @@ use net_core::{NumberedGate, Order};
 use std::alloc::{AllocError, Global};
 
 /// How many ones the answers to the symbols have, from a state of zeros.
-pub fn count_ones(alloc: Global, order: &Order, symbols: &[u8]) -> Result<usize, AllocError> {
+pub(crate) fn count_ones(
+    alloc: Global,
+    order: &Order,
+    symbols: &[u8],
+) -> Result<usize, AllocError> {
     let mut signals = vec![in alloc; false; order.signal_count]?;
     let mut next = vec![in alloc; false; order.latch_signals.len()]?;
     let mut ones = 0usize;

@@ -191,7 +191,7 @@ fn chain(alloc: Global, gates: usize) -> Result<Text, AllocError> {
 }
 
 /// The text of that kind and size: `counter`, `code` or `chain`.
-pub fn text_of(alloc: Global, kind: &str, size: usize) -> Result<Vec<u8>, Error>
+pub(crate) fn text_of(alloc: Global, kind: &str, size: usize) -> Result<Vec<u8>, Error>
     ensures { IfOk result (λ bytes. vec_len bytes ≤ 4194304) }
 {
     let text = match kind {
@@ -204,7 +204,7 @@ pub fn text_of(alloc: Global, kind: &str, size: usize) -> Result<Vec<u8>, Error>
 }
 
 /// So many random symbols for networks of that kind.
-pub fn symbols_of(alloc: Global, kind: &str, count: u32) -> Result<Vec<u8>, Error>
+pub(crate) fn symbols_of(alloc: Global, kind: &str, count: u32) -> Result<Vec<u8>, Error>
     ensures { IfOk result (λ bytes. vec_len bytes < 2 ^ 32) }
 {
     let width = if kind == "code" { 4 } else { 1 };

@@ -9,7 +9,7 @@ use machine_table::Machine;
 use std::alloc::Global;
 
 /// What is wrong with a cover of the machine's states, or what is made of it.
-pub fn answer(alloc: Global, text: &str, m: &Machine) -> anyhow::Result<String> {
+pub(crate) fn answer(alloc: Global, text: &str, m: &Machine) -> anyhow::Result<String> {
     m.keeps_its_states();
     match parse(alloc, text.as_bytes(), m.states()) {
         Ok(cover) => expanded(alloc, m, &cover),

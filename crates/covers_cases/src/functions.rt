@@ -43,7 +43,7 @@ fn is_needed(row: Term, rows: &[Term], on: &[Term], off: &[Term]) -> bool {
 }
 
 /// How many of the 81 functions have a good cover. A digit to base 3 says of each value that it is on, off or free.
-pub fn good(alloc: Global) -> anyhow::Result<Vec<u8>> {
+pub(crate) fn good(alloc: Global) -> anyhow::Result<Vec<u8>> {
     let mut count = 0u32;
     for function in 0..81u32 {
         let mut on = Vec::new(alloc);

@@ -34,7 +34,7 @@ fn read_gate(alloc: Global, words: &str) -> anyhow::Result<Gate> {
 }
 
 /// Whether lists have a cover.
-pub fn can(alloc: Global, words: &str) -> anyhow::Result<Vec<u8>> {
+pub(crate) fn can(alloc: Global, words: &str) -> anyhow::Result<Vec<u8>> {
     let gate = read_gate(alloc, words)?;
     let answer: &[u8] = if can_cover(&gate.on, &gate.off, gate.width) {
         b"yes"
@@ -45,7 +45,12 @@ pub fn can(alloc: Global, words: &str) -> anyhow::Result<Vec<u8>> {
 }
 
 /// The rows of a cover, which is made twice.
-pub fn rows(alloc: Global, on: &[Term], off: &[Term], width: u8) -> anyhow::Result<Vec<Term>> {
+pub(crate) fn rows(
+    alloc: Global,
+    on: &[Term],
+    off: &[Term],
+    width: u8,
+) -> anyhow::Result<Vec<Term>> {
     if !can_cover(on, off, width) {
         bail!("the lists have no cover");
     }
@@ -71,7 +76,7 @@ fn shown(alloc: Global, rows: &[Term], wanted: &str, width: u8) -> Result<Vec<u8
 }
 
 /// The rows of a gate.
-pub fn covered(alloc: Global, words: &str, wanted: &str) -> anyhow::Result<Vec<u8>> {
+pub(crate) fn covered(alloc: Global, words: &str, wanted: &str) -> anyhow::Result<Vec<u8>> {
     let gate = read_gate(alloc, words)?;
     let rows = rows(alloc, &gate.on, &gate.off, gate.width)?;
     Ok(shown(alloc, &rows, wanted, gate.width)?)
@@ -133,7 +138,7 @@ fn gate_of_values(
 }
 
 /// The rows for values that are on where column 0 is 1.
-pub fn first(alloc: Global, words: &str, wanted: &str) -> anyhow::Result<Vec<u8>> {
+pub(crate) fn first(alloc: Global, words: &str, wanted: &str) -> anyhow::Result<Vec<u8>> {
     let (width, count) = columns(words)?;
     let gate = gate_of_values(alloc, width, count, OnValues::FirstColumn)?;
     let rows = rows(alloc, &gate.on, &gate.off, gate.width)?;
@@ -141,7 +146,7 @@ pub fn first(alloc: Global, words: &str, wanted: &str) -> anyhow::Result<Vec<u8>
 }
 
 /// How many rows cover values that are on where they have an odd number of ones.
-pub fn odd(alloc: Global, words: &str) -> anyhow::Result<Vec<u8>> {
+pub(crate) fn odd(alloc: Global, words: &str) -> anyhow::Result<Vec<u8>> {
     let (width, count) = columns(words)?;
     let gate = gate_of_values(alloc, width, count, OnValues::OddOnes)?;
     let rows = rows(alloc, &gate.on, &gate.off, gate.width)?;

@@ -4,7 +4,7 @@ use cover_logic::Term;
 use std::alloc::{AllocError, Global};
 
 /// The term with literals at the columns of `care`, by the bits of `value` there.
-pub fn masked(care: u128, value: u128) -> Term {
+pub(crate) fn masked(care: u128, value: u128) -> Term {
     Term {
         care,
         value: value & care,
@@ -12,7 +12,7 @@ pub fn masked(care: u128, value: u128) -> Term {
 }
 
 /// The term of a text, whose first character is column 0.
-pub fn term(text: &str) -> Term {
+pub(crate) fn term(text: &str) -> Term {
     let mut care: u128 = 0;
     let mut value: u128 = 0;
     for (column, c) in text.bytes().enumerate() {
@@ -27,7 +27,7 @@ pub fn term(text: &str) -> Term {
 }
 
 /// The terms of a text, between blanks.
-pub fn terms(alloc: Global, texts: &str) -> Result<Vec<Term>, AllocError> {
+pub(crate) fn terms(alloc: Global, texts: &str) -> Result<Vec<Term>, AllocError> {
     let mut list = Vec::new(alloc);
     for text in texts.split_whitespace() {
         list.push(term(text))?;
@@ -36,7 +36,7 @@ pub fn terms(alloc: Global, texts: &str) -> Result<Vec<Term>, AllocError> {
 }
 
 /// Adds the text of a term.
-pub fn add_term(text: &mut Vec<u8>, term: Term, width: u8) -> Result<(), AllocError> {
+pub(crate) fn add_term(text: &mut Vec<u8>, term: Term, width: u8) -> Result<(), AllocError> {
     if width == 0 {
         text.push(b'.')?;
     }
@@ -54,6 +54,6 @@ pub fn add_term(text: &mut Vec<u8>, term: Term, width: u8) -> Result<(), AllocEr
 }
 
 /// Whether two lists have the same terms, in any order, as often as each other.
-pub fn are_alike(rows: &[Term], others: &[Term]) -> bool {
+pub(crate) fn are_alike(rows: &[Term], others: &[Term]) -> bool {
     rows.len() == others.len() && others.iter().all(|term| rows.contains(term))
 }

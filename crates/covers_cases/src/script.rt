@@ -7,7 +7,7 @@ use std::rt::Files;
 use std::{fs, str};
 
 /// Whether all cases of a file agree. Prints each that differs, and how many cases there are.
-pub fn agrees<R: Files + AllocGlobal + Print>(rt: &R, name: &str) -> anyhow::Result<bool> {
+pub(crate) fn agrees<R: Files + AllocGlobal + Print>(rt: &R, name: &str) -> anyhow::Result<bool> {
     let text = fs::read_to_string(rt, name).context(format_args!("reading {name}"))?;
     let mut cases = 0u64;
     let mut agree = true;

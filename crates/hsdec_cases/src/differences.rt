@@ -5,7 +5,7 @@ use std::alloc::{AllocError, Global};
 use std::str;
 
 /// What differs first, if anything does: the status, the text, its lines, its ones, or what err was given.
-pub fn difference(
+pub(crate) fn difference(
     alloc: Global,
     wanted: &Wanted,
     texts: &Texts,

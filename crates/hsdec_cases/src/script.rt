@@ -11,7 +11,7 @@ use std::rt::Files;
 use std::{fs, mem};
 
 /// Whether all cases of a file agree. Prints each that differs, and how many agree.
-pub fn agrees<R: Files + AllocGlobal + Print>(rt: &R, name: &str) -> anyhow::Result<bool> {
+pub(crate) fn agrees<R: Files + AllocGlobal + Print>(rt: &R, name: &str) -> anyhow::Result<bool> {
     let text = fs::read_to_string(rt, name).context(format_args!("reading {name}"))?;
     let mut script = Script::new(rt.alloc());
     for (place, line) in text.split('\n').enumerate() {

@@ -6,19 +6,19 @@ use anyhow::{Context, bail};
 use std::alloc::{AllocError, Global};
 
 /// The number that a text is.
-pub fn number(text: &str) -> anyhow::Result<usize> {
+pub(crate) fn number(text: &str) -> anyhow::Result<usize> {
     let number = text.parse::<usize>().context("a number is missing")?;
     Ok(number)
 }
 
 /// A number, and what stands after the first space.
-pub fn number_and_text(text: &str) -> anyhow::Result<(usize, &str)> {
+pub(crate) fn number_and_text(text: &str) -> anyhow::Result<(usize, &str)> {
     let (front, rest) = text.split_once(' ').unwrap_or((text, ""));
     Ok((number(front)?, rest))
 }
 
 /// The bytes of a text that may have backslashes.
-pub fn unescaped(alloc: Global, text: &str) -> anyhow::Result<Vec<u8>> {
+pub(crate) fn unescaped(alloc: Global, text: &str) -> anyhow::Result<Vec<u8>> {
     let mut bytes = Vec::new(alloc);
     for (place, piece) in text.split('\\').enumerate() {
         if place == 0 {
@@ -60,7 +60,11 @@ fn digit(byte: u8) -> anyhow::Result<u8>
 }
 
 /// Appends the piece a number of times.
-pub fn append_times(text: &mut Vec<u8>, times: usize, piece: &[u8]) -> Result<(), AllocError> {
+pub(crate) fn append_times(
+    text: &mut Vec<u8>,
+    times: usize,
+    piece: &[u8],
+) -> Result<(), AllocError> {
     for _ in 0..times {
         text.extend_from_slice(piece)?;
     }
@@ -68,7 +72,11 @@ pub fn append_times(text: &mut Vec<u8>, times: usize, piece: &[u8]) -> Result<()
 }
 
 /// Appends the piece as often as it begins below that length.
-pub fn append_to_length(text: &mut Vec<u8>, length: usize, piece: &[u8]) -> Result<(), AllocError> {
+pub(crate) fn append_to_length(
+    text: &mut Vec<u8>,
+    length: usize,
+    piece: &[u8],
+) -> Result<(), AllocError> {
     for _ in text.len()..length {
         if text.len() < length {
             text.extend_from_slice(piece)?;
@@ -78,7 +86,7 @@ pub fn append_to_length(text: &mut Vec<u8>, length: usize, piece: &[u8]) -> Resu
 }
 
 /// Appends the piece for each number below the count, with the number in place of each `@`.
-pub fn append_each(
+pub(crate) fn append_each(
     alloc: Global,
     text: &mut Vec<u8>,
     count: usize,

@@ -14,7 +14,7 @@ use partition::Partition;
 use std::alloc::Global;
 
 /// The answer of a call for a machine.
-pub fn answer(alloc: Global, call: &str, m: &Machine) -> anyhow::Result<String> {
+pub(crate) fn answer(alloc: Global, call: &str, m: &Machine) -> anyhow::Result<String> {
     if m.inputs() > 8 {
         bail!("too many inputs");
     }

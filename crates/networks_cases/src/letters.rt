@@ -6,7 +6,7 @@ use net_core::{Gate, Gates, Latch, Latches, Network, Start};
 use std::alloc::{AllocError, Global};
 
 /// The network that a text says: its inputs, outputs, latches and gates, with `/` between each two.
-pub fn network(alloc: Global, text: &str) -> anyhow::Result<Network> {
+pub(crate) fn network(alloc: Global, text: &str) -> anyhow::Result<Network> {
     let mut parts = text.split('/');
     let (inputs, outputs) = (parts.next(), parts.next());
     let (latches, gates) = (parts.next(), parts.next());

@@ -12,7 +12,7 @@ use rand_pcg::rand_core::Rng;
 use std::alloc::Global;
 
 /// What a call answers.
-pub fn answer(alloc: Global, call: &str, words: &str) -> anyhow::Result<String> {
+pub(crate) fn answer(alloc: Global, call: &str, words: &str) -> anyhow::Result<String> {
     let (seed, rest) = words.split_once(' ').unwrap_or((words, "0"));
     let seed: u64 = seed.parse().ok().context("no seed")?;
     match call {

@@ -7,7 +7,7 @@ use net_core::{NetFail, Network, Order, Start, check};
 use std::alloc::Global;
 
 /// What a call answers.
-pub fn answer(alloc: Global, call: &str, words: &str) -> anyhow::Result<String> {
+pub(crate) fn answer(alloc: Global, call: &str, words: &str) -> anyhow::Result<String> {
     match call {
         "digit" => digit(alloc, words),
         "check" => checked(alloc, &network(alloc, words)?),

@@ -10,7 +10,7 @@ use net_sim::{SimFail, SymbolFail, append_answer, read_symbols, run, step_into};
 use std::alloc::{AllocError, Global};
 
 /// What a call answers.
-pub fn answer(alloc: Global, call: &str, words: &str) -> anyhow::Result<String> {
+pub(crate) fn answer(alloc: Global, call: &str, words: &str) -> anyhow::Result<String> {
     match call {
         "run" => ran(alloc, words),
         "step_into" => stepped(alloc, words),

@@ -14,7 +14,7 @@ pub struct Listed<T> {
 }
 
 /// The joins of generators, up to a limit.
-pub fn joins<W: JoinWorld>(
+pub(crate) fn joins<W: JoinWorld>(
     alloc: Global,
     world: &W,
     generators: &[W::Item],
@@ -38,7 +38,7 @@ pub fn joins<W: JoinWorld>(
 }
 
 /// The join of three values.
-pub fn join_of_three<W: JoinWorld>(
+pub(crate) fn join_of_three<W: JoinWorld>(
     alloc: Global,
     world: &W,
     x: &W::Item,
@@ -75,7 +75,7 @@ fn added<W: JoinWorld>(
 }
 
 /// The values as a collection gives them in ascending order, and how many of them came again.
-pub fn collected<W: JoinWorld>(
+pub(crate) fn collected<W: JoinWorld>(
     alloc: Global,
     world: &W,
     items: &[W::Item],

@@ -38,12 +38,12 @@ impl Calls for RowCalls {
 }
 
 /// The partition that a word says, with rows of bits.
-pub fn rows(alloc: Global, word: &str) -> anyhow::Result<BitPart> {
+pub(crate) fn rows(alloc: Global, word: &str) -> anyhow::Result<BitPart> {
     Ok(BitPart::of(alloc, &part(alloc, word)?)?)
 }
 
 /// The labels of a partition with rows, as a text.
-pub fn shown_rows(alloc: Global, p: &BitPart) -> anyhow::Result<String> {
+pub(crate) fn shown_rows(alloc: Global, p: &BitPart) -> anyhow::Result<String> {
     shown(alloc, &p.labels(alloc)?)
 }
 

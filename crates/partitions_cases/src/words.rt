@@ -9,7 +9,7 @@ use partition::{PartFail, Partition};
 use std::alloc::Global;
 
 /// The number of states that a word says.
-pub fn count(word: &str) -> anyhow::Result<usize>
+pub(crate) fn count(word: &str) -> anyhow::Result<usize>
     ensures { IfOk result IsStateCount }
 {
     let n = number(word)?;
@@ -20,7 +20,7 @@ pub fn count(word: &str) -> anyhow::Result<usize>
 }
 
 /// The labels that a word says, with commas between them: `-` says none, and `0*300` says 0 as often as that.
-pub fn labels(alloc: Global, word: &str) -> anyhow::Result<Vec<u16>> {
+pub(crate) fn labels(alloc: Global, word: &str) -> anyhow::Result<Vec<u16>> {
     let mut labels = Vec::new(alloc);
     if word == "-" {
         return Ok(labels);
@@ -36,7 +36,7 @@ pub fn labels(alloc: Global, word: &str) -> anyhow::Result<Vec<u16>> {
 }
 
 /// The partition that a word says: its labels, or the word for one of n states.
-pub fn part(alloc: Global, word: &str) -> anyhow::Result<Partition> {
+pub(crate) fn part(alloc: Global, word: &str) -> anyhow::Result<Partition> {
     let Some((kind, size)) = word.split_once('*') else {
         let labels = labels(alloc, word)?;
         return Partition::from_labels(alloc, labels.as_slice())
@@ -68,7 +68,7 @@ fn neighbours(alloc: Global, n: usize, first: u16) -> anyhow::Result<Partition>
 }
 
 /// The labels of a partition as a text. Where it has more than eight states and is zero or one, the word for it.
-pub fn shown(alloc: Global, p: &Partition) -> anyhow::Result<String> {
+pub(crate) fn shown(alloc: Global, p: &Partition) -> anyhow::Result<String> {
     if p.len() > 8 && p.blocks() == p.len() {
         return Ok(format!(in alloc; "zero*{}", p.len())?);
     }
@@ -81,7 +81,7 @@ pub fn shown(alloc: Global, p: &Partition) -> anyhow::Result<String> {
 }
 
 /// The same of what a call answers: the partition, or the refusal.
-pub fn shown_or_refused(
+pub(crate) fn shown_or_refused(
     alloc: Global,
     answer: Result<Partition, PartFail>,
 ) -> anyhow::Result<String> {

@@ -6,7 +6,7 @@ use shift_real::{OrderFail, RegisterFail, chain, order, start};
 use std::alloc::Global;
 
 /// The answer of a call for a machine.
-pub fn answer(alloc: Global, call: &str, m: &Machine) -> anyhow::Result<String> {
+pub(crate) fn answer(alloc: Global, call: &str, m: &Machine) -> anyhow::Result<String> {
     match call {
         "chain" => chain_text(alloc, m),
         "order" => order_text(alloc, m),

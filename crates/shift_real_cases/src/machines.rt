@@ -10,7 +10,7 @@ use std::fs;
 use std::rt::Files;
 
 /// The machine of a file.
-pub fn machine<R: Files + AllocGlobal>(rt: &R, name: &str) -> anyhow::Result<Machine> {
+pub(crate) fn machine<R: Files + AllocGlobal>(rt: &R, name: &str) -> anyhow::Result<Machine> {
     let path = format!(in rt.alloc(); "{name}.kiss")?;
     let text = fs::read(rt, path.as_str()).context("reading a machine")?;
     if text.len() > 4_194_304 {

@@ -7,7 +7,7 @@ use cubes::{Cube, CubeFail, first_gap};
 use std::alloc::Global;
 
 /// What a call answers.
-pub fn answer(alloc: Global, call: &str, words: &str) -> anyhow::Result<String> {
+pub(crate) fn answer(alloc: Global, call: &str, words: &str) -> anyhow::Result<String> {
     match call {
         "parse" => parsed(alloc, words),
         "holds" => holding(alloc, words),

@@ -7,7 +7,7 @@ use job_words::{Form, Job, JobFail, Words, built_forms, job, judge};
 use std::alloc::{AllocError, Global};
 
 /// What a call answers.
-pub fn answer(alloc: Global, call: &str, line: &str) -> anyhow::Result<String> {
+pub(crate) fn answer(alloc: Global, call: &str, line: &str) -> anyhow::Result<String> {
     if call == "form" {
         return form(alloc, line);
     }

@@ -6,7 +6,7 @@ use kiss2::{KissFail, KissFile, KissRow, StateNames, read, write};
 use std::alloc::{AllocError, Global};
 
 /// What a call answers.
-pub fn answer(alloc: Global, call: &str, words: &str) -> anyhow::Result<String> {
+pub(crate) fn answer(alloc: Global, call: &str, words: &str) -> anyhow::Result<String> {
     match call {
         "state_names" => numbered(alloc, words),
         "read" => told(alloc, unescaped(alloc, words)?.as_slice()),

@@ -6,7 +6,7 @@ use hs_io::{content_of, cut_lines, first_field, first_line, is_clean};
 use std::alloc::{AllocError, Global};
 
 /// The lines of a text, which are the same when they are read one after another.
-pub fn answer(alloc: Global, words: &str) -> anyhow::Result<String> {
+pub(crate) fn answer(alloc: Global, words: &str) -> anyhow::Result<String> {
     let text = unescaped(alloc, words)?;
     let lines = lines_at_once(alloc, text.as_slice())?;
     let others = lines_in_turn(alloc, text.as_slice())?;

@@ -12,7 +12,7 @@ use state_codes::Kind;
 use std::alloc::{AllocError, Global};
 
 /// What a call answers.
-pub fn answer(alloc: Global, call: &str, words: &str) -> anyhow::Result<String> {
+pub(crate) fn answer(alloc: Global, call: &str, words: &str) -> anyhow::Result<String> {
     match call {
         "blif" => told(alloc, unescaped(alloc, words)?.as_slice()),
         "blif_repeated" => told(alloc, repeated(alloc, words)?.as_slice()),

@@ -5,7 +5,7 @@ use cubes::{Cube, first_gap};
 use std::alloc::Global;
 
 /// Whether all lists agree. Prints how many there are, and each that differs.
-pub fn agree<R: AllocGlobal + Print>(rt: &R) -> anyhow::Result<bool> {
+pub(crate) fn agree<R: AllocGlobal + Print>(rt: &R) -> anyhow::Result<bool> {
     let alloc = rt.alloc();
     let mut lists = 0u32;
     let mut all = true;

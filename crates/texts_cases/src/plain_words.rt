@@ -5,7 +5,7 @@ use job_words::{CommandOption, Form, OperandKind};
 use std::str;
 
 /// The number of the refused word, counted from 1, or 0 where the words are a job.
-pub fn refused_word(words: &[&[u8]]) -> usize {
+pub(crate) fn refused_word(words: &[&[u8]]) -> usize {
     let Some(form) = form_of(words) else {
         return 1;
     };

@@ -9,7 +9,7 @@ use hs_texts::reports::{TrialFigures, counts, trial};
 use std::alloc::{AllocError, Global};
 
 /// What a call answers.
-pub fn answer(alloc: Global, call: &str, words: &str) -> anyhow::Result<String> {
+pub(crate) fn answer(alloc: Global, call: &str, words: &str) -> anyhow::Result<String> {
     let (first, rest) = words.split_once(' ').unwrap_or((words, ""));
     let (second, third) = rest.split_once(' ').unwrap_or((rest, ""));
     let (name, other) = (first.as_bytes(), second.as_bytes());

@@ -8,7 +8,7 @@ use std::io;
 use std::rt::Files;
 
 /// What a call answers.
-pub fn answer(alloc: Global, call: &str, words: &str) -> anyhow::Result<String> {
+pub(crate) fn answer(alloc: Global, call: &str, words: &str) -> anyhow::Result<String> {
     match call {
         "mem_shelf" => loaded(alloc, words),
         "mem_sink" => put(alloc, words),
@@ -85,7 +85,7 @@ fn put(alloc: Global, words: &str) -> anyhow::Result<String> {
 }
 
 /// What a load of a file with a limit of ten bytes tells.
-pub fn file<R: Files + AllocGlobal>(rt: &R, words: &str) -> anyhow::Result<String> {
+pub(crate) fn file<R: Files + AllocGlobal>(rt: &R, words: &str) -> anyhow::Result<String> {
     let alloc = rt.alloc();
     let mut shelf = FileShelf::new(rt);
     let mut into = Vec::new(alloc);
@@ -118,7 +118,7 @@ fn put_to_closed(alloc: Global) -> anyhow::Result<String> {
 }
 
 /// Puts a line to standard output, and nothing to standard error.
-pub fn put_to_streams(rt: &HostRuntime) -> anyhow::Result<bool> {
+pub(crate) fn put_to_streams(rt: &HostRuntime) -> anyhow::Result<bool> {
     StdSink::new(rt.stdout()).put(b"a line\n")?;
     StdSink::new(rt.stderr()).put(b"")?;
     Ok(true)

@@ -42,7 +42,7 @@ const NUMBERS: [&[u8]; 9] = [
 ];
 
 /// Whether all lists agree. Prints how many there are, and each that differs.
-pub fn agree<R: AllocGlobal + Print>(rt: &R) -> anyhow::Result<bool> {
+pub(crate) fn agree<R: AllocGlobal + Print>(rt: &R) -> anyhow::Result<bool> {
     let mut all = true;
     for (count, lists) in [(0, 1), (1, 18), (2, 324), (3, 5832), (4, 104_976)] {
         let agree = agree_on(rt, None, &ALPHABET, count, lists)?;
