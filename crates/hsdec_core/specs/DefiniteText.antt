@@ -13,8 +13,8 @@ use Rattle.hsdec_core.specs.Work.{OnWork}
 abbrev pub IsDefinite : KissFile → Type 0
 IsDefinite W = (k : ℕ) × Definite W k
 
--- the members are the chain of the machine, each tells which states every word of as many symbols as its place brings to one,
--- and the last of them is one
+-- the members are the chain of the machine; in member j states are together exactly where every word of j symbols brings
+-- them to one; the last member is one
 pub record IsWholeChain (W : KissFile) (members : List (List ℕ)) : Type 0 where
   pub chain : IsChain W members
   pub together : AreTogetherAfter W members
@@ -30,6 +30,6 @@ abbrev pub IsStatesLine : KissFile → ℕ → ℕ → List ℕ → Type 0
 IsStatesLine W s t line =
     (name other : List ℕ) × (slice_get W.states s ≡ Some name) × (slice_get W.states t ≡ Some other) × (line ≡ not_definite_line name other)
 
--- the line of the least two states that words of every length keep apart
+-- the line of the least two states that some word of every length keeps apart
 abbrev pub IsNotDefiniteLine : KissFile → List ℕ → Type 0
 IsNotDefiniteLine W line = (s t : ℕ) × AreFirstApart W s t × IsStatesLine W s t line

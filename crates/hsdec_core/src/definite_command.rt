@@ -19,7 +19,7 @@ use shift_real::{OrderFail, chain, order};
 use std::alloc::{AllocError, Global};
 
 /// The command `definite`, on the machine of its file: how the states of the machine that the job works on come
-/// together symbol by symbol, or two of them that never do.
+/// together symbol by symbol, or two of them that some word of every length keeps apart.
 pub fn definite(
     alloc: Global,
     job: &Job,
