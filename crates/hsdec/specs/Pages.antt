@@ -46,6 +46,7 @@ usage_text =
     flat_map ended (
     codes "Usage:"
     ∷ codes "  hsdec COMMAND OPERAND.. OPTION.."
+    ∷ codes "  hsdec --help"
     ∷ codes "  hsdec --help COMMAND"
     ∷ codes "  hsdec --version"
     ∷ []
@@ -75,7 +76,7 @@ answers_text =
     ∷ codes "  13  a file is longer than 4,194,304 bytes"
     ∷ codes "  14  the text could not be written whole"
     ∷ codes "  15  memory ran out"
-    ∷ codes "  19  the machine is not definite"
+    ∷ codes "  19  the machine is not definite: two states that show it are named"
     ∷ []
     )
 
@@ -85,7 +86,7 @@ help_page_of rows operands options =
     usage_text ++ flat_map form_lines rows ++ ended [] ++ ended (codes "Operands and options:") ++ operand_lines operands
     ++ option_lines options ++ answers_text
 
--- the page about the program: each command that is built, and all operands and options
+-- the page about the program: each command that is built, and the operands and options of these
 unfoldable pub help_page : List ℕ
 help_page = help_page_of built (File ∷ Net ∷ Symbols ∷ Part ∷ Parts ∷ Seed ∷ A ∷ B ∷ K ∷ []) (Limit ∷ Reduce ∷ Start ∷ Fill ∷ [])
 

@@ -19,6 +19,7 @@ const VERSION: &[u8] = b"hsdec 0.1.0\n";
 /// How the program is called.
 const USAGE: &[u8] = b"Usage:
   hsdec COMMAND OPERAND.. OPTION..
+  hsdec --help
   hsdec --help COMMAND
   hsdec --version
 
@@ -66,7 +67,7 @@ Exit status, and what to do:
   13  a file is longer than 4,194,304 bytes
   14  the text could not be written whole
   15  memory ran out
-  19  the machine is not definite
+  19  the machine is not definite: two states that show it are named
 ";
 
 /// The page that the words ask for: `--help` or `--version` alone, or `--help` with a command.

@@ -63,7 +63,7 @@ pub fn example(command: Command) -> &'static [u8]
         Command::Gen => b"gen 42 4 4 1",
         Command::Trial => b"trial 42 4 4 1",
         Command::Least => b"least modulo4.kiss",
-        Command::Cover => b"cover modulo4.kiss 0,1,2/0,2,3",
+        Command::Cover => b"cover modulo4.kiss 0,1/0,3/1,2/2,3",
         Command::Definite => b"definite three_ones.kiss",
         Command::Shift => b"shift shift3.kiss",
         Command::Ispairs => b"ispairs modulo4.kiss --limit 100",
@@ -102,7 +102,7 @@ pub fn operand_text(kind: OperandKind) -> &'static [u8]
         OperandKind::Symbols =>
             b"  SYMBOLS      a line for each symbol, a 0 or 1 for each input; - is standard input",
         OperandKind::Cover =>
-            b"  COVER        blocks of states, counted from 0, joined by slashes, as 0,1,2/0,2,3",
+            b"  COVER        blocks of states, counted from 0, joined by slashes, as 0,1/0,2/1,2",
         OperandKind::Seed =>
             b"  SEED         the number that the machine is made from, of one to nine digits",
         OperandKind::A => b"  A            how many states its first factor has, from 2 to 128",

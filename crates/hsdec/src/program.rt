@@ -4,7 +4,9 @@ ghost use Rattle.std.specs.Prelude.{◌≡◌, ◌≢◌, ◌⊎◌, ℕ, ◌-�
 ghost use Rattle.hs_io.specs.Counts.{Rose};
 ghost use Rattle.hs_io.specs.Pieces.{Appends, AppendsFront};
 ghost use Rattle.hs_texts.specs.ErrLines.{cannot_write_line};
+ghost use Rattle.job_words.specs.Job.{JobOf};
 ghost use Rattle.hsdec_core.specs.Answer.{answer_code};
+ghost use Rattle.hsdec_core.specs.Operands.{AreGranted};
 ghost use Rattle.hsdec_core.specs.Put.{LinePut};
 ghost use Rattle.hsdec.specs.Pages.{page_asked};
 ghost use Rattle.hsdec.specs.Status.{IsAnswerTo, IsComplete, IsLineTo};
@@ -18,7 +20,8 @@ use hsdec_core::{Answer, run};
 use job_words::Words;
 use std::alloc::{AllocError, Global};
 
-/// The exit status of the program. `--help` and `--version` are answered here, all else by `run`.
+/// The exit status of the program. `--help` and `--version` are answered here, all else by `run`. No name is loaded
+/// but the operands of a job.
 pub fn status<A: Arguments, F: Shelf, O: Sink, E: Sink>(
     alloc: Global,
     arguments: &A,
@@ -26,7 +29,8 @@ pub fn status<A: Arguments, F: Shelf, O: Sink, E: Sink>(
     out: &mut O,
     err: &mut E,
 ) -> u8
-    requires { (name : List ℕ) → F.grants shelf.old name }
+    requires { (words : List (List ℕ)) → AreTold (A.given arguments.now) words
+        → IfOk (JobOf words) (AreGranted (F.grants shelf.old)) }
 
     // It is the number of the answer to the words of the arguments, if memory is not wanting. The answer comes
     // where they and the texts of the shelf call for it, and out is given what they ask for. A fault comes
@@ -56,7 +60,8 @@ fn answer_of<A: Arguments, F: Shelf, O: Sink, E: Sink>(
     out: &mut O,
     err: &mut E,
 ) -> Answer
-    requires { (name : List ℕ) → F.grants shelf.old name }
+    requires { (words : List (List ℕ)) → AreTold (A.given arguments.now) words
+        → IfOk (JobOf words) (AreGranted (F.grants shelf.old)) }
     ensures { (words : List (List ℕ))
         × (result ≢ Answer.NoMemory → AreTold (A.given arguments.now) words)
         × IsAnswerTo words (F.holds shelf.old) result (O.given out.old) (O.given out.new)
@@ -84,7 +89,7 @@ fn answer_to<F: Shelf, O: Sink, E: Sink>(
     err: &mut E,
 ) -> Answer
     requires few { length words.now < 2 ^ 32 - 1 }
-    requires granted { (name : List ℕ) → F.grants shelf.old name }
+    requires granted { IfOk (JobOf words.now) (AreGranted (F.grants shelf.old)) }
     ensures answer { IsAnswerTo words.now (F.holds shelf.old) result (O.given out.old) (O.given out.new) }
     ensures complete { IsComplete words.now (F.holds shelf.old) result
         (Rose (F.faults shelf.old) (F.faults shelf.new) ⊎ Rose (O.faults out.old) (O.faults out.new)) }

@@ -130,5 +130,8 @@ fn reads_the_input_once(rt: HostRuntime) -> Result<(), Fail> {
     let mut front = Vec::new(rt.alloc());
     assert_eq!(rt; longer.load(b"-", 4, &mut front), Err(LoadFail::TooLong));
     assert_eq!(rt; front.as_slice(), b".i 1\n".as_slice());
+    let mut again = Vec::new(rt.alloc());
+    longer.load(b"-", 4, &mut again)?;
+    assert_eq!(rt; again.as_slice(), b"".as_slice());
     Ok(())
 }
