@@ -6,7 +6,7 @@ use Rattle.cubes.specs.Symbol.{symbol_of}
 use Rattle.kiss2.specs.declared.kiss_file.KissFile.{KissFile}
 use Rattle.kiss2.specs.Machine.{answers, next, out}
 use Rattle.machine_table.specs.Pairs.{AtEachSymbol, IsFirstWithout}
-use Rattle.cover_split.specs.Cover.{Has}
+use Rattle.cover_split.specs.Cover.{Has, places_of}
 use Rattle.cover_split.specs.declared.expansion.ExpandFail.{ExpandFail}
 use Rattle.cover_split.specs.declared.expansion.ExpandFail.TheVariants.{NotClosed, NoMemory}
 
@@ -22,6 +22,10 @@ pairs_from j (block ∷ blocks) = pairs_with j block ++ pairs_from (suc j) block
 -- all pairs, in order
 unfoldable pub pairs_of : List (List ℕ) → List (ℕ × ℕ)
 pairs_of blocks = pairs_from 0 blocks
+
+-- there is a pair for each place
+abbrev pub PairsFillPlaces : Type 0
+PairsFillPlaces = (blocks : List (List ℕ)) → length (pairs_of blocks) ≡ places_of blocks
 
 -- the pair of that number is that of block j and state s
 abbrev pub IsPair : List (List ℕ) → (i j s : ℕ) → Type 0

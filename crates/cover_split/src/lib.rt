@@ -20,6 +20,7 @@ mod expansion;
 mod halving;
 mod holders;
 mod joint;
+mod laws;
 mod naming;
 mod pairs;
 mod parts;
@@ -28,5 +29,7 @@ mod text;
 
 pub use cover::{Block, Blocks, Cover, CoverFail};
 pub use expansion::{ExpandFail, expand};
+pub use laws::{pairs_fill_places, worked_texts};
+pub use pairs::pairs_of;
 pub use parts::split;
 pub use text::parse;

@@ -7,7 +7,7 @@ use crate::cover::{Block, has_state, states_at};
 use std::alloc::{AllocError, Global};
 
 /// All pairs by block and then by state.
-pub(crate) fn pairs_of(alloc: Global, blocks: &[Block]) -> Result<Vec<(u16, u16)>, AllocError>
+pub fn pairs_of(alloc: Global, blocks: &[Block]) -> Result<Vec<(u16, u16)>, AllocError>
     requires { length blocks.now ≤ 256 }
     ensures { IfOk result (λ pairs. pairs.items ≡ pairs_of blocks.now) }
 {

@@ -79,7 +79,7 @@ two_blocks n words i s size within one =
     omega (arith, few, label_at n words i s size within, one, label-lt-blocks_of (bit_labels i words) s (omega (arith, within, labels_length words i, size)))
 
 -- inside itself a partition has one block in each of its own
-zeros : List ℕ → List ℕ
+pub zeros : List ℕ → List ℕ
 zeros p = map (λ (label : ℕ). 0) p
 
 zero_at : (p : List ℕ) (s : ℕ) → s < length p → get_or (zeros p) s 0 ≡ 0
@@ -101,7 +101,7 @@ none_below p s (suc k) below =
     skipped true m = omega arith
     skipped false m = omega arith
 
-inside_itself : (n : ℕ) (p : List ℕ) → IsPartition n p → IsInside p p (zeros p)
+pub inside_itself : (n : ℕ) (p : List ℕ) → IsPartition n p → IsInside p p (zeros p)
 inside_itself n p lawful = record {
   lawful = record {
     count = subst IsStateCount (sym lawful.length) lawful.count;
@@ -111,7 +111,7 @@ inside_itself n p lawful = record {
   numbers = λ s within. zero_at p s within ∙ sym (none_below p s (least_of p s) (omega arith));
 }
 
-one_block : (p : List ℕ) → 0 < length p → blocks_of (zeros p) ≡ 1
+pub one_block : (p : List ℕ) → 0 < length p → blocks_of (zeros p) ≡ 1
 one_block p some =
     let low : 0 < blocks_of (zeros p) = omega (arith, label-lt-blocks_of (zeros p) 0 (omega (arith, some, zeros_length p))) in
     let high : blocks_of (zeros p) ≤ 1 = flat (zeros p) (λ s within. zero_at p s (omega (arith, within, zeros_length p))) in
@@ -124,7 +124,7 @@ one_block p some =
 need_two : need 2 ≡ 1
 need_two = need_is 2 1 (record { enough = omega arith; least = λ fewer enough. elim (cases_eq fewer 0) [ inl none ↦ absurd (omega (arith, enough, ap (λ (k : ℕ). 2 ^ k) none)) | inr some ↦ omega (arith, some) ] })
 
-need_one : need 1 ≡ 0
+pub need_one : need 1 ≡ 0
 need_one = need_is 1 0 (record { enough = omega arith; least = λ fewer enough. omega arith })
 
 -- one bit a part, that of its label
@@ -277,11 +277,12 @@ module _ (n bits : ℕ) (words : List ℕ) (partitions : List (List ℕ)) (count
     };
   }
 
-  pub give_least_code : (F : KissFile) → length F.states ≡ n → IsLeastCode F words → GiveLeastCode F parts_here
-  give_least_code F size least = record {
+  pub give_least_code : (F : KissFile) → length F.states ≡ n → bits ≡ need n → IsLeastCode F words → GiveLeastCode F parts_here
+  give_least_code F size needed least = record {
     codes = codes_here;
     given = subst (λ (m : ℕ). IsCode m parts_here codes_here) (sym size) is_code;
     least = least;
+    size = places_length 0 partitions ∙ are.count ∙ needed ∙ ap need (sym size);
     count = parts_length ∙ sym (places_length 0 partitions ∙ are.count);
     bits = λ i part at.
         let is : part ≡ own_part (bit_labels i words) (others bits i) = part_is i part at in

@@ -45,7 +45,7 @@ any_below (x ∷ xs) n below q is =
       bool_cases false = inr refl
 
 -- different numbers below n are at most n
-few_below : (xs : List ℕ) (n : ℕ) → ((i j : ℕ) → i < j → j < length xs → get_or xs i 0 ≡ get_or xs j 0 → ⊥) → ((k : ℕ) → k < length xs → get_or xs k 0 < n) → length xs ≤ n
+pub few_below : (xs : List ℕ) (n : ℕ) → ((i j : ℕ) → i < j → j < length xs → get_or xs i 0 ≡ get_or xs j 0 → ⊥) → ((k : ℕ) → k < length xs → get_or xs k 0 < n) → length xs ≤ n
 few_below xs n apart below =
     length-le_from_distinct_below xs n (IsDistinct-from_apart eqb xs (λ i j d before within. test_false (get_or xs i d) (get_or xs j d) (λ same. apart i j before within (defaults i d (omega (arith, before, within)) ∙ same ∙ sym (defaults j d within))))) (any_below xs n below)
   where

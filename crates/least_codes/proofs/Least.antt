@@ -36,7 +36,7 @@ ones_are_below word bits is c = (
 )
 
 -- the numbers of the states, as codes
-numbers_are_codes : (n bits : ℕ) → n ≤ 2 ^ bits → AreCodes n bits (range_with_len 0 n)
+pub numbers_are_codes : (n bits : ℕ) → n ≤ 2 ^ bits → AreCodes n bits (range_with_len 0 n)
 numbers_are_codes n bits enough = record {
   count = length-range_with_len 0 n;
   short = λ s within. omega (arith, get_or-range_with_len 0 n s 0 within, within, enough);

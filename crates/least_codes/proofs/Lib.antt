@@ -11,3 +11,14 @@ pub mod Halves
 pub mod Least
 pub mod Refused
 pub mod BitParts
+pub mod Chosen
+pub mod Reading
+pub mod Greedy
+pub mod Sharing
+pub mod Rule
+pub mod Gates
+pub mod Deciding
+pub mod Seeking
+pub mod Texts
+pub mod Pool
+pub mod Existing

@@ -5,7 +5,7 @@ use Rattle.partition.specs.Partition.{blocks_of}
 use Rattle.state_codes.specs.declared.split.Part.{Part}
 use Rattle.state_codes.specs.declared.Codes.{Codes}
 use Rattle.state_codes.specs.Agreement.{IsBitPartition}
-use Rattle.state_codes.specs.Code.{IsCode}
+use Rattle.state_codes.specs.Code.{IsCode, need}
 use Rattle.state_codes.specs.Kinds.{IsOwnCarrier, PartsMeetInZero}
 use Rattle.state_codes.specs.Split.{others}
 use Rattle.least_codes.specs.LeastCode.{IsLeastCode}
@@ -22,5 +22,6 @@ pub record GiveLeastCode (F : KissFile) (parts : List Part) : Type 0 where
   pub codes : Codes
   pub given : IsCode (length F.states) parts codes
   pub least : IsLeastCode F codes.words
+  pub size : codes.bits ≡ need (length F.states)
   pub count : length parts ≡ codes.bits
   pub bits : (i : ℕ) (part : Part) → slice_get parts i ≡ Some part → IsBitPartition (length F.states) codes.words i part.partition

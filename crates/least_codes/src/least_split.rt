@@ -2,6 +2,7 @@
 
 ghost use Rattle.std.specs.Prelude.{◌≡◌, ◌≤◌, All, IfOk, length};
 ghost use Rattle.least_codes.specs.Kind.{GiveLeastCode, IsLeastSplit};
+ghost use Rattle.state_codes.specs.Code.{need};
 ghost use Rattle.state_codes.specs.Split.{IsPart};
 
 use crate::bit_parts::bit_partitions;
@@ -18,6 +19,7 @@ pub fn split(alloc: Global, m: &Machine) -> Result<Split, AllocError>
     ensures kind { IfOk result (λ split. split.kind ≡ Kind.Least) }
     ensures least { IfOk result (λ split. IsLeastSplit split.parts) }
     ensures code { IfOk result (λ split. GiveLeastCode m.now split.parts) }
+    ensures bits { IfOk result (λ split. length split.parts ≡ need (length m.now.states)) }
 
     ensures few { IfOk result (λ split. length split.parts ≤ 256) }
     ensures lawful { IfOk result (λ split. All (IsPart (length m.now.states)) split.parts) }

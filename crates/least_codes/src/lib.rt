@@ -10,7 +10,9 @@
 //! first and 0 before 1.
 //!
 //! `specs/LeastReads` says what least sets are, `specs/Cost` what codes cost, `specs/LeastCode` which code is the least,
-//! and `specs/Kind` what its split is. What is in `specs/Inner` serves private functions and proofs alone.
+//! and `specs/Kind` what its split is. What follows is promised by the functions of `laws`: the machine decides the
+//! least code and its split, whose parts tell all states apart. With codes as short as these the rule by which gates
+//! read, told in `dependence`, ends at a least set. What is in `specs/Inner` serves private functions and proofs alone.
 //!
 //! Codes are tried in the order of their texts, and one takes the place of the best so far only where it costs less.
 //! Turning one bit over in all codes changes no agreement of two states, and so no cost. Hence the least code has zeros
@@ -22,11 +24,16 @@ mod bit_parts;
 mod choice;
 mod code;
 mod cost;
+mod laws;
 mod least_split;
 mod reads;
 mod table;
 mod two_states;
 
 pub use bit::Bit;
+pub use laws::{
+    all_bits_permit, choice_is_one, least_code_exists, least_reads_are_one, parts_tell_all,
+    rule_gives_least,
+};
 pub use least_split::split;
 pub use reads::least_reads;

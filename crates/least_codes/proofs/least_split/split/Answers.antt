@@ -5,6 +5,7 @@ use Rattle.partition.specs.Partition.{IsPartition}
 use Rattle.state_codes.specs.declared.split.Part.{Part}
 use Rattle.state_codes.specs.Code.{need}
 use Rattle.state_codes.specs.Laws.Need.{need-enough}
+use Rattle.state_codes.specs.Laws.Splits.{given_parts-length}
 use Rattle.state_codes.specs.Split.{given_parts}
 use Rattle.least_codes.specs.Inner.Parts.{AreBitLabels}
 use Rattle.least_codes.specs.Kind.{GiveLeastCode, IsLeastSplit}
@@ -40,7 +41,10 @@ module _ (F : KissFile) (words : List ℕ) (partitions : List (List ℕ)) (bits 
     code_here : GiveLeastCode F parts
     code_here =
         subst (GiveLeastCode F) (sym parts_are)
-        (give_least_code (length F.states) (need (length F.states)) words partitions (omega (arith, some), omega (arith, most)) least.codes are_needed first (λ i below. some_one (length F.states) words i least.codes below) F refl least)
+        (give_least_code (length F.states) (need (length F.states)) words partitions (omega (arith, some), omega (arith, most)) least.codes are_needed first (λ i below. some_one (length F.states) words i least.codes below) F refl refl least)
+
+    bits_here : length parts ≡ need (length F.states)
+    bits_here = ap (λ (list : List Part). length list) parts_are ∙ given_parts-length (need (length F.states)) 0 partitions ∙ are_needed.count
 
 pub returns-clause-least : goal.returns-clause-least
 returns-clause-least c =
@@ -50,6 +54,11 @@ returns-clause-least c =
 pub returns-clause-code : goal.returns-clause-code
 returns-clause-code c =
     code_here c.args.m.now c.in_ok-words.words.items c.in_ok-partitions.partitions.items c.bits_for.result c.requires.some c.requires.most c.in_ok-words.ensures.least c.in_ok-words.ensures.zero (c.bits_for.ensures.need ∙ ap need c.states.ensures.count)
+    (subst (λ (list : List ℕ). AreBitLabels c.bits_for.result list c.in_ok-partitions.partitions.items) c.as_slice.ensures.value c.in_ok-partitions.ensures) _ c.in_ok-given.field-0.parts (omega (arith, c.in_ok-partitions.ensures.count)) c.in_ok-given.ensures.parts
+
+pub returns-clause-bits : goal.returns-clause-bits
+returns-clause-bits c =
+    bits_here c.args.m.now c.in_ok-words.words.items c.in_ok-partitions.partitions.items c.bits_for.result c.requires.some c.requires.most c.in_ok-words.ensures.least c.in_ok-words.ensures.zero (c.bits_for.ensures.need ∙ ap need c.states.ensures.count)
     (subst (λ (list : List ℕ). AreBitLabels c.bits_for.result list c.in_ok-partitions.partitions.items) c.as_slice.ensures.value c.in_ok-partitions.ensures) _ c.in_ok-given.field-0.parts (omega (arith, c.in_ok-partitions.ensures.count)) c.in_ok-given.ensures.parts
 
 pub returns-clause-lawful : goal.returns-clause-lawful

@@ -1,0 +1,5 @@
+use Rattle.cover_split.proofs.PairLemmas.{length-pairs_of}
+use Rattle.cover_split.proofs.laws.pairs_fill_places.Goals as goal
+
+pub returns : goal.returns
+returns c = length-pairs_of
