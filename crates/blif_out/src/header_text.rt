@@ -36,13 +36,13 @@ fn append_kind(text: &mut Vec<u8>, kind: Kind) -> Result<(), AllocError>
     ensures { OnOk result (text.new.items ≡ text.old.items ++ ended (comment_text (kind_fields kind))) }
 {
     text.extend_from_slice(b"# hsdec")?;
-    append_field(text, word_of(kind))?;
+    append_field(text, word_of_kind(kind))?;
     text.push(b'\n')?;
     Ok(())
 }
 
-/// The word of a kind.
-fn word_of(kind: Kind) -> &'static [u8]
+/// The word of a kind, as the first line of a header and the lines of err name it.
+pub fn word_of_kind(kind: Kind) -> &'static [u8]
     ensures { result.now ≡ kind_word kind }
 {
     match kind {
@@ -132,8 +132,12 @@ fn append_state(text: &mut Vec<u8>, bits: usize, name: &[u8], word: u64) -> Resu
     Ok(())
 }
 
-/// Appends the line of each latch.
-fn append_notes(alloc: Global, text: &mut Vec<u8>, latches: &[LatchNote]) -> Result<(), AllocError>
+/// Appends the line of each latch, numbered from 0.
+pub fn append_notes(
+    alloc: Global,
+    text: &mut Vec<u8>,
+    latches: &[LatchNote],
+) -> Result<(), AllocError>
     ensures { OnOk result (text.new.items ≡ text.old.items ++ flat_map note_line (enumerate_from 0 latches.now)) }
 {
     for (number, latch) in latches.iter().enumerate() {

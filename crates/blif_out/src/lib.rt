@@ -20,6 +20,7 @@ mod network_text;
 mod writing;
 
 pub use header::{Header, LatchNote, LatchNotes};
+pub use header_text::{append_notes, word_of_kind};
 pub use writing::{append, text};
 
 /// The text of a network denotes it, whatever comments stand before it.

@@ -7,3 +7,4 @@ pub mod Within
 pub mod Network
 pub mod Decomposition
 pub mod Inner
+pub mod Laws

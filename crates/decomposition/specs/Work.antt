@@ -22,3 +22,11 @@ pub record IsWork (reduce : Bool) (F : KissFile) (work : WorkMachine) : Type 0 w
   pub machine : IsWorkMachine reduce F work.machine class
   pub classes : AreClasses reduce F work.classes
   pub names : AreWorkNames F work.machine work.names
+
+-- W is the machine that a command works on: that of the file, or with `--reduce` that of the classes of alike states
+abbrev pub IsWorkOf : Bool → KissFile → KissFile → Type 0
+IsWorkOf reduce F W = (class : ℕ → ℕ) × IsWorkMachine reduce F W class
+
+-- the machine that a command works on has a property
+abbrev pub OnWork : Bool → KissFile → (KissFile → Type 0) → Type 0
+OnWork reduce F P = (W : KissFile) × IsWorkOf reduce F W × P W

@@ -90,6 +90,47 @@ no_split_line kind = as_line (codes "hsdec: no " ++ kind ++ codes " decompositio
 abbrev pub not_definite_line : List ℕ → List ℕ → List ℕ
 not_definite_line state other = as_line (codes "hsdec: not definite, states " ++ state ++ codes " and " ++ other)
 
+-- the line of a definite machine whose reset state no word of as many symbols as its order ends in
+abbrev pub not_reached_line : List ℕ → List ℕ
+not_reached_line reset = as_line (codes "hsdec: reset " ++ reset ++ codes " not reached")
+
+-- the line of a machine of which no least code is sought
+abbrev pub state_count_line : ℕ → List ℕ
+state_count_line states = as_line (codes "hsdec: least needs 3 to 8 states, not " ++ decimal states)
+
+-- the line of a machine whose symbols are too many to be compared
+abbrev pub inputs_line : ℕ → List ℕ
+inputs_line inputs = as_line (codes "hsdec: inputs " ++ decimal inputs ++ codes " above 8")
+
+-- the line of a machine of which too many outputs occur
+abbrev pub outputs_line : List ℕ
+outputs_line = as_line (codes "hsdec: more than 256 outputs")
+
+-- ---- covers
+-- the line of a text of a cover with a place that holds no state, or not the next greater one
+abbrev pub cover_place_line : ℕ → ℕ → List ℕ
+cover_place_line block place = as_line (codes "hsdec: cover block " ++ decimal block ++ codes " place " ++ decimal place)
+
+-- the line of a block all of whose states are in another
+abbrev pub cover_within_line : ℕ → ℕ → List ℕ
+cover_within_line block other = as_line (codes "hsdec: cover block " ++ decimal block ++ codes " within block " ++ decimal other)
+
+-- the line of a state that is in no block
+abbrev pub cover_lacks_line : List ℕ → List ℕ
+cover_lacks_line state = as_line (codes "hsdec: cover lacks " ++ state)
+
+-- the line of blocks that have too many places in all
+abbrev pub cover_places_line : ℕ → List ℕ
+cover_places_line found = as_line (codes "hsdec: cover has " ++ decimal found ++ codes " places")
+
+-- the line of a cover that splits nothing
+abbrev pub cover_trivial_line : List ℕ
+cover_trivial_line = as_line (codes "hsdec: cover is trivial")
+
+-- the line of a block that no block holds the next states of, with the digits of the symbol
+abbrev pub cover_leaves_line : ℕ → List ℕ → List ℕ
+cover_leaves_line block symbol = as_line (codes "hsdec: cover block " ++ decimal block ++ codes " leaves at symbol " ++ symbol)
+
 -- the line of a text that could not be put whole
 abbrev pub cannot_write_line : List ℕ
 cannot_write_line = as_line (codes "hsdec: cannot write")

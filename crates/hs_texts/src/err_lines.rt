@@ -4,7 +4,7 @@ ghost use Rattle.std.specs.Prelude.{◌≡◌, ◌++◌, IfOk, OnOk, codes};
 ghost use Rattle.std.specs.Fmt.{decimal};
 ghost use Rattle.std.specs.List.{flat_map};
 ghost use Rattle.hs_io.specs.Spelling.{spaced};
-ghost use Rattle.hs_texts.specs.ErrLines.{as_line, usage_line, cannot_read_line, too_long_line, kiss_line, net_line, two_drivers_line, undriven_line, cycle_line, bad_start_line, start_unknown_line, symbol_line, conflict_line, more_line, unspecified_line, part_length_line, part_place_line, not_apart_line, code_bits_line, no_split_line, not_definite_line};
+ghost use Rattle.hs_texts.specs.ErrLines.{as_line, usage_line, cannot_read_line, too_long_line, kiss_line, net_line, two_drivers_line, undriven_line, cycle_line, bad_start_line, start_unknown_line, symbol_line, conflict_line, more_line, unspecified_line, part_length_line, part_place_line, not_apart_line, code_bits_line, no_split_line, not_definite_line, not_reached_line, state_count_line, inputs_line, outputs_line, cover_place_line, cover_within_line, cover_lacks_line, cover_places_line, cover_trivial_line, cover_leaves_line};
 
 use hs_io::Name;
 use std::alloc::{AllocError, Global};
@@ -202,6 +202,103 @@ pub fn not_definite(alloc: Global, state: &[u8], other: &[u8]) -> Result<Vec<u8>
     line.extend_from_slice(state)?;
     line.extend_from_slice(b" and ")?;
     line.extend_from_slice(other)?;
+    line.push(b'\n')?;
+    Ok(line)
+}
+
+/// The line of a definite machine whose reset state no word of as many symbols as its order ends in.
+pub fn not_reached(alloc: Global, reset: &[u8]) -> Result<Vec<u8>, AllocError>
+    ensures { IfOk result (λ line. line.items ≡ not_reached_line reset.now) }
+{
+    let mut line = Vec::from_slice(alloc, b"hsdec: reset ")?;
+    line.extend_from_slice(reset)?;
+    line.extend_from_slice(b" not reached\n")?;
+    Ok(line)
+}
+
+/// The line of a machine of which no least code is sought, by the number of its states.
+pub fn state_count(alloc: Global, states: usize) -> Result<Vec<u8>, AllocError>
+    ensures { IfOk result (λ line. line.items ≡ state_count_line states) }
+{
+    let number = states.to_string(alloc)?;
+    line_of(
+        alloc,
+        b"hsdec: least needs 3 to 8 states, not ",
+        number.as_bytes(),
+    )
+}
+
+/// The line of a machine whose symbols are too many to be compared, by the number of its inputs.
+pub fn inputs(alloc: Global, inputs: u8) -> Result<Vec<u8>, AllocError>
+    ensures { IfOk result (λ line. line.items ≡ inputs_line inputs) }
+{
+    let mut line = Vec::new(alloc);
+    append_number(alloc, &mut line, b"hsdec: inputs ", u64::from(inputs))?;
+    line.extend_from_slice(b" above 8\n")?;
+    Ok(line)
+}
+
+/// The line of a machine of which too many outputs occur.
+pub fn outputs(alloc: Global) -> Result<Vec<u8>, AllocError>
+    ensures { IfOk result (λ line. line.items ≡ outputs_line) }
+{
+    line_of(alloc, b"hsdec: more than 256 outputs", b"")
+}
+
+/// The line of a text of a cover, by the block and the place of the first number that is none.
+pub fn cover_place(alloc: Global, block: usize, place: usize) -> Result<Vec<u8>, AllocError>
+    ensures { IfOk result (λ line. line.items ≡ cover_place_line block place) }
+{
+    let mut line = Vec::new(alloc);
+    append_number(alloc, &mut line, b"hsdec: cover block ", block as u64)?;
+    append_number(alloc, &mut line, b" place ", place as u64)?;
+    line.push(b'\n')?;
+    Ok(line)
+}
+
+/// The line of a block all of whose states are in another.
+pub fn cover_within(alloc: Global, block: usize, other: usize) -> Result<Vec<u8>, AllocError>
+    ensures { IfOk result (λ line. line.items ≡ cover_within_line block other) }
+{
+    let mut line = Vec::new(alloc);
+    append_number(alloc, &mut line, b"hsdec: cover block ", block as u64)?;
+    append_number(alloc, &mut line, b" within block ", other as u64)?;
+    line.push(b'\n')?;
+    Ok(line)
+}
+
+/// The line of a state that is in no block of a cover.
+pub fn cover_lacks(alloc: Global, state: &[u8]) -> Result<Vec<u8>, AllocError>
+    ensures { IfOk result (λ line. line.items ≡ cover_lacks_line state.now) }
+{
+    line_of(alloc, b"hsdec: cover lacks ", state)
+}
+
+/// The line of a cover whose blocks have too many places in all.
+pub fn cover_places(alloc: Global, found: usize) -> Result<Vec<u8>, AllocError>
+    ensures { IfOk result (λ line. line.items ≡ cover_places_line found) }
+{
+    let mut line = Vec::new(alloc);
+    append_number(alloc, &mut line, b"hsdec: cover has ", found as u64)?;
+    line.extend_from_slice(b" places\n")?;
+    Ok(line)
+}
+
+/// The line of a cover that splits nothing.
+pub fn cover_trivial(alloc: Global) -> Result<Vec<u8>, AllocError>
+    ensures { IfOk result (λ line. line.items ≡ cover_trivial_line) }
+{
+    line_of(alloc, b"hsdec: cover is trivial", b"")
+}
+
+/// The line of a block that no block holds the next states of, with the digits of the symbol.
+pub fn cover_leaves(alloc: Global, block: usize, symbol: &[u8]) -> Result<Vec<u8>, AllocError>
+    ensures { IfOk result (λ line. line.items ≡ cover_leaves_line block symbol.now) }
+{
+    let mut line = Vec::new(alloc);
+    append_number(alloc, &mut line, b"hsdec: cover block ", block as u64)?;
+    line.extend_from_slice(b" leaves at symbol ")?;
+    line.extend_from_slice(symbol)?;
     line.push(b'\n')?;
     Ok(line)
 }

@@ -7,7 +7,7 @@ use Rattle.hs_io.specs.Spelling.{ended, spaced}
 use Rattle.job_words.specs.declared.table.CommandOption.{CommandOption}
 use Rattle.job_words.specs.declared.table.CommandOption.TheVariants.{Limit, Reduce, Start, Fill}
 use Rattle.job_words.specs.declared.table.OperandKind.{OperandKind}
-use Rattle.job_words.specs.declared.table.OperandKind.TheVariants.{File, Net, Part, Parts, Symbols, Seed, A, B, K}
+use Rattle.job_words.specs.declared.table.OperandKind.TheVariants.{File, Net, Part, Parts, Symbols, Cover, Seed, A, B, K}
 use Rattle.job_words.specs.Command.{command_word}
 use Rattle.job_words.specs.Job.{row_named}
 use Rattle.job_words.specs.Table.{Row, built}
@@ -69,14 +69,20 @@ answers_text =
     ∷ codes "  8   a partition is refused, or two states are together in all; parts and"
     ∷ codes "      labels are counted from 0"
     ∷ codes "  9   the codes have more than 64 bits: serial or cascade often need fewer"
-    ∷ codes "      than parallel"
+    ∷ codes "      than parallel; or a register more than 12"
     ∷ codes "  10  the text of the network is refused, at the line that is named"
     ∷ codes "  11  a start or a symbol is refused: --start gives the latches first values"
     ∷ codes "  12  a file cannot be read"
     ∷ codes "  13  a file is longer than 4,194,304 bytes"
     ∷ codes "  14  the text could not be written whole"
     ∷ codes "  15  memory ran out"
+    ∷ codes "  17  least needs a machine of 3 to 8 states: --reduce may leave fewer"
+    ∷ codes "  18  the cover is refused; blocks, and places within one, are counted from 0"
     ∷ codes "  19  the machine is not definite: two states that show it are named"
+    ∷ codes "  20  no word of as many symbols as the order ends in the reset state: --reduce"
+    ∷ codes "      can help"
+    ∷ codes "  21  the machine has more than 8 inputs"
+    ∷ codes "  22  more than 256 outputs occur"
     ∷ []
     )
 
@@ -88,7 +94,7 @@ help_page_of rows operands options =
 
 -- the page about the program: each command that is built, and the operands and options of these
 unfoldable pub help_page : List ℕ
-help_page = help_page_of built (File ∷ Net ∷ Symbols ∷ Part ∷ Parts ∷ Seed ∷ A ∷ B ∷ K ∷ []) (Limit ∷ Reduce ∷ Start ∷ Fill ∷ [])
+help_page = help_page_of built (File ∷ Net ∷ Symbols ∷ Part ∷ Parts ∷ Cover ∷ Seed ∷ A ∷ B ∷ K ∷ []) (Limit ∷ Reduce ∷ Start ∷ Fill ∷ [])
 
 -- the page of the version
 abbrev pub version_page : List ℕ

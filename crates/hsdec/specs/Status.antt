@@ -1,55 +1,39 @@
--- What the answer to words comes of, what out is given with it, and which line goes to err.
-use Rattle.std.specs.Prelude.{◌≡◌, ◌≢◌, ◌⊎◌, ℕ, List, Option, Some, None, IfOk, IfSome, IsErr}
+-- What the answer to words comes of, what out is given with it, and which refusal is answered in place of Done.
+use Rattle.std.specs.Prelude.{◌≡◌, ◌≢◌, ◌⊎◌, ℕ, List, [], Option, Some, None, IfOk, IfSome, IsErr}
+use Rattle.answers.specs.declared.numbers.Answer.{Answer}
+use Rattle.answers.specs.declared.numbers.Answer.TheVariants.{Done, Usage, More, ReadFault, WriteFault, NoMemory}
+use Rattle.answers.specs.declared.refusals.Refusal.{Refusal}
+use Rattle.answers.specs.declared.refusals.Refusal.TheVariants as refusals
+use Rattle.answers.specs.Cause.{CallsForNone}
+use Rattle.answers.specs.Refusal.{answer_of, line_of}
 use Rattle.hs_io.specs.Pieces.{Appends, AppendsFront}
-use Rattle.hs_texts.specs.ErrLines.{cannot_write_line, no_memory_line}
-use Rattle.job_words.specs.Job.{JobOf}
-use Rattle.hsdec_core.specs.declared.answers.Answer.{Answer}
-use Rattle.hsdec_core.specs.declared.answers.Answer.TheVariants.{Done, NoSplit, Usage, KissRefused, Conflict, Unspecified, More, PartRefused, CodeTooLong, NetRefused, SymbolRefused, ReadFault, TooLong, WriteFault, NoMemory, NotDefinite}
-use Rattle.hsdec_core.specs.Answer.{ExactlyWhere, ExactlyWherePut, ExactlyWhereRead}
-use Rattle.hsdec_core.specs.Calls.{CallsFor, FirstCallsFor, IsUnrefused}
-use Rattle.hsdec_core.specs.LineFor.{IsLineFor}
-use Rattle.hsdec_core.specs.Operands.{IfAllTold, IfTold, OfNumbers, source_of}
+use Rattle.hsdec_core.specs.Judgement.{all_causes, first_cause}
+use Rattle.hsdec_core.specs.Operands.{IfAllTold, IfTold}
 use Rattle.hsdec_core.specs.Promise.{IsAsked, IsAskedOrShown, IsDecompositionOf, IsEvidence}
-use Rattle.hsdec_core.specs.Splits.{kind_of}
+use Rattle.hsdec_core.specs.Stop.{Comes, IsRefusedFor}
+use Rattle.hsdec_core.specs.Task.{kind_of, task_of}
 use Rattle.hsdec.specs.Pages.{page_asked}
+use Rattle.hsdec.specs.Words.{AreTold}
+use Rattle.job_words.specs.Job.{JobOf}
 
 -- ---- words that ask for a job, or for nothing
--- the answer comes exactly where the bytes of FILE or NET call for it
-abbrev pub ComesOfFile : List (List ℕ) → (List ℕ → Option (List ℕ)) → Answer → Answer → Type 0
-ComesOfFile words holds given answer = IfTold words holds (λ job bytes. ExactlyWhereRead given answer (FirstCallsFor job bytes answer))
-
--- the answer comes exactly where all that is loaded calls for it
-abbrev pub ComesOfAll : List (List ℕ) → (List ℕ → Option (List ℕ)) → Answer → Answer → Type 0
-ComesOfAll words holds given answer =
-    IfAllTold words holds (λ job bytes symbols. ExactlyWhereRead given answer (CallsFor job bytes symbols answer))
-
--- the words are judged, and each answer comes where they and the texts of the shelf call for it
+-- the words are judged, and what they and the texts of the shelf call for is answered
 pub record IsJudged (words : List (List ℕ)) (holds : List ℕ → Option (List ℕ)) (given : Answer) : Type 0 where
-  pub usage : ExactlyWhere given Usage (IsErr (JobOf words))
-  pub operand : given ≡ ReadFault → IfOk (JobOf words) (λ job. source_of job.command ≢ OfNumbers)
-  pub too_long : ComesOfAll words holds given TooLong
-  pub kiss_refused : ComesOfFile words holds given KissRefused
-  pub net_refused : ComesOfFile words holds given NetRefused
-  pub conflict : ComesOfFile words holds given Conflict
-  pub unspecified : ComesOfFile words holds given Unspecified
-  pub part_refused : ComesOfFile words holds given PartRefused
-  pub symbol_refused : ComesOfAll words holds given SymbolRefused
-  pub no_split : ComesOfFile words holds given NoSplit
-  pub code_too_long : ComesOfFile words holds given CodeTooLong
-  pub not_definite : ComesOfFile words holds given NotDefinite
-  pub more : IfTold words holds (λ job bytes. ExactlyWherePut given More (FirstCallsFor job bytes More))
+  pub usage : IsErr (JobOf words) → (given ≡ Usage) ⊎ (given ≡ NoMemory)
+  pub comes : IfTold words holds (λ job bytes. Comes given (first_cause job bytes))
+  pub all_come : IfAllTold words holds (λ job bytes symbols. Comes given (all_causes job bytes symbols))
 
 -- out is given the whole text that the job asks for, a whole decomposition where it decomposes, or the evidence that there
 -- is more than the limit; a front of either where it could not be given whole. `out` and `out'` are what out was given
--- before and after
-pub record IsGivenOut (words : List (List ℕ)) (holds : List ℕ → Option (List ℕ)) (given : Answer) (out out' : Option (List ℕ)) : Type 0 where
+-- before and after; `Stays` says that out is as it was, which it is where the text is empty
+pub record IsGivenOut (words : List (List ℕ)) (holds : List ℕ → Option (List ℕ)) (given : Answer) (out out' : Option (List ℕ)) (Stays : Type 0) : Type 0 where
   pub headline :
-      given ≡ Done → IfOk (JobOf words) (λ job. IfSome (kind_of job.command) (λ kind.
+      given ≡ Done → IfOk (JobOf words) (λ job. IfSome (kind_of (task_of job.command)) (λ kind.
       (text : List ℕ) × IsDecompositionOf kind job holds text × Appends out text out'))
-  pub text : given ≡ Done → IfOk (JobOf words) (λ job. (text : List ℕ) × IsAsked job holds text × Appends out text out')
+  pub text : given ≡ Done → IfOk (JobOf words) (λ job. (text : List ℕ) × IsAsked job holds text × Appends out text out' × (text ≡ [] → Stays))
   pub evidence : given ≡ More → IfOk (JobOf words) (λ job. (text : List ℕ) × IsEvidence job holds text × Appends out text out')
   pub front :
-      given ≡ WriteFault → IfOk (JobOf words) (λ job. (text : List ℕ) × IsAskedOrShown job holds text × AppendsFront out text out')
+      given ≡ WriteFault → IfOk (JobOf words) (λ job. (text : List ℕ) × (text ≢ []) × IsAskedOrShown job holds text × AppendsFront out text out')
 
 -- ---- words that ask for a page
 -- the page is given out, or a front of it
@@ -58,35 +42,49 @@ pub record IsPageAnswer (page : List ℕ) (given : Answer) (out out' : Option (L
   pub whole : given ≡ Done → Appends out page out'
   pub front : given ≡ WriteFault → AppendsFront out page out'
 
-abbrev pub IsPageLine : Answer → List ℕ → Type 0
-IsPageLine WriteFault line = line ≡ cannot_write_line
-IsPageLine NoMemory line = line ≡ no_memory_line
-IsPageLine _ line = ⊥
+-- a page is not put whole where out had a fault, or memory is wanting
+abbrev pub IsPageRefusal : Type 0 → Refusal → Type 0
+IsPageRefusal PutFaulted refusal = ((refusal ≡ refusals.Unwritable) × PutFaulted) ⊎ (refusal ≡ refusals.NoMemory)
 
 -- ---- whole
 -- by the page that the words ask for, if they ask for one
-abbrev pub IsAnswerBy : Option (List ℕ) → List (List ℕ) → (List ℕ → Option (List ℕ)) → Answer → Option (List ℕ) → Option (List ℕ) → Type 0
-IsAnswerBy (Some page) words holds given out out' = IsPageAnswer page given out out'
-IsAnswerBy None words holds given out out' = IsJudged words holds given × IsGivenOut words holds given out out'
+abbrev pub IsAnswerBy : Option (List ℕ) → List (List ℕ) → (List ℕ → Option (List ℕ)) → Answer → Option (List ℕ) → Option (List ℕ) → Type 0 → Type 0
+IsAnswerBy (Some page) words holds given out out' Stays = IsPageAnswer page given out out'
+IsAnswerBy None words holds given out out' Stays = IsJudged words holds given × IsGivenOut words holds given out out' Stays
 
 -- the answer to words, with what out was given before and after; memory may be wanting for any of them
-abbrev pub IsAnswerTo : List (List ℕ) → (List ℕ → Option (List ℕ)) → Answer → Option (List ℕ) → Option (List ℕ) → Type 0
-IsAnswerTo words holds given out out' = IsAnswerBy (page_asked words) words holds given out out' ⊎ (given ≡ NoMemory)
+abbrev pub IsAnswerTo : List (List ℕ) → (List ℕ → Option (List ℕ)) → Answer → Option (List ℕ) → Option (List ℕ) → Type 0 → Type 0
+IsAnswerTo words holds given out out' Stays = IsAnswerBy (page_asked words) words holds given out out' Stays ⊎ (given ≡ NoMemory)
 
 -- where no count of faults rises, a page is put, and so is the text of a job for which nothing calls for a refusal, or
 -- memory is wanting
 abbrev pub IsCompleteBy : Option (List ℕ) → List (List ℕ) → (List ℕ → Option (List ℕ)) → Answer → Type 0 → Type 0
 IsCompleteBy (Some page) words holds given Rises = (Rises → ⊥) → (given ≡ Done) ⊎ (given ≡ NoMemory)
 IsCompleteBy None words holds given Rises =
-    IfAllTold words holds (λ job bytes symbols. IsUnrefused job bytes symbols → (Rises → ⊥) → (given ≡ Done) ⊎ (given ≡ NoMemory))
+    IfAllTold words holds (λ job bytes symbols. CallsForNone (all_causes job bytes symbols) → (Rises → ⊥) → (given ≡ Done) ⊎ (given ≡ NoMemory))
 
 abbrev pub IsComplete : List (List ℕ) → (List ℕ → Option (List ℕ)) → Answer → Type 0 → Type 0
 IsComplete words holds given Rises = IsCompleteBy (page_asked words) words holds given Rises
 
--- the line of an answer to words
-abbrev pub IsLineBy : Option (List ℕ) → List (List ℕ) → (List ℕ → Option (List ℕ)) → Answer → List ℕ → Type 0
-IsLineBy (Some page) words holds given line = IsPageLine given line
-IsLineBy None words holds given line = IsLineFor (JobOf words) holds given line
+-- the refusal that is answered to words; `Faulted` and `PutFaulted` say that the counts of the shelf and of out rose
+abbrev pub IsRefusedBy : Option (List ℕ) → List (List ℕ) → (List ℕ → Option (List ℕ)) → Type 0 → Type 0 → Refusal → Type 0
+IsRefusedBy (Some page) words holds Faulted PutFaulted refusal = IsPageRefusal PutFaulted refusal
+IsRefusedBy None words holds Faulted PutFaulted refusal = IsRefusedFor (JobOf words) holds Faulted PutFaulted refusal
 
-abbrev pub IsLineTo : List (List ℕ) → (List ℕ → Option (List ℕ)) → Answer → List ℕ → Type 0
-IsLineTo words holds given line = IsLineBy (page_asked words) words holds given line
+abbrev pub IsRefusedTo : List (List ℕ) → (List ℕ → Option (List ℕ)) → Type 0 → Type 0 → Refusal → Type 0
+IsRefusedTo words holds Faulted PutFaulted refusal = IsRefusedBy (page_asked words) words holds Faulted PutFaulted refusal
+
+-- ---- the arguments
+-- What is said of the answer to arguments, by words of theirs: `told` are the arguments, where they are told. The shelf holds
+-- `holds`; `Faulted` and `PutFaulted` say that the counts of the shelf and of out rose, `Stays` and `Silent` that out and err
+-- are as they were, and `PutsLine` which line was handed to err.
+pub record IsAnswered (told : Option (List (List ℕ))) (words : List (List ℕ)) (holds : List ℕ → Option (List ℕ)) (Faulted PutFaulted Stays Silent : Type 0) (PutsLine : List ℕ → Type 0) (out out' : Option (List ℕ)) (given : Answer) : Type 0 where
+  pub words_told : given ≢ NoMemory → AreTold told words
+  pub answer : IsAnswerTo words holds given out out' Stays
+  pub complete : IsComplete words holds given (Faulted ⊎ PutFaulted)
+  pub read_fault : given ≡ ReadFault → Faulted
+  pub write_fault : given ≡ WriteFault → PutFaulted
+  pub untouched : given ≢ Done → given ≢ More → given ≢ WriteFault → Stays
+  pub silent : given ≡ Done → Silent
+  pub refused :
+      given ≢ Done → (refusal : Refusal) × (answer_of refusal ≡ given) × IsRefusedTo words holds Faulted PutFaulted refusal × PutsLine (line_of refusal)

@@ -33,6 +33,7 @@ const OPERANDS: &[OperandKind] = &[
     OperandKind::Symbols,
     OperandKind::Part,
     OperandKind::Parts,
+    OperandKind::Cover,
     OperandKind::Seed,
     OperandKind::A,
     OperandKind::B,
@@ -60,14 +61,20 @@ Exit status, and what to do:
   8   a partition is refused, or two states are together in all; parts and
       labels are counted from 0
   9   the codes have more than 64 bits: serial or cascade often need fewer
-      than parallel
+      than parallel; or a register more than 12
   10  the text of the network is refused, at the line that is named
   11  a start or a symbol is refused: --start gives the latches first values
   12  a file cannot be read
   13  a file is longer than 4,194,304 bytes
   14  the text could not be written whole
   15  memory ran out
+  17  least needs a machine of 3 to 8 states: --reduce may leave fewer
+  18  the cover is refused; blocks, and places within one, are counted from 0
   19  the machine is not definite: two states that show it are named
+  20  no word of as many symbols as the order ends in the reset state: --reduce
+      can help
+  21  the machine has more than 8 inputs
+  22  more than 256 outputs occur
 ";
 
 /// The page that the words ask for: `--help` or `--version` alone, or `--help` with a command.

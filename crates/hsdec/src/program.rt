@@ -1,15 +1,17 @@
 //! What the program does with its arguments.
 
 ghost use Rattle.std.specs.Prelude.{◌≡◌, ◌≢◌, ◌⊎◌, ℕ, ◌-◌, ◌^◌, ◌<◌, List, None, Some, IfOk, MatchOption, length};
+ghost use Rattle.answers.specs.declared.refusals.Refusal.{Refusal};
+ghost use Rattle.answers.specs.Answer.{answer_code};
+ghost use Rattle.answers.specs.Delivery.{LinePut};
+ghost use Rattle.answers.specs.Refusal.{answer_of, line_of};
 ghost use Rattle.hs_io.specs.Counts.{Rose};
 ghost use Rattle.hs_io.specs.Pieces.{Appends, AppendsFront};
 ghost use Rattle.hs_texts.specs.ErrLines.{cannot_write_line};
 ghost use Rattle.job_words.specs.Job.{JobOf};
-ghost use Rattle.hsdec_core.specs.Answer.{answer_code};
 ghost use Rattle.hsdec_core.specs.Operands.{AreGranted};
-ghost use Rattle.hsdec_core.specs.Put.{LinePut};
 ghost use Rattle.hsdec.specs.Pages.{page_asked};
-ghost use Rattle.hsdec.specs.Status.{IsAnswerTo, IsComplete, IsLineTo};
+ghost use Rattle.hsdec.specs.Status.{IsAnswerTo, IsAnswered, IsComplete, IsRefusedTo};
 ghost use Rattle.hsdec.specs.Words.{AreTold};
 
 use crate::arguments::{Arguments, words_of};
@@ -32,28 +34,21 @@ pub fn status<A: Arguments, F: Shelf, O: Sink, E: Sink>(
     requires { (words : List (List ℕ)) → AreTold (A.given arguments.now) words
         → IfOk (JobOf words) (AreGranted (F.grants shelf.old)) }
 
-    // It is the number of the answer to the words of the arguments, if memory is not wanting. The answer comes
-    // where they and the texts of the shelf call for it, and out is given what they ask for. A fault comes
-    // only where a count rose, a refusal leaves out as it was, and every answer but `Done` hands its line to
-    // err.
-    ensures { (answer : Answer) × (result ≡ answer_code answer) × ((words : List (List ℕ))
-        × (answer ≢ Answer.NoMemory → AreTold (A.given arguments.now) words)
-        × IsAnswerTo words (F.holds shelf.old) answer (O.given out.old) (O.given out.new)
-        × IsComplete words (F.holds shelf.old) answer
-        (Rose (F.faults shelf.old) (F.faults shelf.new) ⊎ Rose (O.faults out.old) (O.faults out.new))
-        × (answer ≡ Answer.ReadFault → Rose (F.faults shelf.old) (F.faults shelf.new))
-        × (answer ≡ Answer.WriteFault → Rose (O.faults out.old) (O.faults out.new))
-        × (answer ≢ Answer.Done → answer ≢ Answer.More → answer ≢ Answer.WriteFault → out.new ≡ out.old)
-        × (answer ≡ Answer.Done → err.new ≡ err.old)
-        × (answer ≢ Answer.Done → (line : List ℕ) × IsLineTo words (F.holds shelf.old) answer line
-        × LinePut line (E.given err.old) (E.given err.new) (E.faults err.old) (E.faults err.new))) }
+    // It is the number of the answer to the words of the arguments. The answer comes where they and the texts of
+    // the shelf call for it, and out is given what they ask for.
+    ensures { (answer : Answer) × (result ≡ answer_code answer) × (words : List (List ℕ))
+        × IsAnswered (A.given arguments.now) words (F.holds shelf.old)
+        (Rose (F.faults shelf.old) (F.faults shelf.new)) (Rose (O.faults out.old) (O.faults out.new))
+        (out.new ≡ out.old) (err.new ≡ err.old)
+        (λ line. LinePut line (E.given err.old) (E.given err.new) (E.faults err.old) (E.faults err.new))
+        (O.given out.old) (O.given out.new) answer }
 {
-    let answer = answer_of(alloc, arguments, shelf, out, err);
+    let answer = answer_to_arguments(alloc, arguments, shelf, out, err);
     answer.code()
 }
 
 /// The answer to the arguments.
-fn answer_of<A: Arguments, F: Shelf, O: Sink, E: Sink>(
+fn answer_to_arguments<A: Arguments, F: Shelf, O: Sink, E: Sink>(
     alloc: Global,
     arguments: &A,
     shelf: &mut F,
@@ -63,25 +58,20 @@ fn answer_of<A: Arguments, F: Shelf, O: Sink, E: Sink>(
     requires { (words : List (List ℕ)) → AreTold (A.given arguments.now) words
         → IfOk (JobOf words) (AreGranted (F.grants shelf.old)) }
     ensures { (words : List (List ℕ))
-        × (result ≢ Answer.NoMemory → AreTold (A.given arguments.now) words)
-        × IsAnswerTo words (F.holds shelf.old) result (O.given out.old) (O.given out.new)
-        × IsComplete words (F.holds shelf.old) result
-        (Rose (F.faults shelf.old) (F.faults shelf.new) ⊎ Rose (O.faults out.old) (O.faults out.new))
-        × (result ≡ Answer.ReadFault → Rose (F.faults shelf.old) (F.faults shelf.new))
-        × (result ≡ Answer.WriteFault → Rose (O.faults out.old) (O.faults out.new))
-        × (result ≢ Answer.Done → result ≢ Answer.More → result ≢ Answer.WriteFault → out.new ≡ out.old)
-        × (result ≡ Answer.Done → err.new ≡ err.old)
-        × (result ≢ Answer.Done → (line : List ℕ) × IsLineTo words (F.holds shelf.old) result line
-        × LinePut line (E.given err.old) (E.given err.new) (E.faults err.old) (E.faults err.new)) }
+        × IsAnswered (A.given arguments.now) words (F.holds shelf.old)
+        (Rose (F.faults shelf.old) (F.faults shelf.new)) (Rose (O.faults out.old) (O.faults out.new))
+        (out.new ≡ out.old) (err.new ≡ err.old)
+        (λ line. LinePut line (E.given err.old) (E.given err.new) (E.faults err.old) (E.faults err.new))
+        (O.given out.old) (O.given out.new) result }
 {
     match words_of(alloc, arguments) {
-        Ok(words) => answer_to(alloc, &words, shelf, out, err),
+        Ok(words) => answer_to_words(alloc, &words, shelf, out, err),
         Err(_) => refuse(Answer::NoMemory, NO_MEMORY, err),
     }
 }
 
 /// The answer to the words.
-fn answer_to<F: Shelf, O: Sink, E: Sink>(
+fn answer_to_words<F: Shelf, O: Sink, E: Sink>(
     alloc: Global,
     words: &Words,
     shelf: &mut F,
@@ -90,7 +80,7 @@ fn answer_to<F: Shelf, O: Sink, E: Sink>(
 ) -> Answer
     requires few { length words.now < 2 ^ 32 - 1 }
     requires granted { IfOk (JobOf words.now) (AreGranted (F.grants shelf.old)) }
-    ensures answer { IsAnswerTo words.now (F.holds shelf.old) result (O.given out.old) (O.given out.new) }
+    ensures answer { IsAnswerTo words.now (F.holds shelf.old) result (O.given out.old) (O.given out.new) (out.new ≡ out.old) }
     ensures complete { IsComplete words.now (F.holds shelf.old) result
         (Rose (F.faults shelf.old) (F.faults shelf.new) ⊎ Rose (O.faults out.old) (O.faults out.new)) }
     ensures read_fault { result ≡ Answer.ReadFault → Rose (F.faults shelf.old) (F.faults shelf.new) }
@@ -98,8 +88,9 @@ fn answer_to<F: Shelf, O: Sink, E: Sink>(
     ensures untouched { result ≢ Answer.Done → result ≢ Answer.More → result ≢ Answer.WriteFault
         → out.new ≡ out.old }
     ensures silent { result ≡ Answer.Done → err.new ≡ err.old }
-    ensures line { result ≢ Answer.Done → (line : List ℕ) × IsLineTo words.now (F.holds shelf.old) result line
-        × LinePut line (E.given err.old) (E.given err.new) (E.faults err.old) (E.faults err.new) }
+    ensures refused { result ≢ Answer.Done → (refusal : Refusal) × (answer_of refusal ≡ result)
+        × IsRefusedTo words.now (F.holds shelf.old) (Rose (F.faults shelf.old) (F.faults shelf.new)) (Rose (O.faults out.old) (O.faults out.new)) refusal
+        × LinePut (line_of refusal) (E.given err.old) (E.given err.new) (E.faults err.old) (E.faults err.new) }
 {
     match page_of(alloc, words) {
         Ok(None) => run(alloc, words, shelf, out, err),

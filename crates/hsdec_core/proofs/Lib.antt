@@ -1,26 +1,10 @@
-pub mod Apart
-pub mod Bits
-pub mod Built
-pub mod Codes
-pub mod Decomposing
-pub mod Defining
-pub mod Flows
-pub mod Granting
-pub mod KissLaws
-pub mod Lines
-pub mod Listed
-pub mod OneAnswer
-pub mod Numbers
-pub mod OneText
-pub mod Opened
-pub mod PartOperands
-pub mod PartTexts
-pub mod Planning
-pub mod Reducing
-pub mod Right
-pub mod RightFor
-pub mod Runs
-pub mod Stepping
-pub mod Symbols
-pub mod Trying
-pub mod Works
+mod Families
+mod KissLaws
+mod Loads
+mod Making
+mod OneAnswer
+mod OneText
+mod Opened
+mod Reports
+mod Runs
+mod Symbols

@@ -12,7 +12,7 @@ use Rattle.net_sim.proofs.Exclusive.{run_once}
 use Rattle.realise.specs.Carries.{AnswersAs}
 use Rattle.decomposition.specs.Decomposition.{IsTextOf}
 use Rattle.hsdec_core.specs.OneText.{GiveOneText}
-use Rattle.hsdec_core.specs.Promise.{IsWalkText}
+use Rattle.symbol_runs.specs.Texts.{IsWalkText}
 
 -- the symbols of a file have so many bits
 wide : (width : ℕ) (lines : List Line) (word : List (List Bool)) → AllZip (SaysSymbol width) lines word → All (λ x. length x ≡ width) word
@@ -35,7 +35,7 @@ run_of_walk F N symbols walked (starts, are, answered) inputs (word, file, is) =
 
 pub one_text : GiveOneText
 unfolding IsTextOf
-one_text kind job F N written symbols simulated walked (W, parts, split, (class, codes, M, H, work, of_kind, are, is)) denotes ran walk =
+one_text kind parts reduce F N written symbols simulated walked (W, made, split, (class, codes, M, H, work, of_kind, are, is)) denotes ran walk =
     let same : M ≡ N = denotes_one written M N is.denotes denotes in
     run_once N None symbols simulated walked ran
     (run_of_walk F N symbols walked (subst (AnswersAs F) same is.answers) (ap (λ (K : Network). length K.inputs) (sym same) ∙ is.carries.inputs) walk)

@@ -1,81 +1,112 @@
--- What comes of the operands FILE and NET is right.
-use Rattle.std.proofs.Common.{◌≡◌, ◌≢◌, ℕ, List, Option, Some, Ok, Err, Result, IfOk, sym, ◌∙◌, subst}
-use Rattle.std.specs.declared.alloc.AllocError.{AllocError}
+-- What comes of the operands FILE and NET.
+use Rattle.std.proofs.Common.{◌≡◌, ◌≢◌, ◌⊎◌, ℕ, ◌+◌, ◌<◌, ◌≤◌, List, [], ◌∷◌, Option, Result, Ok, Err, inl, inr, length, refl, sym, ap, ◌∙◌, subst, arith}
+use Rattle.answers.specs.declared.refusals.Refusal.{Refusal}
+use Rattle.answers.specs.declared.refusals.Refusal.TheVariants.{Conflict}
+use Rattle.answers.specs.Cause.{CallsForNone}
+use Rattle.answers.specs.Laws.Causes.{none_first}
 use Rattle.blif_in.specs.declared.fault.BlifFault.{BlifFault}
-use Rattle.blif_in.specs.Text.{IsBlifFault}
 use Rattle.blif_in.proofs.Texts.{never_both}
+use Rattle.cubes.specs.Symbol.{symbol_of}
+use Rattle.cubes.proofs.Numbers.{length-symbol_of}
+use Rattle.hsdec_core.specs.declared.opening.OpenedMachine.{OpenedMachine}
+use Rattle.hsdec_core.specs.declared.opening.OpenedNetwork.{OpenedNetwork}
+use Rattle.hsdec_core.specs.Causes.{Conflicts, LeavesOpen, NoMachineOf, NoNetworkOf, OfFile, SaysNoMachine, SaysNoNetwork}
+use Rattle.hsdec_core.specs.Fill.{fill_of}
+use Rattle.hsdec_core.specs.Inner.Opened.{IsBuiltOf, IsEntryRefusal, IsNetOpened, IsOpened, IsReadAs, IsReadOf}
+use Rattle.hsdec_core.specs.Loading.{IsShortText, IsText, Lengthy}
+use Rattle.hsdec_core.specs.Promise.{HoldsMachine, HoldsNetwork}
+use Rattle.hsdec_core.proofs.KissLaws.{machine_or_fault, one_file}
 use Rattle.job_words.specs.declared.jobs.Job.{Job}
+use Rattle.kiss2.specs.declared.fill.Fill.{Fill}
+use Rattle.kiss2.specs.declared.fill.Fill.TheVariants.{Hold, Refuse}
 use Rattle.kiss2.specs.declared.kiss_file.KissFile.{KissFile}
 use Rattle.kiss2.specs.Kiss.{Kiss}
 use Rattle.kiss2.specs.Lawful.{IsLawful}
+use Rattle.kiss2.specs.Machine.{Accepted, Conflicting, IsSpecifiedAt, Specified}
+use Rattle.machine_table.specs.declared.missing.Missing.{Missing}
+use Rattle.machine_table.specs.declared.missing.Missing.TheVariants.{Next, Output}
+use Rattle.machine_table.specs.Cause.{IsRefusedAt}
+use Rattle.machine_table.specs.Conflict.{IsFirstConflict}
+use Rattle.machine_table.specs.Said.{IsFirstOpen, IsSaid}
+use Rattle.machine_table.proofs.Conflicts.{conflicting_at}
 use Rattle.net_core.specs.declared.Network.{Network}
 use Rattle.net_core.specs.Blif.{Blif}
-use Rattle.hsdec_core.specs.declared.answers.Answer.TheVariants.{NetRefused, SymbolRefused}
-use Rattle.hsdec_core.specs.declared.opening.OpenedMachine.{OpenedMachine}
-use Rattle.hsdec_core.specs.declared.opening.OpenedMachine.TheVariants as machines
-use Rattle.hsdec_core.specs.declared.opening.OpenedNetwork.{OpenedNetwork}
-use Rattle.hsdec_core.specs.declared.opening.OpenedNetwork.TheVariants as networks
-use Rattle.hsdec_core.specs.declared.outcomes.Outcome.{Outcome}
-use Rattle.hsdec_core.specs.Calls.{CallsForBySource}
-use Rattle.hsdec_core.specs.Inner.Made.{IsRefusal}
-use Rattle.hsdec_core.specs.Inner.Opened.{IsBuiltOf, IsJudgedStart, IsNetOf, IsNetOpened, IsOpened, IsReadOf}
-use Rattle.hsdec_core.specs.Inner.RightFor.{IsRightFor}
-use Rattle.hsdec_core.specs.LineFor.{IsBytesLine}
-use Rattle.hsdec_core.specs.Loading.{IsText, IsShortText}
-use Rattle.hsdec_core.specs.NetCause.{IsNoNetwork}
-use Rattle.hsdec_core.specs.NetTexts.{fault_line}
-use Rattle.hsdec_core.specs.Operands.{OfMachine, OfNetwork, OfNumbers, Source, source_of}
-use Rattle.hsdec_core.proofs.Right.{right_machine}
-use Rattle.hsdec_core.proofs.RightFor.{cause_of_bytes, line_of_bytes, refused_for, right_text}
 
--- ---- a machine
--- what is made of the record of a file, is made of its bytes
-pub read_of_built : (job : Job) (bytes : List ℕ) (F : KissFile) (opened : OpenedMachine) → IsShortText bytes → Kiss bytes F → IsLawful F → IsBuiltOf job F opened → IsReadOf job bytes opened
-read_of_built job bytes F (machines.Machine file machine) within kiss lawful (file_is, machine_is, accepted) =
-    (subst (Kiss bytes) (sym file_is) kiss, subst IsLawful (sym file_is) lawful, rw file_is accepted, machine_is ∙ sym file_is)
-read_of_built job bytes F (machines.Refused made) within kiss lawful right = right_machine job bytes F made within kiss lawful right
+-- ---- what excludes a row
+pub not_long : (name bytes : List ℕ) → IsShortText bytes → CallsForNone (Lengthy name bytes)
+not_long name bytes within refusal h = absurd (let long = h.1 in omega (arith, long, within))
 
--- and of the operand
-pub opened_of_read : (job : Job) (holds : List ℕ → Option (List ℕ)) (Faulted : Type 0) (bytes : List ℕ) (opened : OpenedMachine) → source_of job.command ≡ OfMachine → IsText (holds job.file) bytes → IsReadOf job bytes opened → IsOpened job holds Faulted opened
-opened_of_read job holds Faulted bytes (machines.Machine file machine) source is_text (kiss, lawful, accepted, machine_is) =
+pub no_fault : (bytes : List ℕ) (F : KissFile) → Kiss bytes F → CallsForNone (SaysNoMachine bytes)
+no_fault bytes F kiss refusal (fault, is, at) = machine_or_fault bytes F fault.line fault.kind kiss at
+
+-- the first two rows that conflict are two rows that do
+pub conflicting_of : (F : KissFile) (row other : ℕ) → IsFirstConflict F row other → Conflicting F
+conflicting_of F row other (i, j, first, second, two) = conflicting_at F i j two.contradict
+
+pub no_conflict : (bytes : List ℕ) (F : KissFile) → Kiss bytes F → (Conflicting F → ⊥) → CallsForNone (OfFile bytes Conflicts)
+no_conflict bytes F kiss none refusal (G, other_kiss, (row, other, is, first)) =
+    none (subst Conflicting (one_file bytes G F other_kiss kiss) (conflicting_of G row other first))
+
+-- of a specified file each entry is said
+said_of : (F : KissFile) (s x : ℕ) (part : Missing) → IsSpecifiedAt F s (symbol_of F.inputs x) → IsFirstOpen F s x part → IsSaid F s x part
+said_of F s x Next said first = said.next
+said_of F s x (Output b) said first = said.outputs b (let below : b + 1 < F.outputs + 1 = first.entry.kind in omega arith)
+
+open_of : (F : KissFile) (s x : ℕ) (part : Missing) → IsFirstOpen F s x part → Specified F → ⊥
+open_of F s x part first specified =
+    first.open_there (said_of F s x part (specified s (symbol_of F.inputs x) first.entry.among_states (length-symbol_of F.inputs x)) first)
+
+no_open_here : (F : KissFile) (fill : Fill) → Accepted F fill → CallsForNone (LeavesOpen fill F)
+no_open_here F fill accepted refusal (s, x, part, name, is, at) =
+    elim accepted.filled [ inl specified ↦ open_of F s x part at.entry specified | inr hold ↦ absurd (let e : Refuse ≡ Hold = sym at.refused ∙ hold in cc) ]
+
+pub no_open : (bytes : List ℕ) (F : KissFile) (fill : Fill) → Kiss bytes F → Accepted F fill → CallsForNone (OfFile bytes (LeavesOpen fill))
+no_open bytes F fill kiss accepted refusal (G, other_kiss, h) =
+    no_open_here F fill accepted refusal (subst (λ (H : KissFile). LeavesOpen fill H refusal) (one_file bytes G F other_kiss kiss) h)
+
+-- bytes of a machine that is accepted call for no refusal
+pub machine_passes : (name bytes : List ℕ) (F : KissFile) (fill : Fill) → IsShortText bytes → Kiss bytes F → Accepted F fill → CallsForNone (NoMachineOf name fill bytes)
+machine_passes name bytes F fill within kiss accepted =
+    none_first (Lengthy name bytes ∷ SaysNoMachine bytes ∷ OfFile bytes Conflicts ∷ OfFile bytes (LeavesOpen fill) ∷ [])
+    (not_long name bytes within, (no_fault bytes F kiss, (no_conflict bytes F kiss accepted.no_conflict, (no_open bytes F fill kiss accepted, tt))))
+
+pub no_net_fault : (bytes : List ℕ) (N : Network) → Blif bytes N → CallsForNone (SaysNoNetwork bytes)
+no_net_fault bytes N blif refusal (fault, is, at) = never_both bytes N fault blif at
+
+pub network_passes : (name bytes : List ℕ) (N : Network) → IsShortText bytes → Blif bytes N → CallsForNone (NoNetworkOf name bytes)
+network_passes name bytes N within blif =
+    none_first (Lengthy name bytes ∷ SaysNoNetwork bytes ∷ []) (not_long name bytes within, (no_net_fault bytes N blif, tt))
+
+-- ---- a machine that could not be built
+pub built_conflict : (F : KissFile) (row other : ℕ) → IsFirstConflict F row other → Conflicts F (Conflict row other)
+built_conflict F row other first = (row, other, refl, first)
+
+pub built_open : (F : KissFile) (fill : Fill) (s x : ℕ) (part : Missing) (refusal : Refusal) → IsRefusedAt F fill (IsFirstOpen F s x part) → IsEntryRefusal F s x part refusal → LeavesOpen fill F refusal
+built_open F fill s x part refusal cause (name, is, named) =
+    (s, x, part, name, is, record { no_conflict = cause.no_conflict; refused = cause.refused; entry = cause.entry; named = named })
+
+-- ---- from a record to the bytes, and to the operand
+pub read_of_built : (bytes : List ℕ) (fill : Fill) (F : KissFile) (result : Result OpenedMachine Refusal) → Kiss bytes F → IsLawful F → IsBuiltOf fill F result → IsReadOf fill bytes result
+read_of_built bytes fill F (Ok opened) kiss lawful (file_is, machine_is, accepted) =
+    (subst (Kiss bytes) (sym file_is) kiss, subst IsLawful (sym file_is) lawful, subst (λ (G : KissFile). Accepted G fill) (sym file_is) accepted, machine_is ∙ sym file_is)
+read_of_built bytes fill F (Err refusal) kiss lawful (inl wanting) = inl wanting
+read_of_built bytes fill F (Err refusal) kiss lawful (inr (inl conflict)) = inr (inr (inl (F, kiss, conflict)))
+read_of_built bytes fill F (Err refusal) kiss lawful (inr (inr leaves)) = inr (inr (inr (F, kiss, leaves)))
+
+called_of_read : (name bytes : List ℕ) (fill : Fill) (refusal : Refusal) → IsShortText bytes → SaysNoMachine bytes refusal ⊎ OfFile bytes Conflicts refusal ⊎ OfFile bytes (LeavesOpen fill) refusal → NoMachineOf name fill bytes refusal
+called_of_read name bytes fill refusal within (inl says) = inr (not_long name bytes within, inl says)
+called_of_read name bytes fill refusal within (inr (inl (F, kiss, conflicts))) =
+    inr (not_long name bytes within, inr (no_fault bytes F kiss, inl (F, kiss, conflicts)))
+called_of_read name bytes fill refusal within (inr (inr (F, kiss, (s, x, part, name_of, is, at)))) =
+    inr (not_long name bytes within, inr (no_fault bytes F kiss, inr (no_conflict bytes F kiss at.no_conflict, inl (F, kiss, (s, x, part, name_of, is, at)))))
+
+pub opened_of_read : (job : Job) (holds : List ℕ → Option (List ℕ)) (Faulted : Type 0) (bytes : List ℕ) (result : Result OpenedMachine Refusal) → IsText (holds job.file) bytes → IsReadOf (fill_of job) bytes result → IsOpened job holds Faulted result
+opened_of_read job holds Faulted bytes (Ok opened) is_text (kiss, lawful, accepted, machine_is) =
     ((bytes, record { text = is_text; kiss = kiss; lawful = lawful; accepted = accepted }), machine_is)
-opened_of_read job holds Faulted bytes (machines.Refused made) source is_text right = right_text job holds Faulted bytes made source is_text right
+opened_of_read job holds Faulted bytes (Err refusal) is_text (inl wanting) = inl wanting
+opened_of_read job holds Faulted bytes (Err refusal) is_text (inr h) = inr (inr (bytes, is_text.1, called_of_read job.file bytes (fill_of job) refusal is_text.0 h))
 
--- ---- a network
-pub no_network_numbers : (source : Source) → source ≡ OfNetwork → source ≢ OfNumbers
-no_network_numbers source is e = let other : OfNetwork ≡ OfNumbers = sym is ∙ e in cc
-
-module _ (job : Job) (holds : List ℕ → Option (List ℕ)) (Faulted : Type 0) (bytes : List ℕ) (source : source_of job.command ≡ OfNetwork) (is_text : IsText (holds job.file) bytes) where
-  loads : source_of job.command ≢ OfNumbers
-  loads = no_network_numbers (source_of job.command) source
-
-  right_net_refused : (fault : BlifFault) (made : Outcome) → IsBlifFault bytes fault → IsRefusal NetRefused (λ line. line ≡ fault_line fault) made → IsRightFor (Ok job) holds Faulted made
-  right_net_refused fault made is_fault (line, is_line, is) =
-      let none : IsNoNetwork bytes = (is_text.0, λ N blif. never_both bytes N fault blif is_fault) in
-      refused_for job holds Faulted NetRefused line made tt
-      (cause_of_bytes job holds bytes NetRefused loads is_text.1 (subst (λ (s : Source). CallsForBySource s job bytes NetRefused) (sym source) none))
-      (line_of_bytes job holds bytes NetRefused line loads (λ e. cc, λ e. cc, λ e. cc, λ e. cc) is_text (subst (λ (s : Source). IsBytesLine s job bytes NetRefused line) (sym source) (fault, is_fault, is_line))) is
-
-  pub net_opened_of : (opened : OpenedNetwork) → IsNetOf bytes opened → IsNetOpened job holds Faulted opened
-  net_opened_of (networks.Network net order) (blif, ordered) = ((bytes, (is_text, blif)), ordered)
-  net_opened_of (networks.Refused made) (fault, is_fault, refusal) = right_net_refused fault made is_fault refusal
-
-  -- and its start
-  pub right_start : (N : Network) (made : Outcome) → Blif bytes N → IsJudgedStart N job.start (Some made) → IsRightFor (Ok job) holds Faulted made
-  right_start N made blif (lacks, (line, is_line, is)) =
-      refused_for job holds Faulted SymbolRefused line made tt
-      (cause_of_bytes job holds bytes SymbolRefused loads is_text.1 (subst (λ (s : Source). CallsForBySource s job bytes SymbolRefused) (sym source) (is_text.0, (N, blif, lacks))))
-      (line_of_bytes job holds bytes SymbolRefused line loads (λ e. cc, λ e. cc, λ e. cc, λ e. cc) is_text (subst (λ (s : Source). IsBytesLine s job bytes SymbolRefused line) (sym source) (N, blif, lacks, is_line))) is
-
--- ---- the same of what may want memory
-pub read_of_builts : (job : Job) (bytes : List ℕ) (F : KissFile) (result : Result OpenedMachine AllocError) → IsShortText bytes → Kiss bytes F → IsLawful F → IfOk result (IsBuiltOf job F) → IfOk result (IsReadOf job bytes)
-read_of_builts job bytes F (Ok opened) within kiss lawful built = read_of_built job bytes F opened within kiss lawful built
-read_of_builts job bytes F (Err wanting) within kiss lawful built = tt
-
-pub opened_of_reads : (job : Job) (holds : List ℕ → Option (List ℕ)) (Faulted : Type 0) (bytes : List ℕ) (result : Result OpenedMachine AllocError) → source_of job.command ≡ OfMachine → IsText (holds job.file) bytes → IfOk result (IsReadOf job bytes) → IfOk result (IsOpened job holds Faulted)
-opened_of_reads job holds Faulted bytes (Ok opened) source is_text read = opened_of_read job holds Faulted bytes opened source is_text read
-opened_of_reads job holds Faulted bytes (Err wanting) source is_text read = tt
-
-pub net_openeds_of : (job : Job) (holds : List ℕ → Option (List ℕ)) (Faulted : Type 0) (bytes : List ℕ) (result : Result OpenedNetwork AllocError) → source_of job.command ≡ OfNetwork → IsText (holds job.file) bytes → IfOk result (IsNetOf bytes) → IfOk result (IsNetOpened job holds Faulted)
-net_openeds_of job holds Faulted bytes (Ok opened) source is_text net = net_opened_of job holds Faulted bytes source is_text opened net
-net_openeds_of job holds Faulted bytes (Err wanting) source is_text net = tt
+pub net_opened_of_read : (job : Job) (holds : List ℕ → Option (List ℕ)) (Faulted : Type 0) (bytes : List ℕ) (result : Result OpenedNetwork Refusal) → IsText (holds job.file) bytes → IsReadAs bytes result → IsNetOpened job holds Faulted result
+net_opened_of_read job holds Faulted bytes (Ok opened) is_text (blif, ordered) = ((bytes, (is_text, blif)), ordered)
+net_opened_of_read job holds Faulted bytes (Err refusal) is_text (inl wanting) = inl wanting
+net_opened_of_read job holds Faulted bytes (Err refusal) is_text (inr h) = inr (inr (bytes, is_text.1, inr (not_long job.file bytes is_text.0, inl h)))

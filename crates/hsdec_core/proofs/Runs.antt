@@ -1,313 +1,302 @@
--- The clauses of a run, from what was made in memory and what became of its put.
-use Rattle.std.proofs.Common.{◌≡◌, ◌≢◌, ℕ, List, [], Option, Some, None, Result, Ok, Err, IsErr, IfOk, IfSome, ◌⊎◌, inl, inr, refl, sym, ◌∙◌, subst}
-use Rattle.std.specs.declared.alloc.AllocError.{AllocError}
-use Rattle.hs_io.specs.Counts.{Rose}
+-- What `run` answers, from what was made in memory and what became of it.
+use Rattle.std.proofs.Common.{◌≡◌, ◌≢◌, ◌⊎◌, ℕ, List, [], Option, Some, None, Result, Ok, Err, IfOk, IfSome, IsErr, inl, inr, refl, sym, ap, ◌∙◌, subst}
+use Rattle.answers.specs.declared.numbers.Answer.{Answer}
+use Rattle.answers.specs.declared.numbers.Answer.TheVariants as answers
+use Rattle.answers.specs.declared.refusals.Refusal.{Refusal}
+use Rattle.answers.specs.declared.refusals.Refusal.TheVariants.{More, NoMemory, Unreadable, Unwritable, Usage}
+use Rattle.answers.specs.declared.reports.Report.{Report}
+use Rattle.answers.specs.declared.reports.Report.TheVariants.{Evidence, Whole}
+use Rattle.answers.specs.Cause.{CallsForNone, Cause}
+use Rattle.answers.specs.Delivery.{IsDone, IsRefusedWith}
+use Rattle.answers.specs.Laws.Causes.{HasOneAnswer}
+use Rattle.answers.specs.Refusal.{answer_of}
 use Rattle.hs_io.specs.Pieces.{Appends, AppendsFront}
-use Rattle.job_words.specs.declared.command.Command.{Command}
-use Rattle.job_words.specs.declared.command.Command.TheVariants as commands
+use Rattle.hsdec_core.specs.Inner.Made.{IsMadeFor, IsMadeOf, IsPassed, IsPlain, IsUndone}
+use Rattle.hsdec_core.specs.Judgement.{all_causes, first_cause}
+use Rattle.hsdec_core.specs.Loading.{MayBe}
+use Rattle.hsdec_core.specs.Operands.{file_held, symbols_held}
+use Rattle.hsdec_core.specs.Promise.{IsAsked, IsAskedOrShown, IsEvidence}
+use Rattle.hsdec_core.specs.Stop.{Comes, IsCalledFor, IsExcused, IsFailedLoad, IsRefusedFor, IsStopFor, IsStopOf}
+use Rattle.hsdec_core.proofs.OneAnswer.{all_have_one, first_have_one}
 use Rattle.job_words.specs.declared.jobs.Job.{Job}
-use Rattle.kiss2.specs.declared.kiss_file.KissFile.{KissFile}
-use Rattle.state_codes.specs.declared.split.Kind.{Kind}
-use Rattle.hsdec_core.specs.declared.answers.Answer.{Answer}
-use Rattle.hsdec_core.specs.declared.answers.Answer.TheVariants.{Done, Usage, More, ReadFault, WriteFault, NoMemory}
-use Rattle.hsdec_core.specs.declared.outcomes.Outcome.{Outcome}
-use Rattle.hsdec_core.specs.Answer.{ExactlyWhere, ExactlyWherePut, ExactlyWhereRead}
-use Rattle.hsdec_core.specs.Calls.{CallsFor, FirstCallsFor, IsUnrefused}
-use Rattle.hsdec_core.specs.Fill.{fill_of}
-use Rattle.hsdec_core.specs.Inner.Made.{answer_of, made_text, line_at, TextPut}
-use Rattle.hsdec_core.specs.Inner.RightFor.{IsCalledFor, IsOfSymbols, IsPlain, IsRightFor}
-use Rattle.hsdec_core.specs.LineFor.{IsLineFor}
-use Rattle.hsdec_core.specs.Operands.{OfNumbers, file_held, source_of, symbols_held}
-use Rattle.hsdec_core.specs.Promise.{HoldsMachine, IsAsked, IsAskedOf, IsAskedOrShown, IsDecompositionOf, IsEvidence, IsPromised, IsPromisedBy}
-use Rattle.hsdec_core.specs.Splits.{kind_of}
-use Rattle.hsdec_core.proofs.Lines.{line_at-made}
-use Rattle.hsdec_core.proofs.OneAnswer.{HasItsSizes, calls_for_one, first_calls_alone}
-use Rattle.hsdec_core.proofs.RightFor.{any, each, plain_other}
 
-done_or : (a : Answer) → (a ≡ Done) ⊎ (a ≢ Done)
-done_or Done = inl refl
+-- ---- what was made, and what is answered
+abbrev IsAnsweredBy : Result Report Refusal → Answer → Type 0
+IsAnsweredBy (Ok (Whole text)) result = (result ≡ answers.Done) ⊎ (result ≡ answers.WriteFault)
+IsAnsweredBy (Ok (Evidence text limit)) result = (result ≡ answers.More) ⊎ (result ≡ answers.WriteFault) ⊎ (result ≡ answers.NoMemory)
+IsAnsweredBy (Err refusal) result = (result ≡ answer_of refusal) ⊎ (result ≡ answers.NoMemory)
+
+-- what the delivery of what was made gives
+pub record IsDelivered (made : Result Report Refusal) (given given' : Option (List ℕ)) (PutFaulted Stays : Type 0) (result : Answer) : Type 0 where
+  pub done : result ≡ answers.Done → IsDone made given given' Stays
+  pub refused : result ≢ answers.Done → (refusal : Refusal) × (answer_of refusal ≡ result) × IsRefusedWith made given given' PutFaulted refusal
+
+done_or : (answer : Answer) → (answer ≡ answers.Done) ⊎ (answer ≢ answers.Done)
+done_or answers.Done = inl refl
 done_or _ = inr (λ e. cc)
 
-more_or : (a : Answer) → (a ≡ More) ⊎ (a ≢ More)
-more_or More = inl refl
-more_or _ = inr (λ e. cc)
+by_done : (made : Result Report Refusal) (given given' : Option (List ℕ)) (Stays : Type 0) (result : Answer) → result ≡ answers.Done → IsDone made given given' Stays → IsAnsweredBy made result
+by_done (Ok (Whole text)) given given' Stays result e put = inl e
+by_done (Ok (Evidence text limit)) given given' Stays result e put = absurd put
+by_done (Err refusal) given given' Stays result e put = absurd put
 
--- the answer is the one that was made, or that of a failed put, which needs a text
-pub record IsAnswered (made : Result Outcome AllocError) (result : Answer) : Type 0 where
-  pub either : (result ≡ answer_of made) ⊎ (result ≡ WriteFault)
-  pub no_text : made_text made ≡ [] → result ≡ answer_of made
+by_refused : (made : Result Report Refusal) (given given' : Option (List ℕ)) (PutFaulted : Type 0) (refusal : Refusal) (result : Answer) → answer_of refusal ≡ result → IsRefusedWith made given given' PutFaulted refusal → IsAnsweredBy made result
+by_refused (Ok (Whole text)) given given' PutFaulted refusal result e with_it = inr (sym e ∙ ap answer_of with_it.0)
+by_refused (Ok (Evidence text limit)) given given' PutFaulted refusal result e (inl shown) = inl (sym e ∙ ap answer_of shown.0)
+by_refused (Ok (Evidence text limit)) given given' PutFaulted refusal result e (inr (inl cut)) = inr (inl (sym e ∙ ap answer_of cut.0))
+by_refused (Ok (Evidence text limit)) given given' PutFaulted refusal result e (inr (inr wanting)) = inr (inr (sym e ∙ ap answer_of wanting))
+by_refused (Err made) given given' PutFaulted refusal result e (inl same) = inl (sym e ∙ ap answer_of same)
+by_refused (Err made) given given' PutFaulted refusal result e (inr wanting) = inr (sym e ∙ ap answer_of wanting)
 
--- what a put of the text says of the answer
-pub answered : (made : Result Outcome AllocError) (result : Answer) (given given' : Option (List ℕ)) (faults faults' : ℕ) → TextPut made result given given' faults faults' → (made_text made ≡ [] → result ≡ answer_of made) → IsAnswered made result
-answered made result given given' faults faults' (inl h) no_text = record { either = inl h.0; no_text = no_text }
-answered made result given given' faults faults' (inr h) no_text = record { either = inr h.0; no_text = no_text }
+answered : (made : Result Report Refusal) (given given' : Option (List ℕ)) (PutFaulted Stays : Type 0) (result : Answer) → IsDelivered made given given' PutFaulted Stays result → IsAnsweredBy made result
+answered made given given' PutFaulted Stays result delivered =
+    elim (done_or result) [
+      | inl e ↦ by_done made given given' Stays result e (delivered.done e)
+      | inr e ↦ let (refusal, is, with_it) = delivered.refused e in by_refused made given given' PutFaulted refusal result is with_it
+    ]
 
--- the line of want of memory, and that of a failed put
-wanting_line : (job : Result Job ℕ) (holds : List ℕ → Option (List ℕ)) (wanting : AllocError) → IsLineFor job holds NoMemory (line_at (Err wanting) NoMemory)
-wanting_line (Ok j) holds wanting = refl
-wanting_line (Err word) holds wanting = refl
+-- ---- bytes that are told
+the_same : (held : Option (List ℕ)) (told bytes : List ℕ) → held ≡ Some told → MayBe held bytes → bytes ≡ told
+the_same held told bytes is may = let here : MayBe (Some told) bytes = subst (λ (h : Option (List ℕ)). MayBe h bytes) is may in here
 
-failed_line : (job : Result Job ℕ) (holds : List ℕ → Option (List ℕ)) (made : Outcome) → (IsErr job → ⊥) → IsLineFor job holds WriteFault (line_at (Ok made) WriteFault)
-failed_line (Ok j) holds made lawful = refl
-failed_line (Err word) holds made lawful = absurd (lawful refl)
+some_bytes : (held : Option (List ℕ)) → (bytes : List ℕ) × MayBe held bytes
+some_bytes None = ([], tt)
+some_bytes (Some told) = (told, refl)
 
--- a put beside what is asked
-with_put : (job : Result Job ℕ) (Asked : Job → List ℕ → Type 0) (Put : List ℕ → Type 0) (text : List ℕ) → IfOk job (λ j. Asked j text) → Put text → IfOk job (λ j. (t : List ℕ) × Asked j t × Put t)
-with_put (Err word) Asked Put text asked put = tt
-with_put (Ok j) Asked Put text asked put = (text, asked, put)
+all_told : (held : Option (List ℕ)) (P : List ℕ → Type 0) → ((told : List ℕ) → held ≡ Some told → P told) → IfSome held P
+all_told None P f = tt
+all_told (Some told) P f = f told refl
 
--- what follows for a job
-weaken : (job : Result Job ℕ) (P Q : Job → Type 0) → ((j : Job) → P j → Q j) → IfOk job P → IfOk job Q
-weaken (Err word) P Q f h = tt
-weaken (Ok j) P Q f h = f j h
+-- ---- of a job
+module _ (job : Job) (holds : List ℕ → Option (List ℕ)) (Faulted : Type 0) where
+  no_memory : (made : Refusal) (result wanted : Answer) → made ≡ NoMemory → IsAnsweredBy (Err made) result → IsExcused result wanted
+  no_memory made result wanted e (inl f) = inl (f ∙ ap answer_of e)
+  no_memory made result wanted e (inr f) = inl f
 
-module _ (job : Result Job ℕ) (holds : List ℕ → Option (List ℕ)) (Faulted : Type 0) where
-  -- an answer that was made without a text is the answer
-  kept : (made : Outcome) (result : Answer) → IsRightFor job holds Faulted made → IsAnswered (Ok made) result → made.answer ≢ Done → made.answer ≢ More → result ≡ made.answer
-  kept made result right a undone few = a.no_text (right.no_text undone few)
+  failed_load : (made : Refusal) (result wanted : Answer) → IsFailedLoad job holds made → IsAnsweredBy (Err made) result → IsExcused result wanted
+  failed_load made result wanted (inl file) (inl f) = inr (inl (f ∙ ap answer_of file.1))
+  failed_load made result wanted (inr symbols) (inl f) = inr (inl (f ∙ ap answer_of symbols.1))
+  failed_load made result wanted failed (inr f) = inl f
 
-  -- words are refused exactly where they are no job
-  pub usage_of : (made : Result Outcome AllocError) (result : Answer) → IfOk made (IsRightFor job holds Faulted) → IsAnswered made result → ExactlyWhere result Usage (IsErr job)
-  usage_of (Err wanting) result right a = (λ e. let f = a.no_text refl in absurd cc, λ _. inr (a.no_text refl))
-  usage_of (Ok made) result right a = (
-    λ e. elim a.either [ inl f ↦ right.no_usage (sym f ∙ e) | inr f ↦ absurd cc ],
-    λ h. inl (kept made result right a (λ e. let f = right.usage h in cc) (λ e. let f = right.usage h in cc) ∙ right.usage h),
-  )
+  same_answer : (made : Refusal) (result wanted : Answer) → answer_of made ≡ wanted → IsAnsweredBy (Err made) result → (result ≡ wanted) ⊎ IsExcused result wanted
+  same_answer made result wanted e (inl f) = inl (f ∙ e)
+  same_answer made result wanted e (inr f) = inr (inl f)
 
-  -- a fault of reading needs a fault of the shelf
-  pub read_fault_of : (made : Result Outcome AllocError) (result : Answer) → IfOk made (IsRightFor job holds Faulted) → IsAnswered made result → result ≡ ReadFault → Faulted
-  read_fault_of (Err wanting) result right a e = let f = a.no_text refl in absurd cc
-  read_fault_of (Ok made) result right a e = elim a.either [ inl f ↦ right.read_fault (sym f ∙ e) | inr f ↦ absurd cc ]
+  shown_answer : (text : List ℕ) (limit : ℕ) (result wanted : Answer) → wanted ≡ answers.More → IsAnsweredBy (Ok (Evidence text limit)) result → (result ≡ wanted) ⊎ IsExcused result wanted
+  shown_answer text limit result wanted e (inl f) = inl (f ∙ sym e)
+  shown_answer text limit result wanted e (inr (inl f)) = inr (inr (inr (e, f)))
+  shown_answer text limit result wanted e (inr (inr f)) = inr (inl f)
 
-  -- nothing is given to out where no text was put
-  pub no_text_of : (made : Result Outcome AllocError) (result : Answer) → IfOk made (IsRightFor job holds Faulted) → IsAnswered made result → result ≢ Done → result ≢ More → result ≢ WriteFault → made_text made ≡ []
-  no_text_of (Err wanting) result right a undone few put = refl
-  no_text_of (Ok made) result right a undone few put =
-      elim a.either [ inl f ↦ right.no_text (λ e. undone (f ∙ e)) (λ e. few (f ∙ e)) | inr f ↦ absurd (put f) ]
+  -- what FILE or NET calls for is answered
+  module _ (told : List ℕ) (is : file_held job holds ≡ Some told) where
+    first_called : (made wanted : Refusal) (result : Answer) → IsCalledFor job holds made → first_cause job told wanted → IsAnsweredBy (Err made) result → (result ≡ answer_of wanted) ⊎ IsExcused result (answer_of wanted)
+    first_called made wanted result (bytes, symbols, may, may_symbols, inl h) k a =
+        same_answer made result (answer_of wanted)
+        (first_have_one job told made wanted (subst (λ (b : List ℕ). first_cause job b made) (the_same (file_held job holds) told bytes is may) h) k) a
+    first_called made wanted result (bytes, symbols, may, may_symbols, inr later) k a =
+        absurd (later.0 wanted (subst (λ (b : List ℕ). first_cause job b wanted) (sym (the_same (file_held job holds) told bytes is may)) k))
 
-  -- a failed put is one of a text
-  put_done : (made : Outcome) (result : Answer) → IsRightFor job holds Faulted made → IsAnswered (Ok made) result → result ≡ WriteFault → (made.answer ≡ Done) ⊎ (made.answer ≡ More)
-  put_done made result right a failed =
-      elim (done_or made.answer) [
-        | inl e ↦ inl e
-        | inr undone ↦ elim (more_or made.answer) [
-          | inl e ↦ inr e
-          | inr few ↦ absurd (right.in_memory (sym (kept made result right a undone few) ∙ failed))
-        ]
-      ]
+    pub first_comes : (made : Result Report Refusal) (result : Answer) → IsMadeOf job holds Faulted made → IsAnsweredBy made result → Comes result (first_cause job told)
+    first_comes (Ok (Whole text)) result (asked, (bytes, symbols, may, may_symbols, none)) a wanted k =
+        absurd (none wanted (inl (subst (λ (b : List ℕ). first_cause job b wanted) (sym (the_same (file_held job holds) told bytes is may)) k)))
+    first_comes (Ok (Evidence text limit)) result (shown, (bytes, may, h)) a wanted k =
+        shown_answer text limit result (answer_of wanted)
+        (first_have_one job told wanted (More limit) k (subst (λ (b : List ℕ). first_cause job b (More limit)) (the_same (file_held job holds) told bytes is may) h)) a
+    first_comes (Err made) result (inl wanting) a wanted k = inr (no_memory made result (answer_of wanted) wanting a)
+    first_comes (Err made) result (inr (inl failed)) a wanted k = inr (failed_load made result (answer_of wanted) failed.1 a)
+    first_comes (Err made) result (inr (inr called)) a wanted k = first_called made wanted result called.0 k a
 
-  -- the line of the answer is right
-  made_line : (made : Outcome) (result : Answer) → IsRightFor job holds Faulted made → made.answer ≢ Done → result ≡ made.answer → IsLineFor job holds result (line_at (Ok made) result)
-  made_line made result right undone same =
-      let other : result ≢ WriteFault = λ e. right.in_memory (sym same ∙ e) in
-      subst (λ (line : List ℕ). IsLineFor job holds result line) (sym (line_at-made (Ok made) result other)) (subst (λ (r : Answer). IsLineFor job holds r made.line) (sym same) (right.line undone))
+    -- and so is what all that is loaded calls for
+    module _ (told_symbols : List ℕ) (symbols_is : symbols_held job holds ≡ Some told_symbols) where
+      told_causes : (bytes symbols : List ℕ) (refusal : Refusal) → MayBe (file_held job holds) bytes → MayBe (symbols_held job holds) symbols → all_causes job bytes symbols refusal → all_causes job told told_symbols refusal
+      told_causes bytes symbols refusal may may_symbols h =
+          subst (λ (s : List ℕ). all_causes job told s refusal) (the_same (symbols_held job holds) told_symbols symbols symbols_is may_symbols)
+          (subst (λ (b : List ℕ). all_causes job b symbols refusal) (the_same (file_held job holds) told bytes is may) h)
 
-  pub line_is : (made : Result Outcome AllocError) (result : Answer) → IfOk made (IsRightFor job holds Faulted) → IsAnswered made result → result ≢ Done → IsLineFor job holds result (line_at made result)
-  line_is (Err wanting) result right a undone =
-      subst (λ (r : Answer). IsLineFor job holds r (line_at (Err wanting) r)) (sym (a.no_text refl)) (wanting_line job holds wanting)
-  line_is (Ok made) result right a undone =
-      elim a.either [
-        | inl f ↦ made_line made result right (λ e. undone (f ∙ e)) f
-        | inr f ↦
-            subst (λ (r : Answer). IsLineFor job holds r (line_at (Ok made) r)) (sym f)
-            (failed_line job holds made (λ h. elim (put_done made result right a f) [
-              | inl d ↦ let g : Done ≡ Usage = sym d ∙ right.usage h in cc
-              | inr m ↦ let g : More ≡ Usage = sym m ∙ right.usage h in cc
-            ]))
-      ]
+      told_back : (bytes symbols : List ℕ) (refusal : Refusal) → MayBe (file_held job holds) bytes → MayBe (symbols_held job holds) symbols → all_causes job told told_symbols refusal → all_causes job bytes symbols refusal
+      told_back bytes symbols refusal may may_symbols h =
+          subst (λ (s : List ℕ). all_causes job bytes s refusal) (sym (the_same (symbols_held job holds) told_symbols symbols symbols_is may_symbols))
+          (subst (λ (b : List ℕ). all_causes job b told_symbols refusal) (sym (the_same (file_held job holds) told bytes is may)) h)
 
-  -- a text that was put is what the job asks for
-  asked : (made : Result Outcome AllocError) → IfOk made (IsRightFor job holds Faulted) → answer_of made ≡ Done → IfOk job (λ j. IsAsked j holds (made_text made))
-  asked (Err wanting) right e = absurd cc
-  asked (Ok made) right e = right.text e
+      shown_cause : (bytes : List ℕ) (limit : ℕ) → MayBe (file_held job holds) bytes → first_cause job bytes (More limit) → all_causes job told told_symbols (More limit)
+      shown_cause bytes limit may h = inl (subst (λ (b : List ℕ). first_cause job b (More limit)) (the_same (file_held job holds) told bytes is may) h)
 
-  pub text_of_done : (made : Result Outcome AllocError) (result : Answer) (given given' : Option (List ℕ)) (faults faults' : ℕ) → IfOk made (IsRightFor job holds Faulted) → TextPut made result given given' faults faults' → result ≡ Done
-      → IfOk job (λ j. (text : List ℕ) × IsAsked j holds text × Appends given text given')
-  text_of_done made result given given' faults faults' right (inl put) e = with_put job (λ j text. IsAsked j holds text) (λ text. Appends given text given') (made_text made) (asked made right (sym put.0 ∙ e)) put.1
-  text_of_done made result given given' faults faults' right (inr put) e = absurd (let f : Done ≡ WriteFault = sym e ∙ put.0 in cc)
+      pub all_come : (made : Result Report Refusal) (result : Answer) → IsMadeOf job holds Faulted made → IsAnsweredBy made result → Comes result (all_causes job told told_symbols)
+      all_come (Ok (Whole text)) result (asked, (bytes, symbols, may, may_symbols, none)) a wanted k = absurd (none wanted (told_back bytes symbols wanted may may_symbols k))
+      all_come (Ok (Evidence text limit)) result (shown, (bytes, may, h)) a wanted k =
+          shown_answer text limit result (answer_of wanted) (all_have_one job told told_symbols wanted (More limit) k (shown_cause bytes limit may h)) a
+      all_come (Err made) result (inl wanting) a wanted k = inr (no_memory made result (answer_of wanted) wanting a)
+      all_come (Err made) result (inr (inl failed)) a wanted k = inr (failed_load made result (answer_of wanted) failed.1 a)
+      all_come (Err made) result (inr (inr ((bytes, symbols, may, may_symbols, h), plain))) a wanted k =
+          same_answer made result (answer_of wanted) (all_have_one job told told_symbols made wanted (told_causes bytes symbols made may may_symbols h) k) a
 
-  -- and evidence that was put is what it shows
-  shown : (made : Result Outcome AllocError) → IfOk made (IsRightFor job holds Faulted) → answer_of made ≡ More → IfOk job (λ j. IsEvidence j holds (made_text made))
-  shown (Err wanting) right e = absurd cc
-  shown (Ok made) right e = right.shown e
+      -- where nothing calls for a refusal and there is no fault, the answer is Done or want of memory
+      pub completes : (made : Result Report Refusal) (result : Answer) (PutFaulted : Type 0) → IsMadeOf job holds Faulted made → IsAnsweredBy made result → (result ≡ answers.WriteFault → PutFaulted)
+          → CallsForNone (all_causes job told told_symbols) → (Faulted → ⊥) → (PutFaulted → ⊥) → (result ≡ answers.Done) ⊎ (result ≡ answers.NoMemory)
+      completes (Ok (Whole text)) result PutFaulted is_made (inl e) fault none unfaulted unput = inl e
+      completes (Ok (Whole text)) result PutFaulted is_made (inr e) fault none unfaulted unput = absurd (unput (fault e))
+      completes (Ok (Evidence text limit)) result PutFaulted (shown, (bytes, may, h)) a fault none unfaulted unput = absurd (none (More limit) (shown_cause bytes limit may h))
+      completes (Err made) result PutFaulted (inl wanting) (inl e) fault none unfaulted unput = inr (e ∙ ap answer_of wanting)
+      completes (Err made) result PutFaulted (inl wanting) (inr e) fault none unfaulted unput = inr e
+      completes (Err made) result PutFaulted (inr (inl failed)) a fault none unfaulted unput = absurd (unfaulted failed.0)
+      completes (Err made) result PutFaulted (inr (inr ((bytes, symbols, may, may_symbols, h), plain))) a fault none unfaulted unput = absurd (none made (told_causes bytes symbols made may may_symbols h))
 
-  pub evidence_of : (made : Result Outcome AllocError) (result : Answer) (given given' : Option (List ℕ)) (faults faults' : ℕ) → IfOk made (IsRightFor job holds Faulted) → TextPut made result given given' faults faults' → result ≡ More
-      → IfOk job (λ j. (text : List ℕ) × IsEvidence j holds text × Appends given text given')
-  evidence_of made result given given' faults faults' right (inl put) e = with_put job (λ j text. IsEvidence j holds text) (λ text. Appends given text given') (made_text made) (shown made right (sym put.0 ∙ e)) put.1
-  evidence_of made result given given' faults faults' right (inr put) e = absurd (let f : More ≡ WriteFault = sym e ∙ put.0 in cc)
+-- ---- of the words
+module _ (holds : List ℕ → Option (List ℕ)) (Faulted PutFaulted Stays : Type 0) (given given' : Option (List ℕ)) where
+  pub first_of : (job : Result Job ℕ) (made : Result Report Refusal) (result : Answer) → IsMadeFor job holds Faulted made → IsDelivered made given given' PutFaulted Stays result
+      → IfOk job (λ j. IfSome (file_held j holds) (λ bytes. Comes result (first_cause j bytes)))
+  first_of (Err word) made result is_made delivered = tt
+  first_of (Ok j) made result is_made delivered =
+      all_told (file_held j holds) (λ bytes. Comes result (first_cause j bytes))
+      (λ told is. first_comes j holds Faulted told is made result is_made (answered made given given' PutFaulted Stays result delivered))
 
-  -- the text of a failed put is one of the two
-  either_text : (made : Outcome) → IsRightFor job holds Faulted made → (made.answer ≡ Done) ⊎ (made.answer ≡ More) → IfOk job (λ j. IsAskedOrShown j holds made.text)
-  either_text made right (inl e) = weaken job (λ j. IsAsked j holds made.text) (λ j. IsAskedOrShown j holds made.text) (λ j h. inl h) (right.text e)
-  either_text made right (inr e) = weaken job (λ j. IsEvidence j holds made.text) (λ j. IsAskedOrShown j holds made.text) (λ j h. inr h) (right.shown e)
+  pub all_of : (job : Result Job ℕ) (made : Result Report Refusal) (result : Answer) → IsMadeFor job holds Faulted made → IsDelivered made given given' PutFaulted Stays result
+      → IfOk job (λ j. IfSome (file_held j holds) (λ bytes. IfSome (symbols_held j holds) (λ symbols. Comes result (all_causes j bytes symbols))))
+  all_of (Err word) made result is_made delivered = tt
+  all_of (Ok j) made result is_made delivered =
+      all_told (file_held j holds) (λ bytes. IfSome (symbols_held j holds) (λ symbols. Comes result (all_causes j bytes symbols)))
+      (λ told is. all_told (symbols_held j holds) (λ symbols. Comes result (all_causes j told symbols))
+      (λ symbols symbols_is. all_come j holds Faulted told is symbols symbols_is made result is_made (answered made given given' PutFaulted Stays result delivered)))
 
-  pub front_of : (made : Result Outcome AllocError) (result : Answer) (given given' : Option (List ℕ)) (faults faults' : ℕ) → IfOk made (IsRightFor job holds Faulted) → IsAnswered made result → TextPut made result given given' faults faults' → result ≡ WriteFault
-      → IfOk job (λ j. (text : List ℕ) × IsAskedOrShown j holds text × AppendsFront given text given')
-  front_of (Err wanting) result given given' faults faults' right a put e = absurd (let f : WriteFault ≡ NoMemory = sym e ∙ a.no_text refl in cc)
-  front_of (Ok made) result given given' faults faults' right a (inl put) e = absurd (right.in_memory (sym put.0 ∙ e))
-  front_of (Ok made) result given given' faults faults' right a (inr put) e =
-      with_put job (λ j text. IsAskedOrShown j holds text) (λ text. AppendsFront given text given') made.text (either_text made right (put_done made result right a e)) put.1
+  -- a failed put had a fault
+  put_fault : (made : Result Report Refusal) (refusal : Refusal) → answer_of refusal ≡ answers.WriteFault → IsRefusedWith made given given' PutFaulted refusal → ((wrong : Refusal) → made ≡ Err wrong → answer_of wrong ≢ answers.WriteFault) → PutFaulted
+  put_fault (Ok (Whole text)) refusal e (unwritable, (front, same, some, put, fault)) none = fault
+  put_fault (Ok (Evidence text limit)) refusal e (inl shown) none = absurd (let f : answers.More ≡ answers.WriteFault = sym (ap answer_of shown.0) ∙ e in cc)
+  put_fault (Ok (Evidence text limit)) refusal e (inr (inl (unwritable, (front, same, some, put, fault)))) none = fault
+  put_fault (Ok (Evidence text limit)) refusal e (inr (inr wanting)) none = absurd (let f : answers.NoMemory ≡ answers.WriteFault = sym (ap answer_of wanting) ∙ e in cc)
+  put_fault (Err made) refusal e (inl same) none = absurd (none made refl (ap answer_of (sym same) ∙ e))
+  put_fault (Err made) refusal e (inr wanting) none = absurd (let f : answers.NoMemory ≡ answers.WriteFault = sym (ap answer_of wanting) ∙ e in cc)
 
-  -- and a fault of reading comes of an operand alone
-  pub loads_of : (made : Result Outcome AllocError) (result : Answer) → IfOk made (IsRightFor job holds Faulted) → IsAnswered made result → result ≡ ReadFault → IfOk job (λ j. source_of j.command ≢ OfNumbers)
-  loads_of (Err wanting) result right a e = let f = a.no_text refl in absurd cc
-  loads_of (Ok made) result right a e = elim a.either [ inl f ↦ right.loads (sym f ∙ e) | inr f ↦ absurd cc ]
+  -- a job that is refused is refused with none of the other answers
+  undone_otherwise : (j : Job) (refusal : Refusal) (other : Answer) → answers.NoMemory ≢ other → answers.ReadFault ≢ other → (IsPlain other → ⊥) → IsUndone j holds Faulted refusal → answer_of refusal ≢ other
+  undone_otherwise j refusal other memory reading plain (inl wanting) e = memory (sym (ap answer_of wanting) ∙ e)
+  undone_otherwise j refusal other memory reading plain (inr (inl (fault, inl file))) e = reading (sym (ap answer_of file.1) ∙ e)
+  undone_otherwise j refusal other memory reading plain (inr (inl (fault, inr symbols))) e = reading (sym (ap answer_of symbols.1) ∙ e)
+  undone_otherwise j refusal other memory reading plain (inr (inr called)) e = plain (subst IsPlain e called.1)
 
--- ---- of a job and what is loaded
-module _ (job : Job) (holds : List ℕ → Option (List ℕ)) (Faulted : Type 0) (sizes : HasItsSizes job) where
-  -- what is called for where the symbols are told
-  called : (bytes symbols : List ℕ) (answer : Answer) → IsCalledFor job bytes (Some symbols) answer → CallsFor job bytes symbols answer
-  called bytes symbols answer (inl h) = inl h
-  called bytes symbols answer (inr (width, awaits, of_symbols, h)) = inr (width, awaits, h)
+  -- and where a load failed, a count rose
+  undone_read : (j : Job) (refusal : Refusal) → IsUndone j holds Faulted refusal → answer_of refusal ≡ answers.ReadFault → Faulted
+  undone_read j refusal (inl wanting) e = absurd (let f : answers.NoMemory ≡ answers.ReadFault = sym (ap answer_of wanting) ∙ e in cc)
+  undone_read j refusal (inr (inl failed)) e = failed.0
+  undone_read j refusal (inr (inr called)) e = absurd (subst IsPlain e called.1)
 
-  -- an answer that symbols never call for is called for before
-  called_first : (bytes : List ℕ) (held : Option (List ℕ)) (answer : Answer) → (IsOfSymbols answer → ⊥) → IsCalledFor job bytes held answer → FirstCallsFor job bytes answer
-  called_first bytes held answer first (inl h) = h
-  called_first bytes held answer first (inr (width, awaits, of_symbols, h)) = absurd (first of_symbols)
+  never_unwritable : (job : Result Job ℕ) (made : Result Report Refusal) → IsMadeFor job holds Faulted made → (wrong : Refusal) → made ≡ Err wrong → answer_of wrong ≢ answers.WriteFault
+  never_unwritable (Ok j) (Ok report) is_made wrong is = absurd (cc)
+  never_unwritable (Ok j) (Err refusal) is_made wrong is =
+      let same : refusal ≡ wrong = cc in
+      λ e. undone_otherwise j refusal answers.WriteFault (λ f. cc) (λ f. cc) (λ plain. plain) is_made (ap answer_of same ∙ e)
+  never_unwritable (Err word) (Ok report) is_made wrong is = absurd is_made
+  never_unwritable (Err word) (Err refusal) (inl wanting) wrong is =
+      let same : wrong ≡ NoMemory = let back : refusal ≡ wrong = cc in sym back ∙ wanting in
+      λ e. absurd (let f : answers.NoMemory ≡ answers.WriteFault = sym (ap answer_of same) ∙ e in cc)
+  never_unwritable (Err word) (Err refusal) (inr usage) wrong is =
+      let same : wrong ≡ Usage word = let back : refusal ≡ wrong = cc in sym back ∙ usage in
+      λ e. absurd (let f : answers.Usage ≡ answers.WriteFault = sym (ap answer_of same) ∙ e in cc)
 
-  -- an answer has its cause, where it is no fault
-  has_cause : (Calls : Answer → Type 0) (made : Outcome) (result answer : Answer) → (made.answer ≡ ReadFault) ⊎ Calls made.answer → IsAnswered (Ok made) result → answer ≢ ReadFault → answer ≢ WriteFault → result ≡ answer → Calls answer
-  has_cause Calls made result answer cause a unfaulted unput e =
-      elim a.either [
-        | inl f ↦ elim cause [
-          | inl g ↦ absurd (unfaulted (sym e ∙ f ∙ g))
-          | inr k ↦ subst Calls (sym f ∙ e) k
-        ]
-        | inr f ↦ absurd (unput (sym e ∙ f))
-      ]
+  pub write_faults : (job : Result Job ℕ) (made : Result Report Refusal) (result : Answer) → IsMadeFor job holds Faulted made → IsDelivered made given given' PutFaulted Stays result → result ≡ answers.WriteFault → PutFaulted
+  write_faults job made result is_made delivered e =
+      let (refusal, is, with_it) = delivered.refused (λ done. let f : answers.WriteFault ≡ answers.Done = sym e ∙ done in cc) in
+      put_fault made refusal (is ∙ e) with_it (never_unwritable job made is_made)
 
-  -- and comes where that stands, of which there is one
-  exact_by : (Calls : Answer → Type 0) (made : Outcome) (result answer : Answer) → IsRightFor (Ok job) holds Faulted made → (made.answer ≡ ReadFault) ⊎ (Calls made.answer × (Calls answer → made.answer ≡ answer)) → IsAnswered (Ok made) result → IsPlain answer
-      → ExactlyWhereRead result answer (Calls answer)
-  exact_by Calls made result answer right cause a plain = (
-    has_cause Calls made result answer (elim cause [ inl g ↦ inl g | inr h ↦ inr h.0 ]) a (plain_other answer ReadFault plain (λ h. h)) (plain_other answer WriteFault plain (λ h. h)),
-    λ k. elim cause [
-      | inl g ↦ inr (inr (kept (Ok job) holds Faulted made result right a (λ e. let f : ReadFault ≡ Done = sym g ∙ e in cc) (λ e. let f : ReadFault ≡ More = sym g ∙ e in cc) ∙ g))
-      | inr h ↦
-          let same : made.answer ≡ answer = h.1 k in
-          inl (kept (Ok job) holds Faulted made result right a (λ e. plain_other answer Done plain (λ i. i) (sym same ∙ e)) (λ e. plain_other answer More plain (λ i. i) (sym same ∙ e)) ∙ same)
-    ],
-  )
+  read_with : (job : Result Job ℕ) (made : Result Report Refusal) (refusal : Refusal) → answer_of refusal ≡ answers.ReadFault → IsMadeFor job holds Faulted made → IsRefusedWith made given given' PutFaulted refusal → Faulted
+  read_with (Ok j) (Ok (Whole text)) refusal e is_made with_it = absurd (let f : answers.WriteFault ≡ answers.ReadFault = sym (ap answer_of with_it.0) ∙ e in cc)
+  read_with (Ok j) (Ok (Evidence text limit)) refusal e is_made (inl shown) = absurd (let f : answers.More ≡ answers.ReadFault = sym (ap answer_of shown.0) ∙ e in cc)
+  read_with (Ok j) (Ok (Evidence text limit)) refusal e is_made (inr (inl cut)) = absurd (let f : answers.WriteFault ≡ answers.ReadFault = sym (ap answer_of cut.0) ∙ e in cc)
+  read_with (Ok j) (Ok (Evidence text limit)) refusal e is_made (inr (inr wanting)) = absurd (let f : answers.NoMemory ≡ answers.ReadFault = sym (ap answer_of wanting) ∙ e in cc)
+  read_with (Ok j) (Err made) refusal e is_made (inl same) = undone_read j made is_made (ap answer_of (sym same) ∙ e)
+  read_with (Ok j) (Err made) refusal e is_made (inr wanting) = absurd (let f : answers.NoMemory ≡ answers.ReadFault = sym (ap answer_of wanting) ∙ e in cc)
+  read_with (Err word) (Ok report) refusal e is_made with_it = absurd is_made
+  read_with (Err word) (Err made) refusal e (inl wanting) (inl same) = absurd (let f : answers.NoMemory ≡ answers.ReadFault = sym (ap answer_of (same ∙ wanting)) ∙ e in cc)
+  read_with (Err word) (Err made) refusal e (inr usage) (inl same) = absurd (let f : answers.Usage ≡ answers.ReadFault = sym (ap answer_of (same ∙ usage)) ∙ e in cc)
+  read_with (Err word) (Err made) refusal e is_made (inr wanting) = absurd (let f : answers.NoMemory ≡ answers.ReadFault = sym (ap answer_of wanting) ∙ e in cc)
 
-  -- by FILE or NET alone
-  first_on : (held : Option (List ℕ)) (bytes : List ℕ) (made : Outcome) (result answer : Answer) → IsRightFor (Ok job) holds Faulted made → (made.answer ≡ ReadFault) ⊎ IsCalledFor job bytes held made.answer → IsAnswered (Ok made) result → IsPlain answer → (IsOfSymbols answer → ⊥)
-      → ExactlyWhereRead result answer (FirstCallsFor job bytes answer)
-  first_on held bytes made result answer right cause a plain first = (
-    λ e. called_first bytes held answer first (has_cause (IsCalledFor job bytes held) made result answer cause a (plain_other answer ReadFault plain (λ h. h)) (plain_other answer WriteFault plain (λ h. h)) e),
-    λ k. (exact_by (IsCalledFor job bytes held) made result answer right (elim cause [ inl g ↦ inl g | inr h ↦ inr (h, λ _. first_calls_alone job bytes held made.answer answer sizes h k) ]) a plain).1 (inl k),
-  )
+  pub read_faults : (job : Result Job ℕ) (made : Result Report Refusal) (result : Answer) → IsMadeFor job holds Faulted made → IsDelivered made given given' PutFaulted Stays result → result ≡ answers.ReadFault → Faulted
+  read_faults job made result is_made delivered e =
+      let (refusal, is, with_it) = delivered.refused (λ done. let f : answers.ReadFault ≡ answers.Done = sym e ∙ done in cc) in
+      read_with job made refusal (is ∙ e) is_made with_it
 
-  -- by all that is loaded
-  all_on : (bytes symbols : List ℕ) (made : Outcome) (result answer : Answer) → IsRightFor (Ok job) holds Faulted made → (made.answer ≡ ReadFault) ⊎ IsCalledFor job bytes (Some symbols) made.answer → IsAnswered (Ok made) result → IsPlain answer
-      → ExactlyWhereRead result answer (CallsFor job bytes symbols answer)
-  all_on bytes symbols made result answer right cause a plain =
-      exact_by (CallsFor job bytes symbols) made result answer right
-      (elim cause [ inl g ↦ inl g | inr h ↦ let c : CallsFor job bytes symbols made.answer = called bytes symbols made.answer h in inr (c, λ k. calls_for_one job bytes symbols made.answer answer sizes c k) ])
-      a plain
+  pub complete_of : (job : Result Job ℕ) (made : Result Report Refusal) (result : Answer) → IsMadeFor job holds Faulted made → IsDelivered made given given' PutFaulted Stays result
+      → IfOk job (λ j. IfSome (file_held j holds) (λ bytes. IfSome (symbols_held j holds) (λ symbols. CallsForNone (all_causes j bytes symbols) → (Faulted → ⊥) → (PutFaulted → ⊥) → (result ≡ answers.Done) ⊎ (result ≡ answers.NoMemory))))
+  complete_of (Err word) made result is_made delivered = tt
+  complete_of (Ok j) made result is_made delivered =
+      all_told (file_held j holds)
+      (λ bytes. IfSome (symbols_held j holds) (λ symbols. CallsForNone (all_causes j bytes symbols) → (Faulted → ⊥) → (PutFaulted → ⊥) → (result ≡ answers.Done) ⊎ (result ≡ answers.NoMemory)))
+      (λ told is. all_told (symbols_held j holds)
+      (λ symbols. CallsForNone (all_causes j told symbols) → (Faulted → ⊥) → (PutFaulted → ⊥) → (result ≡ answers.Done) ⊎ (result ≡ answers.NoMemory))
+      (λ symbols symbols_is. completes j holds Faulted told is symbols symbols_is made result PutFaulted is_made (answered made given given' PutFaulted Stays result delivered) (write_faults (Ok j) made result is_made delivered)))
 
-  -- evidence comes where it stands, if its put succeeds
-  more_on : (held : Option (List ℕ)) (bytes : List ℕ) (made : Outcome) (result : Answer) → IsRightFor (Ok job) holds Faulted made → (made.answer ≡ ReadFault) ⊎ IsCalledFor job bytes held made.answer → IsAnswered (Ok made) result
-      → ExactlyWherePut result More (FirstCallsFor job bytes More)
-  more_on held bytes made result right cause a = (
-    λ e. called_first bytes held More (λ h. h) (has_cause (IsCalledFor job bytes held) made result More cause a (λ f. cc) (λ f. cc) e),
-    λ k. elim cause [
-      | inl g ↦ inr (inr (inl (kept (Ok job) holds Faulted made result right a (λ e. let f : ReadFault ≡ Done = sym g ∙ e in cc) (λ e. let f : ReadFault ≡ More = sym g ∙ e in cc) ∙ g)))
-      | inr h ↦
-          let same : made.answer ≡ More = first_calls_alone job bytes held made.answer More sizes h k in
-          elim a.either [ inl f ↦ inl (f ∙ same) | inr f ↦ inr (inr (inr f)) ]
-    ],
-  )
+  -- ---- the refusal that is answered
+  shown_stop : (j : Job) (bytes : List ℕ) (limit : ℕ) → MayBe (file_held j holds) bytes → first_cause j bytes (More limit) → IsStopOf j holds Faulted (More limit)
+  shown_stop j bytes limit may h = let (symbols, may_symbols) = some_bytes (symbols_held j holds) in inr (inr (bytes, symbols, may, may_symbols, inl h))
 
-  -- where nothing calls for a refusal and there is no fault, the answer is Done or want of memory
-  complete_on : (bytes symbols : List ℕ) (made : Outcome) (result : Answer) (PutFault : Type 0) → IsRightFor (Ok job) holds Faulted made → (made.answer ≡ ReadFault) ⊎ IsCalledFor job bytes (Some symbols) made.answer → IsAnswered (Ok made) result → (result ≡ WriteFault → PutFault)
-      → IsUnrefused job bytes symbols → (Faulted → ⊥) → (PutFault → ⊥) → (result ≡ Done) ⊎ (result ≡ NoMemory)
-  complete_on bytes symbols made result PutFault right cause a failed unrefused unfaulted unput =
-      elim a.either [
-        | inr f ↦ absurd (unput (failed f))
-        | inl f ↦ elim cause [
-          | inl g ↦ absurd (unfaulted (right.read_fault g))
-          | inr k ↦ elim (done_or made.answer) [ inl e ↦ inl (f ∙ e) | inr e ↦ absurd (unrefused made.answer e (called bytes symbols made.answer k)) ]
-        ]
-      ]
+  stop_of_undone : (j : Job) (refusal : Refusal) → IsUndone j holds Faulted refusal → IsStopOf j holds Faulted refusal
+  stop_of_undone j refusal (inl wanting) = inl wanting
+  stop_of_undone j refusal (inr (inl failed)) = inr (inl failed)
+  stop_of_undone j refusal (inr (inr called)) = inr (inr called.0)
 
-  -- what holds where the symbols are told too
-  all_told : (held : Option (List ℕ)) (P : List ℕ → Type 0) (Q : Option (List ℕ) → Type 0) → ((symbols : List ℕ) → Q (Some symbols) → P symbols) → Q held → IfSome held P
-  all_told None P Q f h = tt
-  all_told (Some symbols) P Q f h = f symbols h
+  pub refused_of : (job : Result Job ℕ) (made : Result Report Refusal) (refusal : Refusal) → IsMadeFor job holds Faulted made → IsRefusedWith made given given' PutFaulted refusal → IsRefusedFor job holds Faulted PutFaulted refusal
+  refused_of (Ok j) (Ok (Whole text)) refusal is_made (unwritable, (front, same, some, put, fault)) = inr (unwritable, fault)
+  refused_of (Ok j) (Ok (Evidence text limit)) refusal (shown, (bytes, may, h)) (inl more) =
+      inl (subst (IsStopOf j holds Faulted) (sym more.0) (shown_stop j bytes limit may h))
+  refused_of (Ok j) (Ok (Evidence text limit)) refusal is_made (inr (inl (unwritable, (front, same, some, put, fault)))) = inr (unwritable, fault)
+  refused_of (Ok j) (Ok (Evidence text limit)) refusal is_made (inr (inr wanting)) = inl (inl wanting)
+  refused_of (Ok j) (Err made) refusal is_made (inl same) = inl (subst (IsStopOf j holds Faulted) (sym same) (stop_of_undone j made is_made))
+  refused_of (Ok j) (Err made) refusal is_made (inr wanting) = inl (inl wanting)
+  refused_of (Err word) (Ok report) refusal is_made with_it = absurd is_made
+  refused_of (Err word) (Err made) refusal (inl wanting) (inl same) = inl (inl (same ∙ wanting))
+  refused_of (Err word) (Err made) refusal (inr usage) (inl same) = inl (inr (same ∙ usage))
+  refused_of (Err word) (Err made) refusal is_made (inr wanting) = inl (inl wanting)
 
--- the same for the job of the words
-module _ (holds : List ℕ → Option (List ℕ)) (Faulted : Type 0) where
-  pub first_of : (job : Result Job ℕ) (made : Result Outcome AllocError) (result answer : Answer) → IfOk job HasItsSizes → IfOk made (IsRightFor job holds Faulted) → IsAnswered made result → IsPlain answer → (IsOfSymbols answer → ⊥)
-      → IfOk job (λ j. IfSome (file_held j holds) (λ bytes. ExactlyWhereRead result answer (FirstCallsFor j bytes answer)))
-  first_of (Err word) made result answer sizes right a plain first = tt
-  first_of (Ok j) (Ok made) result answer sizes right a plain first =
-      each (file_held j holds) (λ bytes. (made.answer ≡ ReadFault) ⊎ IsCalledFor j bytes (symbols_held j holds) made.answer) (λ bytes. ExactlyWhereRead result answer (FirstCallsFor j bytes answer))
-      (λ bytes cause. first_on j holds Faulted sizes (symbols_held j holds) bytes made result answer right cause a plain first) right.cause
-  first_of (Ok j) (Err wanting) result answer sizes right a plain first =
-      any (file_held j holds) (λ bytes. ExactlyWhereRead result answer (FirstCallsFor j bytes answer))
-      (λ bytes. (λ e. absurd (plain_other answer NoMemory plain (λ h. h) (sym e ∙ a.no_text refl)), λ k. inr (inl (a.no_text refl))))
+  -- refused words are answered as such
+  usage_of : (job : Result Job ℕ) (made : Result Report Refusal) (result : Answer) → IsMadeFor job holds Faulted made → IsDelivered made given given' PutFaulted Stays result → (word : ℕ) → job ≡ Err word → (result ≡ answers.Usage) ⊎ (result ≡ answers.NoMemory)
+  usage_of (Ok j) made result is_made delivered word is = absurd (cc)
+  usage_of (Err first) (Ok report) result is_made delivered word is = absurd is_made
+  usage_of (Err first) (Err refusal) result (inl wanting) delivered word is =
+      elim (answered (Err refusal) given given' PutFaulted Stays result delivered) [ inl e ↦ inr (e ∙ ap answer_of wanting) | inr e ↦ inr e ]
+  usage_of (Err first) (Err refusal) result (inr usage) delivered word is =
+      elim (answered (Err refusal) given given' PutFaulted Stays result delivered) [ inl e ↦ inl (e ∙ ap answer_of usage) | inr e ↦ inr e ]
 
-  pub all_of : (job : Result Job ℕ) (made : Result Outcome AllocError) (result answer : Answer) → IfOk job HasItsSizes → IfOk made (IsRightFor job holds Faulted) → IsAnswered made result → IsPlain answer
-      → IfOk job (λ j. IfSome (file_held j holds) (λ bytes. IfSome (symbols_held j holds) (λ symbols. ExactlyWhereRead result answer (CallsFor j bytes symbols answer))))
-  all_of (Err word) made result answer sizes right a plain = tt
-  all_of (Ok j) (Ok made) result answer sizes right a plain =
-      each (file_held j holds) (λ bytes. (made.answer ≡ ReadFault) ⊎ IsCalledFor j bytes (symbols_held j holds) made.answer) (λ bytes. IfSome (symbols_held j holds) (λ symbols. ExactlyWhereRead result answer (CallsFor j bytes symbols answer)))
-      (λ bytes cause. all_told j holds Faulted sizes (symbols_held j holds) (λ symbols. ExactlyWhereRead result answer (CallsFor j bytes symbols answer)) (λ held. (made.answer ≡ ReadFault) ⊎ IsCalledFor j bytes held made.answer)
-      (λ symbols here. all_on j holds Faulted sizes bytes symbols made result answer right here a plain) cause) right.cause
-  all_of (Ok j) (Err wanting) result answer sizes right a plain =
-      any (file_held j holds) (λ bytes. IfSome (symbols_held j holds) (λ symbols. ExactlyWhereRead result answer (CallsFor j bytes symbols answer)))
-      (λ bytes. any (symbols_held j holds) (λ symbols. ExactlyWhereRead result answer (CallsFor j bytes symbols answer))
-      (λ symbols. (λ e. absurd (plain_other answer NoMemory plain (λ h. h) (sym e ∙ a.no_text refl)), λ k. inr (inl (a.no_text refl)))))
+  pub usage_if_err : (job : Result Job ℕ) (made : Result Report Refusal) (result : Answer) → IsMadeFor job holds Faulted made → IsDelivered made given given' PutFaulted Stays result → IsErr job → (result ≡ answers.Usage) ⊎ (result ≡ answers.NoMemory)
+  usage_if_err (Ok j) made result is_made delivered err = absurd (cc)
+  usage_if_err (Err word) made result is_made delivered err = usage_of (Err word) made result is_made delivered word refl
 
-  pub more_of : (job : Result Job ℕ) (made : Result Outcome AllocError) (result : Answer) → IfOk job HasItsSizes → IfOk made (IsRightFor job holds Faulted) → IsAnswered made result
-      → IfOk job (λ j. IfSome (file_held j holds) (λ bytes. ExactlyWherePut result More (FirstCallsFor j bytes More)))
-  more_of (Err word) made result sizes right a = tt
-  more_of (Ok j) (Ok made) result sizes right a =
-      each (file_held j holds) (λ bytes. (made.answer ≡ ReadFault) ⊎ IsCalledFor j bytes (symbols_held j holds) made.answer) (λ bytes. ExactlyWherePut result More (FirstCallsFor j bytes More))
-      (λ bytes cause. more_on j holds Faulted sizes (symbols_held j holds) bytes made result right cause a) right.cause
-  more_of (Ok j) (Err wanting) result sizes right a =
-      any (file_held j holds) (λ bytes. ExactlyWherePut result More (FirstCallsFor j bytes More))
-      (λ bytes. (λ e. absurd (let f : More ≡ NoMemory = sym e ∙ a.no_text refl in cc), λ k. inr (inl (a.no_text refl))))
+  -- ---- texts
+  asked_of : (job : Result Job ℕ) (made : Result Report Refusal) → IsMadeFor job holds Faulted made → IsDone made given given' Stays → IfOk job (λ j. (text : List ℕ) × IsAsked j holds text × Appends given text given' × (text ≡ [] → Stays))
+  asked_of (Ok j) (Ok (Whole text)) is_made put = (text, is_made.0, put.0, put.1)
+  asked_of (Ok j) (Ok (Evidence text limit)) is_made put = absurd put
+  asked_of (Ok j) (Err refusal) is_made put = absurd put
+  asked_of (Err word) made is_made put = tt
 
-  pub complete_of : (PutFault : Type 0) (job : Result Job ℕ) (made : Result Outcome AllocError) (result : Answer) → IfOk job HasItsSizes → IfOk made (IsRightFor job holds Faulted) → IsAnswered made result → (result ≡ WriteFault → PutFault)
-      → IfOk job (λ j. IfSome (file_held j holds) (λ bytes. IfSome (symbols_held j holds) (λ symbols. IsUnrefused j bytes symbols → (Faulted → ⊥) → (PutFault → ⊥) → (result ≡ Done) ⊎ (result ≡ NoMemory))))
-  complete_of PutFault (Err word) made result sizes right a failed = tt
-  complete_of PutFault (Ok j) (Ok made) result sizes right a failed =
-      each (file_held j holds) (λ bytes. (made.answer ≡ ReadFault) ⊎ IsCalledFor j bytes (symbols_held j holds) made.answer)
-      (λ bytes. IfSome (symbols_held j holds) (λ symbols. IsUnrefused j bytes symbols → (Faulted → ⊥) → (PutFault → ⊥) → (result ≡ Done) ⊎ (result ≡ NoMemory)))
-      (λ bytes cause. all_told j holds Faulted sizes (symbols_held j holds) (λ symbols. IsUnrefused j bytes symbols → (Faulted → ⊥) → (PutFault → ⊥) → (result ≡ Done) ⊎ (result ≡ NoMemory)) (λ held. (made.answer ≡ ReadFault) ⊎ IsCalledFor j bytes held made.answer)
-      (λ symbols here. complete_on j holds Faulted sizes bytes symbols made result PutFault right here a failed) cause) right.cause
-  complete_of PutFault (Ok j) (Err wanting) result sizes right a failed =
-      any (file_held j holds) (λ bytes. IfSome (symbols_held j holds) (λ symbols. IsUnrefused j bytes symbols → (Faulted → ⊥) → (PutFault → ⊥) → (result ≡ Done) ⊎ (result ≡ NoMemory)))
-      (λ bytes. any (symbols_held j holds) (λ symbols. IsUnrefused j bytes symbols → (Faulted → ⊥) → (PutFault → ⊥) → (result ≡ Done) ⊎ (result ≡ NoMemory))
-      (λ symbols unrefused unfaulted unput. inr (a.no_text refl)))
+  pub text_of : (job : Result Job ℕ) (made : Result Report Refusal) (result : Answer) → IsMadeFor job holds Faulted made → IsDelivered made given given' PutFaulted Stays result → result ≡ answers.Done → IfOk job (λ j. (text : List ℕ) × IsAsked j holds text × Appends given text given' × (text ≡ [] → Stays))
+  text_of job made result is_made delivered e = asked_of job made is_made (delivered.done e)
 
--- a failed put had a fault
-pub put_fault_of : (made : Result Outcome AllocError) (result : Answer) (given given' : Option (List ℕ)) (faults faults' : ℕ) → TextPut made result given given' faults faults' → answer_of made ≢ WriteFault → result ≡ WriteFault → Rose faults faults'
-put_fault_of made result given given' faults faults' (inl put) in_memory e = absurd (in_memory (sym put.0 ∙ e))
-put_fault_of made result given given' faults faults' (inr put) in_memory e = put.2
+  shown_of : (job : Result Job ℕ) (made : Result Report Refusal) (refusal : Refusal) → answer_of refusal ≡ answers.More → IsMadeFor job holds Faulted made → IsRefusedWith made given given' PutFaulted refusal → IfOk job (λ j. (text : List ℕ) × IsEvidence j holds text × Appends given text given')
+  shown_of (Ok j) (Ok (Whole text)) refusal e is_made with_it = absurd (let f : answers.WriteFault ≡ answers.More = sym (ap answer_of with_it.0) ∙ e in cc)
+  shown_of (Ok j) (Ok (Evidence text limit)) refusal e is_made (inl shown) = (text, is_made.0, shown.1)
+  shown_of (Ok j) (Ok (Evidence text limit)) refusal e is_made (inr (inl cut)) = absurd (let f : answers.WriteFault ≡ answers.More = sym (ap answer_of cut.0) ∙ e in cc)
+  shown_of (Ok j) (Ok (Evidence text limit)) refusal e is_made (inr (inr wanting)) = absurd (let f : answers.NoMemory ≡ answers.More = sym (ap answer_of wanting) ∙ e in cc)
+  shown_of (Ok j) (Err made) refusal e is_made (inl same) = absurd (undone_otherwise j made answers.More (λ f. cc) (λ f. cc) (λ plain. plain) is_made (ap answer_of (sym same) ∙ e))
+  shown_of (Ok j) (Err made) refusal e is_made (inr wanting) = absurd (let f : answers.NoMemory ≡ answers.More = sym (ap answer_of wanting) ∙ e in cc)
+  shown_of (Err word) made refusal e is_made with_it = tt
 
--- what is made in memory is no failed put
-pub made_in_memory : (job : Result Job ℕ) (holds : List ℕ → Option (List ℕ)) (Faulted : Type 0) (made : Result Outcome AllocError) → IfOk made (IsRightFor job holds Faulted) → answer_of made ≢ WriteFault
-made_in_memory job holds Faulted (Err wanting) right e = cc
-made_in_memory job holds Faulted (Ok made) right e = right.in_memory e
+  pub evidence_of : (job : Result Job ℕ) (made : Result Report Refusal) (result : Answer) → IsMadeFor job holds Faulted made → IsDelivered made given given' PutFaulted Stays result → result ≡ answers.More → IfOk job (λ j. (text : List ℕ) × IsEvidence j holds text × Appends given text given')
+  evidence_of job made result is_made delivered e =
+      let (refusal, is, with_it) = delivered.refused (λ done. let f : answers.More ≡ answers.Done = sym e ∙ done in cc) in
+      shown_of job made refusal (is ∙ e) is_made with_it
 
--- a text of a command that writes a decomposition is one
-decomposed : (c : Command) (j : Job) (text : List ℕ) (holds : List ℕ → Option (List ℕ)) (kind : Kind) → kind_of c ≡ Some kind → IsAskedOf c j holds text → (bytes : List ℕ) × (F : KissFile) × HoldsMachine (holds j.file) (fill_of j) bytes F × IsPromised c j F text
-decomposed commands.Walk j text holds kind e asked = absurd cc
-decomposed commands.Sim j text holds kind e asked = absurd cc
-decomposed commands.Gen j text holds kind e asked = absurd cc
-decomposed commands.Trial j text holds kind e asked = absurd cc
-decomposed _ j text holds kind e asked = asked
+  cut_of : (job : Result Job ℕ) (made : Result Report Refusal) (refusal : Refusal) → answer_of refusal ≡ answers.WriteFault → IsMadeFor job holds Faulted made → IsRefusedWith made given given' PutFaulted refusal
+      → IfOk job (λ j. (text : List ℕ) × (text ≢ []) × IsAskedOrShown j holds text × AppendsFront given text given')
+  cut_of (Ok j) (Ok (Whole text)) refusal e is_made (unwritable, (front, same, some, put, fault)) =
+      (front, some, inl (subst (IsAsked j holds) (sym same) is_made.0), put)
+  cut_of (Ok j) (Ok (Evidence text limit)) refusal e is_made (inl shown) = absurd (let f : answers.More ≡ answers.WriteFault = sym (ap answer_of shown.0) ∙ e in cc)
+  cut_of (Ok j) (Ok (Evidence text limit)) refusal e is_made (inr (inl (unwritable, (front, same, some, put, fault)))) =
+      (front, some, inr (subst (IsEvidence j holds) (sym same) is_made.0), put)
+  cut_of (Ok j) (Ok (Evidence text limit)) refusal e is_made (inr (inr wanting)) = absurd (let f : answers.NoMemory ≡ answers.WriteFault = sym (ap answer_of wanting) ∙ e in cc)
+  cut_of (Ok j) (Err made) refusal e is_made with_it = absurd (elim with_it [ inl same ↦ undone_otherwise j made answers.WriteFault (λ f. cc) (λ f. cc) (λ plain. plain) is_made (ap answer_of (sym same) ∙ e) | inr wanting ↦ let f : answers.NoMemory ≡ answers.WriteFault = sym (ap answer_of wanting) ∙ e in cc ])
+  cut_of (Err word) made refusal e is_made with_it = tt
 
-kinded : (o : Option Kind) (j : Job) (text : List ℕ) (holds : List ℕ → Option (List ℕ)) (given given' : Option (List ℕ)) → kind_of j.command ≡ o → IsAsked j holds text → Appends given text given'
-    → IfSome o (λ kind. (t : List ℕ) × IsDecompositionOf kind j holds t × Appends given t given')
-kinded (Some kind) j text holds given given' e asked put =
-    let (bytes, F, said, promised) = decomposed j.command j text holds kind e asked in
-    (text, (bytes, F, said, subst (λ (o : Option Kind). IsPromisedBy o j.command j F text) e promised), put)
-kinded None j text holds given given' e asked put = tt
-
-pub headline_of : (job : Result Job ℕ) (holds : List ℕ → Option (List ℕ)) (given given' : Option (List ℕ)) → IfOk job (λ j. (text : List ℕ) × IsAsked j holds text × Appends given text given')
-    → IfOk job (λ j. IfSome (kind_of j.command) (λ kind. (text : List ℕ) × IsDecompositionOf kind j holds text × Appends given text given'))
-headline_of (Err word) holds given given' h = tt
-headline_of (Ok j) holds given given' (text, asked, put) = kinded (kind_of j.command) j text holds given given' refl asked put
+  pub front_of : (job : Result Job ℕ) (made : Result Report Refusal) (result : Answer) → IsMadeFor job holds Faulted made → IsDelivered made given given' PutFaulted Stays result → result ≡ answers.WriteFault
+      → IfOk job (λ j. (text : List ℕ) × (text ≢ []) × IsAskedOrShown j holds text × AppendsFront given text given')
+  front_of job made result is_made delivered e =
+      let (refusal, is, with_it) = delivered.refused (λ done. let f : answers.WriteFault ≡ answers.Done = sym e ∙ done in cc) in
+      cut_of job made refusal (is ∙ e) is_made with_it

@@ -1,56 +1,43 @@
--- What a command works on, and what a shelf tells and grants of it.
+-- What a command loads, and what a shelf tells and grants of it.
 use Rattle.std.specs.Prelude.{ℕ, ⊤, Bool, true, false, List, [], Option, Some, IfOk, IfSome}
-use Rattle.job_words.specs.declared.command.Command.{Command}
-use Rattle.job_words.specs.declared.command.Command.TheVariants as commands
+use Rattle.hsdec_core.specs.declared.tasks.Task.{Task}
+use Rattle.hsdec_core.specs.declared.tasks.Task.TheVariants.{Gen, OnMachine, Sim, Trial, Walk}
+use Rattle.hsdec_core.specs.Task.{task_of}
 use Rattle.job_words.specs.declared.jobs.Job.{Job}
 use Rattle.job_words.specs.Job.{JobOf}
 
--- a command works on the machine that FILE says, on the network that NET says, or on numbers alone
-pub data Source : Type 0 where
-  OfMachine : Source
-  OfNetwork : Source
-  OfNumbers : Source
+-- a task loads FILE or NET, or works on numbers alone
+abbrev pub takes_file : Task → Bool
+takes_file Gen = false
+takes_file Trial = false
+takes_file _ = true
 
-abbrev pub source_of : Command → Source
-source_of commands.Sim = OfNetwork
-source_of commands.Gen = OfNumbers
-source_of commands.Trial = OfNumbers
-source_of _ = OfMachine
-
--- it takes the symbols of a second file, SYMBOLS
-abbrev pub takes_symbols : Command → Bool
-takes_symbols commands.Walk = true
-takes_symbols commands.Sim = true
+-- and SYMBOLS
+abbrev pub takes_symbols : Task → Bool
+takes_symbols Walk = true
+takes_symbols Sim = true
 takes_symbols _ = false
 
--- the bytes of FILE or NET, if they are told; where there is no such operand there is nothing to be told
-abbrev pub held_for : Source → Option (List ℕ) → Option (List ℕ)
-held_for OfNumbers held = Some []
-held_for _ held = held
+-- something is asked where an operand is loaded
+abbrev pub Where : Bool → Type 0 → Type 0
+Where true Asked = Asked
+Where false Asked = ⊤
 
-abbrev pub file_held : Job → (List ℕ → Option (List ℕ)) → Option (List ℕ)
-file_held job holds = held_for (source_of job.command) (holds job.file)
+-- the names of the operands that a job loads are granted; nothing is asked of another name
+abbrev pub AreGranted : (List ℕ → Type 0) → Job → Type 0
+AreGranted grants job =
+    Where (takes_file (task_of job.command)) (grants job.file) × Where (takes_symbols (task_of job.command)) (grants job.second)
 
--- and those of SYMBOLS
+-- the bytes of an operand, if they are told; where it is not loaded there is nothing to be told
 abbrev pub held_where : Bool → Option (List ℕ) → Option (List ℕ)
 held_where true held = held
 held_where false held = Some []
 
+abbrev pub file_held : Job → (List ℕ → Option (List ℕ)) → Option (List ℕ)
+file_held job holds = held_where (takes_file (task_of job.command)) (holds job.file)
+
 abbrev pub symbols_held : Job → (List ℕ → Option (List ℕ)) → Option (List ℕ)
-symbols_held job holds = held_where (takes_symbols job.command) (holds job.second)
-
--- the names of the operands that a command loads are granted; nothing is asked of another name
-abbrev pub GrantedFor : Source → Type 0 → Type 0
-GrantedFor OfNumbers Grants = ⊤
-GrantedFor _ Grants = Grants
-
-abbrev pub GrantedWhere : Bool → Type 0 → Type 0
-GrantedWhere true Grants = Grants
-GrantedWhere false Grants = ⊤
-
-abbrev pub AreGranted : (List ℕ → Type 0) → Job → Type 0
-AreGranted grants job =
-    GrantedFor (source_of job.command) (grants job.file) × GrantedWhere (takes_symbols job.command) (grants job.second)
+symbols_held job holds = held_where (takes_symbols (task_of job.command)) (holds job.second)
 
 -- something is said of the words' job and the bytes of FILE or NET, where the words are a job and the shelf tells the bytes
 abbrev pub IfTold : List (List ℕ) → (List ℕ → Option (List ℕ)) → (Job → List ℕ → Type 0) → Type 0

@@ -1,55 +1,28 @@
 //! The program's calls over any shelf and any sinks: words in, bytes out, an answer.
 //!
-//! [`run`] judges the words, loads the operand, hands its text to the command, which makes the whole text
-//! and the line for err in memory, and only then puts them. Its clauses say for all commands when each
-//! answer comes (`specs/Answer`, `specs/Cause`), what was put (`specs/Promise`, `specs/Put`) and which line
-//! goes to err (`specs/Line`); what words ask for is the definition *JobOf* of `job_words`, and the lines
-//! themselves stand in `hs_texts`.
+//! [`run`] judges the words, loads the operands, has the command make its text in memory, and only then puts it.
+//! What a command does, and why it may refuse, is said in the crate of its family: `machine_reports`,
+//! `split_texts`, `symbol_runs` and `generated_texts`. This crate says what each command works on (`specs/Task`,
+//! `specs/Operands`), in which order causes are judged (`specs/Causes`), what a job is promised (`specs/Promise`),
+//! and what comes of a failed load (`specs/Stop`).
 //!
-//! The clause `headline` says what a written decomposition is (`specs/Written`): the text of a split, right for
-//! its kind (`specs/Kind`), of the machine that the job works on (`specs/Work`). What such a text is stands in the
-//! crate decomposition: it denotes a network which answers every word as the machine of the file does from its
-//! reset state, its header has the names and the codes that carry every step, and each gate reads only what its
-//! latch's printed pair and its part permit, with nothing to spare.
+//! Two clauses of `run` tell answers from causes: `refused` names the refusal of every answer but `Done`, with its
+//! cause and its line, and `comes` says that what is called for is answered. The clause `headline` says what a
+//! written decomposition is; the definition is in `split_texts` and in the crate decomposition.
 //!
-//! A command makes an `Outcome`: its answer, its text and its line, and shows that they are right for its
-//! job, `IsRightOn` of `specs/Inner/RightFor`. All clauses of `run` follow from that. One function puts every
-//! outcome, and what is promised of the puts is proved there once: memory is taken before, an empty text is
-//! not put, and what becomes of the line changes no answer.
-//!
-//! The commands that write decompositions differ in their split alone (`src/plans`). All else is one way: the
-//! machine that the job works on, the codes of the split, and the text (`src/split_commands`). A further kind
-//! plugs in with its row in `specs/Splits` and `specs/Kind`, its plan, and the lemma that information flows
-//! through its parts as they say (`proofs/Flows`).
+//! A command is a row of `task_of`, an arm of `machine_tasks`, and its row in `own_cause`, `IsReport` and
+//! `IsShown`. All clauses of `run` follow from what its family promises (`proofs/Runs`).
 #![tactic(auto)]
 
-mod answers;
-mod binary;
-mod check_command;
-mod definite_command;
-mod delivery;
-mod extreme_commands;
-mod gen_command;
-mod kiss_texts;
 mod laws;
-mod list_commands;
 mod loading;
-mod machine_commands;
-mod net_texts;
+mod machine_tasks;
 mod opening;
-mod outcomes;
-mod part_operand;
 mod performing;
-mod plans;
-mod reduce_command;
-mod refusals;
 mod running;
-mod sim_command;
-mod split_commands;
-mod trial_command;
-mod walk_command;
+mod symbol_tasks;
+mod tasks;
 
 pub use answers::Answer;
 pub use laws::one_text;
-pub(crate) use outcomes::{Bytes, Outcome};
 pub use running::run;

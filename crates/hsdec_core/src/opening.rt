@@ -1,132 +1,146 @@
 //! Opening the operand FILE or NET: its load, and what its text says.
 
-ghost use Rattle.std.specs.Prelude.{◌≡◌, ◌≤◌, ◌↔◌, ℕ, List, IfOk};
+ghost use Rattle.std.specs.Prelude.{◌≡◌, ◌<◌, ◌≤◌, ◌↔◌, ℕ, List, IfOk, length};
 ghost use Rattle.hs_io.specs.Counts.{Rose};
+ghost use Rattle.hsdec_core.specs.Fill.{fill_of};
+ghost use Rattle.hsdec_core.specs.Inner.Opened.{IsBuiltOf, IsEntryRefusal, IsNetOpened, IsOpened, IsReadAs, IsReadOf};
+ghost use Rattle.hsdec_core.specs.Loading.{IsShortText};
 ghost use Rattle.kiss2.specs.Lawful.{IsLawful};
 ghost use Rattle.net_core.specs.Order.{IsOrderOf};
 ghost use Rattle.net_core.specs.Sound.{Sound};
-ghost use Rattle.hsdec_core.specs.Inner.Opened.{IsBuiltOf, IsNetOf, IsNetOpened, IsOpened, IsReadOf};
-ghost use Rattle.hsdec_core.specs.Loading.{IsShortText};
-ghost use Rattle.hsdec_core.specs.Operands.{OfMachine, OfNetwork, source_of};
 
-use crate::Outcome;
-use crate::loading::{Loaded, load_operand};
-use crate::performing::fill;
-use crate::refusals::{conflict, kiss_refused, net_refused, unspecified};
+use crate::loading::load_operand;
+use answers::{Refusal, symbol_text};
 use blif_in::BlifFail;
-use hs_io::Shelf;
+use hs_io::{Name, Shelf};
 use job_words::Job;
-use kiss2::{KissFail, KissFile, read};
-use machine_table::{BuildFail, Machine};
+use kiss2::{Fill, KissFail, KissFile, read};
+use machine_table::{BuildFail, Machine, Missing};
 use net_core::{NetFail, Network, Order, check};
 use std::alloc::{AllocError, Global};
 
-/// What came of the operand FILE.
+/// The record of FILE, and its machine.
 #[derive(Drop)]
-pub enum OpenedMachine {
-    /// The record of the file, and its machine.
-    Machine { file: KissFile, machine: Machine },
-    /// The file cannot be read, or says no machine to work on.
-    Refused(Outcome),
+pub struct OpenedMachine {
+    pub file: KissFile,
+    pub machine: Machine,
 }
 
-/// What came of the operand NET.
+/// The network of NET, and an order in which its gates are evaluated.
 #[derive(Drop)]
-pub enum OpenedNetwork {
-    /// The network, and an order in which its gates are evaluated.
-    Network { net: Network, order: Order },
-    /// The file cannot be read, or says no network.
-    Refused(Outcome),
+pub struct OpenedNetwork {
+    pub net: Network,
+    pub order: Order,
 }
 
-/// Loads FILE and builds its machine with the fill of the job, or makes the refusal.
+/// The fill of a job.
+pub fn fill(job: &Job) -> Fill
+    ensures { result ≡ fill_of job.now }
+{
+    if job.hold { Fill::Hold } else { Fill::Refuse }
+}
+
+/// Loads FILE and builds its machine with the fill of the job.
 pub fn open_machine<F: Shelf>(
     alloc: Global,
     job: &Job,
     shelf: &mut F,
-) -> Result<OpenedMachine, AllocError>
-    requires source { source_of job.now.command ≡ OfMachine }
-    requires granted { F.grants shelf.old job.now.file }
-    ensures opened { IfOk result (IsOpened
-        job.now (F.holds shelf.old) (Rose (F.faults shelf.old) (F.faults shelf.new))) }
+) -> Result<OpenedMachine, Refusal>
+    requires { F.grants shelf.old job.now.file }
+    ensures opened { IsOpened
+        job.now (F.holds shelf.old) (Rose (F.faults shelf.old) (F.faults shelf.new)) result }
     ensures holds_the_same { (other : List ℕ) → F.holds shelf.new other ≡ F.holds shelf.old other }
     ensures grants_the_same { (other : List ℕ) → F.grants shelf.new other ↔ F.grants shelf.old other }
     ensures never_falls { F.faults shelf.old ≤ F.faults shelf.new }
 {
-    match load_operand(alloc, job.file.bytes(), shelf)? {
-        Loaded::Text(text) => read_machine(alloc, job, text.as_slice()),
-        Loaded::Refused(made) => Ok(OpenedMachine::Refused(made)),
-    }
+    let text = load_operand(alloc, job.file.bytes(), shelf)?;
+    read_machine(alloc, fill(job), text.as_slice())
 }
 
 /// The machine that a text says.
-fn read_machine(alloc: Global, job: &Job, text: &[u8]) -> Result<OpenedMachine, AllocError>
+fn read_machine(alloc: Global, fill: Fill, text: &[u8]) -> Result<OpenedMachine, Refusal>
     requires { IsShortText text.now }
-    ensures { IfOk result (IsReadOf job.now text.now) }
+    ensures { IsReadOf fill text.now result }
 {
     match read(alloc, text) {
-        Ok(file) => build_machine(alloc, job, file),
-        Err(KissFail::Refused(fault)) => { Ok(OpenedMachine::Refused(kiss_refused(alloc, fault)?)) }
-        Err(KissFail::NoMemory) => Err(AllocError),
+        Ok(file) => build_machine(alloc, fill, file),
+        Err(KissFail::Refused(fault)) => Err(Refusal::NoMachine(fault)),
+        Err(KissFail::NoMemory) => Err(Refusal::NoMemory),
     }
 }
 
 /// The machine of the record of a file.
-fn build_machine(alloc: Global, job: &Job, file: KissFile) -> Result<OpenedMachine, AllocError>
+fn build_machine(alloc: Global, fill: Fill, file: KissFile) -> Result<OpenedMachine, Refusal>
     requires { IsLawful file }
-    ensures { IfOk result (IsBuiltOf job.now file) }
+    ensures { IsBuiltOf fill file result }
 {
-    match Machine::build(alloc, &file, fill(job)) {
-        Ok(machine) => Ok(OpenedMachine::Machine { file, machine }),
-        Err(BuildFail::Conflict { row_a, row_b }) => {
-            Ok(OpenedMachine::Refused(conflict(alloc, row_a, row_b)?))
-        }
+    match Machine::build(alloc, &file, fill) {
+        Ok(machine) => Ok(OpenedMachine { file, machine }),
+        Err(BuildFail::Conflict { row_a, row_b }) => Err(Refusal::Conflict {
+            row: row_a,
+            other: row_b,
+        }),
         Err(
             BuildFail::Unspecified {
                 state,
                 symbol,
                 part,
             },
-        ) => {
-            let made = unspecified(alloc, &file, usize::from(state), symbol, part)?;
-            Ok(OpenedMachine::Refused(made))
-        }
-        Err(BuildFail::NoMemory) => Err(AllocError),
+        ) => Err(unspecified(alloc, &file, usize::from(state), symbol, part)?),
+        Err(BuildFail::NoMemory) => Err(Refusal::NoMemory),
     }
 }
 
-/// Loads NET and reads its network, or makes the refusal.
+/// The refusal of a machine that leaves a part open, at a state and the symbol of a number.
+fn unspecified(
+    alloc: Global,
+    file: &KissFile,
+    state: usize,
+    symbol: u32,
+    part: Missing,
+) -> Result<Refusal, AllocError>
+    requires state { state < length file.now.states }
+    requires inputs { file.now.inputs ≤ 32 }
+    ensures { IfOk result (IsEntryRefusal file.now state symbol part) }
+{
+    let name = Name::new(alloc, file.states.name(state))?;
+    let digits = symbol_text(alloc, file.inputs, symbol)?;
+    Ok(Refusal::Unspecified {
+        state: name,
+        symbol: digits,
+        part,
+    })
+}
+
+/// Loads NET and reads its network.
 pub fn open_network<F: Shelf>(
     alloc: Global,
     job: &Job,
     shelf: &mut F,
-) -> Result<OpenedNetwork, AllocError>
-    requires source { source_of job.now.command ≡ OfNetwork }
-    requires granted { F.grants shelf.old job.now.file }
-    ensures opened { IfOk result (IsNetOpened
-        job.now (F.holds shelf.old) (Rose (F.faults shelf.old) (F.faults shelf.new))) }
+) -> Result<OpenedNetwork, Refusal>
+    requires { F.grants shelf.old job.now.file }
+    ensures opened { IsNetOpened
+        job.now (F.holds shelf.old) (Rose (F.faults shelf.old) (F.faults shelf.new)) result }
     ensures holds_the_same { (other : List ℕ) → F.holds shelf.new other ≡ F.holds shelf.old other }
     ensures grants_the_same { (other : List ℕ) → F.grants shelf.new other ↔ F.grants shelf.old other }
     ensures never_falls { F.faults shelf.old ≤ F.faults shelf.new }
 {
-    match load_operand(alloc, job.file.bytes(), shelf)? {
-        Loaded::Text(text) => read_network(alloc, text.as_slice()),
-        Loaded::Refused(made) => Ok(OpenedNetwork::Refused(made)),
-    }
+    let text = load_operand(alloc, job.file.bytes(), shelf)?;
+    read_network(alloc, text.as_slice())
 }
 
 /// The network that a text says.
-fn read_network(alloc: Global, text: &[u8]) -> Result<OpenedNetwork, AllocError>
+fn read_network(alloc: Global, text: &[u8]) -> Result<OpenedNetwork, Refusal>
     requires { IsShortText text.now }
-    ensures { IfOk result (IsNetOf text.now) }
+    ensures { IsReadAs text.now result }
 {
     match blif_in::read(alloc, text) {
         Ok(net) => {
             let order = order_of(alloc, &net)?;
-            Ok(OpenedNetwork::Network { net, order })
+            Ok(OpenedNetwork { net, order })
         }
-        Err(BlifFail::Refused(fault)) => Ok(OpenedNetwork::Refused(net_refused(alloc, &fault)?)),
-        Err(BlifFail::NoMemory) => Err(AllocError),
+        Err(BlifFail::Refused(fault)) => Err(Refusal::NoNetwork(fault)),
+        Err(BlifFail::NoMemory) => Err(Refusal::NoMemory),
     }
 }
 

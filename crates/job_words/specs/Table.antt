@@ -5,7 +5,7 @@ use Rattle.job_words.specs.declared.command.Command.TheVariants as commands
 use Rattle.job_words.specs.declared.table.CommandOption.{CommandOption}
 use Rattle.job_words.specs.declared.table.Form.{Form}
 use Rattle.job_words.specs.declared.table.OperandKind.{OperandKind}
-use Rattle.job_words.specs.declared.table.OperandKind.TheVariants.{File, Net, Part, Parts, Symbols, Seed, A, B, K}
+use Rattle.job_words.specs.declared.table.OperandKind.TheVariants.{Cover, File, Net, Part, Parts, Symbols, Seed, A, B, K}
 use Rattle.job_words.specs.declared.table.CommandOption.TheVariants.{Fill, Limit, Reduce, Start}
 
 pub record Row : Type 0 where
@@ -40,7 +40,11 @@ built =
     ∷ row commands.Sim (Net ∷ Symbols ∷ []) (Start ∷ [])
     ∷ row commands.Gen (Seed ∷ A ∷ B ∷ K ∷ []) []
     ∷ row commands.Trial (Seed ∷ A ∷ B ∷ K ∷ []) []
+    ∷ row commands.Cover (File ∷ Cover ∷ []) (Fill ∷ [])
     ∷ row commands.Definite (File ∷ []) (Reduce ∷ Fill ∷ [])
+    ∷ row commands.Shift (File ∷ []) (Reduce ∷ Fill ∷ [])
+    ∷ row commands.Ispairs (File ∷ []) (Limit ∷ Fill ∷ [])
+    ∷ row commands.Sopairs (File ∷ []) (Limit ∷ Fill ∷ [])
     ∷ []
 
 -- the commands of rows

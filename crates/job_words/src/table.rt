@@ -60,7 +60,7 @@ const NUMBERS: &[OperandKind] = &[
 ];
 
 /// The commands that are built.
-const BUILT: [Form; 18] = [
+const BUILT: [Form; 22] = [
     Form {
         command: Command::Check,
         operands: &[OperandKind::File],
@@ -147,9 +147,29 @@ const BUILT: [Form; 18] = [
         options: &[],
     },
     Form {
+        command: Command::Cover,
+        operands: &[OperandKind::File, OperandKind::Cover],
+        options: &[CommandOption::Fill],
+    },
+    Form {
         command: Command::Definite,
         operands: &[OperandKind::File],
         options: &[CommandOption::Reduce, CommandOption::Fill],
+    },
+    Form {
+        command: Command::Shift,
+        operands: &[OperandKind::File],
+        options: &[CommandOption::Reduce, CommandOption::Fill],
+    },
+    Form {
+        command: Command::Ispairs,
+        operands: &[OperandKind::File],
+        options: &[CommandOption::Limit, CommandOption::Fill],
+    },
+    Form {
+        command: Command::Sopairs,
+        operands: &[OperandKind::File],
+        options: &[CommandOption::Limit, CommandOption::Fill],
     },
 ];
 

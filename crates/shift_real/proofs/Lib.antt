@@ -7,3 +7,17 @@ pub mod Blocks
 pub mod ContentLists
 pub mod StartContent
 pub mod Shifting
+pub mod LatchLists
+pub mod Along
+pub mod ShiftNetworks
+pub mod OutputGates
+pub mod SameReads
+pub mod OutputReads
+pub mod TermLists
+pub mod ContentWords
+pub mod StateTables
+pub mod ClassPieces
+pub mod AddedBits
+pub mod ShownInputs
+pub mod Flips
+pub mod Alike

@@ -1,12 +1,12 @@
 -- The chain, a member more at a time.
-use Rattle.std.proofs.Common.{◌≡◌, ℕ, zero, suc, ◌+◌, ◌-◌, ◌<◌, ◌⊎◌, inl, inr, Some, List, [], ◌∷◌, ◌++◌, length, slice_get, refl, ap, sym, ◌∙◌, subst, arith, length-append}
+use Rattle.std.proofs.Common.{◌≡◌, ℕ, zero, suc, ◌+◌, ◌-◌, ◌<◌, ◌≤◌, ◌⊎◌, inl, inr, Some, List, [], ◌∷◌, ◌++◌, length, slice_get, refl, ap, sym, ◌∙◌, subst, arith, length-append}
 use Rattle.std.proofs.lemmas.Option.{slice_get_within}
 use Rattle.closed_lattice.proofs.ZeroBlocks.{strictly_fewer}
 use Rattle.gate_rows.proofs.Items.{get_behind, get_cases, get_first}
 use Rattle.kiss2.specs.declared.kiss_file.KissFile.{KissFile}
 use Rattle.machine_table.specs.Staying.{NeverLeaves}
 use Rattle.pair_operators.specs.Extremes.{IsHigh}
-use Rattle.partition.specs.Laws.Labels.{same_labels}
+use Rattle.partition.specs.Laws.Labels.{blocks_of-le, label-lt-blocks_of, same_labels}
 use Rattle.partition.specs.Partition.{IsPartition, IsZero, Le, blocks_of}
 use Rattle.shift_real.specs.Chain.{IsChain, IsStrictlyBelow, TellsAfter}
 use Rattle.shift_real.specs.Inner.Rising.{IsRising, IsRisingTo}
@@ -51,6 +51,10 @@ rising_first F zero' lawful none = record {
       (lawful, subst (λ (n : ℕ). TellsAfter F n zero') (sym alone.0) (zero_tells F zero' lawful none));
 }
 
+-- as many blocks as states at most
+pub few_first : (F : KissFile) (members : List (List ℕ)) (zero' : List ℕ) → members ≡ [] → IsPartition (length F.states) zero' → length members + blocks_of zero' ≤ length F.states
+few_first F members zero' none lawful = omega (arith, ap length none, blocks_of-le zero' lawful.numbered, lawful.length)
+
 -- ---- a member more
 module _ (F : KissFile) (members : List (List ℕ)) (last next : List ℕ) (stays : NeverLeaves F) (so_far : IsRisingTo F members last next) where
   abbrev all : List (List ℕ)
@@ -76,6 +80,12 @@ module _ (F : KissFile) (members : List (List ℕ)) (last next : List ℕ) (stay
 
   count : length all ≡ length members + 1
   count = omega (arith, length-append members (last ∷ []))
+
+  pub few_more : (next ≡ last → ⊥) → length all + blocks_of next ≤ length F.states
+  few_more other = omega (arith, count, fewer other, so_far.few)
+
+  pub few_whole : 0 < length F.states → length all ≤ length F.states
+  few_whole some = omega (arith, count, so_far.few, label-lt-blocks_of last 0 (omega (arith, some, last_tells.0.length)))
 
   pub rising_more : (next ≡ last → ⊥) → IsRising F all next
   rising_more other = record {

@@ -6,7 +6,7 @@ use Rattle.std.proofs.lemmas.List.Elements.{All-head, All-push, All-tail}
 use Rattle.kiss2.specs.declared.kiss_file.KissFile.{KissFile}
 use Rattle.kiss2.specs.Machine.{next}
 use Rattle.shift_real.specs.Laws.{ContentsTellStates, LatchesFollow, StatesFollow}
-use Rattle.shift_real.specs.Register.{latch_values}
+use Rattle.shift_real.specs.Register.{latch_values, shifted}
 use Rattle.shift_real.specs.Words.{IsWord}
 use Rattle.shift_real.proofs.LongerWords.{longer_latches, longer_next}
 
@@ -20,6 +20,10 @@ moved_on F k oldest word x is long = record {
   symbols = All-push (λ y. length y ≡ F.inputs) word x (All-tail (λ y. length y ≡ F.inputs) oldest word is.symbols) long;
 }
 
+pub shifted_word : (F : KissFile) (k : ℕ) (word : List (List Bool)) (x : List Bool) → IsWord F k word → length x ≡ F.inputs → IsWord F k (shifted word x)
+shifted_word F k [] x is long = is
+shifted_word F k (oldest ∷ word) x is long = moved_on F k oldest word x is long
+
 pub states_follow : StatesFollow
 states_follow F k [] x stays definite reset is long = definite F.reset (next F F.reset x) reset (stays F.reset x reset long) [] is
 states_follow F k (oldest ∷ word) x stays definite reset is long =
@@ -28,7 +32,7 @@ states_follow F k (oldest ∷ word) x stays definite reset is long =
     ∙ longer_next F (next F F.reset oldest) word x
 
 -- there are as many latches as bits of the word
-latch_count : (n : ℕ) (word : List (List Bool)) → All (λ y. length y ≡ n) word → length (latch_values word) ≡ length word * n
+pub latch_count : (n : ℕ) (word : List (List Bool)) → All (λ y. length y ≡ n) word → length (latch_values word) ≡ length word * n
 latch_count n [] all = sym (zero-mul n)
 latch_count n (x ∷ word) all =
     omega (

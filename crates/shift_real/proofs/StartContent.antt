@@ -10,7 +10,7 @@ use Rattle.shift_real.specs.Register.{HasShortOrder, IsNotReached, word_number}
 use Rattle.shift_real.specs.Start.{WritesStart}
 
 -- there is one order
-order_once : (F : KissFile) (j k : ℕ) → IsOrder F j → IsOrder F k → j ≡ k
+pub order_once : (F : KissFile) (j k : ℕ) → IsOrder F j → IsOrder F k → j ≡ k
 order_once F j k is other = omega (arith, is.least k other.definite, other.least j is.definite)
 
 pub short_bits : (F : KissFile) (k : ℕ) → (j : ℕ) × HasShortOrder F j → IsOrder F k → k * F.inputs ≤ 12

@@ -1,3 +1,11 @@
 -- Definitions that private functions and proofs need; no public contract cites them.
+pub mod Along
 pub mod Rising
 pub mod Contents
+pub mod Tables
+pub mod Reading
+pub mod ContentPieces
+pub mod Latches
+pub mod OutputReading
+pub mod RegisterContents
+pub mod ShiftGates

@@ -4,4 +4,6 @@ pub mod Chain
 pub mod Register
 pub mod Start
 pub mod Laws
+pub mod Gates
+pub mod ShiftNetwork
 pub mod Inner

@@ -1,6 +1,6 @@
 //! How states come together, symbol by symbol.
 
-ghost use Rattle.std.specs.Prelude.{IfOk};
+ghost use Rattle.std.specs.Prelude.{◌≤◌, IfOk, length};
 ghost use Rattle.shift_real.specs.Chain.{AreTogetherAfter, IsChain};
 
 use hs_list::Items;
@@ -17,6 +17,7 @@ pub type Chain = Items<Partition>;
 pub fn chain(alloc: Global, m: &Machine) -> Result<Chain, AllocError>
     ensures chain { IfOk result (IsChain m.now) }
     ensures together { IfOk result (AreTogetherAfter m.now) }
+    ensures few { IfOk result (λ members. length members ≤ length m.now.states) }
 {
     let mut members = Chain::new(alloc);
     let mut last = Partition::zero(alloc, m.states())?;

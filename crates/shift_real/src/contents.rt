@@ -1,9 +1,9 @@
 //! What a register of the last symbols can hold.
 
-ghost use Rattle.std.specs.Prelude.{◌≡◌, ◌≢◌, ℕ, ◌+◌, ◌*◌, ◌^◌, ◌<◌, ◌≤◌, ◌++◌, All, IfNone, IfOk, IfSome, OnOk, length, map, slice_get, Some};
-ghost use Rattle.std.specs.List.{flat_map, range_with_len};
+ghost use Rattle.std.specs.Prelude.{◌≡◌, ◌≢◌, ℕ, ◌+◌, ◌*◌, ◌^◌, ◌<◌, ◌≤◌, ◌++◌, All, IfNone, IfOk, IfSome, OnOk, length, slice_get, Some};
+ghost use Rattle.std.specs.List.{flat_map};
 ghost use Rattle.shift_real.specs.declared.contents.Content.{Content};
-ghost use Rattle.shift_real.specs.Inner.Contents.{AreContents, content_after, contents_after, turned_bits};
+ghost use Rattle.shift_real.specs.Inner.Contents.{AreContents, contents_after, turned_bits};
 
 use machine_table::Machine;
 use std::alloc::{AllocError, Global};

@@ -9,18 +9,37 @@
 //! symbols, tells the state, and the next content the next state ([`contents_follow`]). [`start`] answers what the
 //! latches of the register hold before the first symbol, or that no content leads to the reset state.
 //!
-//! The definitions stand in `specs/`: `Words` has words and the states after them, `Definite` definite machines
-//! and their orders, `Chain` the chain, `Register` contents of the register, and `Start` what it starts at. The laws
-//! of `Laws` are the contract of a function that does nothing. What stands in `specs/Inner` serves proofs alone.
+//! [`register`] builds the network of the register. The latches of the newest symbol take the inputs, and each other
+//! one takes the latch of the same bit of the symbol after. The gate of an output reads a latch or an input exactly
+//! where it matters: where two contents and symbols that differ there alone give the output two values. Its rows are a
+//! good cover. So the network is sound, steps from content to content, and answers each word as the machine does.
+//!
+//! For an output, states are in one class where they give it the same bit at each symbol. A latch matters where two
+//! contents that differ there alone are of two classes, and the terms of a gate are those of the pieces of each class,
+//! for the contents whose latches that are not read are 0.
+//!
+//! The definitions are in `specs/`: `Words` has words and the states after them, `Definite` definite machines
+//! and their orders, `Chain` the chain, `Register` contents of the register, `Start` what it starts at, `Gates` what
+//! the gates read and give, and `ShiftNetwork` the network and what it does. The laws of `Laws` are the contract of a
+//! function that does nothing. What only private functions and proofs need is in `specs/Inner`.
 #![tactic(auto)]
 
 mod chains;
 mod contents;
+mod latches;
 mod laws;
+mod naming;
 mod orders;
+mod output_gates;
+mod pieces;
+mod reading;
+mod registers;
+mod rows;
 mod starts;
+mod tables;
 
 pub use chains::{Chain, chain};
 pub use laws::contents_follow;
 pub use orders::{OrderFail, order};
+pub use registers::register;
 pub use starts::{RegisterFail, start};

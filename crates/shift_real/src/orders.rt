@@ -31,6 +31,7 @@ impl From<AllocError> for OrderFail {
 /// The least number of symbols after which the state is known, whatever it was before.
 pub fn order(alloc: Global, m: &Machine) -> Result<usize, OrderFail>
     ensures order { IfOk result (IsOrder m.now) }
+    ensures few { IfOk result (λ k. k < length m.now.states) }
     ensures refused { IfErr result (IsOrderCause m.now) }
 {
     let _states = m.states();

@@ -1,11 +1,12 @@
 //! What the register of a definite machine starts at.
 
-ghost use Rattle.std.specs.Prelude.{◌≡◌, ℕ, ◌*◌, ◌≤◌, IfErr, IfOk};
+ghost use Rattle.std.specs.Prelude.{◌≡◌, ℕ, IfErr, IfOk};
 ghost use Rattle.shift_real.specs.Definite.{IsOrder};
 ghost use Rattle.shift_real.specs.Register.{HasShortOrder};
 ghost use Rattle.shift_real.specs.Start.{IsRegisterCause, WritesStart};
+ghost use Rattle.shift_real.specs.Inner.RegisterContents.{AreRegisterContents};
 
-use crate::contents::{contents, first_reaching};
+use crate::contents::{Content, contents, first_reaching};
 use crate::orders::{OrderFail, order};
 use machine_table::Machine;
 use std::alloc::{AllocError, Global};
@@ -30,12 +31,17 @@ impl From<AllocError> for RegisterFail {
     }
 }
 
-/// The values of the latches before the first symbol, latch i at 2^i. Latch j times the inputs plus i holds bit i
-/// of the symbol that came j + 1 steps ago. The content is the least one, read as a binary number with the oldest
-/// symbol first, after which the machine is in its reset state.
-pub fn start(alloc: Global, m: &Machine) -> Result<u64, RegisterFail>
+/// The contents of as many symbols as the order of a machine.
+#[derive(Debug, Drop)]
+pub struct RegisterContents {
+    pub order: usize,
+    pub contents: Vec<Content>,
+}
+
+/// What the register of a machine can hold.
+pub fn register_contents(alloc: Global, m: &Machine) -> Result<RegisterContents, RegisterFail>
     requires { (k : ℕ) × HasShortOrder m.now k }
-    ensures start { IfOk result (λ number. (k : ℕ) → IsOrder m.now k → WritesStart m.now k number) }
+    ensures held { IfOk result (AreRegisterContents m.now) }
     ensures refused { IfErr result (IsRegisterCause m.now) }
 {
     let k = match order(alloc, m) {
@@ -44,8 +50,29 @@ pub fn start(alloc: Global, m: &Machine) -> Result<u64, RegisterFail>
         Err(OrderFail::NotDefinite { s: _, t: _ }) => unreachable!(),
     };
     let contents = contents(alloc, m, k)?;
-    match first_reaching(&contents, m.reset()) {
-        Some(first) => Ok(contents[first].latches),
+    Ok(RegisterContents { order: k, contents })
+}
+
+/// What the latches start at, among what the register can hold.
+pub fn start_among(m: &Machine, held: &RegisterContents) -> Result<u64, RegisterFail>
+    requires { AreRegisterContents m.now held.now }
+    ensures start { IfOk result (λ number. (k : ℕ) → IsOrder m.now k → WritesStart m.now k number) }
+    ensures refused { IfErr result (IsRegisterCause m.now) }
+{
+    match first_reaching(&held.contents, m.reset()) {
+        Some(first) => Ok(held.contents[first].latches),
         None => Err(RegisterFail::NotReached),
     }
+}
+
+/// The values of the latches before the first symbol, latch i at 2^i. Latch j times the inputs plus i holds bit i
+/// of the symbol that came j + 1 steps ago. The content is the least one, read as a binary number with the oldest
+/// symbol first, after which the machine is in its reset state.
+pub fn start(alloc: Global, m: &Machine) -> Result<u64, RegisterFail>
+    requires { (k : ℕ) × HasShortOrder m.now k }
+    ensures start { IfOk result (λ number. (k : ℕ) → IsOrder m.now k → WritesStart m.now k number) }
+    ensures refused { IfErr result (IsRegisterCause m.now) }
+{
+    let held = register_contents(alloc, m)?;
+    start_among(m, &held)
 }

@@ -9,18 +9,14 @@ use std::alloc::Global;
 use std::fs;
 use std::rt::Files;
 
-/// The machine of a file.
-pub(crate) fn machine<R: Files + AllocGlobal>(rt: &R, name: &str) -> anyhow::Result<Machine> {
+/// The text of a file.
+pub(crate) fn text<R: Files + AllocGlobal>(rt: &R, name: &str) -> anyhow::Result<Vec<u8>> {
     let path = format!(in rt.alloc(); "{name}.kiss")?;
-    let text = fs::read(rt, path.as_str()).context("reading a machine")?;
-    if text.len() > 4_194_304 {
-        bail!("the file is too long");
-    }
-    built(rt.alloc(), text.as_slice())
+    fs::read(rt, path.as_str()).context("reading a machine")
 }
 
 /// The machine of a text.
-fn built(alloc: Global, text: &[u8]) -> anyhow::Result<Machine>
+pub(crate) fn built(alloc: Global, text: &[u8]) -> anyhow::Result<Machine>
     requires { length text.now ≤ 4194304 }
 {
     read_is_lawful();

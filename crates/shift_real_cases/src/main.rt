@@ -6,6 +6,7 @@
 
 mod answers;
 mod machines;
+mod networks;
 
 use anyhow::{Context, bail};
 use std::fs;
@@ -15,8 +16,13 @@ use std::rt::Files;
 fn agrees<R: Files + AllocGlobal + Print>(rt: &R, line: &str) -> anyhow::Result<bool> {
     let (question, wanted) = line.split_once(" = ").context("a case has no answer")?;
     let (call, name) = question.split_once(' ').context("a case has no machine")?;
-    let machine = machines::machine(rt, name).context(format_args!("in {line}"))?;
-    let given = answers::answer(rt.alloc(), call, &machine).context(format_args!("in {line}"))?;
+    let text = machines::text(rt, name).context(format_args!("in {line}"))?;
+    if text.len() > 4_194_304 {
+        bail!("the file of {line} is too long");
+    }
+    let given = answers::answer(rt.alloc(), call, text.as_slice()).context(format_args!(
+        "in {line}"
+    ))?;
     if given.as_str() == wanted {
         return Ok(true);
     }

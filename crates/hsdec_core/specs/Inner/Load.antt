@@ -1,20 +1,16 @@
 -- What comes of the load of an operand.
-use Rattle.std.specs.Prelude.{◌≡◌, ℕ, List, Option, IfSome, ◌⊎◌}
-use Rattle.hs_texts.specs.ErrLines.{cannot_read_line, too_long_line}
-use Rattle.hsdec_core.specs.declared.answers.Answer.TheVariants.{ReadFault, TooLong}
-use Rattle.hsdec_core.specs.declared.loading.Loaded.{Loaded}
-use Rattle.hsdec_core.specs.declared.loading.Loaded.TheVariants.{Text, Refused}
-use Rattle.hsdec_core.specs.declared.outcomes.Outcome.{Outcome}
-use Rattle.hsdec_core.specs.Inner.Made.{refusal}
-use Rattle.hsdec_core.specs.Loading.{IsText, IsTooLong}
+use Rattle.std.specs.Prelude.{◌≡◌, ◌⊎◌, ℕ, List, Option, Result, Ok, Err}
+use Rattle.answers.specs.declared.refusals.Refusal.{Refusal}
+use Rattle.answers.specs.declared.refusals.Refusal.TheVariants.{NoMemory, Unreadable}
+use Rattle.answers.specs.Cause.{Cause}
+use Rattle.hsdec_core.specs.Loading.{IsText, Lengthy, MayBe}
 
--- the outcome of a load that gave no text: a fault, or a text that is too long
-abbrev pub IsLoadRefusal : Option (List ℕ) → Type 0 → List ℕ → Outcome → Type 0
-IsLoadRefusal held Faulted name made =
-    (Faulted × (made ≡ refusal ReadFault (cannot_read_line name)))
-    ⊎ (IfSome held IsTooLong × (made ≡ refusal TooLong (too_long_line name)))
+-- the refusal is want of memory, a load that failed, or one that the bytes call for
+abbrev pub IsStopAt : Option (List ℕ) → Type 0 → List ℕ → (List ℕ → Cause) → Refusal → Type 0
+IsStopAt held Faulted name cause refusal =
+    (refusal ≡ NoMemory) ⊎ ((refusal ≡ Unreadable name) × Faulted) ⊎ ((bytes : List ℕ) × MayBe held bytes × cause bytes refusal)
 
 -- what may come of a load of a name under which the shelf holds `held`, where `Faulted` says that its count of faults rose
-abbrev pub IsLoaded : Option (List ℕ) → Type 0 → List ℕ → Loaded → Type 0
-IsLoaded held Faulted name (Text bytes) = IsText held bytes
-IsLoaded held Faulted name (Refused made) = IsLoadRefusal held Faulted name made
+abbrev pub IsLoaded : Option (List ℕ) → Type 0 → List ℕ → Result (List ℕ) Refusal → Type 0
+IsLoaded held Faulted name (Ok bytes) = IsText held bytes
+IsLoaded held Faulted name (Err refusal) = IsStopAt held Faulted name (Lengthy name) refusal

@@ -1,51 +1,53 @@
--- What a command makes in memory, before anything is put.
-use Rattle.std.specs.Prelude.{◌≡◌, ℕ, List, [], Option, Result, Ok, Err, ◌⊎◌}
-use Rattle.std.specs.declared.alloc.AllocError.{AllocError}
-use Rattle.hs_io.specs.Counts.{Rose}
-use Rattle.hs_io.specs.Pieces.{Appends, AppendsFront}
-use Rattle.hsdec_core.specs.declared.answers.Answer.{Answer}
-use Rattle.hsdec_core.specs.declared.answers.Answer.TheVariants.{Done, More, WriteFault, NoMemory}
-use Rattle.hsdec_core.specs.declared.outcomes.Outcome.{Outcome}
-use Rattle.hs_texts.specs.ErrLines.{cannot_write_line, no_memory_line}
+-- What is made in memory for a job or for refused words, before anything is put. The clauses of `run` follow from it.
+use Rattle.std.specs.Prelude.{◌≡◌, ◌≢◌, ◌⊎◌, ⊤, ℕ, List, Option, Result, Ok, Err}
+use Rattle.answers.specs.declared.numbers.Answer.{Answer}
+use Rattle.answers.specs.declared.numbers.Answer.TheVariants as answers
+use Rattle.answers.specs.declared.refusals.Refusal.{Refusal}
+use Rattle.answers.specs.declared.refusals.Refusal.TheVariants.{More, NoMemory, Usage}
+use Rattle.answers.specs.declared.reports.Report.{Report}
+use Rattle.answers.specs.declared.reports.Report.TheVariants.{Evidence, Whole}
+use Rattle.answers.specs.Cause.{CallsForNone}
+use Rattle.answers.specs.Refusal.{answer_of}
+use Rattle.hsdec_core.specs.Judgement.{all_causes, first_cause}
+use Rattle.hsdec_core.specs.Loading.{MayBe}
+use Rattle.hsdec_core.specs.Operands.{file_held, symbols_held}
+use Rattle.hsdec_core.specs.Promise.{IsAsked, IsEvidence}
+use Rattle.hsdec_core.specs.Stop.{IsCalledFor, IsFailedLoad}
+use Rattle.job_words.specs.declared.jobs.Job.{Job}
 
--- an answer with its line for err, and no text
-abbrev pub refusal : Answer → List ℕ → Outcome
-refusal answer line = record { answer = answer; text = []; line = line }
+-- an answer that what is loaded calls for, and that comes without a text
+abbrev pub IsPlain : Answer → Type 0
+IsPlain answers.Done = ⊥
+IsPlain answers.More = ⊥
+IsPlain answers.Usage = ⊥
+IsPlain answers.ReadFault = ⊥
+IsPlain answers.WriteFault = ⊥
+IsPlain answers.NoMemory = ⊥
+IsPlain _ = ⊤
 
--- the outcome is an answer whose line is so, and no text
-abbrev pub IsRefusal : Answer → (List ℕ → Type 0) → Outcome → Type 0
-IsRefusal answer IsLine made = (line : List ℕ) × IsLine line × (made ≡ refusal answer line)
+-- a job is refused: memory is wanting, a load failed, or what is loaded calls for the refusal
+abbrev pub IsUndone : Job → (List ℕ → Option (List ℕ)) → Type 0 → Refusal → Type 0
+IsUndone job holds Faulted refusal =
+    (refusal ≡ NoMemory) ⊎ (Faulted × IsFailedLoad job holds refusal) ⊎ (IsCalledFor job holds refusal × IsPlain (answer_of refusal))
 
--- evidence that there is more than a limit, with the line for err
-abbrev pub exceeded : List ℕ → List ℕ → Outcome
-exceeded text line = record { answer = More; text = text; line = line }
+-- nothing that is loaded calls for a refusal
+abbrev pub IsPassed : Job → (List ℕ → Option (List ℕ)) → Type 0
+IsPassed job holds =
+    (bytes symbols : List ℕ) × MayBe (file_held job holds) bytes × MayBe (symbols_held job holds) symbols × CallsForNone (all_causes job bytes symbols)
 
--- a whole text
-abbrev pub finished : List ℕ → Outcome
-finished text = record { answer = Done; text = text; line = [] }
+-- the shelf holds `holds`, and `Faulted` says that its count of faults rose
+abbrev pub IsMadeOf : Job → (List ℕ → Option (List ℕ)) → Type 0 → Result Report Refusal → Type 0
+IsMadeOf job holds Faulted (Ok (Whole text)) = IsAsked job holds text × IsPassed job holds
+IsMadeOf job holds Faulted (Ok (Evidence text limit)) =
+    IsEvidence job holds text × ((bytes : List ℕ) × MayBe (file_held job holds) bytes × first_cause job bytes (More limit))
+IsMadeOf job holds Faulted (Err refusal) = IsUndone job holds Faulted refusal
 
--- the answer to what was made, if the text can be put
-abbrev pub answer_of : Result Outcome AllocError → Answer
-answer_of (Ok made) = made.answer
-answer_of (Err wanting) = NoMemory
+-- a text is made for a job, or it is refused
+abbrev pub IsMadeOfText : Job → (List ℕ → Option (List ℕ)) → Type 0 → Result (List ℕ) Refusal → Type 0
+IsMadeOfText job holds Faulted (Ok text) = IsMadeOf job holds Faulted (Ok (Whole text))
+IsMadeOfText job holds Faulted (Err refusal) = IsMadeOf job holds Faulted (Err refusal)
 
--- the text for out
-abbrev pub made_text : Result Outcome AllocError → List ℕ
-made_text (Ok made) = made.text
-made_text (Err wanting) = []
-
--- the line for err
-abbrev pub line_of : Result Outcome AllocError → List ℕ
-line_of (Ok made) = made.line
-line_of (Err wanting) = no_memory_line
-
--- the line for err, where the put of the text may have failed
-abbrev pub line_at : Result Outcome AllocError → Answer → List ℕ
-line_at made WriteFault = cannot_write_line
-line_at made answer = line_of made
-
--- the text was put whole, with the answer that was made, or there was a fault and a front of it was put
-abbrev pub TextPut : Result Outcome AllocError → Answer → Option (List ℕ) → Option (List ℕ) → ℕ → ℕ → Type 0
-TextPut made answer given given' faults faults' =
-    ((answer ≡ answer_of made) × Appends given (made_text made) given')
-    ⊎ ((answer ≡ WriteFault) × AppendsFront given (made_text made) given' × Rose faults faults')
+abbrev pub IsMadeFor : Result Job ℕ → (List ℕ → Option (List ℕ)) → Type 0 → Result Report Refusal → Type 0
+IsMadeFor (Ok job) holds Faulted made = IsMadeOf job holds Faulted made
+IsMadeFor (Err word) holds Faulted (Ok report) = ⊥
+IsMadeFor (Err word) holds Faulted (Err refusal) = (refusal ≡ NoMemory) ⊎ (refusal ≡ Usage word)

@@ -1,63 +1,56 @@
--- What came of the operand FILE or NET, and of SYMBOLS.
-use Rattle.std.specs.Prelude.{◌≡◌, ℕ, ◌⊎◌, Bool, List, Option, Some, None, Ok}
-use Rattle.blif_in.specs.declared.fault.BlifFault.{BlifFault}
-use Rattle.blif_in.specs.Text.{IsBlifFault}
-use Rattle.hs_texts.specs.ErrLines.{symbol_line}
+-- What came of the operands FILE and NET.
+use Rattle.std.specs.Prelude.{◌≡◌, ◌⊎◌, ℕ, List, Option, Some, Result, Ok, Err, map, slice_get}
+use Rattle.answers.specs.declared.refusals.Refusal.{Refusal}
+use Rattle.answers.specs.declared.refusals.Refusal.TheVariants.{NoMemory, Unspecified}
+use Rattle.answers.specs.Cause.{CallsForNone}
+use Rattle.answers.specs.Digits.{digit}
+use Rattle.answers.specs.Judged.{IsStop}
+use Rattle.cubes.specs.Symbol.{symbol_of}
+use Rattle.hsdec_core.specs.declared.opening.OpenedMachine.{OpenedMachine}
+use Rattle.hsdec_core.specs.declared.opening.OpenedNetwork.{OpenedNetwork}
+use Rattle.hsdec_core.specs.Causes.{Conflicts, LeavesOpen, NoMachineOf, NoNetworkOf, OfFile, SaysNoMachine, SaysNoNetwork}
+use Rattle.hsdec_core.specs.Fill.{fill_of}
+use Rattle.hsdec_core.specs.Inner.Load.{IsStopAt}
+use Rattle.hsdec_core.specs.Promise.{HoldsMachine, HoldsNetwork}
 use Rattle.job_words.specs.declared.jobs.Job.{Job}
+use Rattle.kiss2.specs.declared.fill.Fill.{Fill}
 use Rattle.kiss2.specs.declared.kiss_file.KissFile.{KissFile}
 use Rattle.kiss2.specs.Kiss.{Kiss}
 use Rattle.kiss2.specs.Lawful.{IsLawful}
 use Rattle.kiss2.specs.Machine.{Accepted}
-use Rattle.net_core.specs.declared.Network.{Network}
+use Rattle.machine_table.specs.declared.missing.Missing.{Missing}
 use Rattle.net_core.specs.Blif.{Blif}
 use Rattle.net_core.specs.Order.{IsOrderOf}
-use Rattle.net_sim.specs.Symbols.{IsSymbolFault, IsSymbolFile}
-use Rattle.hsdec_core.specs.declared.answers.Answer.TheVariants.{NetRefused, SymbolRefused}
-use Rattle.hsdec_core.specs.declared.opening.OpenedMachine.{OpenedMachine}
-use Rattle.hsdec_core.specs.declared.opening.OpenedMachine.TheVariants as machines
-use Rattle.hsdec_core.specs.declared.opening.OpenedNetwork.{OpenedNetwork}
-use Rattle.hsdec_core.specs.declared.opening.OpenedNetwork.TheVariants as networks
-use Rattle.hsdec_core.specs.declared.outcomes.Outcome.{Outcome}
-use Rattle.hsdec_core.specs.Fill.{fill_of}
-use Rattle.hsdec_core.specs.Inner.Made.{IsRefusal, finished}
-use Rattle.hsdec_core.specs.Inner.RightFor.{IsRightFor, IsRightOf, IsRightOn}
-use Rattle.hsdec_core.specs.LineFor.{IsStartLine}
-use Rattle.hsdec_core.specs.NetCause.{HasStart, LacksStart}
-use Rattle.hsdec_core.specs.NetTexts.{fault_line}
-use Rattle.hsdec_core.specs.Promise.{HoldsMachine, HoldsNetwork}
 
--- a machine of a file, or the refusal of the file
-abbrev pub IsBuiltOf : Job → KissFile → OpenedMachine → Type 0
-IsBuiltOf job F (machines.Machine file machine) = (file ≡ F) × (machine ≡ F) × Accepted F (fill_of job)
-IsBuiltOf job F (machines.Refused made) = IsRightOf job F made
+-- the refusal names an entry: the state by its name, and the symbol by its digits
+abbrev pub IsEntryRefusal : KissFile → ℕ → ℕ → Missing → Refusal → Type 0
+IsEntryRefusal F s x part refusal =
+    (name : List ℕ) × (refusal ≡ Unspecified name (map digit (symbol_of F.inputs x)) part) × (slice_get F.states s ≡ Some name)
 
--- a machine of bytes, or their refusal
-abbrev pub IsReadOf : Job → List ℕ → OpenedMachine → Type 0
-IsReadOf job bytes (machines.Machine file machine) = Kiss bytes file × IsLawful file × Accepted file (fill_of job) × (machine ≡ file)
-IsReadOf job bytes (machines.Refused made) = IsRightOn job bytes made
+-- a machine of a file, or what the file calls for
+abbrev pub IsBuiltOf : Fill → KissFile → Result OpenedMachine Refusal → Type 0
+IsBuiltOf fill F (Ok opened) = (opened.file ≡ F) × (opened.machine ≡ F) × Accepted F fill
+IsBuiltOf fill F (Err refusal) = (refusal ≡ NoMemory) ⊎ Conflicts F refusal ⊎ LeavesOpen fill F refusal
 
--- a machine of the operand FILE, or what is made of an operand that says none
-abbrev pub IsOpened : Job → (List ℕ → Option (List ℕ)) → Type 0 → OpenedMachine → Type 0
-IsOpened job holds Faulted (machines.Machine file machine) = ((bytes : List ℕ) × HoldsMachine (holds job.file) (fill_of job) bytes file) × (machine ≡ file)
-IsOpened job holds Faulted (machines.Refused made) = IsRightFor (Ok job) holds Faulted made
+-- a machine of bytes, or what they call for
+abbrev pub IsReadOf : Fill → List ℕ → Result OpenedMachine Refusal → Type 0
+IsReadOf fill bytes (Ok opened) = Kiss bytes opened.file × IsLawful opened.file × Accepted opened.file fill × (opened.machine ≡ opened.file)
+IsReadOf fill bytes (Err refusal) =
+    (refusal ≡ NoMemory) ⊎ SaysNoMachine bytes refusal ⊎ OfFile bytes Conflicts refusal ⊎ OfFile bytes (LeavesOpen fill) refusal
 
--- a network of bytes with an order of its gates, or the refusal of the bytes
-abbrev pub IsNetOf : List ℕ → OpenedNetwork → Type 0
-IsNetOf bytes (networks.Network net order) = Blif bytes net × IsOrderOf net order
-IsNetOf bytes (networks.Refused made) = (fault : BlifFault) × IsBlifFault bytes fault × IsRefusal NetRefused (λ line. line ≡ fault_line fault) made
+-- a machine of the operand FILE, or why there is none
+abbrev pub IsOpened : Job → (List ℕ → Option (List ℕ)) → Type 0 → Result OpenedMachine Refusal → Type 0
+IsOpened job holds Faulted (Ok opened) =
+    ((bytes : List ℕ) × HoldsMachine (holds job.file) (fill_of job) bytes opened.file) × (opened.machine ≡ opened.file)
+IsOpened job holds Faulted (Err refusal) = IsStopAt (holds job.file) Faulted job.file (NoMachineOf job.file (fill_of job)) refusal
 
--- a network of the operand NET
-abbrev pub IsNetOpened : Job → (List ℕ → Option (List ℕ)) → Type 0 → OpenedNetwork → Type 0
-IsNetOpened job holds Faulted (networks.Network net order) = ((bytes : List ℕ) × HoldsNetwork (holds job.file) bytes net) × IsOrderOf net order
-IsNetOpened job holds Faulted (networks.Refused made) = IsRightFor (Ok job) holds Faulted made
+-- a network of bytes with an order of its gates, or what they call for
+abbrev pub IsReadAs : List ℕ → Result OpenedNetwork Refusal → Type 0
+IsReadAs bytes (Ok opened) = Blif bytes opened.net × IsOrderOf opened.net opened.order
+IsReadAs bytes (Err refusal) = IsStop (SaysNoNetwork bytes) refusal
 
--- what is made of symbols of so many bits: a text that is right for them, or the refusal of the first line that is none
-abbrev pub IsMadeOf : ℕ → (List ℕ → Type 0) → List ℕ → Outcome → Type 0
-IsMadeOf width IsText symbols made =
-    ((text : List ℕ) × (word : List (List Bool)) × IsSymbolFile width symbols word × IsText text × (made ≡ finished text))
-    ⊎ ((number : ℕ) × IsSymbolFault width symbols number × IsRefusal SymbolRefused (λ line. line ≡ symbol_line number) made)
-
--- a network has a start, or what is made of one that has none
-abbrev pub IsJudgedStart : Network → Option (List ℕ) → Option Outcome → Type 0
-IsJudgedStart N start None = HasStart N start
-IsJudgedStart N start (Some made) = LacksStart N start × IsRefusal SymbolRefused (IsStartLine N start) made
+-- a network of the operand NET, or why there is none
+abbrev pub IsNetOpened : Job → (List ℕ → Option (List ℕ)) → Type 0 → Result OpenedNetwork Refusal → Type 0
+IsNetOpened job holds Faulted (Ok opened) =
+    ((bytes : List ℕ) × HoldsNetwork (holds job.file) bytes opened.net) × IsOrderOf opened.net opened.order
+IsNetOpened job holds Faulted (Err refusal) = IsStopAt (holds job.file) Faulted job.file (NoNetworkOf job.file) refusal

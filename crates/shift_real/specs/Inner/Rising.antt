@@ -1,8 +1,8 @@
 -- The chain so far: the members, and the last one behind them.
-use Rattle.std.specs.Prelude.{◌≡◌, ℕ, ◌+◌, List, [], ◌∷◌, ◌++◌, Some, length, slice_get}
+use Rattle.std.specs.Prelude.{◌≡◌, ◌≤◌, ℕ, ◌+◌, List, [], ◌∷◌, ◌++◌, Some, length, slice_get}
 use Rattle.kiss2.specs.declared.kiss_file.KissFile.{KissFile}
 use Rattle.pair_operators.specs.Extremes.{IsHigh}
-use Rattle.partition.specs.Partition.{IsPartition, IsZero}
+use Rattle.partition.specs.Partition.{IsPartition, IsZero, blocks_of}
 use Rattle.shift_real.specs.Chain.{AreTogetherAfter, IsStrictlyBelow}
 
 -- the first is zero, each other one is M of the one before it and strictly above it
@@ -12,7 +12,8 @@ pub record IsRising (F : KissFile) (members : List (List ℕ)) (last : List ℕ)
       → IsHigh F p q × IsStrictlyBelow p q
   pub tell : AreTogetherAfter F (members ++ last ∷ [])
 
--- and M of the last is known
+-- M of the last is known, and it has a block less for each member before it
 pub record IsRisingTo (F : KissFile) (members : List (List ℕ)) (last next : List ℕ) : Type 0 where
   pub rising : IsRising F members last
   pub high : IsHigh F last next
+  pub few : length members + blocks_of last ≤ length F.states

@@ -1,9 +1,11 @@
-use Rattle.hsdec_core.proofs.Opened.{opened_of_reads}
-use Rattle.hsdec_core.proofs.RightFor.{text_of_load}
+use Rattle.std.proofs.Common.{subst}
+use Rattle.hsdec_core.specs.Inner.Opened.{IsReadOf}
+use Rattle.hsdec_core.proofs.Loads.{text_of_load}
+use Rattle.hsdec_core.proofs.Opened.{opened_of_read}
 use Rattle.hsdec_core.proofs.opening.open_machine.Goals as goal
 
-pub returns-in-Text-clause-opened : goal.returns-in-Text-clause-opened
-returns-in-Text-clause-opened g c =
-    opened_of_reads c.args.job.now (g.F.Shelf.holds c.args.shelf.now) _ c.as_slice.result.now c.read_machine.result c.requires.source
-    (text_of_load (g.F.Shelf.holds c.args.shelf.now) _ c.bytes.result.now c.args.job.now.file c.in_ok-text.field-0 c.in-Text.text c.as_slice.result.now c.in_ok-text.ensures.loaded c.in-Text.is c.bytes.ensures c.as_slice.ensures)
-    c.read_machine.ensures
+pub returns-clause-opened : goal.returns-clause-opened
+returns-clause-opened g c =
+    opened_of_read c.args.job.now (g.F.Shelf.holds c.args.shelf.now) _ c.as_slice.result.now c.read_machine.result
+    (text_of_load (g.F.Shelf.holds c.args.shelf.now) c.bytes.result.now c.args.job.now.file c.in_ok-text.text c.as_slice.result.now c.in_ok-text.ensures.loaded c.bytes.ensures c.as_slice.ensures)
+    (subst (λ fill. IsReadOf fill c.as_slice.result.now c.read_machine.result) c.fill.ensures c.read_machine.ensures)

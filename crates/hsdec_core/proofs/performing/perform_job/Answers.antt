@@ -1,7 +1,20 @@
-use Rattle.std.proofs.Common.{refl}
-use Rattle.job_words.specs.declared.command.Command.TheVariants as commands
-use Rattle.hsdec_core.proofs.Numbers.{right_numbers_result}
+use Rattle.std.proofs.Common.{Err, Ok, ◌∙◌, sym}
+use Rattle.std.proofs.lemmas.Result.{err_from_is_err_and}
+use Rattle.hs_io.specs.Counts.{Rose}
+use Rattle.hsdec_core.proofs.Making.{made_of_gen, made_of_trial}
 use Rattle.hsdec_core.proofs.performing.perform_job.Goals as goal
 
-pub returns-in-Trial-clause-right : goal.returns-in-Trial-clause-right
-returns-in-Trial-clause-right g c = right_numbers_result commands.Trial c.args.job.now (g.F.Shelf.holds c.args.shelf.now) _ c.trial.result c.in-Trial.is refl c.trial.ensures
+pub returns-in_ok-text-in-Gen-clause-made : goal.returns-in_ok-text-in-Gen-clause-made
+returns-in_ok-text-in-Gen-clause-made g c =
+    rw c.from.ensures (made_of_gen c.args.job.now (g.F.Shelf.holds c.args.shelf.now) (Unit {0}) c.in_ok-text-in-Gen.text.items (sym c.task_of_command.ensures ∙ c.in-Gen.is) c.in_ok-text-in-Gen.ensures)
+
+pub returns-in_err-text-in-Trial-clause-made : goal.returns-in_err-text-in-Trial-clause-made
+returns-in_err-text-in-Trial-clause-made g c =
+    let p = err_from_is_err_and c.from_residual-in_err-text-in-Trial.result c.from_residual-in_err-text-in-Trial.ensures.1 in
+    rw (p.1, p.2)
+    (made_of_trial c.args.job.now (g.F.Shelf.holds c.args.shelf.now) (Rose (g.F.Shelf.faults c.args.shelf.now) (g.F.Shelf.faults c.args.shelf.now)) (Err c.in_err-text-in-Trial.field-0.0) (sym c.task_of_command.ensures ∙ c.in-Trial.is) c.in_err-text-in-Trial.ensures)
+
+pub returns-in_ok-text-in-Trial-clause-made : goal.returns-in_ok-text-in-Trial-clause-made
+returns-in_ok-text-in-Trial-clause-made g c =
+    rw c.from-in-Trial.ensures
+    (made_of_trial c.args.job.now (g.F.Shelf.holds c.args.shelf.now) (Unit {0}) (Ok c.in_ok-text-in-Trial.text.items) (sym c.task_of_command.ensures ∙ c.in-Trial.is) c.in_ok-text-in-Trial.ensures)

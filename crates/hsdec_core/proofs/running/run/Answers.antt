@@ -1,112 +1,48 @@
-use Rattle.hsdec_core.specs.declared.answers.Answer.TheVariants.{CodeTooLong, Conflict, KissRefused, NetRefused, NoSplit, NotDefinite, PartRefused, SymbolRefused, TooLong, Unspecified}
-use Rattle.hsdec_core.proofs.OneAnswer.{its_sizes}
-use Rattle.hsdec_core.proofs.Runs.{IsAnswered, all_of, answered, complete_of, evidence_of, first_of, front_of, headline_of, line_is, loads_of, made_in_memory, more_of, no_text_of, put_fault_of, read_fault_of, text_of_done, usage_of}
-use Rattle.job_words.specs.Job.{JobOf}
+use Rattle.std.proofs.Common.{◌≡◌, ◌⊎◌, Result, Ok, Err, IsErr, refl}
+use Rattle.answers.specs.declared.numbers.Answer.{Answer}
+use Rattle.answers.specs.declared.numbers.Answer.TheVariants as answers
+use Rattle.hs_io.specs.Counts.{Rose}
+use Rattle.hsdec_core.proofs.Runs.{IsDelivered, all_of, complete_of, evidence_of, first_of, front_of, refused_of, usage_if_err}
 use Rattle.hsdec_core.proofs.running.run.Goals as goal
+use Rattle.job_words.specs.Job.{JobOf}
 
-pub returns-clause-usage : goal.returns-clause-usage
-returns-clause-usage g c =
-    let a : IsAnswered c.perform-made.result c.deliver.result = answered _ _ _ _ _ _ c.deliver.ensures.text c.deliver.ensures.no_text in
-    usage_of (JobOf c.args.words.now) _ _ c.perform-made.result _ c.perform-made.ensures.right a
+pub returns-clause-refused : goal.returns-clause-refused
+returns-clause-refused g c = λ undone.
+    let told = c.deliver.ensures.refused undone in
+    (told.0, told.1, refused_of _ _ _ _ _ _ (JobOf c.args.words.now) c.perform-made.result told.0 c.perform-made.ensures.made told.2, told.3)
 
-pub returns-clause-read_fault : goal.returns-clause-read_fault
-returns-clause-read_fault g c =
-    let a : IsAnswered c.perform-made.result c.deliver.result = answered _ _ _ _ _ _ c.deliver.ensures.text c.deliver.ensures.no_text in
-    read_fault_of (JobOf c.args.words.now) _ _ c.perform-made.result _ c.perform-made.ensures.right a
+pub returns-clause-comes : goal.returns-clause-comes
+returns-clause-comes g c =
+    let delivered : IsDelivered c.perform-made.result (g.O.Sink.given c.args.out.now) (g.O.Sink.given c.deliver.new.out) (Rose (g.O.Sink.faults c.args.out.now) (g.O.Sink.faults c.deliver.new.out)) (c.deliver.new.out ≡ c.args.out.now) c.deliver.result =
+    record { done = c.deliver.ensures.done; refused = λ undone. let told = c.deliver.ensures.refused undone in (told.0, told.1, told.2) } in
+    first_of _ _ _ _ _ _ (JobOf c.args.words.now) c.perform-made.result _ c.perform-made.ensures.made delivered
 
-pub returns-clause-operand : goal.returns-clause-operand
-returns-clause-operand g c =
-    let a : IsAnswered c.perform-made.result c.deliver.result = answered _ _ _ _ _ _ c.deliver.ensures.text c.deliver.ensures.no_text in
-    loads_of (JobOf c.args.words.now) _ _ c.perform-made.result _ c.perform-made.ensures.right a
-
-pub returns-clause-too_long : goal.returns-clause-too_long
-returns-clause-too_long g c =
-    let a : IsAnswered c.perform-made.result c.deliver.result = answered _ _ _ _ _ _ c.deliver.ensures.text c.deliver.ensures.no_text in
-    all_of _ _ (JobOf c.args.words.now) c.perform-made.result _ TooLong (its_sizes c.args.words.now) c.perform-made.ensures.right a tt
-
-pub returns-clause-kiss_refused : goal.returns-clause-kiss_refused
-returns-clause-kiss_refused g c =
-    let a : IsAnswered c.perform-made.result c.deliver.result = answered _ _ _ _ _ _ c.deliver.ensures.text c.deliver.ensures.no_text in
-    first_of _ _ (JobOf c.args.words.now) c.perform-made.result _ KissRefused (its_sizes c.args.words.now) c.perform-made.ensures.right a tt (λ h. h)
-
-pub returns-clause-net_refused : goal.returns-clause-net_refused
-returns-clause-net_refused g c =
-    let a : IsAnswered c.perform-made.result c.deliver.result = answered _ _ _ _ _ _ c.deliver.ensures.text c.deliver.ensures.no_text in
-    first_of _ _ (JobOf c.args.words.now) c.perform-made.result _ NetRefused (its_sizes c.args.words.now) c.perform-made.ensures.right a tt (λ h. h)
-
-pub returns-clause-conflict : goal.returns-clause-conflict
-returns-clause-conflict g c =
-    let a : IsAnswered c.perform-made.result c.deliver.result = answered _ _ _ _ _ _ c.deliver.ensures.text c.deliver.ensures.no_text in
-    first_of _ _ (JobOf c.args.words.now) c.perform-made.result _ Conflict (its_sizes c.args.words.now) c.perform-made.ensures.right a tt (λ h. h)
-
-pub returns-clause-unspecified : goal.returns-clause-unspecified
-returns-clause-unspecified g c =
-    let a : IsAnswered c.perform-made.result c.deliver.result = answered _ _ _ _ _ _ c.deliver.ensures.text c.deliver.ensures.no_text in
-    first_of _ _ (JobOf c.args.words.now) c.perform-made.result _ Unspecified (its_sizes c.args.words.now) c.perform-made.ensures.right a tt (λ h. h)
-
-pub returns-clause-part_refused : goal.returns-clause-part_refused
-returns-clause-part_refused g c =
-    let a : IsAnswered c.perform-made.result c.deliver.result = answered _ _ _ _ _ _ c.deliver.ensures.text c.deliver.ensures.no_text in
-    first_of _ _ (JobOf c.args.words.now) c.perform-made.result _ PartRefused (its_sizes c.args.words.now) c.perform-made.ensures.right a tt (λ h. h)
-
-pub returns-clause-symbol_refused : goal.returns-clause-symbol_refused
-returns-clause-symbol_refused g c =
-    let a : IsAnswered c.perform-made.result c.deliver.result = answered _ _ _ _ _ _ c.deliver.ensures.text c.deliver.ensures.no_text in
-    all_of _ _ (JobOf c.args.words.now) c.perform-made.result _ SymbolRefused (its_sizes c.args.words.now) c.perform-made.ensures.right a tt
-
-pub returns-clause-no_split : goal.returns-clause-no_split
-returns-clause-no_split g c =
-    let a : IsAnswered c.perform-made.result c.deliver.result = answered _ _ _ _ _ _ c.deliver.ensures.text c.deliver.ensures.no_text in
-    first_of _ _ (JobOf c.args.words.now) c.perform-made.result _ NoSplit (its_sizes c.args.words.now) c.perform-made.ensures.right a tt (λ h. h)
-
-pub returns-clause-code_too_long : goal.returns-clause-code_too_long
-returns-clause-code_too_long g c =
-    let a : IsAnswered c.perform-made.result c.deliver.result = answered _ _ _ _ _ _ c.deliver.ensures.text c.deliver.ensures.no_text in
-    first_of _ _ (JobOf c.args.words.now) c.perform-made.result _ CodeTooLong (its_sizes c.args.words.now) c.perform-made.ensures.right a tt (λ h. h)
-
-pub returns-clause-not_definite : goal.returns-clause-not_definite
-returns-clause-not_definite g c =
-    let a : IsAnswered c.perform-made.result c.deliver.result = answered _ _ _ _ _ _ c.deliver.ensures.text c.deliver.ensures.no_text in
-    first_of _ _ (JobOf c.args.words.now) c.perform-made.result _ NotDefinite (its_sizes c.args.words.now) c.perform-made.ensures.right a tt (λ h. h)
-
-pub returns-clause-more : goal.returns-clause-more
-returns-clause-more g c =
-    let a : IsAnswered c.perform-made.result c.deliver.result = answered _ _ _ _ _ _ c.deliver.ensures.text c.deliver.ensures.no_text in
-    more_of _ _ (JobOf c.args.words.now) c.perform-made.result _ (its_sizes c.args.words.now) c.perform-made.ensures.right a
-
-pub returns-clause-write_fault : goal.returns-clause-write_fault
-returns-clause-write_fault g c =
-    put_fault_of c.perform-made.result _ _ _ _ _ c.deliver.ensures.text (made_in_memory (JobOf c.args.words.now) _ _ c.perform-made.result c.perform-made.ensures.right)
+pub returns-clause-all_come : goal.returns-clause-all_come
+returns-clause-all_come g c =
+    let delivered : IsDelivered c.perform-made.result (g.O.Sink.given c.args.out.now) (g.O.Sink.given c.deliver.new.out) (Rose (g.O.Sink.faults c.args.out.now) (g.O.Sink.faults c.deliver.new.out)) (c.deliver.new.out ≡ c.args.out.now) c.deliver.result =
+    record { done = c.deliver.ensures.done; refused = λ undone. let told = c.deliver.ensures.refused undone in (told.0, told.1, told.2) } in
+    all_of _ _ _ _ _ _ (JobOf c.args.words.now) c.perform-made.result _ c.perform-made.ensures.made delivered
 
 pub returns-clause-complete : goal.returns-clause-complete
 returns-clause-complete g c =
-    let a : IsAnswered c.perform-made.result c.deliver.result = answered _ _ _ _ _ _ c.deliver.ensures.text c.deliver.ensures.no_text in
-    complete_of _ _ _ (JobOf c.args.words.now) c.perform-made.result _ (its_sizes c.args.words.now) c.perform-made.ensures.right a
-    (put_fault_of c.perform-made.result _ _ _ _ _ c.deliver.ensures.text (made_in_memory (JobOf c.args.words.now) _ _ c.perform-made.result c.perform-made.ensures.right))
-
-pub returns-clause-headline : goal.returns-clause-headline
-returns-clause-headline g c =
-    λ e. headline_of (JobOf c.args.words.now) _ _ _ (text_of_done (JobOf c.args.words.now) _ _ c.perform-made.result _ _ _ _ _ c.perform-made.ensures.right c.deliver.ensures.text e)
-
-pub returns-clause-text : goal.returns-clause-text
-returns-clause-text g c =
-    λ e. text_of_done (JobOf c.args.words.now) _ _ c.perform-made.result _ _ _ _ _ c.perform-made.ensures.right c.deliver.ensures.text e
+    let delivered : IsDelivered c.perform-made.result (g.O.Sink.given c.args.out.now) (g.O.Sink.given c.deliver.new.out) (Rose (g.O.Sink.faults c.args.out.now) (g.O.Sink.faults c.deliver.new.out)) (c.deliver.new.out ≡ c.args.out.now) c.deliver.result =
+    record { done = c.deliver.ensures.done; refused = λ undone. let told = c.deliver.ensures.refused undone in (told.0, told.1, told.2) } in
+    complete_of _ _ _ _ _ _ (JobOf c.args.words.now) c.perform-made.result _ c.perform-made.ensures.made delivered
 
 pub returns-clause-evidence : goal.returns-clause-evidence
 returns-clause-evidence g c =
-    λ e. evidence_of (JobOf c.args.words.now) _ _ c.perform-made.result _ _ _ _ _ c.perform-made.ensures.right c.deliver.ensures.text e
+    let delivered : IsDelivered c.perform-made.result (g.O.Sink.given c.args.out.now) (g.O.Sink.given c.deliver.new.out) (Rose (g.O.Sink.faults c.args.out.now) (g.O.Sink.faults c.deliver.new.out)) (c.deliver.new.out ≡ c.args.out.now) c.deliver.result =
+    record { done = c.deliver.ensures.done; refused = λ undone. let told = c.deliver.ensures.refused undone in (told.0, told.1, told.2) } in
+    evidence_of _ _ _ _ _ _ (JobOf c.args.words.now) c.perform-made.result _ c.perform-made.ensures.made delivered
 
 pub returns-clause-front : goal.returns-clause-front
 returns-clause-front g c =
-    let a : IsAnswered c.perform-made.result c.deliver.result = answered _ _ _ _ _ _ c.deliver.ensures.text c.deliver.ensures.no_text in
-    λ e. front_of (JobOf c.args.words.now) _ _ c.perform-made.result _ _ _ _ _ c.perform-made.ensures.right a c.deliver.ensures.text e
+    let delivered : IsDelivered c.perform-made.result (g.O.Sink.given c.args.out.now) (g.O.Sink.given c.deliver.new.out) (Rose (g.O.Sink.faults c.args.out.now) (g.O.Sink.faults c.deliver.new.out)) (c.deliver.new.out ≡ c.args.out.now) c.deliver.result =
+    record { done = c.deliver.ensures.done; refused = λ undone. let told = c.deliver.ensures.refused undone in (told.0, told.1, told.2) } in
+    front_of _ _ _ _ _ _ (JobOf c.args.words.now) c.perform-made.result _ c.perform-made.ensures.made delivered
 
-pub returns-clause-untouched : goal.returns-clause-untouched
-returns-clause-untouched g c =
-    let a : IsAnswered c.perform-made.result c.deliver.result = answered _ _ _ _ _ _ c.deliver.ensures.text c.deliver.ensures.no_text in
-    λ undone few unput. c.deliver.ensures.untouched (no_text_of (JobOf c.args.words.now) _ _ c.perform-made.result _ c.perform-made.ensures.right a undone few unput)
-
-pub returns-clause-line : goal.returns-clause-line
-returns-clause-line g c =
-    let a : IsAnswered c.perform-made.result c.deliver.result = answered _ _ _ _ _ _ c.deliver.ensures.text c.deliver.ensures.no_text in
-    λ undone. (_, line_is (JobOf c.args.words.now) _ _ c.perform-made.result _ c.perform-made.ensures.right a undone, c.deliver.ensures.line undone)
+pub returns-clause-usage : goal.returns-clause-usage
+returns-clause-usage g c =
+    let delivered : IsDelivered c.perform-made.result (g.O.Sink.given c.args.out.now) (g.O.Sink.given c.deliver.new.out) (Rose (g.O.Sink.faults c.args.out.now) (g.O.Sink.faults c.deliver.new.out)) (c.deliver.new.out ≡ c.args.out.now) c.deliver.result =
+    record { done = c.deliver.ensures.done; refused = λ undone. let told = c.deliver.ensures.refused undone in (told.0, told.1, told.2) } in
+    usage_if_err _ _ _ _ _ _ (JobOf c.args.words.now) c.perform-made.result _ c.perform-made.ensures.made delivered

@@ -1,9 +1,9 @@
-use Rattle.std.proofs.Common.{◌≡◌, ℕ, Bool, true, false, not, List, refl, sym, ◌∙◌, subst}
+use Rattle.std.proofs.Common.{◌≡◌, ◌+◌, ◌≤◌, ℕ, Bool, true, false, not, List, length, refl, sym, ◌∙◌, subst, arith}
 use Rattle.std.proofs.lemmas.Bool.{false≢true}
-use Rattle.partition.specs.Partition.{IsPartition}
+use Rattle.partition.specs.Partition.{IsPartition, blocks_of}
 use Rattle.shift_real.specs.Chain.{AreTogetherAfter, IsChain}
 use Rattle.shift_real.specs.Inner.Rising.{IsRising}
-use Rattle.shift_real.proofs.RisingMembers.{chain_whole, fewer, rising_first, rising_more}
+use Rattle.shift_real.proofs.RisingMembers.{chain_whole, few_first, few_more, few_whole, fewer, rising_first, rising_more}
 use Rattle.shift_real.proofs.chains.chain.Goals as goal
 
 from_not : (b : Bool) → not b ≡ false → b ≡ true
@@ -20,6 +20,7 @@ rising-init c =
       rising = subst (λ (list : List (List ℕ)). IsRising c.args.m.now list c.in_ok-last.last) (sym c.new-members.ensures)
           (rising_first c.args.m.now c.in_ok-last.last (subst (λ (n : ℕ). IsPartition n c.in_ok-last.last) c.states.ensures.count c.in_ok-last.ensures.lawful) c.in_ok-last.ensures.zero);
       high = c.in_ok-next.ensures;
+      few = few_first c.args.m.now c.new-members.result c.in_ok-last.last c.new-members.ensures (subst (λ (n : ℕ). IsPartition n c.in_ok-last.last) c.states.ensures.count c.in_ok-last.ensures.lawful);
     }
 
 pub rising-smaller : goal.rising-smaller
@@ -29,11 +30,13 @@ rising-smaller c =
 
 pub rising-preserved : goal.rising-preserved
 rising-preserved c =
+    let other : c.rising.next ≡ c.rising.last → ⊥ = λ same. let holds : c.equal.result ≡ true = c.equal.ensures.1 same in let fails : c.equal.result ≡ false = first_of (cc, search (c.rising-test.true, to_not)) in false≢true (sym fails ∙ holds) in
     record {
       rising = subst (λ (list : List (List ℕ)). IsRising c.args.m.now list c.rising.next) (sym c.in_ok-push.ensures.ok)
-          (rising_more c.args.m.now c.rising.members c.rising.last c.rising.next c.states.ensures.inside c.rising.invariant
-          (λ same. let holds : c.equal.result ≡ true = c.equal.ensures.1 same in let fails : c.equal.result ≡ false = first_of (cc, search (c.rising-test.true, to_not)) in false≢true (sym fails ∙ holds)));
+          (rising_more c.args.m.now c.rising.members c.rising.last c.rising.next c.states.ensures.inside c.rising.invariant other);
       high = c.in_ok-next-2.ensures;
+      few = subst (λ (list : List (List ℕ)). length list + blocks_of c.rising.next ≤ length c.args.m.now.states) (sym c.in_ok-push.ensures.ok)
+          (few_more c.args.m.now c.rising.members c.rising.last c.rising.next c.states.ensures.inside c.rising.invariant other);
     }
 
 pub returns-clause-chain : goal.returns-clause-chain
@@ -44,3 +47,8 @@ returns-clause-chain c =
 
 pub returns-clause-together : goal.returns-clause-together
 returns-clause-together c = subst (AreTogetherAfter c.args.m.now) (sym c.in_ok-push-2.ensures.ok) c.rising.invariant.rising.tell
+
+pub returns-clause-few : goal.returns-clause-few
+returns-clause-few c =
+    subst (λ (list : List (List ℕ)). length list ≤ length c.args.m.now.states) (sym c.in_ok-push-2.ensures.ok)
+    (few_whole c.args.m.now c.rising.members c.rising.last c.rising.next c.states.ensures.inside c.rising.invariant (let some = c.states.ensures.some in let count = c.states.ensures.count in omega (arith, some, count)))

@@ -1,0 +1,2 @@
+mod Delivering
+mod DigitsOf

@@ -1,0 +1,2 @@
+-- What follows of causes.
+pub mod Causes

@@ -1,0 +1,9 @@
+pub mod Answer
+pub mod Cause
+pub mod Delivery
+pub mod Digits
+pub mod Judged
+pub mod KissTexts
+pub mod Laws
+pub mod NetTexts
+pub mod Refusal

@@ -1,0 +1,53 @@
+//! What is said of each kind of fault in a KISS2 text.
+
+ghost use Rattle.std.specs.Prelude.{◌≡◌, IfOk};
+ghost use Rattle.answers.specs.KissTexts.{kind_text, limit_text};
+
+use kiss2::{KissKind, KissLimit};
+use std::alloc::{AllocError, Global};
+
+/// The text of a kind.
+pub fn text_of_kind(alloc: Global, kind: KissKind) -> Result<Vec<u8>, AllocError>
+    ensures { IfOk result (λ text. text.items ≡ kind_text kind) }
+{
+    let words: &[u8] = match kind {
+        KissKind::BadByte => b"bad byte",
+        KissKind::UnknownWord => b"unknown word",
+        KissKind::BadNumber => b"bad number",
+        KissKind::Repeated => b"repeated",
+        KissKind::MissingCounts => b"counts missing",
+        KissKind::BadFields => b"bad fields",
+        KissKind::BadCube => b"bad input field",
+        KissKind::BadOutput => b"bad output field",
+        KissKind::AnyState => b"any-state row",
+        KissKind::ResetUnknown => b"reset unknown",
+        KissKind::NoRows => b"no rows",
+        KissKind::OverLimit { what, found } => return over_limit(alloc, what, found),
+    };
+    Vec::from_slice(alloc, words)
+}
+
+/// The text of a limit that is passed.
+fn over_limit(alloc: Global, what: KissLimit, found: u32) -> Result<Vec<u8>, AllocError>
+    ensures { IfOk result (λ text. text.items ≡ kind_text (KissKind.OverLimit what found)) }
+{
+    let number = found.to_string(alloc)?;
+    let mut text = Vec::from_slice(alloc, b"over limit ")?;
+    text.extend_from_slice(word_of_limit(what))?;
+    text.push(b' ')?;
+    text.extend_from_slice(number.as_bytes())?;
+    Ok(text)
+}
+
+/// What there is too much of.
+fn word_of_limit(what: KissLimit) -> &'static [u8]
+    ensures { result.now ≡ limit_text what }
+{
+    match what {
+        KissLimit::Rows => b"rows",
+        KissLimit::States => b"states",
+        KissLimit::Inputs => b"inputs",
+        KissLimit::Outputs => b"outputs",
+        KissLimit::NameBytes => b"name",
+    }
+}

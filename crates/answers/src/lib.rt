@@ -1,0 +1,25 @@
+//! Answers of the program, refusals with their values, and the one function that puts what a command made.
+//!
+//! A command gives a [`Report`], or the [`Refusal`] that tells why there is none. A refusal has the values that
+//! its line shows, so a cause is told once: `specs/Cause` says what it is for something to call for a refusal,
+//! and which of several causes is judged first. `specs/Refusal` has the answer and the line of each refusal,
+//! `specs/Answer` the number of each answer, and `specs/Delivery` what [`deliver`] puts.
+//!
+//! Commands are in crates above this one. Each says in its contract which causes it judges, in their order, and
+//! what its text is (`specs/Judged`).
+#![tactic(auto)]
+
+mod delivery;
+mod digits;
+mod kiss_texts;
+mod lines;
+mod net_texts;
+mod numbers;
+mod refusals;
+mod reports;
+
+pub use delivery::deliver;
+pub use digits::symbol_text;
+pub use numbers::Answer;
+pub use refusals::{CoverFlaw, Refusal};
+pub use reports::{Bytes, Report};

@@ -1,0 +1,4 @@
+-- Definitions that only private functions and proofs need.
+pub mod Steps
+pub mod Pieces
+pub mod Whole

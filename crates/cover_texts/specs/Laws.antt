@@ -1,0 +1,2 @@
+-- What follows of the definitions.
+pub mod Causes

@@ -1,0 +1,99 @@
+-- What is said of a text that is written for a cover of a file's machine (source: Hartmanis and Stearns, state splitting).
+use Rattle.std.specs.Prelude.{◌≡◌, ℕ, ◌+◌, ◌++◌, Bool, List, Some, length, slice_get, slice_index}
+use Rattle.std.specs.List.{flat_map, AllByRecursion}
+use Rattle.blif_out.specs.declared.header.LatchNote.{LatchNote}
+use Rattle.blif_out.specs.Order.{HasKnownStarts}
+use Rattle.cover_split.specs.Cover.{IsCover}
+use Rattle.cover_split.specs.Expansion.{IsClosedCover, IsExpansion, IsFirstCopy, IsPair, IsTarget, pairs_of}
+use Rattle.cover_split.specs.Parts.{IsLongest, IsSplitByBlock}
+use Rattle.cover_split.specs.Refusal.{IsTextOf}
+use Rattle.decomposition.specs.Decomposition.{HasGates}
+use Rattle.decomposition.specs.Named.{HasNames}
+use Rattle.decomposition.specs.OwnPairs.{OwnPairs, Reads}
+use Rattle.decomposition.specs.Within.{IsBitOf, IsWithinParts}
+use Rattle.hs_io.specs.Spelling.{ended, IsComment}
+use Rattle.kiss2.specs.declared.kiss_file.KissFile.{KissFile}
+use Rattle.kiss2.specs.Machine.{next, out}
+use Rattle.net_core.specs.declared.Gate.{Gate}
+use Rattle.net_core.specs.declared.Network.{Network}
+use Rattle.net_core.specs.declared.SignalNames.{SignalNames}
+use Rattle.net_core.specs.Denotes.{Denotes}
+use Rattle.net_core.specs.Sound.{Sound}
+use Rattle.net_core.specs.Step.{AreStarts, Step}
+use Rattle.realise.specs.Carries.{AnswersAs}
+use Rattle.realise.specs.Codes.{code_of}
+use Rattle.realise.specs.Names.{AreNames}
+use Rattle.state_codes.specs.declared.Codes.{Codes}
+use Rattle.state_codes.specs.declared.split.Part.{Part}
+use Rattle.state_codes.specs.Agreement.{AreDistinct}
+use Rattle.state_codes.specs.Code.{IsCode, need}
+use Rattle.cover_texts.specs.Lines.{cover_text}
+
+-- the starts are the code of the reset state's pair in the first block that has it
+abbrev pub StartsAtFirstCopy : KissFile → List (List ℕ) → Codes → Network → Type 0
+StartsAtFirstCopy F blocks codes N =
+    (i : ℕ) × IsFirstCopy blocks F.reset i × AreStarts N.latches (code_of codes.bits codes.words i)
+
+-- one step leads from the code of pair i to that of pair k, with the output of the state
+pub record StepsTo (F : KissFile) (blocks : List (List ℕ)) (codes : Codes) (N : Network) (i j s : ℕ) (x : List Bool) : Type 0 where
+  pub block : ℕ
+  pub pair : ℕ
+  pub target : IsTarget F blocks j x block
+  pub copy : IsPair blocks pair block (next F s x)
+  pub step : Step N (code_of codes.bits codes.words i) x (out F s x) (code_of codes.bits codes.words pair)
+
+-- so it is for each pair and symbol: the next pair is that of the next state, in the first block that has the next states of
+-- all states of the pair's block
+abbrev pub StepsAsPairs : KissFile → List (List ℕ) → Codes → Network → Type 0
+StepsAsPairs F blocks codes N =
+    (i j s : ℕ) (x : List Bool) → IsPair blocks i j s → length x ≡ F.inputs → StepsTo F blocks codes N i j s x
+
+-- a latch of part 0 reads bits of part 0 alone
+abbrev pub FrontReadsFront : Network → List LatchNote → Type 0
+FrontReadsFront N notes =
+    (i c : ℕ) (note : LatchNote) (gate : Gate) → slice_get notes i ≡ Some note → note.part ≡ 0 → slice_get N.gates i ≡ Some gate
+    → Reads N gate c → IsBitOf notes 0 c
+
+-- there are as many latches as tell the blocks apart, and the states of the longest block
+pub record HasLatches (blocks : List (List ℕ)) (N : Network) : Type 0 where
+  pub longest : ℕ
+  pub is_longest : IsLongest blocks longest
+  pub count : length N.latches ≡ need (length blocks) + need longest
+
+-- inputs and outputs have the names that the file gives, and the other signals own names
+abbrev pub HasNamesOf : KissFile → ℕ → Network → Type 0
+HasNamesOf F latches N = (names : SignalNames) × AreNames F latches names × HasNames N names
+
+-- The text is that of a network after its comments, and denotes the network. The network is sound and answers every word
+-- as the machine of the file. It goes from code to code of the pairs, that is of the states of the machine E of the cover's
+-- pairs. The codes are those of its split: the block, and the place in the block.
+pub record IsTextOfPairs (F : KissFile) (text : List ℕ) (blocks : List (List ℕ)) (E : KissFile) (parts : List Part) (codes : Codes) (N : Network) (notes : List LatchNote) (written : List ℕ) : Type 0 where
+  pub spelled : IsTextOf (length F.states) text blocks
+  pub cover : IsCover (length F.states) blocks
+  pub closed : IsClosedCover F blocks
+  pub expansion : IsExpansion F blocks E
+  pub split : IsSplitByBlock blocks parts
+  pub code : IsCode (length (pairs_of blocks)) parts codes
+  pub whole : written ≡ cover_text F.states blocks codes.bits codes.words notes N
+  pub denotes : Denotes written N
+  pub after : (comments : List (List ℕ)) → AllByRecursion IsComment comments → Denotes (flat_map ended comments ++ written) N
+  pub sound : Sound N
+  pub known_starts : HasKnownStarts N
+  pub answers : AnswersAs F N
+  pub starts : StartsAtFirstCopy F blocks codes N
+  pub steps : StepsAsPairs F blocks codes N
+  pub names : HasNamesOf F codes.bits N
+  pub pairs : OwnPairs E N codes.words notes
+  pub noted : length notes ≡ length N.latches
+  pub owners : (i : ℕ) (note : LatchNote) → slice_get notes i ≡ Some note → note.part ≡ slice_index codes.owner i
+  pub distinct : AreDistinct (length (pairs_of blocks)) codes.words
+  pub front : FrontReadsFront N notes
+  pub within : IsWithinParts E N codes.words notes parts
+  pub latches : HasLatches blocks N
+  pub gates : HasGates F E parts codes N
+
+-- the text is that of the cover of which a text tells the blocks
+unfoldable pub IsCoverText : KissFile → List ℕ → List ℕ → Type 0
+IsCoverText F text written =
+    (blocks : List (List ℕ)) × (E : KissFile) × (parts : List Part) × (codes : Codes) × (N : Network) × (notes : List LatchNote)
+    × IsTextOfPairs F text blocks E parts codes N notes written

@@ -1,0 +1,31 @@
+//! From the text of a cover to the text of its network.
+
+ghost use Rattle.std.specs.Prelude.{◌≡◌};
+ghost use Rattle.answers.specs.Judged.{IsJudged};
+ghost use Rattle.cover_texts.specs.Flaws.{BadCoverRow};
+ghost use Rattle.cover_texts.specs.Written.{IsCoverText};
+ghost use Rattle.kiss2.specs.Lawful.{IsLawful};
+
+use crate::flaws::read;
+use crate::pairs::machine_of_pairs;
+use crate::writing::text_of_pairs;
+use answers::Refusal;
+use kiss2::KissFile;
+use machine_table::Machine;
+use std::alloc::Global;
+
+/// The text of the machine of a file, split by the cover that a text tells.
+pub fn cover(
+    alloc: Global,
+    file: &KissFile,
+    machine: &Machine,
+    text: &[u8],
+) -> Result<Vec<u8>, Refusal>
+    requires lawful { IsLawful file.now }
+    requires machine { machine.now ≡ file.now }
+    ensures { IsJudged (BadCoverRow file.now text.now) (λ written. IsCoverText file.now text.now written.items) result }
+{
+    let blocks = read(alloc, file, machine, text)?;
+    let pairs = machine_of_pairs(alloc, machine, &blocks)?;
+    Ok(text_of_pairs(alloc, file, &blocks, &pairs)?)
+}

@@ -1,0 +1,19 @@
+//! The text of a machine that is split by a closed cover of its states.
+//!
+//! [`cover`] reads a cover, makes the machine of the pairs of a block and a state in it, splits that machine in
+//! series (`cover_split`), and writes its network: comments of the blocks, of the code of each pair and of the
+//! latches, and then the network itself.
+//!
+//! The definitions are in `specs/`: `Flaws` says which refusal a text calls for, `Lines` lays out the text, and
+//! `Written` says all that is promised of it. `specs/Laws` has what follows of the cause.
+#![tactic(auto)]
+
+mod blocks;
+mod covers;
+mod fields;
+mod flaws;
+mod lines;
+mod pairs;
+mod writing;
+
+pub use covers::cover;

@@ -1,0 +1,17 @@
+use Rattle.std.proofs.Common.{◌≡◌, sym, ◌∙◌}
+use Rattle.decomposition.proofs.Unrefused.{build_unrefused}
+use Rattle.kiss2.specs.declared.fill.Fill.TheVariants.{Refuse}
+use Rattle.machine_table.specs.declared.building.BuildFail.TheVariants.{Conflict, Unspecified, NoMemory}
+use Rattle.generated_texts.proofs.trials.machine_of.Goals as goal
+
+pub unreachable-requires : goal.unreachable-requires
+unreachable-requires c =
+    build_unrefused c.args.file.now Refuse c.in-Err-Conflict.field-0 c.requires.accepted
+    (λ e. let f : Conflict c.in-Err-Conflict.field-0-0 c.in-Err-Conflict.field-0-1 ≡ NoMemory = sym c.in-Err-Conflict.field-0-is ∙ e in cc)
+    c.in-Err-Conflict.ensures.caused
+
+pub unreachable-requires-in-Err-Unspecified : goal.unreachable-requires-in-Err-Unspecified
+unreachable-requires-in-Err-Unspecified c =
+    build_unrefused c.args.file.now Refuse c.in-Err-Unspecified.field-0 c.requires.accepted
+    (λ e. let f : Unspecified c.in-Err-Unspecified.field-0-0 c.in-Err-Unspecified.field-0-1 c.in-Err-Unspecified.field-0-2 ≡ NoMemory = sym c.in-Err-Unspecified.field-0-is ∙ e in cc)
+    c.in-Err-Unspecified.ensures.caused

@@ -1,0 +1,98 @@
+//! The text of a trial.
+
+ghost use Rattle.std.specs.Prelude.{IfOk, false};
+ghost use Rattle.answers.specs.Judged.{IsJudged};
+ghost use Rattle.decomposition.specs.Work.{IsWork};
+ghost use Rattle.kiss2.specs.Lawful.{IsLawful};
+ghost use Rattle.kiss2.specs.Machine.{Accepted, Conflicting};
+ghost use Rattle.machine_gen.specs.MachineOf.{AreSizes};
+ghost use Rattle.generated_texts.specs.Generated.{IsGenerated, OfGenerated};
+ghost use Rattle.generated_texts.specs.Trial.{IsTrialText, LongCodeRow};
+ghost use Rattle.generated_texts.specs.Inner.Coded.{IsCodedSplit};
+
+use crate::figures::{Numbers, figures_of};
+use answers::Refusal;
+use decomposition::{WorkMachine, work_machine};
+use hs_texts::reports;
+use kiss2::{Fill, KissFile};
+use machine_gen::make;
+use machine_table::{BuildFail, Machine};
+use split_plans::plan;
+use split_texts::{codes_of, text_of_codes};
+use state_codes::{Codes, Kind, Split};
+use std::alloc::{AllocError, Global};
+
+/// A split with its codes.
+#[derive(Drop)]
+struct CodedSplit {
+    split: Split,
+    codes: Codes,
+}
+
+/// Makes the machine of the numbers, and gives the text of its parallel decomposition behind a summary.
+pub fn trial(alloc: Global, seed: u64, a: u16, b: u16, k: u8) -> Result<Vec<u8>, Refusal>
+    requires { AreSizes a b k }
+    ensures { IsJudged (LongCodeRow seed a b k) (λ text. OfGenerated seed a b k (λ F. IsTrialText seed a b k F text.items)) result }
+{
+    let numbers = Numbers { seed, a, b, k };
+    let file = make(alloc, seed, a, b, k)?;
+    let work = machine_of(alloc, &file)?;
+    let coded = split_of(alloc, numbers, &file, &work)?;
+    Ok(text_of(alloc, numbers, file, work, coded)?)
+}
+
+/// The machine of a file that is accepted as it is.
+fn machine_of(alloc: Global, file: &KissFile) -> Result<WorkMachine, AllocError>
+    requires lawful { IsLawful file.now }
+    requires accepted { Accepted file.now Fill.Refuse }
+    ensures { IfOk result (IsWork false file.now) }
+{
+    match Machine::build(alloc, file, Fill::Refuse) {
+        Ok(machine) => work_machine(alloc, file, machine, Fill::Refuse, false),
+        Err(BuildFail::NoMemory) => Err(AllocError),
+        Err(BuildFail::Conflict { .. }) => unreachable!(),
+        Err(BuildFail::Unspecified { .. }) => unreachable!(),
+    }
+}
+
+/// The parallel split of a machine that was made, and its codes.
+fn split_of(
+    alloc: Global,
+    numbers: Numbers,
+    file: &KissFile,
+    work: &WorkMachine,
+) -> Result<CodedSplit, Refusal>
+    requires sizes { AreSizes numbers.a numbers.b numbers.k }
+    requires made { IsGenerated numbers.seed numbers.a numbers.b numbers.k work.now.machine }
+    requires work { IsWork false file.now work.now }
+    ensures { IsJudged (LongCodeRow numbers.seed numbers.a numbers.b numbers.k) (IsCodedSplit work.now.machine) result }
+{
+    let split = plan(alloc, Kind::Parallel, b"", &work.machine)?;
+    let codes = codes_of(alloc, file, work, &split)?;
+    Ok(CodedSplit { split, codes })
+}
+
+/// The summary, and the text of the split behind it.
+fn text_of(
+    alloc: Global,
+    numbers: Numbers,
+    file: KissFile,
+    work: WorkMachine,
+    coded: CodedSplit,
+) -> Result<Vec<u8>, AllocError>
+    requires sizes { AreSizes numbers.a numbers.b numbers.k }
+    requires made { IsGenerated numbers.seed numbers.a numbers.b numbers.k work.machine }
+    requires lawful { IsLawful file }
+    requires no_conflict { Conflicting file → ⊥ }
+    requires work { IsWork false file work }
+    requires coded { IsCodedSplit work.machine coded }
+    ensures { IfOk result (λ text. IsTrialText numbers.seed numbers.a numbers.b numbers.k file text.items) }
+{
+    let CodedSplit { split, codes } = coded;
+    let parts = split.parts.as_slice();
+    let figures = figures_of(alloc, numbers, &work.machine, parts, codes.bits)?;
+    let rest = text_of_codes(alloc, file, work, split, codes)?;
+    let mut text = reports::trial(alloc, &figures)?;
+    text.extend_from_slice(&rest)?;
+    Ok(text)
+}

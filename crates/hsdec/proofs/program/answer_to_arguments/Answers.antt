@@ -1,0 +1,23 @@
+-- Where the words could not be made, memory was wanting.
+use Rattle.std.proofs.Common.{◌≡◌, ◌⊎◌, [], inr, refl, sym}
+use Rattle.hs_io.specs.Counts.{Rose}
+use Rattle.answers.specs.declared.refusals.Refusal.TheVariants.{NoMemory}
+use Rattle.hsdec.specs.Pages.{page_asked}
+use Rattle.hsdec.proofs.Answering.{completed_by_want, refused_by_want}
+use Rattle.hsdec.proofs.program.answer_to_arguments.Goals as goal
+
+pub returns-in-Err : goal.returns-in-Err
+returns-in-Err g c = (
+  [],
+  record {
+    words_told = λ had. absurd (had c.refuse.ensures.answer);
+    answer = inr c.refuse.ensures.answer;
+    complete = completed_by_want (page_asked []) [] (g.F.Shelf.holds c.args.shelf.now) c.refuse.result
+        (Rose (g.F.Shelf.faults c.args.shelf.now) (g.F.Shelf.faults c.args.shelf.now) ⊎ Rose (g.O.Sink.faults c.args.out.now) (g.O.Sink.faults c.args.out.now)) c.refuse.ensures.answer;
+    read_fault = λ is. absurd (cc);
+    write_fault = λ is. absurd (cc);
+    untouched = λ undone unshown unwritten. refl;
+    silent = λ is. absurd (cc);
+    refused = λ undone. (NoMemory, sym c.refuse.ensures.answer, refused_by_want (page_asked []) [] (g.F.Shelf.holds c.args.shelf.now) (Rose (g.F.Shelf.faults c.args.shelf.now) (g.F.Shelf.faults c.args.shelf.now)) (Rose (g.O.Sink.faults c.args.out.now) (g.O.Sink.faults c.args.out.now)), c.refuse.ensures.line);
+  },
+)

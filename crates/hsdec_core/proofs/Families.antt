@@ -1,0 +1,103 @@
+-- The answers of a command's own causes.
+use Rattle.std.proofs.Common.{◌≡◌, ◌≢◌, ℕ, Bool, List, inl, inr, length, sym, subst}
+use Rattle.answers.specs.declared.numbers.Answer.{Answer}
+use Rattle.answers.specs.declared.numbers.Answer.TheVariants as answers
+use Rattle.answers.specs.declared.refusals.Refusal.{Refusal}
+use Rattle.answers.specs.Cause.{Cause}
+use Rattle.answers.specs.Laws.Causes.{HasOneAnswer, IsOf, one_of}
+use Rattle.answers.specs.Refusal.{answer_of}
+use Rattle.closed_lattice.specs.Closed.{IsClosedPartition}
+use Rattle.cover_texts.specs.Laws.Causes.{bad_cover_is_of, bad_cover_one}
+use Rattle.hsdec_core.specs.declared.tasks.MachineTask.{MachineTask}
+use Rattle.hsdec_core.specs.declared.tasks.MachineTask.TheVariants.{Check, Closed, Cover, Decompose, Definite, High, InputPairs, Low, Output, OutputPairs, Pairs, Reduce, Shift}
+use Rattle.hsdec_core.specs.Causes.{Never}
+use Rattle.hsdec_core.specs.Inner.Made.{IsPlain}
+use Rattle.hsdec_core.specs.Judgement.{own_cause}
+use Rattle.io_pairs.specs.Inputs.{IsInMmPair}
+use Rattle.io_pairs.specs.Outputs.{IsOutMmPair}
+use Rattle.io_pairs.specs.Sides as rights
+use Rattle.job_words.specs.declared.jobs.Job.{Job}
+use Rattle.kiss2.specs.declared.kiss_file.KissFile.{KissFile}
+use Rattle.machine_reports.specs.Laws.Causes.{definite_has_one_answer, input_pairs_have_one_answer, list_has_one_answer, more_than_is_of, not_definite_is_of, output_pairs_have_one_answer, too_many_inputs_is_of, too_many_outputs_is_of}
+use Rattle.mm_lattice.specs.MmPairs.{IsMmPair, RightBefore}
+use Rattle.output_consistent.specs.Outputs.{IsClosedAndConsistent}
+use Rattle.part_texts.specs.Faults.{BadPart}
+use Rattle.part_texts.specs.Laws.Parts.{bad_part_is_of, bad_parts_is_of}
+use Rattle.partition.specs.Before.{Before}
+use Rattle.shift_texts.specs.Causes.{RefusesShift}
+use Rattle.shift_texts.specs.Laws.Causes.{has_long_register_is_of, keeps_apart_is_of, never_in_reset_is_of, shift_has_one_answer}
+use Rattle.split_plans.specs.Splits.{LacksSplit, Refuses}
+use Rattle.split_plans.specs.Laws.Causes.{lacks_split_is_of}
+use Rattle.split_texts.specs.Causes.{HasLongCode, IsNotWritten, LeavesTogether}
+use Rattle.split_texts.specs.Laws.Causes.{has_long_code_is_of, leaves_together_is_of, not_written_one, of_parts_is_of}
+use Rattle.state_codes.specs.declared.split.Kind.{Kind}
+use Rattle.state_codes.specs.declared.split.Kind.TheVariants as kinds
+
+pub never_has_one : HasOneAnswer Never
+never_has_one one other h k = absurd h
+
+-- each command's own cause has one answer
+pub own_have_one : (task : MachineTask) (job : Job) (F : KissFile) → HasOneAnswer (own_cause task job F)
+own_have_one Check job F = never_has_one
+own_have_one Reduce job F = never_has_one
+own_have_one Closed job F = list_has_one_answer Before (IsClosedPartition F) job.limit
+own_have_one Output job F = list_has_one_answer Before (IsClosedAndConsistent F) job.limit
+own_have_one Pairs job F = list_has_one_answer RightBefore (IsMmPair F) job.limit
+own_have_one Low job F = one_of answers.PartRefused (BadPart (length F.states) job.second) (bad_part_is_of (length F.states) job.second)
+own_have_one High job F = one_of answers.PartRefused (BadPart (length F.states) job.second) (bad_part_is_of (length F.states) job.second)
+own_have_one Definite job F = definite_has_one_answer job.reduce F
+own_have_one InputPairs job F = input_pairs_have_one_answer F job.limit
+own_have_one OutputPairs job F = output_pairs_have_one_answer F job.limit
+own_have_one Cover job F = bad_cover_one F job.second
+own_have_one Shift job F = shift_has_one_answer job.reduce F
+own_have_one (Decompose kind) job F = not_written_one kind job.second job.reduce F
+
+-- ---- answers without a text
+plain_as : (answer : Answer) (cause : Cause) (refusal : Refusal) → IsPlain answer → IsOf answer cause → cause refusal → IsPlain (answer_of refusal)
+plain_as answer cause refusal plain is_of h = subst IsPlain (sym (is_of refusal h)) plain
+
+-- what a kind refuses before a split is sought
+refuses_plain : (kind : Kind) (text : List ℕ) (W : KissFile) (refusal : Refusal) → Refuses kind text W refusal → IsPlain (answer_of refusal)
+refuses_plain kinds.Code text W refusal h = absurd h
+refuses_plain kinds.Assign text W refusal h = subst IsPlain (sym (bad_parts_is_of (length W.states) text refusal h)) tt
+refuses_plain kinds.Parallel text W refusal h = absurd h
+refuses_plain kinds.Serial text W refusal h = absurd h
+refuses_plain kinds.Cascade text W refusal h = absurd h
+refuses_plain kinds.Feedback text W refusal h = absurd h
+refuses_plain kinds.Least text W refusal h = absurd h
+
+pub not_written_plain : (kind : Kind) (text : List ℕ) (reduce : Bool) (F : KissFile) (refusal : Refusal) → IsNotWritten kind text reduce F refusal → IsPlain (answer_of refusal)
+not_written_plain kind text reduce F refusal (W, work, inl h) = refuses_plain kind text W refusal h
+not_written_plain kind text reduce F refusal (W, work, inr (_, inl h)) =
+    subst IsPlain (sym (of_parts_is_of answers.PartRefused kind text W (LeavesTogether W) (leaves_together_is_of W) refusal h)) tt
+not_written_plain kind text reduce F refusal (W, work, inr (_, inr (_, inl h))) = subst IsPlain (sym (lacks_split_is_of kind W refusal h)) tt
+not_written_plain kind text reduce F refusal (W, work, inr (_, inr (_, inr (_, inl h)))) =
+    subst IsPlain (sym (of_parts_is_of answers.CodeTooLong kind text W HasLongCode has_long_code_is_of refusal h)) tt
+not_written_plain kind text reduce F refusal (W, work, inr (_, inr (_, inr (_, inr h)))) = absurd h.1
+
+pub shift_plain : (reduce : Bool) (F : KissFile) (refusal : Refusal) → RefusesShift reduce F refusal → IsPlain (answer_of refusal)
+shift_plain reduce F refusal (W, work, inl h) = subst IsPlain (sym (keeps_apart_is_of W refusal h)) tt
+shift_plain reduce F refusal (W, work, inr (_, inl h)) = subst IsPlain (sym (has_long_register_is_of W refusal h)) tt
+shift_plain reduce F refusal (W, work, inr (_, inr (_, inl h))) = subst IsPlain (sym (never_in_reset_is_of W refusal h)) tt
+shift_plain reduce F refusal (W, work, inr (_, inr (_, inr h))) = absurd h.1
+
+-- a command's own refusal is told without a text, but for evidence that there is more than the limit
+pub own_plain : (task : MachineTask) (job : Job) (F : KissFile) (refusal : Refusal) → own_cause task job F refusal → answer_of refusal ≢ answers.More → IsPlain (answer_of refusal)
+own_plain Check job F refusal h few = absurd h
+own_plain Reduce job F refusal h few = absurd h
+own_plain Closed job F refusal h few = absurd (few (more_than_is_of Before (IsClosedPartition F) job.limit refusal h))
+own_plain Output job F refusal h few = absurd (few (more_than_is_of Before (IsClosedAndConsistent F) job.limit refusal h))
+own_plain Pairs job F refusal h few = absurd (few (more_than_is_of RightBefore (IsMmPair F) job.limit refusal h))
+own_plain Low job F refusal h few = subst IsPlain (sym (bad_part_is_of (length F.states) job.second refusal h)) tt
+own_plain High job F refusal h few = subst IsPlain (sym (bad_part_is_of (length F.states) job.second refusal h)) tt
+own_plain Definite job F refusal h few = subst IsPlain (sym (not_definite_is_of job.reduce F refusal h)) tt
+own_plain InputPairs job F refusal (inl h) few = subst IsPlain (sym (too_many_inputs_is_of F refusal h)) tt
+own_plain InputPairs job F refusal (inr (_, inl h)) few = absurd (few (more_than_is_of rights.RightBefore (IsInMmPair F) job.limit refusal h))
+own_plain InputPairs job F refusal (inr (_, inr h)) few = absurd h.1
+own_plain OutputPairs job F refusal (inl h) few = subst IsPlain (sym (too_many_inputs_is_of F refusal h)) tt
+own_plain OutputPairs job F refusal (inr (_, inl h)) few = subst IsPlain (sym (too_many_outputs_is_of F refusal h)) tt
+own_plain OutputPairs job F refusal (inr (_, inr (_, inl h))) few = absurd (few (more_than_is_of rights.RightBefore (IsOutMmPair F) job.limit refusal h))
+own_plain OutputPairs job F refusal (inr (_, inr (_, inr h))) few = absurd h.1
+own_plain Cover job F refusal h few = subst IsPlain (sym (bad_cover_is_of F job.second refusal h)) tt
+own_plain Shift job F refusal h few = shift_plain job.reduce F refusal h
+own_plain (Decompose kind) job F refusal h few = not_written_plain kind job.second job.reduce F refusal h

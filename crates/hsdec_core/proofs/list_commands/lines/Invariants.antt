@@ -1,8 +1,0 @@
--- The lines of the partitions so far were appended.
-use Rattle.std.proofs.Common.{◌≡◌, take}
-use Rattle.std.specs.List.{flat_map}
-use Rattle.hsdec_core.specs.ListTexts.{partition_line}
-use Rattle.hsdec_core.proofs.list_commands.lines.Given as goal
-
-abbrev pub invariant-loop-part : goal.invariant-loop-part
-invariant-loop-part l = l.text.items ≡ flat_map partition_line (take l.part-index l.parts)

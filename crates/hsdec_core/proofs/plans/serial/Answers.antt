@@ -1,7 +1,0 @@
-use Rattle.hsdec_core.proofs.Planning.{serial_plan}
-use Rattle.hsdec_core.proofs.plans.serial.Goals as goal
-
-pub returns : goal.returns
-returns c =
-    serial_plan c.args.job.now c.args.machine.now c.in_ok-found.found c.plan_of.result c.keeps_its_states.ensures.next c.in_ok-found.ensures.none c.in_ok-found.ensures.kind c.in_ok-found.ensures.serial c.in_ok-found.ensures.best c.in_ok-found.ensures.choice
-    c.in_ok-found.ensures.few c.in_ok-found.ensures.lawful c.plan_of.ensures

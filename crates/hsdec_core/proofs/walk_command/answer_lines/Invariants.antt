@@ -1,8 +1,0 @@
--- The lines of the numbers so far were appended.
-use Rattle.std.proofs.Common.{◌≡◌, map, take}
-use Rattle.machine_table.specs.Walk.{outputs_of}
-use Rattle.net_sim.specs.Run.{answers_text}
-use Rattle.hsdec_core.proofs.walk_command.answer_lines.Given as goal
-
-abbrev pub invariant-loop-word : goal.invariant-loop-word
-invariant-loop-word l = l.text.items ≡ answers_text (map (outputs_of l.count) (take l.word-index l.words))

@@ -1,0 +1,70 @@
+-- What a job calls for by what it loads, in the order of judgement: the causes before a command's own are in `Causes`, and a
+-- command's own in the crate of its family.
+use Rattle.std.specs.Prelude.{ℕ, List, [], ◌∷◌, length}
+use Rattle.answers.specs.Cause.{Cause, FirstOf}
+use Rattle.closed_lattice.specs.Closed.{IsClosedPartition}
+use Rattle.cover_texts.specs.Flaws.{BadCoverRow}
+use Rattle.generated_texts.specs.Trial.{LongCodeRow}
+use Rattle.hsdec_core.specs.declared.tasks.MachineTask.{MachineTask}
+use Rattle.hsdec_core.specs.declared.tasks.MachineTask.TheVariants.{Check, Closed, Cover, Decompose, Definite, High, InputPairs, Low, Output, OutputPairs, Pairs, Reduce, Shift}
+use Rattle.hsdec_core.specs.declared.tasks.Task.{Task}
+use Rattle.hsdec_core.specs.declared.tasks.Task.TheVariants.{Gen, OnMachine, Sim, Trial, Walk}
+use Rattle.hsdec_core.specs.Causes.{Never, NoMachineOf, NoNetworkOf, OfMachine, OfNetwork}
+use Rattle.hsdec_core.specs.Fill.{fill_of}
+use Rattle.hsdec_core.specs.Loading.{Lengthy}
+use Rattle.hsdec_core.specs.Task.{task_of}
+use Rattle.job_words.specs.declared.jobs.Job.{Job}
+use Rattle.kiss2.specs.declared.kiss_file.KissFile.{KissFile}
+use Rattle.machine_reports.specs.Causes.{MoreThan, NotDefiniteRow, RefusesInputPairs, RefusesOutputPairs}
+use Rattle.mm_lattice.specs.MmPairs.{IsMmPair, RightBefore}
+use Rattle.output_consistent.specs.Outputs.{IsClosedAndConsistent}
+use Rattle.part_texts.specs.Faults.{BadPart}
+use Rattle.partition.specs.Before.{Before}
+use Rattle.shift_texts.specs.Causes.{RefusesShift}
+use Rattle.split_texts.specs.Causes.{IsNotWritten}
+use Rattle.symbol_runs.specs.Causes.{BadSymbolRow, NoStart}
+
+-- a command's own answers, by what it does with the machine of FILE; one that prints what it finds on every machine has none
+abbrev pub own_cause : MachineTask → Job → KissFile → Cause
+own_cause Check job F = Never
+own_cause Reduce job F = Never
+own_cause Closed job F = MoreThan Before (IsClosedPartition F) job.limit
+own_cause Output job F = MoreThan Before (IsClosedAndConsistent F) job.limit
+own_cause Pairs job F = MoreThan RightBefore (IsMmPair F) job.limit
+own_cause Low job F = BadPart (length F.states) job.second
+own_cause High job F = BadPart (length F.states) job.second
+own_cause Definite job F = NotDefiniteRow job.reduce F
+own_cause InputPairs job F = RefusesInputPairs F job.limit
+own_cause OutputPairs job F = RefusesOutputPairs F job.limit
+own_cause Cover job F = BadCoverRow F job.second
+own_cause Shift job F = RefusesShift job.reduce F
+own_cause (Decompose kind) job F = IsNotWritten kind job.second job.reduce F
+
+-- ---- before any symbol is loaded
+abbrev pub first_cause_of : Task → Job → List ℕ → Cause
+first_cause_of (OnMachine task) job bytes =
+    FirstOf (NoMachineOf job.file (fill_of job) bytes ∷ OfMachine (fill_of job) bytes (own_cause task job) ∷ [])
+first_cause_of Walk job bytes = NoMachineOf job.file (fill_of job) bytes
+first_cause_of Sim job bytes = FirstOf (NoNetworkOf job.file bytes ∷ OfNetwork bytes (λ N. NoStart N job.start) ∷ [])
+first_cause_of Gen job bytes = Never
+first_cause_of Trial job bytes = LongCodeRow job.seed job.a job.b job.k
+
+abbrev pub first_cause : Job → List ℕ → Cause
+first_cause job bytes = first_cause_of (task_of job.command) job bytes
+
+-- ---- by the symbols
+-- the symbols of an operand have so many bits each
+abbrev pub BadSymbols : List ℕ → ℕ → List ℕ → Cause
+BadSymbols name width symbols = FirstOf (Lengthy name symbols ∷ BadSymbolRow width symbols ∷ [])
+
+abbrev pub second_cause_of : Task → Job → List ℕ → List ℕ → Cause
+second_cause_of Walk job bytes symbols = OfMachine (fill_of job) bytes (λ F. BadSymbols job.second F.inputs symbols)
+second_cause_of Sim job bytes symbols = OfNetwork bytes (λ N. BadSymbols job.second (length N.inputs) symbols)
+second_cause_of _ job bytes symbols = Never
+
+abbrev pub second_cause : Job → List ℕ → List ℕ → Cause
+second_cause job bytes symbols = second_cause_of (task_of job.command) job bytes symbols
+
+-- ---- whole
+abbrev pub all_causes : Job → List ℕ → List ℕ → Cause
+all_causes job bytes symbols = FirstOf (first_cause job bytes ∷ second_cause job bytes symbols ∷ [])

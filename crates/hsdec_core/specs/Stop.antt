@@ -1,0 +1,48 @@
+-- Which refusal is answered, and what is answered where something calls for one.
+use Rattle.std.specs.Prelude.{◌≡◌, ◌⊎◌, ℕ, IsTrue, List, Option, Result, Ok, Err}
+use Rattle.answers.specs.declared.numbers.Answer.{Answer}
+use Rattle.answers.specs.declared.numbers.Answer.TheVariants as answers
+use Rattle.answers.specs.declared.refusals.Refusal.{Refusal}
+use Rattle.answers.specs.declared.refusals.Refusal.TheVariants.{NoMemory, Unreadable, Unwritable, Usage}
+use Rattle.answers.specs.Cause.{CallsForNone, Cause}
+use Rattle.answers.specs.Refusal.{answer_of}
+use Rattle.hsdec_core.specs.Judgement.{all_causes, first_cause}
+use Rattle.hsdec_core.specs.Loading.{MayBe}
+use Rattle.hsdec_core.specs.Operands.{file_held, symbols_held, takes_file, takes_symbols}
+use Rattle.hsdec_core.specs.Task.{task_of}
+use Rattle.job_words.specs.declared.jobs.Job.{Job}
+
+-- FILE or NET cannot be read, or SYMBOLS, where nothing that is judged before calls for a refusal
+abbrev pub IsFailedLoad : Job → (List ℕ → Option (List ℕ)) → Refusal → Type 0
+IsFailedLoad job holds refusal =
+    (IsTrue (takes_file (task_of job.command)) × (refusal ≡ Unreadable job.file))
+    ⊎ (IsTrue (takes_symbols (task_of job.command)) × (refusal ≡ Unreadable job.second)
+    × ((bytes : List ℕ) × MayBe (file_held job holds) bytes × CallsForNone (first_cause job bytes)))
+
+-- what is loaded calls for the refusal, by the order of judgement; where the shelf tells no bytes, some bytes do
+abbrev pub IsCalledFor : Job → (List ℕ → Option (List ℕ)) → Refusal → Type 0
+IsCalledFor job holds refusal =
+    (bytes symbols : List ℕ) × MayBe (file_held job holds) bytes × MayBe (symbols_held job holds) symbols × all_causes job bytes symbols refusal
+
+-- a job is refused: memory is wanting, a load failed, or what is loaded calls for the refusal
+abbrev pub IsStopOf : Job → (List ℕ → Option (List ℕ)) → Type 0 → Refusal → Type 0
+IsStopOf job holds Faulted refusal = (refusal ≡ NoMemory) ⊎ (Faulted × IsFailedLoad job holds refusal) ⊎ IsCalledFor job holds refusal
+
+-- the words are no job, the first that is refused being of this number; or their job is refused
+abbrev pub IsStopFor : Result Job ℕ → (List ℕ → Option (List ℕ)) → Type 0 → Refusal → Type 0
+IsStopFor (Ok job) holds Faulted refusal = IsStopOf job holds Faulted refusal
+IsStopFor (Err word) holds Faulted refusal = (refusal ≡ NoMemory) ⊎ (refusal ≡ Usage word)
+
+-- or the text could not be put
+abbrev pub IsRefusedFor : Result Job ℕ → (List ℕ → Option (List ℕ)) → Type 0 → Type 0 → Refusal → Type 0
+IsRefusedFor job holds Faulted PutFaulted refusal = IsStopFor job holds Faulted refusal ⊎ ((refusal ≡ Unwritable) × PutFaulted)
+
+-- what may be answered in place of an answer: memory may be wanting, a load may fail, and so may the put of the one answer that
+-- comes with a text
+abbrev pub IsExcused : Answer → Answer → Type 0
+IsExcused result answer =
+    (result ≡ answers.NoMemory) ⊎ (result ≡ answers.ReadFault) ⊎ ((answer ≡ answers.More) × (result ≡ answers.WriteFault))
+
+-- what a cause calls for is answered
+abbrev pub Comes : Answer → Cause → Type 0
+Comes result cause = (refusal : Refusal) → cause refusal → (result ≡ answer_of refusal) ⊎ IsExcused result (answer_of refusal)

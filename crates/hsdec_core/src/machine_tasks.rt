@@ -1,0 +1,110 @@
+//! The commands that work on the machine of FILE alone.
+
+ghost use Rattle.std.specs.Prelude.{◌≡◌, ◌≤◌, ◌↔◌, ℕ, Err, List, MatchResult, Ok};
+ghost use Rattle.hs_io.specs.Counts.{Rose};
+ghost use Rattle.answers.specs.declared.refusals.Refusal.TheVariants.{NoMemory};
+ghost use Rattle.answers.specs.declared.reports.Report.TheVariants.{Whole};
+ghost use Rattle.answers.specs.Judged.{IsReported};
+ghost use Rattle.hsdec_core.specs.declared.tasks.MachineTask.TheVariants as tasks;
+ghost use Rattle.hsdec_core.specs.declared.tasks.Task.TheVariants.{OnMachine};
+ghost use Rattle.hsdec_core.specs.Fill.{fill_of};
+ghost use Rattle.hsdec_core.specs.Inner.Made.{IsMadeOf};
+ghost use Rattle.hsdec_core.specs.Judgement.{own_cause};
+ghost use Rattle.hsdec_core.specs.Operands.{AreGranted};
+ghost use Rattle.hsdec_core.specs.Promise.{IsReport, IsShown};
+ghost use Rattle.hsdec_core.specs.Task.{task_of};
+ghost use Rattle.job_words.specs.declared.command.Command.TheVariants as commands;
+ghost use Rattle.job_words.specs.Job.{HasFewSlashes, IsLimit};
+ghost use Rattle.kiss2.specs.Lawful.{IsLawful};
+ghost use Rattle.kiss2.specs.Machine.{Accepted};
+ghost use Rattle.state_codes.specs.declared.split.Kind.TheVariants as kinds;
+
+use crate::opening::{OpenedMachine, fill, open_machine};
+use crate::tasks::MachineTask;
+use answers::{Bytes, Refusal, Report};
+use cover_texts::cover;
+use hs_io::Shelf;
+use job_words::Job;
+use machine_reports::{
+    check, closed, definite, high, ispairs, low, output, pairs, reduce, sopairs,
+};
+use shift_texts::shift;
+use split_texts::decompose;
+use std::alloc::{AllocError, Global};
+
+/// Makes what a job asks for of the machine of FILE.
+pub fn on_machine<F: Shelf>(
+    alloc: Global,
+    job: &Job,
+    task: MachineTask,
+    shelf: &mut F,
+) -> Result<Report, Refusal>
+    requires task { task_of job.now.command ≡ OnMachine task }
+    requires few { job.now.command ≡ commands.Assign → HasFewSlashes job.now.second }
+    requires limited { IsLimit job.now.limit }
+    requires granted { AreGranted (F.grants shelf.old) job.now }
+    ensures made { IsMadeOf
+        job.now (F.holds shelf.old) (Rose (F.faults shelf.old) (F.faults shelf.new)) result }
+    ensures holds_the_same { (other : List ℕ) → F.holds shelf.new other ≡ F.holds shelf.old other }
+    ensures grants_the_same { (other : List ℕ) → F.grants shelf.new other ↔ F.grants shelf.old other }
+    ensures never_falls { F.faults shelf.old ≤ F.faults shelf.new }
+{
+    let opened = open_machine(alloc, job, shelf)?;
+    report(alloc, job, task, opened)
+}
+
+/// What a task makes of the machine of a file.
+fn report(
+    alloc: Global,
+    job: &Job,
+    task: MachineTask,
+    opened: OpenedMachine,
+) -> Result<Report, Refusal>
+    requires few { task ≡ tasks.Decompose kinds.Assign → HasFewSlashes job.now.second }
+    requires limited { IsLimit job.now.limit }
+    requires lawful { IsLawful opened.file }
+    requires accepted { Accepted opened.file (fill_of job.now) }
+    requires machine { opened.machine ≡ opened.file }
+    ensures { IsReported (own_cause task job.now opened.file) (IsReport task job.now opened.file) (IsShown task job.now opened.file) result }
+{
+    let OpenedMachine { file, machine } = opened;
+    match task {
+        MachineTask::Closed => closed(alloc, &machine, job.limit),
+        MachineTask::Output => output(alloc, &machine, job.limit),
+        MachineTask::Pairs => pairs(alloc, &machine, job.limit),
+        MachineTask::InputPairs => ispairs(alloc, &machine, job.limit),
+        MachineTask::OutputPairs => sopairs(alloc, &machine, job.limit),
+        MachineTask::Check => whole(check(alloc, &file)),
+        MachineTask::Reduce => whole(reduce(alloc, &file, &machine, fill(job))),
+        MachineTask::Low => judged(low(alloc, &machine, job.second.bytes())),
+        MachineTask::High => judged(high(alloc, &machine, job.second.bytes())),
+        MachineTask::Definite => judged(definite(alloc, &file, machine, fill(job), job.reduce)),
+        MachineTask::Cover => judged(cover(alloc, &file, &machine, job.second.bytes())),
+        MachineTask::Shift => judged(shift(alloc, &file, machine, fill(job), job.reduce)),
+        MachineTask::Decompose(kind) => judged(decompose(
+            alloc,
+            kind,
+            job.second.bytes(),
+            file,
+            machine,
+            fill(job),
+            job.reduce,
+        )),
+    }
+}
+
+/// The report of a text that nothing but want of memory stands against.
+fn whole(text: Result<Vec<u8>, AllocError>) -> Result<Report, Refusal>
+    ensures { MatchResult text (λ written. result ≡ Ok (Whole written.items)) (λ _. result ≡ Err NoMemory) }
+{
+    let text = text?;
+    Ok(Report::Whole(Bytes::from(text)))
+}
+
+/// The report of a text, or its refusal.
+fn judged(text: Result<Vec<u8>, Refusal>) -> Result<Report, Refusal>
+    ensures { MatchResult text (λ written. result ≡ Ok (Whole written.items)) (λ refusal. result ≡ Err refusal) }
+{
+    let text = text?;
+    Ok(Report::Whole(Bytes::from(text)))
+}

@@ -1,0 +1,75 @@
+//! What a command works on.
+
+ghost use Rattle.std.specs.Prelude.{◌≡◌};
+ghost use Rattle.hsdec_core.specs.Task.{task_of};
+
+use job_words::Command;
+use state_codes::Kind;
+
+/// What a command works on, and what it does there.
+#[derive(Clone, Copy, Debug, PartialEq, Eq)]
+pub enum Task {
+    /// The machine of FILE.
+    OnMachine(MachineTask),
+    /// The machine of FILE, and then SYMBOLS.
+    Walk,
+    /// The network of NET, and then SYMBOLS.
+    Sim,
+    /// Numbers: the machine that is made of them.
+    Gen,
+    /// Numbers: the machine that is made of them, and its parallel decomposition.
+    Trial,
+}
+
+/// What a command does with the machine of FILE.
+#[derive(Clone, Copy, Debug, PartialEq, Eq)]
+pub enum MachineTask {
+    Check,
+    Reduce,
+    Closed,
+    Output,
+    Pairs,
+    Low,
+    High,
+    Definite,
+    InputPairs,
+    OutputPairs,
+    /// The network of a closed cover.
+    Cover,
+    /// The shift register of a definite machine.
+    Shift,
+    /// A decomposition of that kind.
+    Decompose(Kind),
+}
+
+/// The task of a command.
+pub fn task_of_command(command: Command) -> Task
+    ensures { result ≡ task_of command }
+{
+    let on_machine = match command {
+        Command::Walk => return Task::Walk,
+        Command::Sim => return Task::Sim,
+        Command::Gen => return Task::Gen,
+        Command::Trial => return Task::Trial,
+        Command::Check => MachineTask::Check,
+        Command::Reduce => MachineTask::Reduce,
+        Command::Closed => MachineTask::Closed,
+        Command::Output => MachineTask::Output,
+        Command::Pairs => MachineTask::Pairs,
+        Command::Low => MachineTask::Low,
+        Command::High => MachineTask::High,
+        Command::Code => MachineTask::Decompose(Kind::Code),
+        Command::Assign => MachineTask::Decompose(Kind::Assign),
+        Command::Parallel => MachineTask::Decompose(Kind::Parallel),
+        Command::Serial => MachineTask::Decompose(Kind::Serial),
+        Command::Cascade => MachineTask::Decompose(Kind::Cascade),
+        Command::Feedback => MachineTask::Decompose(Kind::Feedback),
+        Command::Least => MachineTask::Decompose(Kind::Least),
+        Command::Cover => MachineTask::Cover,
+        Command::Definite => MachineTask::Definite,
+        Command::Shift => MachineTask::Shift,
+        Command::Ispairs => MachineTask::InputPairs,
+        Command::Sopairs => MachineTask::OutputPairs,
+    };
+    Task::OnMachine(on_machine)
+}

@@ -1,0 +1,3 @@
+pub mod Defining
+mod Digits
+mod Reducing

@@ -1,0 +1,11 @@
+use Rattle.std.proofs.Common.{ℕ, subst}
+use Rattle.answers.specs.Cause.{CallsForNone}
+use Rattle.part_texts.specs.Faults.{BadPart}
+use Rattle.part_texts.specs.Texts.{IsTextOfPartition}
+use Rattle.machine_reports.proofs.partners.low.Goals as goal
+
+pub returns : goal.returns
+returns c = (
+  subst (λ (n : ℕ). CallsForNone (BadPart n c.args.part.now)) c.states.ensures.count c.in_ok-given.ensures.0,
+  (c.in_ok-given.given, c.in_ok-least.least, subst (λ (n : ℕ). IsTextOfPartition n c.args.part.now c.in_ok-given.given) c.states.ensures.count c.in_ok-given.ensures.1, c.in_ok-least.ensures, c.in_ok-line_of.ensures),
+)

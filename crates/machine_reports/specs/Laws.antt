@@ -1,0 +1,2 @@
+-- What follows of the causes.
+pub mod Causes

@@ -1,0 +1,38 @@
+//! The report of `definite`.
+
+ghost use Rattle.std.specs.Prelude.{◌≡◌};
+ghost use Rattle.answers.specs.Judged.{IsJudged};
+ghost use Rattle.kiss2.specs.Lawful.{IsLawful};
+ghost use Rattle.kiss2.specs.Machine.{Accepted};
+ghost use Rattle.machine_reports.specs.Causes.{NotDefiniteRow};
+ghost use Rattle.machine_reports.specs.DefiniteText.{IsChainText};
+
+use crate::lines::lines_of_parts;
+use crate::orders::order_of;
+use answers::Refusal;
+use decomposition::work_machine;
+use kiss2::{Fill, KissFile};
+use machine_table::Machine;
+use shift_real::chain;
+use std::alloc::Global;
+
+/// How the states of the machine that is worked on come together symbol by symbol, or two of them that some word of
+/// every length keeps apart. The machine is that of the file under the fill.
+pub fn definite(
+    alloc: Global,
+    file: &KissFile,
+    machine: Machine,
+    fill: Fill,
+    reduce: bool,
+) -> Result<Vec<u8>, Refusal>
+    requires lawful { IsLawful file.now }
+    requires accepted { Accepted file.now fill }
+    requires machine { machine ≡ file.now }
+    ensures { IsJudged (NotDefiniteRow reduce file.now) (λ text. IsChainText reduce file.now text.items) result }
+{
+    let work = work_machine(alloc, file, machine, fill, reduce)?;
+    work.machine.keeps_its_states();
+    order_of(alloc, file, &work)?;
+    let members = chain(alloc, &work.machine)?;
+    Ok(lines_of_parts(alloc, members.as_slice())?)
+}

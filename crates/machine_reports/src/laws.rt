@@ -1,0 +1,44 @@
+//! What follows from the definitions, for the crates above. Each law is the contract of a function that does
+//! nothing.
+
+ghost use Rattle.std.specs.Prelude.{◌≡◌, ℕ, ◌-◌, Bool, List, length, map};
+ghost use Rattle.answers.specs.Digits.{digit};
+ghost use Rattle.answers.specs.Laws.Causes.{HasOneAnswer};
+ghost use Rattle.answers.specs.declared.refusals.Refusal.{Refusal};
+ghost use Rattle.closed_lattice.specs.Closed.{IsClosedPartition};
+ghost use Rattle.cubes.specs.Symbol.{symbol_of};
+ghost use Rattle.io_pairs.specs.Outputs.{output_word};
+ghost use Rattle.kiss2.specs.Machine.{out};
+ghost use Rattle.kiss2.specs.declared.kiss_file.KissFile.{KissFile};
+ghost use Rattle.mm_lattice.specs.MmPairs.{IsMmPair, RightBefore};
+ghost use Rattle.output_consistent.specs.Outputs.{IsClosedAndConsistent};
+ghost use Rattle.part_texts.specs.Faults.{BadPart};
+ghost use Rattle.partition.specs.Before.{Before};
+ghost use Rattle.shift_real.specs.Definite.{Definite};
+ghost use Rattle.machine_reports.specs.Causes.{KeepsApart, MoreThan, NotDefiniteRow, RefusesInputPairs, RefusesOutputPairs};
+ghost use Rattle.machine_reports.specs.DefiniteText.{IsWholeChain};
+ghost use Rattle.machine_reports.specs.OutputTexts.{output_digits};
+
+/// What a command calls for has one answer.
+pub fn commands_have_one_answer()
+    ensures closed { (F : KissFile) (limit : ℕ) → HasOneAnswer (MoreThan Before (IsClosedPartition F) limit) }
+    ensures output { (F : KissFile) (limit : ℕ) → HasOneAnswer (MoreThan Before (IsClosedAndConsistent F) limit) }
+    ensures pairs { (F : KissFile) (limit : ℕ) → HasOneAnswer (MoreThan RightBefore (IsMmPair F) limit) }
+    ensures part { (states : ℕ) (text : List ℕ) → HasOneAnswer (BadPart states text) }
+    ensures definite { (reduce : Bool) (F : KissFile) → HasOneAnswer (NotDefiniteRow reduce F) }
+    ensures ispairs { (F : KissFile) (limit : ℕ) → HasOneAnswer (RefusesInputPairs F limit) }
+    ensures sopairs { (F : KissFile) (limit : ℕ) → HasOneAnswer (RefusesOutputPairs F limit) }
+{}
+
+/// A machine whose chain is whole is definite, and one that keeps two states apart is not.
+pub fn chains_tell_definite_machines()
+    ensures whole { (W : KissFile) (members : List (List ℕ)) → IsWholeChain W members → Definite W (length members - 1) }
+    ensures apart { (W : KissFile) (refusal : Refusal) (k : ℕ) → KeepsApart W refusal → Definite W k → ⊥ }
+{}
+
+/// The digits of the number of an output are those of the outputs, output 0 first.
+pub fn lines_show_outputs()
+    ensures { (F : KissFile) (s x : ℕ) → output_digits F.outputs (output_word F s x) ≡ map digit (out F s (symbol_of F.inputs x)) }
+{
+    io_pairs::words_write_outputs();
+}

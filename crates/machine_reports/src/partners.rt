@@ -1,0 +1,30 @@
+//! The reports of `low` and `high`.
+
+ghost use Rattle.std.specs.Prelude.{length};
+ghost use Rattle.answers.specs.Judged.{IsJudged};
+ghost use Rattle.part_texts.specs.Faults.{BadPart};
+ghost use Rattle.machine_reports.specs.PartnerTexts.{IsHighText, IsLowText};
+
+use crate::lines::line_of;
+use answers::Refusal;
+use machine_table::Machine;
+use part_texts::read_part;
+use std::alloc::Global;
+
+/// The least partner of the partition that a text tells.
+pub fn low(alloc: Global, machine: &Machine, part: &[u8]) -> Result<Vec<u8>, Refusal>
+    ensures { IsJudged (BadPart (length machine.now.states) part.now) (λ text. IsLowText machine.now part.now text.items) result }
+{
+    let given = read_part(alloc, part, machine.states())?;
+    let least = pair_operators::low(alloc, machine, &given)?;
+    Ok(line_of(alloc, &least)?)
+}
+
+/// The greatest partner of the partition that a text tells.
+pub fn high(alloc: Global, machine: &Machine, part: &[u8]) -> Result<Vec<u8>, Refusal>
+    ensures { IsJudged (BadPart (length machine.now.states) part.now) (λ text. IsHighText machine.now part.now text.items) result }
+{
+    let given = read_part(alloc, part, machine.states())?;
+    let greatest = pair_operators::high(alloc, machine, &given)?;
+    Ok(line_of(alloc, &greatest)?)
+}

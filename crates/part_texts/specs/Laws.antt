@@ -1,0 +1,2 @@
+-- What follows of the operands PART and PARTS.
+pub mod Parts

@@ -1,0 +1,12 @@
+-- The gates of a shift register, by their places.
+use Rattle.std.specs.Prelude.{◌≡◌, ℕ, ◌+◌, ◌*◌, ◌<◌, List, Some, length, slice_get}
+use Rattle.kiss2.specs.declared.kiss_file.KissFile.{KissFile}
+use Rattle.net_core.specs.declared.Gate.{Gate}
+use Rattle.net_core.specs.declared.SignalNames.{SignalNames}
+use Rattle.shift_real.specs.Inner.Latches.{IsOutputGateAt, latch_gate}
+
+-- those of the latches, then those of the outputs, and no other
+pub record AreShiftGates (F : KissFile) (k : ℕ) (names : SignalNames) (gates : List Gate) : Type 0 where
+  pub count : length gates ≡ k * F.inputs + F.outputs
+  pub latches : (i : ℕ) → i < k * F.inputs → slice_get gates i ≡ Some (latch_gate names i)
+  pub outputs : (b : ℕ) → b < F.outputs → IsOutputGateAt F k names gates (k * F.inputs + b) b

@@ -1,0 +1,63 @@
+-- The network of a shift register.
+use Rattle.std.specs.Prelude.{◌≡◌, ℕ, ◌+◌, ◌*◌, ◌<◌, ◌≤◌, ◌++◌, All, Bool, List, Some, count_by, length, map, slice_get}
+use Rattle.std.specs.Str.{bytes_eq}
+use Rattle.dependence.specs.declared.sets.ReadSet.{ReadSet}
+use Rattle.kiss2.specs.declared.kiss_file.KissFile.{KissFile}
+use Rattle.kiss2.specs.Machine.{answers, out}
+use Rattle.net_core.specs.declared.Gate.{Gate}
+use Rattle.net_core.specs.declared.Network.{Network}
+use Rattle.net_core.specs.declared.SignalNames.{SignalNames}
+use Rattle.net_core.specs.Step.{AreStarts, NetAnswers, Step}
+use Rattle.shift_real.specs.Gates.{IsOutputGate, name_at, taking}
+use Rattle.shift_real.specs.Register.{IsStart, latch_values, shifted, state_after}
+use Rattle.shift_real.specs.Words.{IsWord}
+
+-- the names number inputs, outputs and, twice, the bits of a register of k symbols, and no name is given twice
+pub record AreNamesFor (F : KissFile) (k : ℕ) (names : SignalNames) : Type 0 where
+  pub inputs : length names.inputs ≡ F.inputs
+  pub outputs : length names.outputs ≡ F.outputs
+  pub latch_inputs : length names.latch_inputs ≡ k * F.inputs
+  pub latch_outputs : length names.latch_outputs ≡ k * F.inputs
+  pub distinct : (name : List ℕ) → count_by (bytes_eq name) (names.inputs ++ names.outputs ++ names.latch_inputs ++ names.latch_outputs) ≤ 1
+
+-- the network has the names, in order
+pub record HasNames (names : SignalNames) (N : Network) : Type 0 where
+  pub inputs : N.inputs ≡ names.inputs
+  pub outputs : N.outputs ≡ names.outputs
+  pub latch_inputs : map (λ latch. latch.input) N.latches ≡ names.latch_inputs
+  pub latch_outputs : map (λ latch. latch.output) N.latches ≡ names.latch_outputs
+
+-- the latches start at the values of the start content
+abbrev pub StartsAtContent : KissFile → ℕ → Network → Type 0
+StartsAtContent F k N = (word : List (List Bool)) × IsStart F k word × AreStarts N.latches (latch_values word)
+
+-- gate `at` gives the latch of that number the signal
+abbrev pub TakesAt : SignalNames → Network → ℕ → List ℕ → Type 0
+TakesAt names N latch signal = slice_get N.gates latch ≡ Some (taking signal (name_at names.latch_inputs latch))
+
+-- A latch of the newest symbol takes an input, and each other one the latch of the same bit of the symbol that came after.
+pub record Shifts (F : KissFile) (k : ℕ) (names : SignalNames) (N : Network) : Type 0 where
+  pub newest : (i : ℕ) → i < F.inputs → 0 < k → TakesAt names N i (name_at names.inputs i)
+  pub older : (j i : ℕ) → i < F.inputs → j + 1 < k → TakesAt names N ((j + 1) * F.inputs + i) (name_at names.latch_outputs (j * F.inputs + i))
+
+-- after the gates of the latches comes that of each output
+abbrev pub HasOutputGate : KissFile → ℕ → SignalNames → Network → ℕ → Type 0
+HasOutputGate F k names N b = (set : ReadSet) × (gate : Gate) × (slice_get N.gates (k * F.inputs + b) ≡ Some gate) × IsOutputGate F k names b set gate
+
+-- the network of the register: its gates are those of the latches and then those of the outputs, and no other
+pub record IsRegister (F : KissFile) (k : ℕ) (names : SignalNames) (N : Network) : Type 0 where
+  pub named : HasNames names N
+  pub starts : StartsAtContent F k N
+  pub gate_count : length N.gates ≡ k * F.inputs + F.outputs
+  pub shifts : Shifts F k names N
+  pub outputs : (b : ℕ) → b < F.outputs → HasOutputGate F k names N b
+
+-- at each content and symbol one step gives the outputs of the machine and the next content
+abbrev pub StepsAlong : KissFile → ℕ → Network → Type 0
+StepsAlong F k N =
+    (word : List (List Bool)) (x : List Bool) → IsWord F k word → length x ≡ F.inputs → Step N (latch_values word) x (out F (state_after F word) x) (latch_values (shifted word x))
+
+-- from its starts the network answers every word as the machine does from its reset state
+abbrev pub AnswersAs : KissFile → Network → Type 0
+AnswersAs F N =
+    (starts : List Bool) × AreStarts N.latches starts × ((word : List (List Bool)) → All (λ x. length x ≡ F.inputs) word → NetAnswers N starts word (answers F F.reset word))

@@ -1,0 +1,63 @@
+//! The gates of the outputs.
+
+ghost use Rattle.std.specs.Prelude.{◌*◌, ◌<◌, ◌≤◌, IfOk, OnOk};
+ghost use Rattle.dependence.specs.declared.sets.ReadSet.{ReadSet};
+ghost use Rattle.shift_real.specs.Gates.{IsOutputGate};
+ghost use Rattle.shift_real.specs.ShiftNetwork.{AreNamesFor};
+ghost use Rattle.shift_real.specs.Inner.Latches.{AddsOutputGates};
+ghost use Rattle.shift_real.specs.Inner.Tables.{IsTable};
+
+use crate::naming::{listed_names, name_from};
+use crate::pieces::content_pieces;
+use crate::reading::output_reading;
+use crate::rows::gate_rows_of;
+use machine_table::Machine;
+use net_core::{Gate, Gates, SignalNames};
+use std::alloc::{AllocError, Global};
+
+/// Adds the gates of the outputs, for the states after the contents of so many symbols.
+pub fn add_output_gates(
+    alloc: Global,
+    m: &Machine,
+    k: usize,
+    names: &SignalNames,
+    table: &[u16],
+    gates: &mut Gates,
+) -> Result<(), AllocError>
+    requires short { k * m.now.inputs ≤ 12 }
+    requires names { AreNamesFor m.now k names.now }
+    requires table { IsTable m.now k table.now }
+    ensures { OnOk result (AddsOutputGates m.now k names.now m.now.outputs gates.old gates.new) }
+{
+    for b in 0..m.outputs() {
+        gates.push(output_gate(alloc, m, k, names, table, b)?)?;
+    }
+    Ok(())
+}
+
+/// The gate of an output.
+fn output_gate(
+    alloc: Global,
+    m: &Machine,
+    k: usize,
+    names: &SignalNames,
+    table: &[u16],
+    b: u8,
+) -> Result<Gate, AllocError>
+    requires short { k * m.now.inputs ≤ 12 }
+    requires names { AreNamesFor m.now k names.now }
+    requires table { IsTable m.now k table.now }
+    requires output { b < m.now.outputs }
+    ensures { IfOk result (λ gate. (set : ReadSet) × IsOutputGate m.now k names.now b set gate) }
+{
+    let _limits = (m.inputs(), m.outputs());
+    let reading = output_reading(alloc, m, k, table, b)?;
+    let pieces = content_pieces(alloc, m, &reading.classes, reading.mask)?;
+    let rows = gate_rows_of(alloc, &pieces, &reading.set, b)?;
+    Ok(Gate {
+        inputs: listed_names(alloc, names, &reading.set)?,
+        output: name_from(alloc, &names.outputs, usize::from(b))?,
+        rows,
+        on: true,
+    })
+}

@@ -1,0 +1,62 @@
+//! The network of a shift register.
+
+ghost use Rattle.std.specs.Prelude.{ℕ, IfErr, IfOk};
+ghost use Rattle.net_core.specs.Sound.{Sound};
+ghost use Rattle.shift_real.specs.Definite.{IsOrder};
+ghost use Rattle.shift_real.specs.Register.{HasShortOrder};
+ghost use Rattle.shift_real.specs.ShiftNetwork.{AnswersAs, AreNamesFor, IsRegister, StepsAlong};
+ghost use Rattle.shift_real.specs.Start.{IsRegisterCause};
+ghost use Rattle.shift_real.specs.Inner.RegisterContents.{AreRegisterContents};
+ghost use Rattle.shift_real.specs.Inner.ShiftGates.{AreShiftGates};
+
+use crate::latches::{add_latch_gates, latches};
+use crate::naming::copied;
+use crate::output_gates::add_output_gates;
+use crate::starts::{RegisterContents, RegisterFail, register_contents, start_among};
+use crate::tables::state_table;
+use machine_table::Machine;
+use net_core::{Gates, Network, SignalNames};
+use std::alloc::{AllocError, Global};
+
+/// The network of the register of a definite machine. Latch j times the inputs plus i holds bit i of the symbol
+/// that came j + 1 steps ago. Its gate takes input i where j is 0, and else the latch with the same bit of the
+/// symbol after. The gates of the latches come first, and then those of the outputs, each of which reads the
+/// inputs and the latches that matter for it.
+pub fn register(alloc: Global, m: &Machine, names: &SignalNames) -> Result<Network, RegisterFail>
+    requires { (k : ℕ) × HasShortOrder m.now k × AreNamesFor m.now k names.now }
+    ensures network { IfOk result (λ net. (k : ℕ) → IsOrder m.now k → IsRegister m.now k names.now net) }
+    ensures sound { IfOk result Sound }
+    ensures steps { IfOk result (λ net. (k : ℕ) → IsOrder m.now k → StepsAlong m.now k net) }
+    ensures answers { IfOk result (AnswersAs m.now) }
+    ensures refused { IfErr result (IsRegisterCause m.now) }
+{
+    let _limits = (m.states(), m.reset());
+    let held = register_contents(alloc, m)?;
+    let word = start_among(m, &held)?;
+    let bits = held.order * usize::from(m.inputs());
+    Ok(Network {
+        inputs: copied(alloc, &names.inputs)?,
+        outputs: copied(alloc, &names.outputs)?,
+        latches: latches(alloc, names, word, bits)?,
+        gates: gates(alloc, m, &held, names)?,
+    })
+}
+
+/// The gates of the latches, and then those of the outputs.
+fn gates(
+    alloc: Global,
+    m: &Machine,
+    held: &RegisterContents,
+    names: &SignalNames,
+) -> Result<Gates, AllocError>
+    requires held { AreRegisterContents m.now held.now }
+    requires names { AreNamesFor m.now held.now.order names.now }
+    ensures { IfOk result (AreShiftGates m.now held.now.order names.now) }
+{
+    let inputs = usize::from(m.inputs());
+    let table = state_table(alloc, m, held.order, &held.contents)?;
+    let mut gates = Gates::new(alloc);
+    add_latch_gates(alloc, names, held.order * inputs, &mut gates)?;
+    add_output_gates(alloc, m, held.order, names, &table, &mut gates)?;
+    Ok(gates)
+}

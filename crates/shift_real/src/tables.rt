@@ -1,0 +1,81 @@
+//! The states after all contents of the register, and their classes for an output.
+
+ghost use Rattle.std.specs.Prelude.{◌≡◌, ◌*◌, ◌<◌, ◌≤◌, All, IfOk, IsTrue, Contains, ◌↔◌, length, map, slice_index};
+ghost use Rattle.shift_real.specs.Inner.Contents.{AreContents};
+ghost use Rattle.shift_real.specs.Inner.Tables.{AreFirsts, IsFirstAlike, IsTable};
+
+use crate::contents::Content;
+use machine_table::Machine;
+use std::alloc::{AllocError, Global};
+
+/// The states after the contents of so many symbols, each at the number that its latches write, latch i at 2^i.
+pub fn state_table(
+    alloc: Global,
+    m: &Machine,
+    k: usize,
+    contents: &[Content],
+) -> Result<Vec<u16>, AllocError>
+    requires short { k * m.now.inputs ≤ 12 }
+    requires contents { AreContents m.now k contents.now }
+    ensures { IfOk result (λ table. IsTable m.now k table.items) }
+{
+    let _states = m.states();
+    let size = 1usize << (k * usize::from(m.inputs()));
+    let mut table = vec![in alloc; 0u16; size]?;
+    for content in contents {
+        table[content.latches as usize] = content.state;
+    }
+    Ok(table)
+}
+
+/// For each state the first one that gives the same bit of an output at each symbol.
+pub fn first_alike(alloc: Global, m: &Machine, b: u8) -> Result<Vec<u16>, AllocError>
+    requires { b < m.now.outputs }
+    ensures { IfOk result (λ firsts. AreFirsts m.now b (length m.now.states) firsts.items) }
+{
+    let mut firsts = Vec::new(alloc);
+    for s in 0..m.states() {
+        let first = first_for(m, &firsts, b, s);
+        firsts.push(first as u16)?;
+    }
+    Ok(firsts)
+}
+
+/// The first state that is alike to s. It is asked against those alone that are the first of their class.
+fn first_for(m: &Machine, firsts: &[u16], b: u8, s: usize) -> usize
+    requires output { b < m.now.outputs }
+    requires state { s < length m.now.states }
+    requires firsts { AreFirsts m.now b s firsts.now }
+    ensures { IsFirstAlike m.now b s result }
+{
+    for (t, first) in firsts.iter().enumerate() {
+        if usize::from(*first) == t && m.bit_agrees(t, s, b) {
+            return t;
+        }
+    }
+    s
+}
+
+/// The first states for the states of a table.
+pub fn classes_of(alloc: Global, firsts: &[u16], table: &[u16]) -> Result<Vec<u16>, AllocError>
+    requires { All (λ s. s < length firsts.now) table.now }
+    ensures { IfOk result (λ classes. classes.items ≡ map (slice_index firsts.now) table.now) }
+{
+    let mut classes = Vec::new(alloc);
+    for s in table {
+        classes.push(firsts[usize::from(*s)])?;
+    }
+    Ok(classes)
+}
+
+/// Whether the state is one of these.
+pub fn is_among(states: &[u16], state: usize) -> bool
+    ensures { IsTrue result ↔ Contains states.now state }
+{
+    for s in states {
+        if usize::from(*s) == state {
+            return true;
+        }
+    }
+    false
+}

@@ -1,0 +1,4 @@
+mod Commenting
+mod Judging
+mod Registering
+mod Writing

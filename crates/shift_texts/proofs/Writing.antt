@@ -1,0 +1,172 @@
+-- The network of a register can be written.
+use Rattle.std.proofs.Common.{◌≡◌, ℕ, zero, suc, ◌+◌, ◌-◌, ◌*◌, ◌<◌, ◌||◌, ◌&&◌, inl, inr, Bool, true, false, Some, List, [], ◌∷◌, ◌++◌, length, map, get_or, remove, slice_get, IsTrue, All, refl, sym, ap, ◌∙◌, subst, arith}
+use Rattle.std.specs.Cmp.Lexicographic.{slice_cmp}
+use Rattle.std.specs.List.{AllByRecursion, list_any}
+use Rattle.std.specs.List.Sorted.{IsSorted}
+use Rattle.std.specs.Ordering.{nat_cmp}
+use Rattle.std.proofs.Math.Nat.{add-mul, suc-mul}
+use Rattle.std.proofs.lemmas.Bool.{cases_lt}
+use Rattle.std.proofs.lemmas.Bool.Decides.{nat_tests}
+use Rattle.std.proofs.lemmas.List.{get_or-map, length-map}
+use Rattle.std.proofs.lemmas.List.Elements.{All-append, All-map, All-same, All-weaker, recursion_from_All}
+use Rattle.std.proofs.lemmas.Option.{get_or_from_slice_get}
+use Rattle.blif_out.specs.Order.{HasKnownStarts, HasRowsInOrder}
+use Rattle.blif_out.specs.Writable.{IsPlane, IsSignalName, IsWritable, IsWritableGate, IsWritableLatch}
+use Rattle.decomposition.proofs.Writable.{AreSignalNames, known_starts}
+use Rattle.dependence.specs.declared.sets.ReadSet.{ReadSet}
+use Rattle.gate_rows.specs.Covers.{IsGoodCover}
+use Rattle.kiss2.specs.declared.kiss_file.KissFile.{KissFile}
+use Rattle.net_core.specs.declared.Gate.{Gate}
+use Rattle.net_core.specs.declared.Latch.{Latch}
+use Rattle.net_core.specs.declared.Network.{Network}
+use Rattle.net_core.specs.declared.SignalNames.{SignalNames}
+use Rattle.net_core.specs.Statements.{is_plane_character}
+use Rattle.net_core.specs.Step.{character_holds, row_holds}
+use Rattle.shift_real.specs.Gates.{IsOutputGate, name_at, taking}
+use Rattle.shift_real.specs.Register.{latch_values}
+use Rattle.shift_real.specs.ShiftNetwork.{AreNamesFor, IsRegister}
+
+-- ---- rows
+-- a character that holds a bit is one of a plane
+plane_character : (c : ℕ) (bit : Bool) → character_holds c bit ≡ true → IsTrue (is_plane_character c)
+plane_character c true held = grind (arith, nat_tests)
+plane_character c false held = grind (arith, nat_tests)
+
+both_true : (a b : Bool) → (a && b) ≡ true → (a ≡ true) × (b ≡ true)
+both_true true true held = (refl, refl)
+both_true true false held = cc
+both_true false b held = cc
+
+-- a row that holds some values is a plane
+held_plane : (row : List ℕ) (read : List Bool) → row_holds row read ≡ true → AllByRecursion (λ c. IsTrue (is_plane_character c)) row
+held_plane [] read held = tt
+held_plane (c ∷ cs) [] held = cc
+held_plane (c ∷ cs) (bit ∷ bits) held =
+    let both = both_true (character_holds c bit) (row_holds cs bits) held in
+    (plane_character c bit both.0, held_plane cs bits both.1)
+
+-- what holds of some item and of none but one holds of that one
+only_here : {X : Type 0} (test : X → Bool) (xs : List X) (k : ℕ) (d : X) → k < length xs → list_any test xs ≡ true → (list_any test (remove xs k) ≡ true → ⊥) → test (get_or xs k d) ≡ true
+only_here test [] k d lt some none = absurd (omega arith)
+only_here test (x ∷ xs) zero d lt some none = by (test x) some none
+  where
+    by : (b : Bool) → (b || list_any test xs) ≡ true → (list_any test xs ≡ true → ⊥) → b ≡ true
+    by true some none = refl
+    by false some none = absurd (none some)
+only_here test (x ∷ xs) (suc k) d lt some none = by (test x) some none (only_here test xs k d (omega arith))
+  where
+    by : (b : Bool) → (b || list_any test xs) ≡ true → ((b || list_any test (remove xs k)) ≡ true → ⊥) → (list_any test xs ≡ true → (list_any test (remove xs k) ≡ true → ⊥) → test (get_or xs k d) ≡ true)
+        → test (get_or xs k d) ≡ true
+    by true some none rest = absurd (none refl)
+    by false some none rest = rest some none
+
+-- each row of a good cover holds some values, so it is a plane
+cover_planes : (On Off : List Bool → Type 0) (rows : List (List ℕ)) → IsGoodCover On Off rows → All (λ row. AllByRecursion (λ c. IsTrue (is_plane_character c)) row) rows
+cover_planes On Off rows good k d lt =
+    let needed = good.rows_needed k lt in
+    held_plane (get_or rows k d) needed.0
+    (only_here (λ (row : List ℕ). row_holds row needed.0) rows k d lt (good.on_held needed.0 needed.1) needed.2)
+
+-- ---- lists
+all_of_map : {X : Type 0} (P : List ℕ → Type 0) (f : X → List ℕ) (xs : List X) → All P (map f xs) → All (λ x. P (f x)) xs
+all_of_map P f xs all k d lt =
+    let within : k < length (map f xs) = omega (arith, lt, length-map xs f) in
+    subst P (get_or-map f xs k d (f d) lt) (all k (f d) within)
+
+-- names at numbers below their count
+named_at : (names : List (List ℕ)) (count : ℕ) (numbers : List ℕ) → length names ≡ count → All IsSignalName names → All (λ a. a < count) numbers → All IsSignalName (map (name_at names) numbers)
+named_at names count numbers counts are within = All-map IsSignalName (name_at names) numbers (λ k d lt. are (get_or numbers k d) [] (omega (arith, within k d lt, counts)))
+
+-- a number below k times n is that of some symbol and some bit
+place : (k n i : ℕ) → i < k * n → (j : ℕ) × (r : ℕ) × (j < k) × (r < n) × (j * n + r ≡ i)
+place zero n i lt = absurd (omega (arith, lt))
+place (suc k) n i lt =
+    elim (cases_lt i (k * n)) [
+      | inl below ↦ let found = place k n i below in (found.0, found.1, omega (arith, found.2), found.3, found.4)
+      | inr above ↦ (k, i - k * n, omega arith, omega (arith, lt, suc-mul k n, above), omega (arith, above))
+    ]
+
+-- ---- gates
+-- a gate can be written, with its rows in order
+abbrev IsReady : Gate → Type 0
+IsReady gate = IsWritableGate gate × IsSorted (slice_cmp nat_cmp) gate.rows
+
+taking_ready : (signal name : List ℕ) → IsSignalName signal → IsSignalName name → IsReady (taking signal name)
+taking_ready signal name is_signal is_name = (
+  record { inputs = (is_signal, tt); output = is_name; rows = (record { characters = (plane_character 49 true refl, tt); width = refl }, tt); on = refl },
+  λ i d low high. absurd (omega (arith, high)),
+)
+
+module _ (W : KissFile) (k : ℕ) (names : SignalNames) (N : Network) (are : AreSignalNames names) (counted : AreNamesFor W k names) (is : IsRegister W k names N) where
+  -- the gate of a latch takes a signal
+  latch_gate_at : (i : ℕ) → i < k * W.inputs → (signal : List ℕ) × IsSignalName signal × (slice_get N.gates i ≡ Some (taking signal (name_at names.latch_inputs i)))
+  latch_gate_at i lt = let found = place k W.inputs i lt in by found.0 found.1 found.2 found.3 found.4
+    where
+      by : (j r : ℕ) → j < k → r < W.inputs → j * W.inputs + r ≡ i → (signal : List ℕ) × IsSignalName signal × (slice_get N.gates i ≡ Some (taking signal (name_at names.latch_inputs i)))
+      by zero r below within at =
+          let same : r ≡ i = omega (arith, at) in (
+            name_at names.inputs r,
+            are.inputs r [] (omega (arith, within, counted.inputs)),
+            subst (λ (n : ℕ). slice_get N.gates n ≡ Some (taking (name_at names.inputs r) (name_at names.latch_inputs n))) same (is.shifts.newest r within below),
+          )
+      by (suc j) r below within at =
+          let same : (j + 1) * W.inputs + r ≡ i = omega (arith, at, suc-mul j W.inputs, add-mul j 1 W.inputs) in
+          let older : ℕ = j * W.inputs + r in (
+            name_at names.latch_outputs older,
+            are.latch_outputs older [] (omega (arith, at, lt, suc-mul j W.inputs, counted.latch_outputs)),
+            subst (λ (n : ℕ). slice_get N.gates n ≡ Some (taking (name_at names.latch_outputs older) (name_at names.latch_inputs n))) same (is.shifts.older j r within (omega (arith, below))),
+          )
+
+  output_ready : (b : ℕ) → b < W.outputs → (set : ReadSet) (gate : Gate) → IsOutputGate W k names b set gate → IsReady gate
+  output_ready b lt set gate gate_is = (
+    record {
+      inputs = recursion_from_All IsSignalName gate.inputs (
+          All-same IsSignalName gate.inputs (map (name_at names.inputs) set.inputs ++ map (name_at names.latch_outputs) set.latches) gate_is.inputs
+          (All-append IsSignalName (map (name_at names.inputs) set.inputs) (map (name_at names.latch_outputs) set.latches)
+          (named_at names.inputs W.inputs set.inputs counted.inputs are.inputs gate_is.reads.inputs_within)
+          (named_at names.latch_outputs (k * W.inputs) set.latches counted.latch_outputs are.latch_outputs gate_is.reads.latches_within)));
+      output = subst IsSignalName (sym gate_is.output) (are.outputs b [] (omega (arith, lt, counted.outputs)));
+      rows = recursion_from_All (IsPlane (length gate.inputs)) gate.rows (λ i d within. record { characters = cover_planes _ _ gate.rows gate_is.cover i d within; width = gate_is.widths i d within });
+      on = gate_is.on;
+    },
+    gate_is.in_order,
+  )
+
+  gates_ready : All IsReady N.gates
+  gates_ready i d lt =
+      elim (cases_lt i (k * W.inputs)) [
+        | inl below ↦
+            let at = latch_gate_at i below in
+            subst IsReady (sym (get_or_from_slice_get N.gates i (taking at.0 (name_at names.latch_inputs i)) d at.2))
+            (taking_ready at.0 (name_at names.latch_inputs i) at.1 (are.latch_inputs i [] (omega (arith, below, counted.latch_inputs))))
+        | inr above ↦
+            let b : ℕ = i - k * W.inputs in
+            let same : k * W.inputs + b ≡ i = omega arith in
+            let within : b < W.outputs = omega (arith, lt, is.gate_count) in
+            let at = is.outputs b within in
+            subst IsReady (sym (get_or_from_slice_get N.gates i at.1 d (sym (ap (slice_get N.gates) same) ∙ at.2))) (output_ready b within at.0 at.1 at.3)
+      ]
+
+  latches_writable : All IsWritableLatch N.latches
+  latches_writable i d lt = record {
+    input =
+        all_of_map IsSignalName (λ (latch : Latch). latch.input) N.latches (All-same IsSignalName (map (λ latch. latch.input) N.latches) names.latch_inputs is.named.latch_inputs are.latch_inputs) i d lt;
+    output =
+        all_of_map IsSignalName (λ (latch : Latch). latch.output) N.latches (All-same IsSignalName (map (λ latch. latch.output) N.latches) names.latch_outputs is.named.latch_outputs are.latch_outputs) i d lt;
+  }
+
+  pub writable : IsWritable N
+  writable = record {
+    inputs = recursion_from_All IsSignalName N.inputs (All-same IsSignalName N.inputs names.inputs is.named.inputs are.inputs);
+    outputs = recursion_from_All IsSignalName N.outputs (All-same IsSignalName N.outputs names.outputs is.named.outputs are.outputs);
+    latches = recursion_from_All IsWritableLatch N.latches latches_writable;
+    gates = recursion_from_All IsWritableGate N.gates (All-weaker IsReady IsWritableGate (λ gate ready. ready.0) N.gates gates_ready);
+  }
+
+  pub rows_in_order : HasRowsInOrder N
+  rows_in_order =
+      let InOrder : Gate → Type 0 = λ gate. IsSorted (slice_cmp nat_cmp) gate.rows in
+      recursion_from_All InOrder N.gates (All-weaker IsReady InOrder (λ gate ready. ready.1) N.gates gates_ready)
+
+  pub starts_known : HasKnownStarts N
+  starts_known = known_starts N.latches (latch_values is.starts.0) is.starts.2

@@ -1,0 +1,17 @@
+-- The network of the register of a work machine, before it is written.
+use Rattle.std.specs.Prelude.{◌*◌, ℕ}
+use Rattle.kiss2.specs.declared.kiss_file.KissFile.{KissFile}
+use Rattle.net_core.specs.declared.Network.{Network}
+use Rattle.net_core.specs.declared.SignalNames.{SignalNames}
+use Rattle.net_core.specs.Sound.{Sound}
+use Rattle.realise.specs.Names.{AreNames}
+use Rattle.shift_real.specs.ShiftNetwork.{AnswersAs, IsRegister, StepsAlong}
+
+-- it is the register of W, of k symbols, with the names of the file
+pub record IsRegisterOf (F W : KissFile) (k : ℕ) (N : Network) : Type 0 where
+  pub names : SignalNames
+  pub own : AreNames F (k * W.inputs) names
+  pub register : IsRegister W k names N
+  pub sound : Sound N
+  pub steps : StepsAlong W k N
+  pub answers : AnswersAs W N

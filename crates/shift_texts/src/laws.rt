@@ -1,0 +1,11 @@
+//! What follows from the definitions. Each law is the contract of a function that does nothing.
+
+ghost use Rattle.std.specs.Prelude.{Bool};
+ghost use Rattle.answers.specs.Laws.Causes.{HasOneAnswer};
+ghost use Rattle.kiss2.specs.declared.kiss_file.KissFile.{KissFile};
+ghost use Rattle.shift_texts.specs.Causes.{RefusesShift};
+
+/// What `shift` calls for has one answer.
+pub fn shift_has_one_answer()
+    ensures { (reduce : Bool) (F : KissFile) → HasOneAnswer (RefusesShift reduce F) }
+{}

@@ -1,0 +1,55 @@
+//! The network of the register of a machine that is worked on.
+
+ghost use Rattle.std.specs.Prelude.{ℕ, Bool, IfOk};
+ghost use Rattle.answers.specs.Judged.{IsJudged};
+ghost use Rattle.decomposition.specs.Work.{IsWork};
+ghost use Rattle.kiss2.specs.Lawful.{IsLawful};
+ghost use Rattle.kiss2.specs.Machine.{Conflicting};
+ghost use Rattle.shift_real.specs.Definite.{IsOrder};
+ghost use Rattle.shift_real.specs.Register.{HasShortOrder, IsNotReached};
+ghost use Rattle.shift_texts.specs.Causes.{NeverInReset};
+ghost use Rattle.shift_texts.specs.Inner.Registers.{IsRegisterOf};
+
+use answers::Refusal;
+use decomposition::{WorkMachine, state_name};
+use hs_io::Name;
+use kiss2::KissFile;
+use net_core::Network;
+use realise::names;
+use shift_real::{RegisterFail, register};
+use std::alloc::{AllocError, Global};
+
+/// The network of the register of the machine that is worked on, which is definite of this order. Its signals have
+/// the names of the file.
+pub fn register_of(
+    alloc: Global,
+    file: &KissFile,
+    work: &WorkMachine,
+    order: usize,
+) -> Result<Network, Refusal>
+    requires lawful { IsLawful file.now }
+    requires no_conflict { Conflicting file.now → ⊥ }
+    requires work { (reduce : Bool) × IsWork reduce file.now work.now }
+    requires order { HasShortOrder work.now.machine order }
+    ensures { IsJudged (NeverInReset work.now.machine) (IsRegisterOf file.now work.now.machine order) result }
+{
+    let bits = order * usize::from(work.machine.inputs());
+    let signals = names(alloc, file, bits)?;
+    match register(alloc, &work.machine, &signals) {
+        Ok(net) => Ok(net),
+        Err(RegisterFail::NotReached) => Err(not_reached(alloc, file, work)?),
+        Err(RegisterFail::NoMemory) => Err(Refusal::NoMemory),
+    }
+}
+
+/// The refusal of a machine whose reset state no word of as many symbols as its order ends in.
+fn not_reached(alloc: Global, file: &KissFile, work: &WorkMachine) -> Result<Refusal, AllocError>
+    requires work { (reduce : Bool) × IsWork reduce file.now work.now }
+    requires none { (k : ℕ) × IsOrder work.now.machine k × IsNotReached work.now.machine k }
+    ensures { IfOk result (NeverInReset work.now.machine) }
+{
+    let reset = state_name(file, work, work.machine.reset());
+    Ok(Refusal::NotReached {
+        reset: Name::new(alloc, reset)?,
+    })
+}

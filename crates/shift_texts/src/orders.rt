@@ -1,0 +1,30 @@
+//! The order of a machine whose register has few bits.
+
+ghost use Rattle.std.specs.Prelude.{Bool};
+ghost use Rattle.answers.specs.Judged.{IsJudged};
+ghost use Rattle.decomposition.specs.Work.{IsWork};
+ghost use Rattle.shift_real.specs.Register.{HasShortOrder};
+ghost use Rattle.shift_texts.specs.Causes.{HasNoShortOrder};
+
+use answers::Refusal;
+use decomposition::WorkMachine;
+use kiss2::KissFile;
+use machine_reports::order_of;
+use std::alloc::Global;
+
+/// A register has no more bits.
+const MOST_BITS: usize = 12;
+
+/// The order of the machine that is worked on, where its register has few bits.
+pub fn short_order(alloc: Global, file: &KissFile, work: &WorkMachine) -> Result<usize, Refusal>
+    requires work { (reduce : Bool) × IsWork reduce file.now work.now }
+    ensures { IsJudged (HasNoShortOrder work.now.machine) (HasShortOrder work.now.machine) result }
+{
+    let k = order_of(alloc, file, work)?;
+    let _states = work.machine.states();
+    let bits = k * usize::from(work.machine.inputs());
+    if bits > MOST_BITS {
+        return Err(Refusal::CodeTooLong { bits });
+    }
+    Ok(k)
+}

@@ -1,0 +1,37 @@
+//! The text of the register of a file's machine.
+
+ghost use Rattle.std.specs.Prelude.{◌≡◌};
+ghost use Rattle.answers.specs.Judged.{IsJudged};
+ghost use Rattle.kiss2.specs.Lawful.{IsLawful};
+ghost use Rattle.kiss2.specs.Machine.{Accepted};
+ghost use Rattle.shift_texts.specs.Causes.{RefusesShift};
+ghost use Rattle.shift_texts.specs.ShiftText.{IsShiftText};
+
+use crate::comments::text_of;
+use crate::networks::register_of;
+use crate::orders::short_order;
+use answers::Refusal;
+use decomposition::work_machine;
+use kiss2::{Fill, KissFile};
+use machine_table::Machine;
+use std::alloc::Global;
+
+/// The network of the shift register of the machine that is worked on, behind comments that tell its order. The
+/// machine is that of the file under the fill; with `reduce` that of the classes of alike states is worked on.
+pub fn shift(
+    alloc: Global,
+    file: &KissFile,
+    machine: Machine,
+    fill: Fill,
+    reduce: bool,
+) -> Result<Vec<u8>, Refusal>
+    requires lawful { IsLawful file.now }
+    requires accepted { Accepted file.now fill }
+    requires machine { machine ≡ file.now }
+    ensures { IsJudged (RefusesShift reduce file.now) (λ text. IsShiftText reduce file.now text.items) result }
+{
+    let work = work_machine(alloc, file, machine, fill, reduce)?;
+    let order = short_order(alloc, file, &work)?;
+    let net = register_of(alloc, file, &work, order)?;
+    Ok(text_of(alloc, order, &net)?)
+}

@@ -1,0 +1,81 @@
+-- The kinds of decomposition in one table: what each asks of its parts, that no step of one can be taken in smaller ones, and
+-- which of several right ones it is (source: Hartmanis and Stearns).
+use Rattle.std.specs.Prelude.{◌≡◌, ⊤, ℕ, List, length}
+use Rattle.answers.specs.Cause.{Cause}
+use Rattle.feedback_split.specs.Best.{IsBestFeedback}
+use Rattle.feedback_split.specs.Choice.{IsFeedbackChoice}
+use Rattle.feedback_split.specs.Kind.{IsFeedback}
+use Rattle.kiss2.specs.declared.kiss_file.KissFile.{KissFile}
+use Rattle.mm_lattice.specs.Top.{RightsAreTrivial}
+use Rattle.parallel_split.specs.Best.{IsBestParallel}
+use Rattle.parallel_split.specs.Choice.{IsParallelChoice}
+use Rattle.parallel_split.specs.Kind.{HasNoneInParallel, IsParallel}
+use Rattle.part_texts.specs.Faults.{BadParts}
+use Rattle.serial_split.specs.Best.{IsBestCascade, IsBestSerial}
+use Rattle.serial_split.specs.Choice.{IsCascadeChoice, IsSerialChoice}
+use Rattle.serial_split.specs.Kind.{HasNoneNontrivial, IsCascade, IsSerial}
+use Rattle.state_codes.specs.declared.split.Kind.{Kind}
+use Rattle.state_codes.specs.declared.split.Kind.TheVariants.{Code, Assign, Parallel, Serial, Cascade, Feedback, Least}
+use Rattle.state_codes.specs.declared.split.Part.{Part}
+use Rattle.split_plans.specs.Given.{AreGivenParts, code_parts}
+
+-- What is told of a kind, of the operand PARTS, a machine and parts of it: what the kind refuses before a split is sought, what
+-- it asks of the parts, what makes them best, which of several right ones they are, and where there are none.
+pub record KindRow : Type 1 where
+  pub refuses : List ℕ → KissFile → Cause
+  pub asks : List ℕ → KissFile → List Part → Type 0
+  pub best : KissFile → List Part → Type 0
+  pub choice : KissFile → List Part → Type 0
+  pub none : KissFile → Type 0
+
+-- the row of each kind; one that is not built has no parts
+abbrev pub row_of : Kind → KindRow
+row_of Code = record {
+  refuses = λ text W refusal. ⊥;
+  asks = λ text W parts. parts ≡ code_parts (length W.states);
+  best = λ W parts. ⊤;
+  choice = λ W parts. ⊤;
+  none = λ W. ⊥;
+}
+row_of Assign = record {
+  refuses = λ text W. BadParts (length W.states) text;
+  asks = λ text W. AreGivenParts (length W.states) text;
+  best = λ W parts. ⊤;
+  choice = λ W parts. ⊤;
+  none = λ W. ⊥;
+}
+row_of Parallel = record {
+  refuses = λ text W refusal. ⊥;
+  asks = λ text. IsParallel;
+  best = IsBestParallel;
+  choice = IsParallelChoice;
+  none = HasNoneInParallel;
+}
+row_of Serial = record {
+  refuses = λ text W refusal. ⊥;
+  asks = λ text. IsSerial;
+  best = IsBestSerial;
+  choice = IsSerialChoice;
+  none = HasNoneNontrivial;
+}
+row_of Cascade = record {
+  refuses = λ text W refusal. ⊥;
+  asks = λ text. IsCascade;
+  best = IsBestCascade;
+  choice = IsCascadeChoice;
+  none = HasNoneNontrivial;
+}
+row_of Feedback = record {
+  refuses = λ text W refusal. ⊥;
+  asks = λ text. IsFeedback;
+  best = IsBestFeedback;
+  choice = IsFeedbackChoice;
+  none = RightsAreTrivial;
+}
+row_of Least = record {
+  refuses = λ text W refusal. ⊥;
+  asks = λ text W parts. ⊥;
+  best = λ W parts. ⊤;
+  choice = λ W parts. ⊤;
+  none = λ W. ⊤;
+}

@@ -1,0 +1,5 @@
+-- What follows of the definitions.
+pub mod Parts
+pub mod Flows
+pub mod Kinds
+pub mod Causes

@@ -1,0 +1,125 @@
+-- Laws of the kinds: the parts of each are one list, tell all states apart where the machine may have none, and let information
+-- flow as they say.
+use Rattle.std.proofs.Common.{◌≡◌, ℕ, All, List, [], ◌∷◌, length, sym, ap, ◌∙◌, subst, arith}
+use Rattle.answers.specs.declared.numbers.Answer.TheVariants as answers
+use Rattle.answers.specs.Laws.Causes.{HasOneAnswer, one_of}
+use Rattle.decomposition.specs.Flow.{Flows}
+use Rattle.feedback_split.proofs.Chosen as feedbacks
+use Rattle.kiss2.specs.declared.kiss_file.KissFile.{KissFile}
+use Rattle.machine_table.specs.Staying.{NeverLeaves}
+use Rattle.parallel_split.proofs.Chosen as parallels
+use Rattle.part_texts.specs.Faults.{BadParts}
+use Rattle.part_texts.specs.Laws.Parts.{bad_parts_is_of, one_list_of_parts}
+use Rattle.partition.specs.Partition.{zero_of}
+use Rattle.serial_split.proofs.Chosen as serials
+use Rattle.state_codes.specs.declared.split.Kind.{Kind}
+use Rattle.state_codes.specs.declared.split.Kind.TheVariants.{Code, Assign, Parallel, Serial, Cascade, Feedback, Least}
+use Rattle.state_codes.specs.declared.split.Part.{Part}
+use Rattle.state_codes.specs.Fault.{AreApart}
+use Rattle.state_codes.specs.Kinds.{PartsMeetInZero}
+use Rattle.state_codes.specs.Split.{IsPart, given_parts}
+use Rattle.split_plans.specs.Given.{AreGivenParts}
+use Rattle.split_plans.specs.Kinds.{KindRow, row_of}
+use Rattle.split_plans.specs.Splits.{AreParts}
+use Rattle.split_plans.specs.Laws.Flows.{cascade_flows, feedback_flows, given_flows, parallel_flows, serial_flows}
+
+-- what a row of the table has to meet
+pub record IsSound (row : KindRow) : Type 0 where
+  -- the parts that are chosen are one list
+  pub once : (text : List ℕ) (W : KissFile) (one other : List Part) → row.asks text W one → row.asks text W other → row.choice W one → row.choice W other → one ≡ other
+  -- parts of a machine that may have none tell all states apart
+  pub apart : (text : List ℕ) (W : KissFile) (parts : List Part) → row.none W → row.asks text W parts → AreApart (length W.states) parts
+  -- information flows through parts that tell all states apart as they say
+  pub flows : (text : List ℕ) (W : KissFile) (parts : List Part) → NeverLeaves W → All (IsPart (length W.states)) parts → AreApart (length W.states) parts → row.asks text W parts → Flows W parts
+  -- what is refused before a split is sought has one answer
+  pub one_answer : (text : List ℕ) (W : KissFile) → HasOneAnswer (row.refuses text W)
+
+-- ---- words of several rows
+-- parts that meet in zero tell all states apart
+pub apart_of_zero : (n : ℕ) (parts : List Part) → PartsMeetInZero parts → AreApart n parts
+apart_of_zero n parts zero s t before in_t together = let same : s ≡ t = zero s t together in omega (arith, same, before)
+
+-- given parts are one
+given_once : (n : ℕ) (text : List ℕ) (one other : List Part) → AreGivenParts n text one → AreGivenParts n text other → one ≡ other
+given_once n text one other first second =
+    first.are ∙ ap (λ (ps : List (List ℕ)). given_parts (length ps) 0 ps) (one_list_of_parts n text first.partitions second.partitions first.texts second.texts) ∙ sym second.are
+
+-- ---- the rows
+code_sound : IsSound (row_of Code)
+code_sound = record {
+  once = λ text W one other first second _ _. first ∙ sym second;
+  apart = λ text W parts none asked. absurd none;
+  flows = λ text W parts stays lawful apart asked.
+      subst (Flows W) (sym asked)
+      (given_flows W (zero_of (length W.states) ∷ []) stays (subst (All (IsPart (length W.states))) asked lawful) (subst (AreApart (length W.states)) asked apart));
+  one_answer = λ text W one other h k. absurd h;
+}
+
+assign_sound : IsSound (row_of Assign)
+assign_sound = record {
+  once = λ text W one other first second _ _. given_once (length W.states) text one other first second;
+  apart = λ text W parts none asked. absurd none;
+  flows = λ text W parts stays lawful apart asked.
+      subst (Flows W) (sym asked.are)
+      (given_flows W asked.partitions stays (subst (All (IsPart (length W.states))) asked.are lawful) (subst (AreApart (length W.states)) asked.are apart));
+  one_answer = λ text W. one_of answers.PartRefused (BadParts (length W.states) text) (bad_parts_is_of (length W.states) text);
+}
+
+parallel_sound : IsSound (row_of Parallel)
+parallel_sound = record {
+  once = λ text W one other first second chosen also. parallels.choice_is_one W one other first second chosen also;
+  apart = λ text W parts none asked. apart_of_zero (length W.states) parts asked.in_zero;
+  flows = λ text W parts stays lawful apart asked. parallel_flows W parts asked;
+  one_answer = λ text W one other h k. absurd h;
+}
+
+serial_sound : IsSound (row_of Serial)
+serial_sound = record {
+  once = λ text W one other first second chosen also. serials.serial_choice_is_one W one other first second chosen also;
+  apart = λ text W parts none asked. apart_of_zero (length W.states) parts asked.in_zero;
+  flows = λ text W parts stays lawful apart asked. serial_flows W parts stays lawful asked;
+  one_answer = λ text W one other h k. absurd h;
+}
+
+cascade_sound : IsSound (row_of Cascade)
+cascade_sound = record {
+  once = λ text W one other first second chosen also. serials.cascade_choice_is_one W one other first second chosen also;
+  apart = λ text W parts none asked. apart_of_zero (length W.states) parts asked.in_zero;
+  flows = λ text W parts stays lawful apart asked. cascade_flows W parts asked;
+  one_answer = λ text W one other h k. absurd h;
+}
+
+feedback_sound : IsSound (row_of Feedback)
+feedback_sound = record {
+  once = λ text W one other first second chosen also. feedbacks.choice_is_one W one other first second chosen also;
+  apart = λ text W parts none asked. apart_of_zero (length W.states) parts asked.in_zero;
+  flows = λ text W parts stays lawful apart asked. feedback_flows W parts asked;
+  one_answer = λ text W one other h k. absurd h;
+}
+
+least_sound : IsSound (row_of Least)
+least_sound = record {
+  once = λ text W one other first second _ _. absurd first;
+  apart = λ text W parts none asked. absurd asked;
+  flows = λ text W parts stays lawful apart asked. absurd asked;
+  one_answer = λ text W one other h k. absurd h;
+}
+
+-- each is sound
+pub each_is_sound : (kind : Kind) → IsSound (row_of kind)
+each_is_sound Code = code_sound
+each_is_sound Assign = assign_sound
+each_is_sound Parallel = parallel_sound
+each_is_sound Serial = serial_sound
+each_is_sound Cascade = cascade_sound
+each_is_sound Feedback = feedback_sound
+each_is_sound Least = least_sound
+
+-- ---- of every kind
+-- the parts that a kind makes of a machine are one list
+pub parts_once : (kind : Kind) (text : List ℕ) (W : KissFile) (one other : List Part) → AreParts kind text W one → AreParts kind text W other → one ≡ other
+parts_once kind text W one other first second = (each_is_sound kind).once text W one other first.asked second.asked first.choice second.choice
+
+-- where they tell all states apart, information flows as they say
+pub parts_flow : (kind : Kind) (text : List ℕ) (W : KissFile) (parts : List Part) → NeverLeaves W → All (IsPart (length W.states)) parts → AreParts kind text W parts → AreApart (length W.states) parts → Flows W parts
+parts_flow kind text W parts stays lawful made apart = (each_is_sound kind).flows text W parts stays lawful apart made.asked

@@ -1,0 +1,41 @@
+-- The split that a kind makes of a machine, and why there is none.
+use Rattle.std.specs.Prelude.{◌≡◌, ◌≤◌, ℕ, All, List, [], ◌∷◌, length}
+use Rattle.answers.specs.declared.refusals.Refusal.TheVariants.{NoSplit}
+use Rattle.answers.specs.Cause.{Cause, FirstOf}
+use Rattle.kiss2.specs.declared.kiss_file.KissFile.{KissFile}
+use Rattle.state_codes.specs.declared.split.Kind.{Kind}
+use Rattle.state_codes.specs.declared.split.Part.{Part}
+use Rattle.state_codes.specs.declared.split.Split.{Split}
+use Rattle.state_codes.specs.Fault.{AreApart}
+use Rattle.state_codes.specs.Split.{IsPart}
+use Rattle.split_plans.specs.Kinds.{row_of}
+
+-- the parts are as the kind asks them, best of their kind, and the ones that are chosen
+pub record AreParts (kind : Kind) (text : List ℕ) (W : KissFile) (parts : List Part) : Type 0 where
+  pub asked : (row_of kind).asks text W parts
+  pub best : (row_of kind).best W parts
+  pub choice : (row_of kind).choice W parts
+
+-- and they tell all states apart, so they are a split of this kind
+pub record IsSplitOf (kind : Kind) (text : List ℕ) (W : KissFile) (parts : List Part) : Type 0 where
+  pub made : AreParts kind text W parts
+  pub apart : AreApart (length W.states) parts
+
+-- what is known of a split of this kind before it has codes, which it has where its parts tell all states apart
+pub record IsPlanned (kind : Kind) (text : List ℕ) (W : KissFile) (split : Split) : Type 0 where
+  pub same_kind : split.kind ≡ kind
+  pub few : length split.parts ≤ 256
+  pub lawful : All (IsPart (length W.states)) split.parts
+  pub made : AreParts kind text W split.parts
+
+-- what the kind refuses before a split is sought
+abbrev pub Refuses : Kind → List ℕ → KissFile → Cause
+Refuses kind text W = (row_of kind).refuses text W
+
+-- the machine has no decomposition of this kind
+abbrev pub LacksSplit : Kind → KissFile → Cause
+LacksSplit kind W refusal = (refusal ≡ NoSplit kind) × (row_of kind).none W
+
+-- why there is no split, in the order of judgement
+abbrev pub HasNoPlan : Kind → List ℕ → KissFile → Cause
+HasNoPlan kind text W = FirstOf (Refuses kind text W ∷ LacksSplit kind W ∷ [])

@@ -1,0 +1,3 @@
+-- What follows of the definitions.
+pub mod Codes
+pub mod Causes

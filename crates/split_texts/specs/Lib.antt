@@ -1,0 +1,4 @@
+pub mod Causes
+pub mod Written
+pub mod Inner
+pub mod Laws

@@ -1,0 +1,30 @@
+-- The headline: what is said of a text that is written as a decomposition of a file's machine.
+use Rattle.std.specs.Prelude.{◌≤◌, ℕ, Bool, List}
+use Rattle.decomposition.specs.declared.work.WorkMachine.{WorkMachine}
+use Rattle.decomposition.specs.Decomposition.{IsTextOf}
+use Rattle.decomposition.specs.Work.{IsWork}
+use Rattle.kiss2.specs.declared.kiss_file.KissFile.{KissFile}
+use Rattle.split_plans.specs.Splits.{IsSplitOf}
+use Rattle.state_codes.specs.declared.Codes.{Codes}
+use Rattle.state_codes.specs.declared.split.Kind.{Kind}
+use Rattle.state_codes.specs.declared.split.Part.{Part}
+use Rattle.state_codes.specs.Agreement.{AreDistinct}
+use Rattle.state_codes.specs.Code.{IsCode}
+use Rattle.state_codes.specs.Fault.{AreApart}
+
+-- The text is a decomposition of the machine of a file, of this kind: that of a split of the work machine into parts as the
+-- kind asks them. `IsTextOf` says that the text denotes a network which answers as the machine of the file does, that its
+-- codes carry every step, and that each gate reads what its pair and its part permit, with nothing to spare.
+abbrev pub IsWritten : Kind → List ℕ → Bool → KissFile → List ℕ → Type 0
+IsWritten kind text reduce F written = (W : KissFile) × (parts : List Part) × IsSplitOf kind text W parts × IsTextOf reduce F W kind parts written
+
+-- the codes that the parts give to n states, which the parts tell apart
+pub record AreCodes (n : ℕ) (parts : List Part) (codes : Codes) : Type 0 where
+  pub apart : AreApart n parts
+  pub code : IsCode n parts codes
+  pub distinct : AreDistinct n codes.words
+  pub short : codes.bits ≤ 64
+
+-- the text is that of the parts, whichever machine of the file the command works on
+abbrev pub IsTextOfParts : KissFile → WorkMachine → Kind → List Part → List ℕ → Type 0
+IsTextOfParts F work kind parts written = (reduce : Bool) → IsWork reduce F work → IsTextOf reduce F work.machine kind parts written

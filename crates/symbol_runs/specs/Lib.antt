@@ -1,0 +1,5 @@
+pub mod Causes
+pub mod Inner
+pub mod Laws
+pub mod Starts
+pub mod Texts

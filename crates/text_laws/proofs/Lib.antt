@@ -1,0 +1,5 @@
+pub mod Lists
+pub mod ReadOnce
+pub mod Nets
+pub mod Headers
+pub mod Texts

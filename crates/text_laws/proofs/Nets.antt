@@ -1,0 +1,118 @@
+-- The networks of one machine with one code are equal but for the rows of their gates.
+use Rattle.std.proofs.Common.{◌≡◌, ◌∙◌, ℕ, ◌+◌, ◌-◌, ◌≤◌, Bool, true, false, List, [], ◌∷◌, Some, length, map, slice_get, unwrap_or, inl, inr, refl, sym, ap, subst, arith}
+use Rattle.std.proofs.lemmas.Bool.{cases_lt}
+use Rattle.std.proofs.lemmas.Option.{same_Some, slice_get_within}
+use Rattle.dependence.specs.declared.sets.ReadSet.{ReadSet}
+use Rattle.dependence.specs.declared.sets.Reads.{Reads}
+use Rattle.dependence.specs.Permits.{next_value, output_value}
+use Rattle.kiss2.specs.declared.kiss_file.KissFile.{KissFile}
+use Rattle.net_core.specs.declared.Gate.{Gate}
+use Rattle.net_core.specs.declared.Latch.{Latch}
+use Rattle.net_core.specs.declared.Network.{Network}
+use Rattle.net_core.specs.declared.SignalNames.{SignalNames}
+use Rattle.net_core.specs.declared.Start.{Start}
+use Rattle.net_core.specs.declared.Start.TheVariants.{Zero, One, Free, Unknown}
+use Rattle.net_core.specs.Step.{AreStarts, bit_of_start}
+use Rattle.realise.specs.Codes.{code_of}
+use Rattle.realise.specs.Names.{AreNames, input_letter, output_letter, next_letter, state_letter, own_names}
+use Rattle.realise.specs.Realised.{HasGate, IsRealised, name_at}
+use Rattle.realise.proofs.Gates.{item_at}
+use Rattle.text_laws.specs.Rows.{EqualButForRows, HasSameSignals}
+use Rattle.text_laws.proofs.Lists.{zip_at}
+
+-- the start at a known bit
+start_at : Bool → Start
+start_at true = One
+start_at false = Zero
+
+known_start : (start : Start) (bit : Bool) → bit_of_start start ≡ Some bit → start ≡ start_at bit
+unfolding start_at
+known_start Zero true is = cc
+known_start Zero false is = refl
+known_start One true is = refl
+known_start One false is = cc
+known_start Free bit is = cc
+known_start Unknown bit is = cc
+
+same_start : (one other : Start) (bit : Bool) → bit_of_start one ≡ Some bit → bit_of_start other ≡ Some bit → one ≡ other
+same_start one other bit is also = known_start one bit is ∙ sym (known_start other bit also)
+
+same_latch : (a b c d : List ℕ) (s t : Start) → a ≡ b → c ≡ d → s ≡ t
+    → ◌≡◌ {A = Latch} (record { input = a; output = c; start = s }) (record { input = b; output = d; start = t })
+same_latch a b c d s t p q r = cc
+
+cons_latch : (x y : Latch) (xs ys : List Latch) → x ≡ y → xs ≡ ys → ◌≡◌ {A = List Latch} (x ∷ xs) (y ∷ ys)
+cons_latch x y xs ys head tail = cc
+
+heads : {X : Type 0} (x y : X) (xs ys : List X) → ◌≡◌ {A = List X} (x ∷ xs) (y ∷ ys) → (x ≡ y) × (xs ≡ ys)
+heads x y xs ys same = (cc, cc)
+
+-- latches of the same names, with the same known starts
+same_latches : (one other : List Latch) (bits : List Bool) → map (λ latch. latch.input) one ≡ map (λ latch. latch.input) other → map (λ latch. latch.output) one ≡ map (λ latch. latch.output) other
+    → AreStarts one bits → AreStarts other bits → one ≡ other
+same_latches [] [] bits inputs outputs starts also = refl
+same_latches [] (y ∷ ys) bits inputs outputs starts also = cc
+same_latches (x ∷ xs) [] bits inputs outputs starts also = cc
+same_latches (x ∷ xs) (y ∷ ys) [] inputs outputs starts also = cc
+same_latches (x ∷ xs) (y ∷ ys) (bit ∷ bits) inputs outputs starts also =
+    let ins = heads x.input y.input (map (λ (latch : Latch). latch.input) xs) (map (λ (latch : Latch). latch.input) ys) inputs in
+    let outs = heads x.output y.output (map (λ (latch : Latch). latch.output) xs) (map (λ (latch : Latch). latch.output) ys) outputs in
+    let here = heads (bit_of_start x.start) (Some bit) (map (λ (latch : Latch). bit_of_start latch.start) xs) (map Some bits) starts in
+    let there = heads (bit_of_start y.start) (Some bit) (map (λ (latch : Latch). bit_of_start latch.start) ys) (map Some bits) also in
+    cons_latch x y xs ys
+    (same_latch x.input y.input x.output y.output x.start y.start ins.0 outs.0 (same_start x.start y.start bit here.0 there.0))
+    (same_latches xs ys bits ins.1 outs.1 here.1 there.1)
+
+same_names : (a b c d e f g h : List (List ℕ)) → a ≡ b → c ≡ d → e ≡ f → g ≡ h
+    → ◌≡◌ {A = SignalNames} (record { inputs = a; outputs = c; latch_inputs = e; latch_outputs = g }) (record { inputs = b; outputs = d; latch_inputs = f; latch_outputs = h })
+same_names a b c d e f g h p q r s = cc
+
+-- the file and the number of latches determine the names
+pub names_once : (F : KissFile) (latches : ℕ) (names more : SignalNames) → AreNames F latches names → AreNames F latches more → names ≡ more
+names_once F latches names more one other =
+    let low : one.count ≤ other.count = one.apart.least other.count other.apart.free in
+    let high : other.count ≤ one.count = other.apart.least one.count one.apart.free in
+    let same : one.count ≡ other.count = omega (arith, low, high) in
+    same_names names.inputs more.inputs names.outputs more.outputs names.latch_inputs more.latch_inputs names.latch_outputs more.latch_outputs
+    (one.inputs ∙ ap (λ (count : ℕ). unwrap_or F.input_names (own_names count input_letter F.inputs)) same ∙ sym other.inputs)
+    (one.outputs ∙ ap (λ (count : ℕ). unwrap_or F.output_names (own_names count output_letter F.outputs)) same ∙ sym other.outputs)
+    (one.latch_inputs ∙ ap (λ (count : ℕ). own_names count next_letter latches) same ∙ sym other.latch_inputs)
+    (one.latch_outputs ∙ ap (λ (count : ℕ). own_names count state_letter latches) same ∙ sym other.latch_outputs)
+
+-- gates for one set, one value and one name
+same_signals : (F : KissFile) (words : List ℕ) (names : SignalNames) (N M : Network) (at : ℕ) (set : ReadSet) (value : ℕ → List Bool → Bool) (name : List ℕ) (gate other : Gate)
+    → HasGate F words names N at set value name → HasGate F words names M at set value name → slice_get N.gates at ≡ Some gate → slice_get M.gates at ≡ Some other → HasSameSignals gate other
+same_signals F words names N M at set value name gate other (one, there, is) (more, there_too, also) stands stands_too =
+    let first : gate ≡ one = same_Some gate one (sym stands ∙ there) in
+    let second : other ≡ more = same_Some other more (sym stands_too ∙ there_too) in
+    record {
+      inputs = ap (λ (g : Gate). g.inputs) first ∙ is.inputs ∙ sym also.inputs ∙ ap (λ (g : Gate). g.inputs) (sym second);
+      output = ap (λ (g : Gate). g.output) first ∙ is.output ∙ sym also.output ∙ ap (λ (g : Gate). g.output) (sym second);
+      on = ap (λ (g : Gate). g.on) first ∙ is.on ∙ sym also.on ∙ ap (λ (g : Gate). g.on) (sym second);
+    }
+
+module _ (F : KissFile) (bits : ℕ) (words : List ℕ) (sets : Reads) (names : SignalNames) (N M : Network) (latch_count : length sets.latches ≡ bits) (output_count : length sets.outputs ≡ F.outputs) (one : IsRealised F bits words sets names N) (other : IsRealised F bits words sets names M) where
+  each_gate : (at : ℕ) (gate more : Gate) → slice_get N.gates at ≡ Some gate → slice_get M.gates at ≡ Some more → HasSameSignals gate more
+  each_gate at gate more there there_too =
+      elim (cases_lt at bits) [
+        | inl low ↦
+            let set = item_at sets.latches at (omega (arith, low, latch_count)) in
+            same_signals F words names N M at set.0 (next_value F words at) (name_at names.latch_inputs at) gate more
+            (one.latch_gates at set.0 set.1) (other.latch_gates at set.0 set.1) there there_too
+        | inr high ↦
+            let b : ℕ = at - bits in
+            let place : bits + (at - bits) ≡ at = omega (arith, high) in
+            let set = item_at sets.outputs (at - bits) (omega (arith, high, output_count, one.gate_count, slice_get_within N.gates at gate there)) in
+            same_signals F words names N M at set.0 (output_value F (at - bits)) (name_at names.outputs (at - bits)) gate more
+            (subst (λ (k : ℕ). HasGate F words names N k set.0 (output_value F (at - bits)) (name_at names.outputs (at - bits))) place (one.output_gates (at - bits) set.0 set.1))
+            (subst (λ (k : ℕ). HasGate F words names M k set.0 (output_value F (at - bits)) (name_at names.outputs (at - bits))) place (other.output_gates (at - bits) set.0 set.1))
+            there there_too
+      ]
+
+  pub equal_nets : EqualButForRows N M
+  equal_nets = record {
+    inputs = one.inputs ∙ sym other.inputs;
+    outputs = one.outputs ∙ sym other.outputs;
+    latches = same_latches N.latches M.latches (code_of bits words F.reset) (one.latch_inputs ∙ sym other.latch_inputs) (one.latch_outputs ∙ sym other.latch_outputs) one.starts other.starts;
+    gates = zip_at HasSameSignals N.gates M.gates (one.gate_count ∙ sym other.gate_count) each_gate;
+  }

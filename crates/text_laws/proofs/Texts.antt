@@ -1,0 +1,103 @@
+-- Two texts of one job have one header, and networks that are equal but for the rows of their gates.
+use Rattle.std.proofs.Common.{◌≡◌, ◌∙◌, ℕ, Bool, List, length, sym, ap, subst, arith}
+use Rattle.blif_out.specs.declared.header.Header.{Header}
+use Rattle.blif_out.specs.Head.{net_text_of}
+use Rattle.decomposition.specs.Decomposition.{HasGates, IsDecomposition, IsTextOf, PrintsCodes}
+use Rattle.decomposition.specs.OwnPairs.{OwnPairs}
+use Rattle.decomposition.specs.Work.{IsWorkOf}
+use Rattle.decomposition.specs.Laws.Works.{one_work}
+use Rattle.dependence.specs.declared.sets.Reads.{Reads}
+use Rattle.kiss2.specs.declared.kiss_file.KissFile.{KissFile}
+use Rattle.net_core.specs.declared.Network.{Network}
+use Rattle.net_core.specs.declared.SignalNames.{SignalNames}
+use Rattle.realise.specs.Realised.{IsRealised}
+use Rattle.state_codes.specs.declared.Codes.{Codes}
+use Rattle.state_codes.specs.declared.split.Kind.{Kind}
+use Rattle.state_codes.specs.declared.split.Part.{Part}
+use Rattle.state_codes.specs.Code.{IsCode}
+use Rattle.state_codes.specs.Laws.Codes.{codes_are_one}
+use Rattle.state_reduce.specs.WorkMachine.{IsWorkMachine}
+use Rattle.text_laws.specs.Rows.{DifferInRowsAlone, EqualButForRows, HasSameSignals, RowsAloneDiffer}
+use Rattle.text_laws.proofs.Headers.{class_once, classes_once, notes_once, same_header, words_once}
+use Rattle.text_laws.proofs.Lists.{zip_each}
+use Rattle.text_laws.proofs.Nets.{equal_nets, names_once}
+use Rattle.text_laws.proofs.ReadOnce.{reads_once}
+
+-- the gates of one code
+nets_of : (F W : KissFile) (parts : List Part) (codes : Codes) (N M : Network) → HasGates F W parts codes N → HasGates F W parts codes M → EqualButForRows N M
+nets_of F W parts codes N M one other =
+    let sets : one.sets ≡ other.sets = reads_once W parts codes one.sets other.sets one.by_rule other.by_rule in
+    let names : one.names ≡ other.names = names_once F codes.bits one.names other.names one.own other.own in
+    let moved : IsRealised W codes.bits codes.words one.sets other.names M =
+    subst (λ (sets : Reads). IsRealised W codes.bits codes.words sets other.names M) (sym sets) other.realised in
+    equal_nets W codes.bits codes.words one.sets one.names N M one.by_rule.latch_count one.by_rule.output_count one.realised
+    (subst (λ (names : SignalNames). IsRealised W codes.bits codes.words one.sets names M) (sym names) moved)
+
+-- what is said of the second text, of the codes and the parts of the first
+record IsSecond (F W : KissFile) (class : ℕ → ℕ) (codes : Codes) (parts : List Part) (M : Network) (K : Header) : Type 0 where
+  gates : HasGates F W parts codes M
+  pairs : OwnPairs W M codes.words K.latches
+  printed : PrintsCodes F class codes K
+
+second_of : (reduce : Bool) (F W : KissFile) (class : ℕ → ℕ) (codes more : Codes) (parts : List Part) (text : List ℕ) (M : Network) (K : Header) → codes ≡ more → parts ≡ K.parts → IsDecomposition reduce F W class more text M K → IsSecond F W class codes parts M K
+second_of reduce F W class codes more parts text M K same same_parts is = record {
+  gates = subst (λ (list : List Part). HasGates F W list codes M) (sym same_parts) (subst (λ (c : Codes). HasGates F W K.parts c M) (sym same) is.gates);
+  pairs = subst (λ (c : Codes). OwnPairs W M c.words K.latches) (sym same) is.pairs;
+  printed = subst (λ (c : Codes). PrintsCodes F class c K) (sym same) is.printed;
+}
+
+module _ (reduce : Bool) (F W : KissFile) (class more_class : ℕ → ℕ) (codes more : Codes) (text other : List ℕ) (N M : Network) (H K : Header)
+    (work : IsWorkMachine reduce F W class) (more_work : IsWorkMachine reduce F W more_class) (kind : H.kind ≡ K.kind) (parts : H.parts ≡ K.parts)
+    (one : IsDecomposition reduce F W class codes text N H) (two : IsDecomposition reduce F W more_class more other M K) where
+  same_codes : codes ≡ more
+  same_codes = codes_are_one (length W.states) H.parts codes more one.codes_of_parts
+      (subst (λ (list : List Part). IsCode (length W.states) list more) (sym parts) two.codes_of_parts)
+
+  second : IsSecond F W more_class codes H.parts M K
+  second = second_of reduce F W more_class codes more H.parts other M K same_codes parts two
+
+  nets : EqualButForRows N M
+  nets = nets_of F W H.parts codes N M one.gates second.gates
+
+  headers : H ≡ K
+  headers =
+      same_header H.kind K.kind H.classes K.classes H.parts K.parts H.states K.states H.words K.words H.latches K.latches kind
+      (classes_once reduce F H.classes K.classes one.classes two.classes)
+      parts
+      (one.named.states ∙ sym two.named.states)
+      (words_once F class more_class codes H K (class_once reduce F W class more_class work more_work) one.printed second.printed)
+      (notes_once W codes N M nets.latches
+      (λ i gate twin there there_too. (zip_each HasSameSignals N.gates M.gates nets.gates i gate twin there there_too).inputs)
+      F class more_class H K
+      (one.gates.realised.gate_count ∙ sym second.gates.realised.gate_count)
+      (omega (arith, one.gates.realised.gate_count))
+      one.printed second.printed one.pairs second.pairs)
+
+  pub differ : DifferInRowsAlone text other
+  differ = record {
+    header = H;
+    network = N;
+    other_network = M;
+    lawful = one.lawful;
+    whole = one.whole;
+    other_whole = two.whole ∙ ap (λ (header : Header). net_text_of header M) (sym headers);
+    denotes = one.denotes;
+    other_denotes = two.denotes;
+    equal = nets;
+  }
+
+-- texts of one machine
+of_one_machine : (reduce : Bool) (F W : KissFile) (kind : Kind) (parts : List Part) (text other : List ℕ) → IsTextOf reduce F W kind parts text → IsTextOf reduce F W kind parts other → DifferInRowsAlone text other
+unfolding IsTextOf
+of_one_machine reduce F W kind parts text other (class, codes, N, H, work, is_kind, are_parts, one) (more_class, more, M, K, more_work, more_kind, more_parts, two) =
+    differ reduce F W class more_class codes more text other N M H K work more_work (is_kind ∙ sym more_kind) (are_parts ∙ sym more_parts) one two
+
+-- the work machine of the file
+machine_of : (reduce : Bool) (F W : KissFile) (kind : Kind) (parts : List Part) (text : List ℕ) → IsTextOf reduce F W kind parts text → IsWorkOf reduce F W
+unfolding IsTextOf
+machine_of reduce F W kind parts text (class, codes, N, H, work, is_kind, are_parts, is) = (class, work)
+
+pub rows_alone_differ : RowsAloneDiffer
+rows_alone_differ reduce F W V kind parts text other one two =
+    let same : V ≡ W = one_work reduce F V W (machine_of reduce F V kind parts other two) (machine_of reduce F W kind parts text one) in
+    of_one_machine reduce F W kind parts text other one (subst (λ (machine : KissFile). IsTextOf reduce F machine kind parts other) same two)

@@ -1,0 +1,46 @@
+-- Texts that differ in the rows of gates alone.
+use Rattle.std.specs.Prelude.{◌≡◌, ℕ, Bool, List}
+use Rattle.std.specs.List.{AllZip}
+use Rattle.blif_out.specs.declared.header.Header.{Header}
+use Rattle.blif_out.specs.Head.{net_text_of}
+use Rattle.blif_out.specs.HeadLaw.{IsLawfulHeader}
+use Rattle.decomposition.specs.Decomposition.{IsTextOf}
+use Rattle.kiss2.specs.declared.kiss_file.KissFile.{KissFile}
+use Rattle.net_core.specs.declared.Gate.{Gate}
+use Rattle.net_core.specs.declared.Network.{Network}
+use Rattle.net_core.specs.Denotes.{Denotes}
+use Rattle.state_codes.specs.declared.split.Kind.{Kind}
+use Rattle.state_codes.specs.declared.split.Part.{Part}
+
+-- two gates read the same signals in one order and drive the same one, and where a row of theirs holds they give the same value
+pub record HasSameSignals (gate other : Gate) : Type 0 where
+  pub inputs : gate.inputs ≡ other.inputs
+  pub output : gate.output ≡ other.output
+  pub on : gate.on ≡ other.on
+
+-- two networks are equal but for the rows of their gates
+pub record EqualButForRows (N M : Network) : Type 0 where
+  pub inputs : N.inputs ≡ M.inputs
+  pub outputs : N.outputs ≡ M.outputs
+  pub latches : N.latches ≡ M.latches
+  pub gates : AllZip HasSameSignals N.gates M.gates
+
+-- Both texts are those of networks behind one lawful header, and denote the networks, which are equal but for the rows of
+-- their gates.
+pub record DifferInRowsAlone (text other : List ℕ) : Type 0 where
+  pub header : Header
+  pub network : Network
+  pub other_network : Network
+  pub lawful : IsLawfulHeader header
+  pub whole : text ≡ net_text_of header network
+  pub other_whole : other ≡ net_text_of header other_network
+  pub denotes : Denotes text network
+  pub other_denotes : Denotes other other_network
+  pub equal : EqualButForRows network other_network
+
+-- two texts of splits of one kind into the same parts, of the work machine of one file, differ in the rows of gates alone; there
+-- is one such machine, with `--reduce` and without
+abbrev pub RowsAloneDiffer : Type 0
+RowsAloneDiffer =
+    (reduce : Bool) (F W V : KissFile) (kind : Kind) (parts : List Part) (text other : List ℕ)
+    → IsTextOf reduce F W kind parts text → IsTextOf reduce F V kind parts other → DifferInRowsAlone text other
