@@ -40,6 +40,7 @@ built =
     ∷ row commands.Sim (Net ∷ Symbols ∷ []) (Start ∷ [])
     ∷ row commands.Gen (Seed ∷ A ∷ B ∷ K ∷ []) []
     ∷ row commands.Trial (Seed ∷ A ∷ B ∷ K ∷ []) []
+    ∷ row commands.Least (File ∷ []) (Reduce ∷ Fill ∷ [])
     ∷ row commands.Cover (File ∷ Cover ∷ []) (Fill ∷ [])
     ∷ row commands.Definite (File ∷ []) (Reduce ∷ Fill ∷ [])
     ∷ row commands.Shift (File ∷ []) (Reduce ∷ Fill ∷ [])

@@ -60,7 +60,7 @@ const NUMBERS: &[OperandKind] = &[
 ];
 
 /// The commands that are built.
-const BUILT: [Form; 22] = [
+const BUILT: [Form; 23] = [
     Form {
         command: Command::Check,
         operands: &[OperandKind::File],
@@ -145,6 +145,11 @@ const BUILT: [Form; 22] = [
         command: Command::Trial,
         operands: NUMBERS,
         options: &[],
+    },
+    Form {
+        command: Command::Least,
+        operands: &[OperandKind::File],
+        options: &[CommandOption::Reduce, CommandOption::Fill],
     },
     Form {
         command: Command::Cover,
