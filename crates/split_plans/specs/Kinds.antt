@@ -1,12 +1,15 @@
--- The kinds of decomposition in one table: what each asks of its parts, that no step of one can be taken in smaller ones, and
--- which of several right ones it is (source: Hartmanis and Stearns).
+-- The kinds of decomposition in one table: what each asks of its parts, that no step of one can be taken in smaller ones,
+-- which of several right ones it is, and what it promises of codes and gates (source: Hartmanis and Stearns; for least codes
+-- this project).
 use Rattle.std.specs.Prelude.{◌≡◌, ⊤, ℕ, List, length}
 use Rattle.answers.specs.Cause.{Cause}
 use Rattle.feedback_split.specs.Best.{IsBestFeedback}
 use Rattle.feedback_split.specs.Choice.{IsFeedbackChoice}
 use Rattle.feedback_split.specs.Kind.{IsFeedback}
 use Rattle.kiss2.specs.declared.kiss_file.KissFile.{KissFile}
+use Rattle.least_codes.specs.Kind.{GiveLeastCode, IsLeastSplit}
 use Rattle.mm_lattice.specs.Top.{RightsAreTrivial}
+use Rattle.net_core.specs.declared.Network.{Network}
 use Rattle.parallel_split.specs.Best.{IsBestParallel}
 use Rattle.parallel_split.specs.Choice.{IsParallelChoice}
 use Rattle.parallel_split.specs.Kind.{HasNoneInParallel, IsParallel}
@@ -14,21 +17,25 @@ use Rattle.part_texts.specs.Faults.{BadParts}
 use Rattle.serial_split.specs.Best.{IsBestCascade, IsBestSerial}
 use Rattle.serial_split.specs.Choice.{IsCascadeChoice, IsSerialChoice}
 use Rattle.serial_split.specs.Kind.{HasNoneNontrivial, IsCascade, IsSerial}
+use Rattle.state_codes.specs.declared.Codes.{Codes}
 use Rattle.state_codes.specs.declared.split.Kind.{Kind}
 use Rattle.state_codes.specs.declared.split.Kind.TheVariants.{Code, Assign, Parallel, Serial, Cascade, Feedback, Least}
 use Rattle.state_codes.specs.declared.split.Part.{Part}
 use Rattle.split_plans.specs.Given.{AreGivenParts, code_parts}
+use Rattle.split_plans.specs.LeastNetwork.{HasOtherCount, IsLeastNetwork}
 
 -- What is told of a kind, of the operand PARTS, a machine and parts of it: what the kind refuses before a split is sought, what
--- it asks of the parts, what makes them best, which of several right ones they are, and where there are none.
+-- it asks of the parts, what makes them best, which of several right ones they are, where there are none, and what it promises
+-- of the codes and the network besides what holds for each kind.
 pub record KindRow : Type 1 where
   pub refuses : List ℕ → KissFile → Cause
   pub asks : List ℕ → KissFile → List Part → Type 0
   pub best : KissFile → List Part → Type 0
   pub choice : KissFile → List Part → Type 0
   pub none : KissFile → Type 0
+  pub promises : KissFile → Codes → Network → Type 0
 
--- the row of each kind; one that is not built has no parts
+-- the row of each kind
 abbrev pub row_of : Kind → KindRow
 row_of Code = record {
   refuses = λ text W refusal. ⊥;
@@ -36,6 +43,7 @@ row_of Code = record {
   best = λ W parts. ⊤;
   choice = λ W parts. ⊤;
   none = λ W. ⊥;
+  promises = λ W codes N. ⊤;
 }
 row_of Assign = record {
   refuses = λ text W. BadParts (length W.states) text;
@@ -43,6 +51,7 @@ row_of Assign = record {
   best = λ W parts. ⊤;
   choice = λ W parts. ⊤;
   none = λ W. ⊥;
+  promises = λ W codes N. ⊤;
 }
 row_of Parallel = record {
   refuses = λ text W refusal. ⊥;
@@ -50,6 +59,7 @@ row_of Parallel = record {
   best = IsBestParallel;
   choice = IsParallelChoice;
   none = HasNoneInParallel;
+  promises = λ W codes N. ⊤;
 }
 row_of Serial = record {
   refuses = λ text W refusal. ⊥;
@@ -57,6 +67,7 @@ row_of Serial = record {
   best = IsBestSerial;
   choice = IsSerialChoice;
   none = HasNoneNontrivial;
+  promises = λ W codes N. ⊤;
 }
 row_of Cascade = record {
   refuses = λ text W refusal. ⊥;
@@ -64,6 +75,7 @@ row_of Cascade = record {
   best = IsBestCascade;
   choice = IsCascadeChoice;
   none = HasNoneNontrivial;
+  promises = λ W codes N. ⊤;
 }
 row_of Feedback = record {
   refuses = λ text W refusal. ⊥;
@@ -71,11 +83,13 @@ row_of Feedback = record {
   best = IsBestFeedback;
   choice = IsFeedbackChoice;
   none = RightsAreTrivial;
+  promises = λ W codes N. ⊤;
 }
 row_of Least = record {
-  refuses = λ text W refusal. ⊥;
-  asks = λ text W parts. ⊥;
+  refuses = λ text. HasOtherCount;
+  asks = λ text W. IsLeastSplit;
   best = λ W parts. ⊤;
-  choice = λ W parts. ⊤;
-  none = λ W. ⊤;
+  choice = GiveLeastCode;
+  none = λ W. ⊥;
+  promises = IsLeastNetwork;
 }

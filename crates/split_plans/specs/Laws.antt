@@ -1,5 +1,6 @@
 -- What follows of the definitions.
 pub mod Parts
 pub mod Flows
+pub mod Least
 pub mod Kinds
 pub mod Causes

@@ -1,4 +1,5 @@
 pub mod Given
+pub mod LeastNetwork
 pub mod Kinds
 pub mod Splits
 pub mod Inner

@@ -41,7 +41,7 @@ fn found(
         Kind::Serial => Ok(serial_split::split(alloc, machine)?),
         Kind::Cascade => Ok(serial_split::cascade(alloc, machine)?),
         Kind::Feedback => Ok(feedback_split::split(alloc, machine)?),
-        Kind::Least => Ok(None),
+        Kind::Least => Ok(Some(least(alloc, machine)?)),
     }
 }
 
@@ -59,4 +59,15 @@ fn assigned(alloc: Global, text: &[u8], machine: &Machine) -> Result<Split, Refu
 {
     let parts = read_parts(alloc, text, machine.states())?;
     Ok(given(alloc, parts)?)
+}
+
+/// The split of the least code, which is sought for 3 to 8 states.
+fn least(alloc: Global, machine: &Machine) -> Result<Split, Refusal>
+    ensures { (text : List ℕ) → IsJudged (Refuses kinds.Least text machine.now) (IsPlanned kinds.Least text machine.now) result }
+{
+    let states = machine.states();
+    if states < 3 || states > 8 {
+        return Err(Refusal::StateCount { states });
+    }
+    Ok(least_codes::split(alloc, machine)?)
 }

@@ -12,6 +12,8 @@ use Rattle.feedback_split.specs.Carrier.{Suffices}
 use Rattle.feedback_split.specs.Kind.{IsFeedback}
 use Rattle.kiss2.specs.declared.kiss_file.KissFile.{KissFile}
 use Rattle.kiss2.specs.Machine.{next}
+use Rattle.least_codes.proofs.Reading.{parts_tell_all}
+use Rattle.least_codes.specs.Kind.{IsLeastSplit}
 use Rattle.machine_table.specs.Staying.{NeverLeaves}
 use Rattle.parallel_split.specs.Kind.{IsParallel}
 use Rattle.partition.specs.Partition.{IsPartition, Together}
@@ -141,6 +143,11 @@ cascade_flows W parts cascade j part s t x at in_s in_t symbol held reads =
           | inl same ↦ subst (λ (p : Part). Together p.partition s t) (same_Some part other (sym at ∙ ap (slice_get parts) (sym same) ∙ here)) held
           | inr apart ↦ subst (λ (p : List ℕ). Together p s t) (all_at IsOwnCarrier parts l other cascade.own here) (reads l other (among l (omega arith)) here)
         ]
+
+-- a part and all others tell the state
+pub least_flows : (W : KissFile) (parts : List Part) → NeverLeaves W → All (IsPart (length W.states)) parts → IsLeastSplit parts → Flows W parts
+least_flows W parts stays lawful split j part s t x at in_s in_t symbol held reads =
+    same_state W part.partition s t x stays (all_at (IsPart (length W.states)) parts j part lawful at).partition in_s symbol (parts_tell_all parts j part s t split at held reads)
 
 -- each part is sufficed by its own block and the carrier of the other one
 pub feedback_flows : (W : KissFile) (parts : List Part) → IsFeedback W parts → Flows W parts

@@ -1,27 +1,35 @@
 -- Laws of the kinds: the parts of each are one list, tell all states apart where the machine may have none, and let information
--- flow as they say.
+-- flow as they say; and what a kind promises of codes and gates holds.
 use Rattle.std.proofs.Common.{◌≡◌, ℕ, All, List, [], ◌∷◌, length, sym, ap, ◌∙◌, subst, arith}
 use Rattle.answers.specs.declared.numbers.Answer.TheVariants as answers
+use Rattle.answers.specs.Cause.{CallsForNone}
 use Rattle.answers.specs.Laws.Causes.{HasOneAnswer, one_of}
 use Rattle.decomposition.specs.Flow.{Flows}
 use Rattle.feedback_split.proofs.Chosen as feedbacks
 use Rattle.kiss2.specs.declared.kiss_file.KissFile.{KissFile}
+use Rattle.least_codes.proofs.Chosen.{least_split_is_one}
 use Rattle.machine_table.specs.Staying.{NeverLeaves}
+use Rattle.net_core.specs.declared.Network.{Network}
 use Rattle.parallel_split.proofs.Chosen as parallels
 use Rattle.part_texts.specs.Faults.{BadParts}
 use Rattle.part_texts.specs.Laws.Parts.{bad_parts_is_of, one_list_of_parts}
 use Rattle.partition.specs.Partition.{zero_of}
 use Rattle.serial_split.proofs.Chosen as serials
+use Rattle.state_codes.specs.declared.Codes.{Codes}
 use Rattle.state_codes.specs.declared.split.Kind.{Kind}
 use Rattle.state_codes.specs.declared.split.Kind.TheVariants.{Code, Assign, Parallel, Serial, Cascade, Feedback, Least}
 use Rattle.state_codes.specs.declared.split.Part.{Part}
+use Rattle.state_codes.specs.Code.{IsCode}
 use Rattle.state_codes.specs.Fault.{AreApart}
 use Rattle.state_codes.specs.Kinds.{PartsMeetInZero}
 use Rattle.state_codes.specs.Split.{IsPart, given_parts}
 use Rattle.split_plans.specs.Given.{AreGivenParts}
+use Rattle.split_plans.specs.Inner.ByRule.{ReadByRule}
 use Rattle.split_plans.specs.Kinds.{KindRow, row_of}
+use Rattle.split_plans.specs.LeastNetwork.{HasOtherCount}
 use Rattle.split_plans.specs.Splits.{AreParts}
-use Rattle.split_plans.specs.Laws.Flows.{cascade_flows, feedback_flows, given_flows, parallel_flows, serial_flows}
+use Rattle.split_plans.specs.Laws.Flows.{cascade_flows, feedback_flows, given_flows, least_flows, parallel_flows, serial_flows}
+use Rattle.split_plans.specs.Laws.Least.{least_kept, other_count_is_of}
 
 -- what a row of the table has to meet
 pub record IsSound (row : KindRow) : Type 0 where
@@ -33,6 +41,8 @@ pub record IsSound (row : KindRow) : Type 0 where
   pub flows : (text : List ℕ) (W : KissFile) (parts : List Part) → NeverLeaves W → All (IsPart (length W.states)) parts → AreApart (length W.states) parts → row.asks text W parts → Flows W parts
   -- what is refused before a split is sought has one answer
   pub one_answer : (text : List ℕ) (W : KissFile) → HasOneAnswer (row.refuses text W)
+  -- the codes of parts, and a network whose gates read by the rule, are as the row promises
+  pub kept : (text : List ℕ) (W : KissFile) (parts : List Part) (codes : Codes) (N : Network) → CallsForNone (row.refuses text W) → row.asks text W parts → row.choice W parts → IsCode (length W.states) parts codes → ReadByRule W parts codes N → row.promises W codes N
 
 -- ---- words of several rows
 -- parts that meet in zero tell all states apart
@@ -53,6 +63,7 @@ code_sound = record {
       subst (Flows W) (sym asked)
       (given_flows W (zero_of (length W.states) ∷ []) stays (subst (All (IsPart (length W.states))) asked lawful) (subst (AreApart (length W.states)) asked apart));
   one_answer = λ text W one other h k. absurd h;
+  kept = λ text W parts codes N fit asked choice code read. tt;
 }
 
 assign_sound : IsSound (row_of Assign)
@@ -63,6 +74,7 @@ assign_sound = record {
       subst (Flows W) (sym asked.are)
       (given_flows W asked.partitions stays (subst (All (IsPart (length W.states))) asked.are lawful) (subst (AreApart (length W.states)) asked.are apart));
   one_answer = λ text W. one_of answers.PartRefused (BadParts (length W.states) text) (bad_parts_is_of (length W.states) text);
+  kept = λ text W parts codes N fit asked choice code read. tt;
 }
 
 parallel_sound : IsSound (row_of Parallel)
@@ -71,6 +83,7 @@ parallel_sound = record {
   apart = λ text W parts none asked. apart_of_zero (length W.states) parts asked.in_zero;
   flows = λ text W parts stays lawful apart asked. parallel_flows W parts asked;
   one_answer = λ text W one other h k. absurd h;
+  kept = λ text W parts codes N fit asked choice code read. tt;
 }
 
 serial_sound : IsSound (row_of Serial)
@@ -79,6 +92,7 @@ serial_sound = record {
   apart = λ text W parts none asked. apart_of_zero (length W.states) parts asked.in_zero;
   flows = λ text W parts stays lawful apart asked. serial_flows W parts stays lawful asked;
   one_answer = λ text W one other h k. absurd h;
+  kept = λ text W parts codes N fit asked choice code read. tt;
 }
 
 cascade_sound : IsSound (row_of Cascade)
@@ -87,6 +101,7 @@ cascade_sound = record {
   apart = λ text W parts none asked. apart_of_zero (length W.states) parts asked.in_zero;
   flows = λ text W parts stays lawful apart asked. cascade_flows W parts asked;
   one_answer = λ text W one other h k. absurd h;
+  kept = λ text W parts codes N fit asked choice code read. tt;
 }
 
 feedback_sound : IsSound (row_of Feedback)
@@ -95,14 +110,16 @@ feedback_sound = record {
   apart = λ text W parts none asked. apart_of_zero (length W.states) parts asked.in_zero;
   flows = λ text W parts stays lawful apart asked. feedback_flows W parts asked;
   one_answer = λ text W one other h k. absurd h;
+  kept = λ text W parts codes N fit asked choice code read. tt;
 }
 
 least_sound : IsSound (row_of Least)
 least_sound = record {
-  once = λ text W one other first second _ _. absurd first;
-  apart = λ text W parts none asked. absurd asked;
-  flows = λ text W parts stays lawful apart asked. absurd asked;
-  one_answer = λ text W one other h k. absurd h;
+  once = λ text W one other first second chosen also. least_split_is_one W one other first second chosen also;
+  apart = λ text W parts none asked. absurd none;
+  flows = λ text W parts stays lawful apart asked. least_flows W parts stays lawful asked;
+  one_answer = λ text W. one_of answers.StateCount (HasOtherCount W) (other_count_is_of W);
+  kept = λ text W parts codes N fit asked choice code read. least_kept W parts codes N fit asked choice code read;
 }
 
 -- each is sound
@@ -123,3 +140,8 @@ parts_once kind text W one other first second = (each_is_sound kind).once text W
 -- where they tell all states apart, information flows as they say
 pub parts_flow : (kind : Kind) (text : List ℕ) (W : KissFile) (parts : List Part) → NeverLeaves W → All (IsPart (length W.states)) parts → AreParts kind text W parts → AreApart (length W.states) parts → Flows W parts
 parts_flow kind text W parts stays lawful made apart = (each_is_sound kind).flows text W parts stays lawful apart made.asked
+
+-- what a kind promises of codes and gates holds
+pub promises_kept : (kind : Kind) (text : List ℕ) (W : KissFile) (parts : List Part) (codes : Codes) (N : Network) → CallsForNone ((row_of kind).refuses text W) → AreParts kind text W parts → IsCode (length W.states) parts codes → ReadByRule W parts codes N
+    → (row_of kind).promises W codes N
+promises_kept kind text W parts codes N fit made code read = (each_is_sound kind).kept text W parts codes N fit made.asked made.choice code read

@@ -1,3 +1,4 @@
+use Rattle.std.proofs.lemmas.Result.{err_from_is_err_and}
 use Rattle.state_codes.specs.declared.split.Kind.TheVariants as kinds
 use Rattle.split_plans.proofs.Planning.{found_here, planned_here}
 use Rattle.split_plans.proofs.plans.found.Goals as goal
@@ -29,3 +30,12 @@ pub returns-in_ok-split-in-Feedback : goal.returns-in_ok-split-in-Feedback
 returns-in_ok-split-in-Feedback c =
     found_here c.args.kind kinds.Feedback c.args.text.now c.args.machine.now c.in_ok-split-in-Feedback.field-0 c.in-Feedback.is (λ refusal h. h) c.in_ok-split-in-Feedback.ensures.none c.in_ok-split-in-Feedback.ensures.kind c.in_ok-split-in-Feedback.ensures.feedback c.in_ok-split-in-Feedback.ensures.best c.in_ok-split-in-Feedback.ensures.choice
     c.in_ok-split-in-Feedback.ensures.few c.in_ok-split-in-Feedback.ensures.lawful
+
+pub returns-in_ok-least-in-Least : goal.returns-in_ok-least-in-Least
+returns-in_ok-least-in-Least c =
+    planned_here c.args.kind kinds.Least c.args.text.now c.args.machine.now c.in_ok-least-in-Least.field-0 c.in-Least.is (c.in_ok-least-in-Least.ensures c.args.text.now).0 (λ none. none) (c.in_ok-least-in-Least.ensures c.args.text.now).1
+
+pub returns-in_err-least-in-Least : goal.returns-in_err-least-in-Least
+returns-in_err-least-in-Least c =
+    let p = err_from_is_err_and c.from_residual-in_err-least-in-Least.result c.from_residual-in_err-least-in-Least.ensures.1 in
+    rw (c.in-Least.is, p.1, p.2) (c.in_err-least-in-Least.ensures c.args.text.now)

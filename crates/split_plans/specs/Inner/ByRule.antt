@@ -1,0 +1,22 @@
+-- Gates that read state bits by the rule.
+use Rattle.std.specs.Prelude.{◌≡◌, ◌↔◌, ℕ, ◌+◌, Contains, List, Some, slice_get}
+use Rattle.decomposition.specs.OwnPairs.{Reads as ReadsBit}
+use Rattle.dependence.specs.declared.sets.ReadSet.{ReadSet}
+use Rattle.dependence.specs.declared.sets.Reads.{Reads}
+use Rattle.dependence.specs.Reads.{AreReads}
+use Rattle.kiss2.specs.declared.kiss_file.KissFile.{KissFile}
+use Rattle.net_core.specs.declared.Gate.{Gate}
+use Rattle.net_core.specs.declared.Network.{Network}
+use Rattle.state_codes.specs.declared.Codes.{Codes}
+use Rattle.state_codes.specs.declared.split.Part.{Part}
+
+-- the gate of that number reads the bits of a set
+abbrev pub HasReads : Network → ℕ → ReadSet → Type 0
+HasReads N at set = (gate : Gate) → slice_get N.gates at ≡ Some gate → (c : ℕ) → ReadsBit N gate c ↔ Contains set.latches c
+
+-- the gates of latches, and behind them those of outputs, read the bits of the sets by the rule
+pub record ReadByRule (W : KissFile) (parts : List Part) (codes : Codes) (N : Network) : Type 0 where
+  pub sets : Reads
+  pub by_rule : AreReads W parts codes sets
+  pub latches : (i : ℕ) (set : ReadSet) → slice_get sets.latches i ≡ Some set → HasReads N i set
+  pub outputs : (b : ℕ) (set : ReadSet) → slice_get sets.outputs b ≡ Some set → HasReads N (codes.bits + b) set
