@@ -11,6 +11,8 @@ use Rattle.kiss2.specs.declared.kiss_file.KissFile.{KissFile}
 use Rattle.net_core.specs.declared.Network.{Network}
 use Rattle.net_core.specs.declared.SignalNames.{SignalNames}
 use Rattle.realise.specs.Realised.{IsRealised}
+use Rattle.split_plans.specs.Splits.{AreParts}
+use Rattle.split_plans.specs.Laws.Kinds.{parts_once}
 use Rattle.state_codes.specs.declared.Codes.{Codes}
 use Rattle.state_codes.specs.declared.split.Kind.{Kind}
 use Rattle.state_codes.specs.declared.split.Part.{Part}
@@ -97,7 +99,16 @@ machine_of : (reduce : Bool) (F W : KissFile) (kind : Kind) (parts : List Part) 
 unfolding IsTextOf
 machine_of reduce F W kind parts text (class, codes, N, H, work, is_kind, are_parts, is) = (class, work)
 
-pub rows_alone_differ : RowsAloneDiffer
-rows_alone_differ reduce F W V kind parts text other one two =
+-- texts of one split
+of_one_split : (reduce : Bool) (F W V : KissFile) (kind : Kind) (parts : List Part) (text other : List ℕ) → IsTextOf reduce F W kind parts text → IsTextOf reduce F V kind parts other → DifferInRowsAlone text other
+of_one_split reduce F W V kind parts text other one two =
     let same : V ≡ W = one_work reduce F V W (machine_of reduce F V kind parts other two) (machine_of reduce F W kind parts text one) in
     of_one_machine reduce F W kind parts text other one (subst (λ (machine : KissFile). IsTextOf reduce F machine kind parts other) same two)
+
+-- there is one work machine, and one choice of parts
+pub rows_alone_differ : RowsAloneDiffer
+rows_alone_differ kind operand reduce F text other (W, parts, split, one, kept) (V, others, twin, two, kept_too) =
+    let same : V ≡ W = one_work reduce F V W (machine_of reduce F V kind others other two) (machine_of reduce F W kind parts text one) in
+    let made : AreParts kind operand W others = subst (λ (machine : KissFile). AreParts kind operand machine others) same twin.made in
+    let same_parts : others ≡ parts = parts_once kind operand W others parts made split.made in
+    of_one_split reduce F W V kind parts text other one (subst (λ (list : List Part). IsTextOf reduce F V kind list other) same_parts two)

@@ -4,13 +4,12 @@ use Rattle.std.specs.List.{AllZip}
 use Rattle.blif_out.specs.declared.header.Header.{Header}
 use Rattle.blif_out.specs.Head.{net_text_of}
 use Rattle.blif_out.specs.HeadLaw.{IsLawfulHeader}
-use Rattle.decomposition.specs.Decomposition.{IsTextOf}
 use Rattle.kiss2.specs.declared.kiss_file.KissFile.{KissFile}
 use Rattle.net_core.specs.declared.Gate.{Gate}
 use Rattle.net_core.specs.declared.Network.{Network}
 use Rattle.net_core.specs.Denotes.{Denotes}
+use Rattle.split_texts.specs.Written.{IsWritten}
 use Rattle.state_codes.specs.declared.split.Kind.{Kind}
-use Rattle.state_codes.specs.declared.split.Part.{Part}
 
 -- two gates read the same signals in one order and drive the same one, and where a row of theirs holds they give the same value
 pub record HasSameSignals (gate other : Gate) : Type 0 where
@@ -38,9 +37,9 @@ pub record DifferInRowsAlone (text other : List ℕ) : Type 0 where
   pub other_denotes : Denotes other other_network
   pub equal : EqualButForRows network other_network
 
--- two texts of splits of one kind into the same parts, of the work machine of one file, differ in the rows of gates alone; there
--- is one such machine, with `--reduce` and without
+-- two texts of decompositions of one file, of one kind, with one operand PARTS, both with `--reduce` or both without, differ in
+-- the rows of gates alone
 abbrev pub RowsAloneDiffer : Type 0
 RowsAloneDiffer =
-    (reduce : Bool) (F W V : KissFile) (kind : Kind) (parts : List Part) (text other : List ℕ)
-    → IsTextOf reduce F W kind parts text → IsTextOf reduce F V kind parts other → DifferInRowsAlone text other
+    (kind : Kind) (operand : List ℕ) (reduce : Bool) (F : KissFile) (text other : List ℕ)
+    → IsWritten kind operand reduce F text → IsWritten kind operand reduce F other → DifferInRowsAlone text other

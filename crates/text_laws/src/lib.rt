@@ -1,12 +1,13 @@
 //! What follows of the definition of a decomposition's text.
 //!
-//! A job is a file, whether its alike states become one, a kind of split and the parts of the split.
+//! A job gives a file, a kind of decomposition, the operand PARTS, and whether alike states become one.
 //! [`rows_alone_differ`] says how much of its text is then left to choice: the rows of gates alone.
 //!
 //! What determines what:
 //!
 //! - The file determines which of its states are alike, and these determine the labels of their classes, since labels
 //!   count blocks by first appearance. So the work machine and the class of each state are determined.
+//! - The kind and PARTS determine the parts, since the choice of a split is told as steps.
 //! - The parts determine the codes: the number of bits, their owners, which of them code carriers, and the words.
 //! - The work machine, the parts and the codes determine what each gate reads. The rule decides on the candidates
 //!   from the top one down, each by the candidates below it and the read ones above it. The inputs are those that
