@@ -1,22 +1,31 @@
 -- What comes of a plan and of a split is what comes of a decomposition.
-use Rattle.std.proofs.Common.{ℕ, Bool, Global, List, [], ◌∷◌, Result, Ok, Err, Vec, inl, inr, length, subst}
+use Rattle.std.proofs.Common.{◌≤◌, ℕ, Bool, Global, List, [], ◌∷◌, Result, Ok, Err, Vec, inl, inr, length, refl, subst, arith}
+use Rattle.std.proofs.lemmas.Bool.{cases_lt}
 use Rattle.answers.specs.declared.refusals.Refusal.{Refusal}
+use Rattle.answers.specs.declared.refusals.Refusal.TheVariants.{CodeTooLong}
 use Rattle.answers.specs.Cause.{CallsForNone}
 use Rattle.answers.specs.Judged.{IsJudged, IsStop}
 use Rattle.answers.specs.Laws.Causes.{none_first}
 use Rattle.decomposition.specs.declared.work.WorkMachine.{WorkMachine}
-use Rattle.decomposition.specs.Decomposition.{IsTextOf}
+use Rattle.decomposition.specs.Decomposition.{HasGates, IsTextOf}
 use Rattle.decomposition.specs.Work.{IsWork, IsWorkOf}
 use Rattle.kiss2.specs.declared.kiss_file.KissFile.{KissFile}
+use Rattle.kiss2.specs.Lawful.{IsLawful}
+use Rattle.kiss2.specs.Machine.{Conflicting}
 use Rattle.split_plans.specs.Splits.{AreParts, HasNoPlan, IsPlanned, LacksSplit, Refuses}
 use Rattle.split_plans.specs.Laws.Causes.{lacking_is_apart}
+use Rattle.split_plans.specs.Laws.Kinds.{promises_kept}
+use Rattle.state_codes.specs.declared.Codes.{Codes}
 use Rattle.state_codes.specs.declared.split.Kind.{Kind}
 use Rattle.state_codes.specs.declared.split.Part.{Part}
 use Rattle.state_codes.specs.declared.split.Split.{Split}
+use Rattle.state_codes.specs.Code.{IsCode}
 use Rattle.state_codes.specs.Fault.{AreApart}
 use Rattle.split_texts.specs.Causes.{HasLongCode, HasNoCode, HasNoText, IsNotWritten, LeavesTogether, OfParts}
-use Rattle.split_texts.specs.Written.{IsTextOfParts, IsWritten}
+use Rattle.split_texts.specs.Written.{IsTextOfParts, IsWritten, KeepsPromises}
+use Rattle.split_texts.specs.Laws.Codes.{length_of_codes}
 use Rattle.split_texts.specs.Laws.Causes.{apart_leaves_none, of_parts_none, on_work_none}
+use Rattle.split_texts.proofs.Listing.{read_by_rule}
 
 -- ---- of one machine W
 module _ (kind : Kind) (text : List ℕ) (W : KissFile) where
@@ -51,7 +60,7 @@ module _ (kind : Kind) (text : List ℕ) (W : KissFile) where
         (fits, (of_parts_none kind text W parts (LeavesTogether W) made apart, (has_split, (of_parts_none kind text W parts HasLongCode made short, tt))))
 
 -- ---- of the machine of a file
-module _ (kind : Kind) (text : List ℕ) (reduce : Bool) (F : KissFile) (work : WorkMachine) (is_work : IsWork reduce F work) where
+module _ (kind : Kind) (text : List ℕ) (reduce : Bool) (F : KissFile) (work : WorkMachine) (lawful : IsLawful F) (no_conflict : Conflicting F → ⊥) (is_work : IsWork reduce F work) where
   work_is : IsWorkOf reduce F work.machine
   work_is = (is_work.class, is_work.machine)
 
@@ -64,6 +73,23 @@ module _ (kind : Kind) (text : List ℕ) (reduce : Bool) (F : KissFile) (work : 
     stop_of_code refusal (inl wanting) = inl wanting
     stop_of_code refusal (inr calls) = inr (work.machine, work_is, no_code_no_text kind text work.machine split.parts plan.1.made plan.0 refusal calls)
 
+    -- codes of parts that call for no refusal are short
+    short : (codes : Codes) → CallsForNone (HasNoCode work.machine split.parts) → AreApart (length work.machine.states) split.parts → IsCode (length work.machine.states) split.parts codes → codes.bits ≤ 64
+    short codes none apart code =
+        elim (cases_lt 64 codes.bits) [
+          | inl long ↦
+              absurd (none (CodeTooLong codes.bits) (inr (apart_leaves_none work.machine split.parts apart, inl (codes.bits, refl, length_of_codes (length work.machine.states) split.parts codes code, long))))
+          | inr fits ↦ omega (arith, fits)
+        ]
+
+    -- what the kind promises of codes and gates
+    kept : CallsForNone (HasNoCode work.machine split.parts) → AreApart (length work.machine.states) split.parts → (written : List ℕ) → KeepsPromises kind reduce F work.machine split.parts written
+    kept none apart written class codes N H same is =
+        let code : IsCode (length work.machine.states) split.parts codes = subst (λ (list : List Part). IsCode (length work.machine.states) list codes) same is.codes_of_parts in
+        let gates : HasGates F work.machine split.parts codes N = subst (λ (list : List Part). HasGates F work.machine list codes N) same is.gates in
+        promises_kept kind text work.machine split.parts codes N (λ refusal bad. plan.0 refusal (inl bad)) plan.1.made code
+        (read_by_rule F work codes lawful no_conflict code.written.states (short codes none apart code) reduce is_work split.parts N gates)
+
     pub judged_text : (result : Result (Vec ℕ Global) Refusal) → IsJudged (HasNoCode work.machine split.parts) (λ written. AreApart (length work.machine.states) split.parts × IsTextOfParts F work split.kind split.parts written.items) result
         → IsJudged (IsNotWritten kind text reduce F) (λ written. IsWritten kind text reduce F written.items) result
     judged_text (Err refusal) stop = stop_of_code refusal stop
@@ -74,5 +100,6 @@ module _ (kind : Kind) (text : List ℕ) (reduce : Bool) (F : KissFile) (work : 
         split.parts,
         record { made = plan.1.made; apart = apart },
         subst (λ (k : Kind). IsTextOf reduce F work.machine k split.parts written.items) plan.1.same_kind (is reduce is_work),
+        kept none apart written.items,
       ),
     )

@@ -1,9 +1,12 @@
 -- The headline: what is said of a text that is written as a decomposition of a file's machine.
-use Rattle.std.specs.Prelude.{◌≤◌, ℕ, Bool, List}
+use Rattle.std.specs.Prelude.{◌≡◌, ◌≤◌, ℕ, Bool, List}
+use Rattle.blif_out.specs.declared.header.Header.{Header}
 use Rattle.decomposition.specs.declared.work.WorkMachine.{WorkMachine}
-use Rattle.decomposition.specs.Decomposition.{IsTextOf}
+use Rattle.decomposition.specs.Decomposition.{IsDecomposition, IsTextOf}
 use Rattle.decomposition.specs.Work.{IsWork}
 use Rattle.kiss2.specs.declared.kiss_file.KissFile.{KissFile}
+use Rattle.net_core.specs.declared.Network.{Network}
+use Rattle.split_plans.specs.Kinds.{row_of}
 use Rattle.split_plans.specs.Splits.{IsSplitOf}
 use Rattle.state_codes.specs.declared.Codes.{Codes}
 use Rattle.state_codes.specs.declared.split.Kind.{Kind}
@@ -12,11 +15,18 @@ use Rattle.state_codes.specs.Agreement.{AreDistinct}
 use Rattle.state_codes.specs.Code.{IsCode}
 use Rattle.state_codes.specs.Fault.{AreApart}
 
+-- the codes and the network of a text are as the kind promises them: of the least code, with gates that read the fewest bits
+abbrev pub KeepsPromises : Kind → Bool → KissFile → KissFile → List Part → List ℕ → Type 0
+KeepsPromises kind reduce F W parts written =
+    (class : ℕ → ℕ) (codes : Codes) (N : Network) (H : Header) → H.parts ≡ parts → IsDecomposition reduce F W class codes written N H → (row_of kind).promises W codes N
+
 -- The text is a decomposition of the machine of a file, of this kind: that of a split of the work machine into parts as the
 -- kind asks them. `IsTextOf` says that the text denotes a network which answers as the machine of the file does, that its
--- codes carry every step, and that each gate reads what its pair and its part permit, with nothing to spare.
+-- codes carry every step, and that each gate reads what its pair and its part permit, with nothing to spare. The codes and
+-- the network that it says there are keep what the kind promises besides.
 abbrev pub IsWritten : Kind → List ℕ → Bool → KissFile → List ℕ → Type 0
-IsWritten kind text reduce F written = (W : KissFile) × (parts : List Part) × IsSplitOf kind text W parts × IsTextOf reduce F W kind parts written
+IsWritten kind text reduce F written =
+    (W : KissFile) × (parts : List Part) × IsSplitOf kind text W parts × IsTextOf reduce F W kind parts written × KeepsPromises kind reduce F W parts written
 
 -- the codes that the parts give to n states, which the parts tell apart
 pub record AreCodes (n : ℕ) (parts : List Part) (codes : Codes) : Type 0 where
