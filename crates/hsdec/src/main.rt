@@ -1,6 +1,6 @@
 //! The program `hsdec`. What it does is said of [`program::status`], over the arguments, a shelf and two
 //! sinks: which answer to which words its exit status is the number of, which page `--help` and `--version`
-//! put, and that all else is what `run` of the crate `hsdec_core` promises. The words of the arguments are
+//! put, and that what is put else is what `run` of the crate `hsdec_core` promises. The words of the arguments are
 //! in `specs/Words`, the pages in `specs/Pages` and `specs/Phrases`, the answers in `specs/Status`.
 //!
 //! `main` hands over those of the system: [`arguments::SystemArguments`], which tells no arguments,

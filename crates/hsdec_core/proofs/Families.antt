@@ -1,5 +1,5 @@
 -- The answers of a command's own causes.
-use Rattle.std.proofs.Common.{◌≡◌, ◌≢◌, ℕ, Bool, List, inl, inr, length, sym, subst}
+use Rattle.std.proofs.Common.{◌≢◌, ℕ, Bool, List, inl, inr, length, sym, subst}
 use Rattle.answers.specs.declared.numbers.Answer.{Answer}
 use Rattle.answers.specs.declared.numbers.Answer.TheVariants as answers
 use Rattle.answers.specs.declared.refusals.Refusal.{Refusal}
@@ -26,8 +26,9 @@ use Rattle.part_texts.specs.Laws.Parts.{bad_part_is_of, bad_parts_is_of}
 use Rattle.partition.specs.Before.{Before}
 use Rattle.shift_texts.specs.Causes.{RefusesShift}
 use Rattle.shift_texts.specs.Laws.Causes.{has_long_register_is_of, keeps_apart_is_of, never_in_reset_is_of, shift_has_one_answer}
-use Rattle.split_plans.specs.Splits.{LacksSplit, Refuses}
+use Rattle.split_plans.specs.Splits.{Refuses}
 use Rattle.split_plans.specs.Laws.Causes.{lacks_split_is_of}
+use Rattle.split_plans.specs.Laws.Least.{other_count_is_of}
 use Rattle.split_texts.specs.Causes.{HasLongCode, IsNotWritten, LeavesTogether}
 use Rattle.split_texts.specs.Laws.Causes.{has_long_code_is_of, leaves_together_is_of, not_written_one, of_parts_is_of}
 use Rattle.state_codes.specs.declared.split.Kind.{Kind}
@@ -64,7 +65,7 @@ refuses_plain kinds.Parallel text W refusal h = absurd h
 refuses_plain kinds.Serial text W refusal h = absurd h
 refuses_plain kinds.Cascade text W refusal h = absurd h
 refuses_plain kinds.Feedback text W refusal h = absurd h
-refuses_plain kinds.Least text W refusal h = absurd h
+refuses_plain kinds.Least text W refusal h = subst IsPlain (sym (other_count_is_of W refusal h)) tt
 
 pub not_written_plain : (kind : Kind) (text : List ℕ) (reduce : Bool) (F : KissFile) (refusal : Refusal) → IsNotWritten kind text reduce F refusal → IsPlain (answer_of refusal)
 not_written_plain kind text reduce F refusal (W, work, inl h) = refuses_plain kind text W refusal h

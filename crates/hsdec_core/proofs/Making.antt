@@ -1,9 +1,9 @@
 -- What is made for a job, from what its operands say and what its command gives.
-use Rattle.std.proofs.Common.{◌≡◌, ◌≢◌, ◌⊎◌, ℕ, ◌<◌, ◌≤◌, IsTrue, false, true, List, [], ◌∷◌, Option, Some, None, Result, Ok, Err, inl, inr, length, refl, sym, ap, ◌∙◌, subst}
+use Rattle.std.proofs.Common.{◌≡◌, ℕ, false, true, List, [], ◌∷◌, Option, Some, None, Result, Ok, Err, inl, inr, length, refl, sym, ap, ◌∙◌, subst}
 use Rattle.answers.specs.declared.numbers.Answer.{Answer}
 use Rattle.answers.specs.declared.numbers.Answer.TheVariants as answers
 use Rattle.answers.specs.declared.refusals.Refusal.{Refusal}
-use Rattle.answers.specs.declared.refusals.Refusal.TheVariants.{More, NoMemory, Unreadable}
+use Rattle.answers.specs.declared.refusals.Refusal.TheVariants.{More}
 use Rattle.answers.specs.declared.reports.Report.{Report}
 use Rattle.answers.specs.declared.reports.Report.TheVariants.{Evidence, Whole}
 use Rattle.answers.specs.Cause.{CallsForNone, Cause}
@@ -16,15 +16,15 @@ use Rattle.generated_texts.specs.Laws.Trials.{long_code_is_of}
 use Rattle.hsdec_core.specs.declared.tasks.MachineTask.{MachineTask}
 use Rattle.hsdec_core.specs.declared.tasks.Task.{Task}
 use Rattle.hsdec_core.specs.declared.tasks.Task.TheVariants.{Gen, OnMachine, Sim, Trial, Walk}
-use Rattle.hsdec_core.specs.Causes.{Conflicts, LeavesOpen, Never, NoMachineOf, NoNetworkOf, OfFile, OfMachine, OfNetwork, SaysNoMachine}
+use Rattle.hsdec_core.specs.Causes.{Never, NoMachineOf, NoNetworkOf, OfMachine, OfNetwork}
 use Rattle.hsdec_core.specs.Fill.{fill_of}
-use Rattle.hsdec_core.specs.Inner.Load.{IsLoaded, IsStopAt}
-use Rattle.hsdec_core.specs.Inner.Made.{IsMadeOf, IsMadeOfText, IsPassed, IsPlain}
+use Rattle.hsdec_core.specs.Inner.Load.{IsStopAt}
+use Rattle.hsdec_core.specs.Inner.Made.{IsMadeOf, IsMadeOfText, IsPlain}
 use Rattle.hsdec_core.specs.Judgement.{BadSymbols, all_causes, first_cause, first_cause_of, own_cause, second_cause, second_cause_of}
 use Rattle.hsdec_core.specs.Loading.{IsShortText, IsText, Lengthy, MayBe}
 use Rattle.hsdec_core.specs.Operands.{file_held, held_where, symbols_held, takes_file, takes_symbols}
-use Rattle.hsdec_core.specs.Promise.{HoldsMachine, HoldsNetwork, IsAsked, IsAskedOf, IsEvidence, IsReport, IsShown, IsShownBy}
-use Rattle.hsdec_core.specs.Stop.{IsCalledFor, IsFailedLoad, IsStopOf}
+use Rattle.hsdec_core.specs.Promise.{HoldsMachine, HoldsNetwork, IsAsked, IsAskedOf, IsReport, IsShown, IsShownBy}
+use Rattle.hsdec_core.specs.Stop.{IsCalledFor}
 use Rattle.hsdec_core.specs.Task.{task_of}
 use Rattle.hsdec_core.proofs.Families.{own_plain}
 use Rattle.hsdec_core.proofs.KissLaws.{one_file}

@@ -1,12 +1,9 @@
 -- What a job loads calls for refusals of one answer.
-use Rattle.std.proofs.Common.{◌≡◌, ◌⊎◌, ℕ, List, [], ◌∷◌, Result, Ok, Err, IfOk, inl, inr, length, refl, sym, ap, ◌∙◌, subst}
-use Rattle.answers.specs.declared.numbers.Answer.{Answer}
+use Rattle.std.proofs.Common.{ℕ, List, [], ◌∷◌, length, ap, subst}
 use Rattle.answers.specs.declared.numbers.Answer.TheVariants as answers
-use Rattle.answers.specs.declared.refusals.Refusal.{Refusal}
-use Rattle.answers.specs.Cause.{Cause, FirstOf}
-use Rattle.answers.specs.Laws.Causes.{EachHasOne, HasOneAnswer, IsOf, first_has_one, one_of}
+use Rattle.answers.specs.Cause.{Cause}
+use Rattle.answers.specs.Laws.Causes.{HasOneAnswer, IsOf, first_has_one, one_of}
 use Rattle.answers.specs.Refusal.{answer_of}
-use Rattle.hsdec_core.specs.declared.tasks.MachineTask.{MachineTask}
 use Rattle.hsdec_core.specs.declared.tasks.Task.{Task}
 use Rattle.hsdec_core.specs.declared.tasks.Task.TheVariants.{Gen, OnMachine, Sim, Trial, Walk}
 use Rattle.hsdec_core.specs.Causes.{Conflicts, LeavesOpen, NoMachineOf, NoNetworkOf, OfFile, OfMachine, OfNetwork, SaysNoMachine, SaysNoNetwork}
@@ -20,7 +17,6 @@ use Rattle.hsdec_core.proofs.KissLaws.{one_file}
 use Rattle.job_words.specs.declared.jobs.Job.{Job}
 use Rattle.kiss2.specs.declared.fill.Fill.{Fill}
 use Rattle.kiss2.specs.declared.kiss_file.KissFile.{KissFile}
-use Rattle.kiss2.specs.Machine.{Accepted}
 use Rattle.net_core.specs.declared.Network.{Network}
 use Rattle.net_core.proofs.Determined.{blif_one}
 use Rattle.symbol_runs.specs.Causes.{BadSymbolRow, NoStart}

@@ -35,7 +35,7 @@ run_of_walk F N symbols walked (starts, are, answered) inputs (word, file, is) =
 
 pub one_text : GiveOneText
 unfolding IsTextOf
-one_text kind parts reduce F N written symbols simulated walked (W, made, split, (class, codes, M, H, work, of_kind, are, is)) denotes ran walk =
+one_text kind parts reduce F N written symbols simulated walked (W, made, split, (class, codes, M, H, work, of_kind, are, is), kept) denotes ran walk =
     let same : M ≡ N = denotes_one written M N is.denotes denotes in
     run_once N None symbols simulated walked ran
     (run_of_walk F N symbols walked (subst (AnswersAs F) same is.answers) (ap (λ (K : Network). length K.inputs) (sym same) ∙ is.carries.inputs) walk)

@@ -1,10 +1,9 @@
 -- What comes of the operands FILE and NET.
-use Rattle.std.proofs.Common.{◌≡◌, ◌≢◌, ◌⊎◌, ℕ, ◌+◌, ◌<◌, ◌≤◌, List, [], ◌∷◌, Option, Result, Ok, Err, inl, inr, length, refl, sym, ap, ◌∙◌, subst, arith}
+use Rattle.std.proofs.Common.{◌≡◌, ◌⊎◌, ℕ, ◌+◌, ◌<◌, List, [], ◌∷◌, Option, Result, Ok, Err, inl, inr, length, refl, sym, ◌∙◌, subst, arith}
 use Rattle.answers.specs.declared.refusals.Refusal.{Refusal}
 use Rattle.answers.specs.declared.refusals.Refusal.TheVariants.{Conflict}
 use Rattle.answers.specs.Cause.{CallsForNone}
 use Rattle.answers.specs.Laws.Causes.{none_first}
-use Rattle.blif_in.specs.declared.fault.BlifFault.{BlifFault}
 use Rattle.blif_in.proofs.Texts.{never_both}
 use Rattle.cubes.specs.Symbol.{symbol_of}
 use Rattle.cubes.proofs.Numbers.{length-symbol_of}
@@ -14,7 +13,6 @@ use Rattle.hsdec_core.specs.Causes.{Conflicts, LeavesOpen, NoMachineOf, NoNetwor
 use Rattle.hsdec_core.specs.Fill.{fill_of}
 use Rattle.hsdec_core.specs.Inner.Opened.{IsBuiltOf, IsEntryRefusal, IsNetOpened, IsOpened, IsReadAs, IsReadOf}
 use Rattle.hsdec_core.specs.Loading.{IsShortText, IsText, Lengthy}
-use Rattle.hsdec_core.specs.Promise.{HoldsMachine, HoldsNetwork}
 use Rattle.hsdec_core.proofs.KissLaws.{machine_or_fault, one_file}
 use Rattle.job_words.specs.declared.jobs.Job.{Job}
 use Rattle.kiss2.specs.declared.fill.Fill.{Fill}

@@ -1,5 +1,5 @@
 -- What a task makes of a machine is reported as the frame asks.
-use Rattle.std.proofs.Common.{◌≡◌, ◌≢◌, ◌≤◌, ◌==◌, ℕ, ◌+◌, List, Result, Ok, Err, IfOk, MatchResult, count_by, inl, inr, length, refl, sym, ap, ◌∙◌, subst, arith}
+use Rattle.std.proofs.Common.{◌≡◌, ◌≢◌, ◌==◌, ℕ, List, Result, Ok, Err, IfOk, MatchResult, inl, inr, length, refl, sym, ap, ◌∙◌, subst, arith}
 use Rattle.std.specs.declared.alloc.AllocError.{AllocError}
 use Rattle.std.proofs.lemmas.List.Splits.{length-slice_split}
 use Rattle.answers.specs.declared.numbers.Answer.{Answer}

@@ -3,20 +3,19 @@ use Rattle.std.proofs.Common.{◌≡◌, ◌≢◌, ◌⊎◌, ℕ, List, [], Op
 use Rattle.answers.specs.declared.numbers.Answer.{Answer}
 use Rattle.answers.specs.declared.numbers.Answer.TheVariants as answers
 use Rattle.answers.specs.declared.refusals.Refusal.{Refusal}
-use Rattle.answers.specs.declared.refusals.Refusal.TheVariants.{More, NoMemory, Unreadable, Unwritable, Usage}
+use Rattle.answers.specs.declared.refusals.Refusal.TheVariants.{More, NoMemory, Usage}
 use Rattle.answers.specs.declared.reports.Report.{Report}
 use Rattle.answers.specs.declared.reports.Report.TheVariants.{Evidence, Whole}
-use Rattle.answers.specs.Cause.{CallsForNone, Cause}
+use Rattle.answers.specs.Cause.{CallsForNone}
 use Rattle.answers.specs.Delivery.{IsDone, IsRefusedWith}
-use Rattle.answers.specs.Laws.Causes.{HasOneAnswer}
 use Rattle.answers.specs.Refusal.{answer_of}
 use Rattle.hs_io.specs.Pieces.{Appends, AppendsFront}
-use Rattle.hsdec_core.specs.Inner.Made.{IsMadeFor, IsMadeOf, IsPassed, IsPlain, IsUndone}
+use Rattle.hsdec_core.specs.Inner.Made.{IsMadeFor, IsMadeOf, IsPlain, IsUndone}
 use Rattle.hsdec_core.specs.Judgement.{all_causes, first_cause}
 use Rattle.hsdec_core.specs.Loading.{MayBe}
 use Rattle.hsdec_core.specs.Operands.{file_held, symbols_held}
 use Rattle.hsdec_core.specs.Promise.{IsAsked, IsAskedOrShown, IsEvidence}
-use Rattle.hsdec_core.specs.Stop.{Comes, IsCalledFor, IsExcused, IsFailedLoad, IsRefusedFor, IsStopFor, IsStopOf}
+use Rattle.hsdec_core.specs.Stop.{Comes, IsCalledFor, IsExcused, IsFailedLoad, IsRefusedFor, IsStopOf}
 use Rattle.hsdec_core.proofs.OneAnswer.{all_have_one, first_have_one}
 use Rattle.job_words.specs.declared.jobs.Job.{Job}
 

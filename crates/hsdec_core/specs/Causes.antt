@@ -1,21 +1,13 @@
 -- Which refusals a job calls for by what it loads, in the order of judgement: one row for each answer. The rows of a command's
 -- own answers are in the crate of its family.
-use Rattle.std.specs.Prelude.{◌≡◌, ℕ, Bool, List, [], ◌∷◌, Option, Some, length, map, slice_get}
+use Rattle.std.specs.Prelude.{◌≡◌, ℕ, List, [], ◌∷◌, Some, map, slice_get}
 use Rattle.answers.specs.declared.refusals.Refusal.TheVariants.{Conflict, NoMachine, NoNetwork, Unspecified}
 use Rattle.answers.specs.Cause.{Cause, FirstOf}
 use Rattle.answers.specs.Digits.{digit}
 use Rattle.blif_in.specs.declared.fault.BlifFault.{BlifFault}
 use Rattle.blif_in.specs.Text.{IsBlifFault}
-use Rattle.closed_lattice.specs.Closed.{IsClosedPartition}
 use Rattle.cubes.specs.Symbol.{symbol_of}
-use Rattle.hsdec_core.specs.declared.tasks.MachineTask.{MachineTask}
-use Rattle.hsdec_core.specs.declared.tasks.MachineTask.TheVariants.{Check, Closed, Decompose, Definite, High, InputPairs, Low, Output, OutputPairs, Pairs, Reduce}
-use Rattle.hsdec_core.specs.declared.tasks.Task.{Task}
-use Rattle.hsdec_core.specs.declared.tasks.Task.TheVariants.{Gen, OnMachine, Sim, Trial, Walk}
-use Rattle.hsdec_core.specs.Fill.{fill_of}
-use Rattle.hsdec_core.specs.Loading.{IsShortText, Lengthy}
-use Rattle.hsdec_core.specs.Task.{task_of}
-use Rattle.job_words.specs.declared.jobs.Job.{Job}
+use Rattle.hsdec_core.specs.Loading.{Lengthy}
 use Rattle.kiss2.specs.declared.fault.KissFault.{KissFault}
 use Rattle.kiss2.specs.declared.fill.Fill.{Fill}
 use Rattle.kiss2.specs.declared.fill.Fill.TheVariants.{Refuse}

@@ -1,7 +1,7 @@
 -- What a command loads, and what a shelf tells and grants of it.
 use Rattle.std.specs.Prelude.{ℕ, ⊤, Bool, true, false, List, [], Option, Some, IfOk, IfSome}
 use Rattle.hsdec_core.specs.declared.tasks.Task.{Task}
-use Rattle.hsdec_core.specs.declared.tasks.Task.TheVariants.{Gen, OnMachine, Sim, Trial, Walk}
+use Rattle.hsdec_core.specs.declared.tasks.Task.TheVariants.{Gen, Sim, Trial, Walk}
 use Rattle.hsdec_core.specs.Task.{task_of}
 use Rattle.job_words.specs.declared.jobs.Job.{Job}
 use Rattle.job_words.specs.Job.{JobOf}

@@ -1,6 +1,5 @@
 -- What each command works on, and what it does there.
 use Rattle.std.specs.Prelude.{Option, None, Some}
-use Rattle.hsdec_core.specs.declared.tasks.MachineTask.{MachineTask}
 use Rattle.hsdec_core.specs.declared.tasks.MachineTask.TheVariants.{Check, Closed, Cover, Decompose, Definite, High, InputPairs, Low, Output, OutputPairs, Pairs, Reduce, Shift}
 use Rattle.hsdec_core.specs.declared.tasks.Task.{Task}
 use Rattle.hsdec_core.specs.declared.tasks.Task.TheVariants.{Gen, OnMachine, Sim, Trial, Walk}

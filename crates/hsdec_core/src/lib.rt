@@ -1,10 +1,10 @@
 //! The program's calls over any shelf and any sinks: words in, bytes out, an answer.
 //!
 //! [`run`] judges the words, loads the operands, has the command make its text in memory, and only then puts it.
-//! What a command does, and why it may refuse, is said in the crate of its family: `machine_reports`,
-//! `split_texts`, `symbol_runs` and `generated_texts`. This crate says what each command works on (`specs/Task`,
-//! `specs/Operands`), in which order causes are judged (`specs/Causes`), what a job is promised (`specs/Promise`),
-//! and what comes of a failed load (`specs/Stop`).
+//! What a command does, and why it may refuse, is said in the crate of its family: `machine_reports`, `split_texts`,
+//! `cover_texts`, `shift_texts`, `symbol_runs` and `generated_texts`. This crate says what each command works on
+//! (`specs/Task`, `specs/Operands`), which causes it has (`specs/Causes`) and in which order they are judged
+//! (`specs/Judgement`), what a job is promised (`specs/Promise`), and what comes of a failed load (`specs/Stop`).
 //!
 //! Two clauses of `run` tell answers from causes: `refused` names the refusal of every answer but `Done`, with its
 //! cause and its line, and `comes` says that what is called for is answered. The clause `headline` says what a

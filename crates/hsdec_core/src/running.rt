@@ -1,6 +1,6 @@
 //! The top call.
 
-ghost use Rattle.std.specs.Prelude.{◌≡◌, ◌≢◌, ◌-◌, ◌^◌, ◌<◌, ◌≤◌, ◌↔◌, ◌⊎◌, ℕ, [], List, IfOk, IfSome, IsErr, IsTrue, false, length};
+ghost use Rattle.std.specs.Prelude.{◌≡◌, ◌≢◌, ◌-◌, ◌^◌, ◌<◌, ◌≤◌, ◌↔◌, ◌⊎◌, ℕ, [], List, IfOk, IfSome, IsErr, false, length};
 ghost use Rattle.answers.specs.declared.refusals.Refusal.{Refusal};
 ghost use Rattle.answers.specs.Cause.{CallsForNone};
 ghost use Rattle.answers.specs.Delivery.{LinePut};

@@ -2,7 +2,6 @@
 use Rattle.std.specs.Prelude.{◌≡◌, ◌⊎◌, ℕ, List, Option, Some, Result, Ok, Err, map, slice_get}
 use Rattle.answers.specs.declared.refusals.Refusal.{Refusal}
 use Rattle.answers.specs.declared.refusals.Refusal.TheVariants.{NoMemory, Unspecified}
-use Rattle.answers.specs.Cause.{CallsForNone}
 use Rattle.answers.specs.Digits.{digit}
 use Rattle.answers.specs.Judged.{IsStop}
 use Rattle.cubes.specs.Symbol.{symbol_of}

@@ -1,4 +1,4 @@
-use Rattle.std.proofs.Common.{inl, refl, subst}
+use Rattle.std.proofs.Common.{inl, refl}
 use Rattle.std.proofs.lemmas.Result.{err_from_is_err_and}
 use Rattle.hsdec_core.specs.declared.tasks.Task.TheVariants.{OnMachine}
 use Rattle.hsdec_core.proofs.Making.{made_of_machine, no_machine}

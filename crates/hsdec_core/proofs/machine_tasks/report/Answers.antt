@@ -1,4 +1,4 @@
-use Rattle.std.proofs.Common.{◌≡◌, IfOk, ap, refl, ◌∙◌, sym, subst, length}
+use Rattle.std.proofs.Common.{IfOk, ap, refl, ◌∙◌, subst, length}
 use Rattle.answers.specs.declared.numbers.Answer.TheVariants as answers
 use Rattle.answers.specs.Judged.{IsJudged}
 use Rattle.cover_texts.specs.Flaws.{BadCoverRow}

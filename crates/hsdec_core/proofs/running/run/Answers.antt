@@ -1,6 +1,4 @@
-use Rattle.std.proofs.Common.{◌≡◌, ◌⊎◌, Result, Ok, Err, IsErr, refl}
-use Rattle.answers.specs.declared.numbers.Answer.{Answer}
-use Rattle.answers.specs.declared.numbers.Answer.TheVariants as answers
+use Rattle.std.proofs.Common.{◌≡◌}
 use Rattle.hs_io.specs.Counts.{Rose}
 use Rattle.hsdec_core.proofs.Runs.{IsDelivered, all_of, complete_of, evidence_of, first_of, front_of, refused_of, usage_if_err}
 use Rattle.hsdec_core.proofs.running.run.Goals as goal

@@ -1,6 +1,5 @@
-use Rattle.std.proofs.Common.{◌≡◌, List, ℕ, Ok, Err, subst}
+use Rattle.std.proofs.Common.{Ok, Err}
 use Rattle.std.proofs.lemmas.Result.{err_from_is_err_and}
-use Rattle.answers.specs.Judged.{IsJudged}
 use Rattle.hsdec_core.proofs.Loads.{stop_of_load, text_of_load}
 use Rattle.hsdec_core.proofs.Making.{walk_made, walk_unloaded}
 use Rattle.hsdec_core.proofs.symbol_tasks.run_machine.Goals as goal

@@ -1,4 +1,3 @@
-use Rattle.std.proofs.Common.{refl}
 use Rattle.std.proofs.lemmas.Result.{err_from_is_err_and}
 use Rattle.hsdec_core.proofs.Making.{no_network}
 use Rattle.hsdec_core.proofs.Symbols.{made_later}
