@@ -7,7 +7,7 @@ use Rattle.job_words.specs.Job.{JobOf}
 pub returns-clause-refused : goal.returns-clause-refused
 returns-clause-refused g c = λ undone.
     let told = c.deliver.ensures.refused undone in
-    (told.0, told.1, refused_of _ _ _ _ _ _ (JobOf c.args.words.now) c.perform-made.result told.0 c.perform-made.ensures.made told.2, told.3)
+    (told.0, told.1, refused_of _ _ _ (c.deliver.new.out ≡ c.args.out.now) _ _ (JobOf c.args.words.now) c.perform-made.result told.0 c.perform-made.ensures.made told.2, told.3)
 
 pub returns-clause-comes : goal.returns-clause-comes
 returns-clause-comes g c =
