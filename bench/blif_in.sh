@@ -1,16 +1,17 @@
 #!/usr/bin/env bash
 # Times the reading of large BLIF texts from outside, beside a plain pass over the same bytes in the same run:
 # cutting them into lines. Prints the time of one call, from the difference of many calls and none, so that the
-# start of the program and the making of the text are in no column.
+# start of the program and the making of the text are in no column. The answer is the number of inputs and that of
+# gates, or 0 and the line of the first fault.
 set -eu
 . "$(dirname "$0")/timing.sh"
-cd "$(dirname "$0")/../crates/bench_blif_in"
-rt run -- gates 300 read 1 >/dev/null 2>&1
-program=out/bench_blif_in
+cd "$(dirname "$0")/../crates/bench_texts"
+rt run >/dev/null 2>&1
+program=out/bench_texts
 
 # the time of one call, in milliseconds: kind, size, work, calls
 each() {
-    awk -v many="$(least_of 5 "$program" "$1" "$2" "$3" "$4")" -v none="$(least_of 5 "$program" "$1" "$2" "$3" 0)" -v calls="$4" \
+    awk -v many="$(least_of 5 "$program" "blif $1 $2 $3 $4")" -v none="$(least_of 5 "$program" "blif $1 $2 $3 0")" -v calls="$4" \
         'BEGIN { printf "%.2f", (many - none) / calls / 1000 }'
 }
 
@@ -19,8 +20,8 @@ while read -r kind size; do
     cut=$(each "$kind" "$size" cut 5)
     read=$(each "$kind" "$size" read 5)
     ratio=$(awk "BEGIN { printf \"%.1f\", $read / $cut }")
-    mapfile -t answer < <("$program" "$kind" "$size" read 1)
-    printf '%-9s %9s %10s %10s %10s %7s  %s\n' "$kind" "$size" "${answer[0]#bytes }" "$cut" "$read" "$ratio" "${answer[1]}"
+    read -r bytes first second < <("$program" "blif $kind $size read 1" | sed 's/.*: //; s/ bytes,//')
+    printf '%-9s %9s %10s %10s %10s %7s  %s\n' "$kind" "$size" "$bytes" "$cut" "$read" "$ratio" "$first $second"
 done <<'CASES'
 gates 16384
 gates 32768

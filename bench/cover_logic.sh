@@ -1,28 +1,27 @@
 #!/usr/bin/env bash
-# Times `cover` on large gates from outside, beside two plain baselines on the same lists in the same run: the
-# test that they may be covered, which looks at each pair of a term of on and a term of off, and the cover that
-# has each term of on once, as it stands. Prints the time of one call, from the difference of many calls and
-# none, so that the start of the program and the making of the lists are in no column.
+# Times `cover` on large gates from outside, beside a plain baseline on the same lists in the same run: the test
+# that they may be covered, which looks at each pair of a term of on and a term of off. Prints the time of one call,
+# from the difference of many calls and none, so that the start of the program and the making of the lists are in no
+# column.
 set -eu
 . "$(dirname "$0")/timing.sh"
-cd "$(dirname "$0")/../crates/bench_cover_logic"
-rt run -- dense 4 check 1 >/dev/null 2>&1
-program=out/bench_cover_logic
+cd "$(dirname "$0")/../crates/bench_sets"
+rt run >/dev/null 2>&1
+program=out/bench_sets
 
 # the time of one call, in microseconds: kind, size, work, calls
 each() {
-    awk -v many="$(least_of 5 "$program" "$1" "$2" "$3" "$4")" -v none="$(least_of 5 "$program" "$1" "$2" "$3" 0)" -v calls="$4" \
+    awk -v many="$(least_of 5 "$program" "covers $1 $2 $3 $4")" -v none="$(least_of 5 "$program" "covers $1 $2 $3 0")" -v calls="$4" \
         'BEGIN { printf "%.1f", (many - none) / calls }'
 }
 
-printf '%-16s %10s %10s %10s  %8s %8s  %s\n' us check plain cover 'to check' 'to plain' counts
+printf '%-16s %10s %10s  %8s  %s\n' us check cover 'to check' 'rows, literals'
 while read -r kind size calls; do
     check=$(each "$kind" "$size" check "$calls")
-    plain=$(each "$kind" "$size" plain "$calls")
     cover=$(each "$kind" "$size" cover "$calls")
-    ratios=$(awk "BEGIN { printf \"%8.1f %8.1f\", $cover / $check, $cover / $plain }")
-    counts=$("$program" "$kind" "$size" cover 1)
-    printf '%-16s %10s %10s %10s  %s  %s\n' "$kind $size" "$check" "$plain" "$cover" "$ratios" "$counts"
+    ratio=$(awk "BEGIN { printf \"%8.1f\", $cover / $check }")
+    counts=$("$program" "covers $kind $size cover 1" | sed 's/.*: //')
+    printf '%-16s %10s %10s  %s  %s\n' "$kind $size" "$check" "$cover" "$ratio" "$counts"
 done <<'CASES'
 minterms 128 1000
 minterms 256 500

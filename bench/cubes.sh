@@ -1,16 +1,16 @@
 #!/usr/bin/env bash
-# Times first_gap from outside, beside two plain baselines over the same cubes in the same run: `scan` asks
-# each cube once for each bit of a symbol whether it holds one symbol, and `plain` tries the symbols one by
-# one. Prints the time of one call, from the difference of many calls and none, and ratios.
+# Times first_gap from outside, beside a plain baseline over the same cubes in the same run: `scan` asks each cube
+# once for each bit of a symbol whether it holds one symbol. Prints the time of one call, from the difference of
+# many calls and none, and the ratio.
 set -eu
 . "$(dirname "$0")/timing.sh"
-cd "$(dirname "$0")/../crates/bench_cubes"
-rt run -- gap lastbit 2 1 >/dev/null 2>&1
-program=out/bench_cubes
+cd "$(dirname "$0")/../crates/bench_sets"
+rt run >/dev/null 2>&1
+program=out/bench_sets
 
-# the least of five runs, in microseconds
+# the least of five runs, in microseconds: question, kind, size, calls
 least() {
-    least_of 5 "$program" "$@"
+    least_of 5 "$program" "cubes $2 $3 $1 $4"
 }
 
 # the time of one call, in microseconds: question, kind, size, calls
@@ -25,19 +25,13 @@ beside_scan() {
         'BEGIN { printf "%-9s %6d  first_gap %11.3f ms  scan %9.3f ms  first_gap to scan %8.1f\n", kind, size, gap / 1000, scan / 1000, gap / scan }'
 }
 
-# width, calls of first_gap, calls of the plain search
-beside_plain() {
-    awk -v width="$1" -v gap="$(each gap minterms "$1" "$2")" -v plain="$(each plain minterms "$1" "$3")" \
-        'BEGIN { printf "minterms  %6d  plain to first_gap %8.1f\n", width, plain / gap }'
-}
-
 echo "all minterms of a width"
 for width in 12 13 14 15 16; do beside_scan minterms "$width" 20 200; done
 echo "so many cubes of width 32 that leave one gap"
 for count in 500 1000 2000 4000; do beside_scan random "$count" 5 2000; done
 beside_scan random 65536 3 100
 echo "two cubes of width 32 that look at the last bit alone"
-beside_scan lastbit 2 20000 20000
+beside_scan chain 1 20000 20000
 echo "so many cubes of width 32 that leave one gap and look at the last bits first"
 for count in 500 1000 2000 4000; do beside_scan mirrored "$count" 5 2000; done
 beside_scan mirrored 65536 3 100
@@ -48,5 +42,3 @@ for length in 4 8 12 16; do beside_scan pairs "$length" 2000 20000; done
 echo "so many cubes of width 32 with bits at five and at seven random places each"
 for count in 400 600 800; do beside_scan five "$count" 5 2000; done
 for count in 1400 2100 2800; do beside_scan seven "$count" 1 2000; done
-echo "all minterms of a width, beside the symbols one by one"
-for width in 10 12 14; do beside_plain "$width" 20 2; done

@@ -4,23 +4,23 @@
 # many calls and none, the least of five runs.
 set -eu
 . "$(dirname "$0")/timing.sh"
-cd "$(dirname "$0")/../crates/bench_hs_io"
-rt run -- cut 3 4 2 >/dev/null 2>&1
-program=out/bench_hs_io
+cd "$(dirname "$0")/../crates/bench_texts"
+rt run >/dev/null 2>&1
+program=out/bench_texts
 
-# the time of one call, in microseconds: question, rows, fields, calls
+# the time of one call, in microseconds: question, rows, fields of a row, calls
 each() {
-    awk -v many="$(least_of 5 "$program" "$1" "$2" "$3" "$4")" -v none="$(least_of 5 "$program" "$1" "$2" "$3" 0)" \
+    awk -v many="$(least_of 5 "$program" "lines $3 $2 $1 $4")" -v none="$(least_of 5 "$program" "lines $3 $2 $1 0")" \
         -v calls="$4" 'BEGIN { printf "%.1f", (many - none) / calls }'
 }
 
-printf '%6s %6s %14s %14s %6s\n' rows fields 'cut (us)' 'lists (us)' ratio
-for fields in 4 5 12; do
+printf '%6s %-6s %14s %14s %6s\n' rows fields 'cut (us)' 'lists (us)' ratio
+for fields in four five twelve; do
     while read -r rows calls; do
         cut=$(each cut "$rows" "$fields" "$calls")
         lists=$(each lists "$rows" "$fields" "$calls")
         awk -v rows="$rows" -v fields="$fields" -v cut="$cut" -v lists="$lists" \
-            'BEGIN { printf "%6d %6d %14.1f %14.1f %6.2f\n", rows, fields, cut, lists, cut / lists }'
+            'BEGIN { printf "%6d %-6s %14.1f %14.1f %6.2f\n", rows, fields, cut, lists, cut / lists }'
     done <<'SIZES'
 1024 640
 8192 80

@@ -7,29 +7,31 @@
 # to count them.
 set -eu
 . "$(dirname "$0")/timing.sh"
-cd "$(dirname "$0")/../crates/bench_hs_lattice"
-rt run -- labels pairs 4 15 list 1 > /dev/null 2>&1
-program=out/bench_hs_lattice
+cd "$(dirname "$0")/../crates/bench_sets"
+rt run >/dev/null 2>&1
+program=out/bench_sets
 
-# the least of five runs, in microseconds
+# the least of five runs of a case, in microseconds
 least() {
-    least_of 5 "$program" "$@"
+    least_of 5 "$program" "$1"
 }
 
 printf '%-8s %-12s %10s  %-12s %10s %10s %7s %13s\n' kept generators different answer 'list (ms)' 'join (ms)' ratio instructions
 while read -r kind size different times; do
     for kept in labels bits; do
-        answer=$("$program" "$kept" "$kind" "$size" 10000 list 1 | tail -n 1)
-        values=${answer#* }
-        case $answer in
-            whole*) joins=$((different * values)) ;;
-            *) joins=$values ;;
-        esac
-        none=$(least "$kept" "$kind" "$size" 10000 join 0)
-        list=$(least "$kept" "$kind" "$size" 10000 list "$times")
-        join=$(least "$kept" "$kind" "$size" 10000 join "$joins")
-        counted=$(instructions_of "$program" "$kept" "$kind" "$size" 10000 list 1)
-        made=$(instructions_of "$program" "$kept" "$kind" "$size" 10000 join 0)
+        case="$kept $kind $size"
+        values=$("$program" "$case list 1" | awk '{ print $NF }')
+        joins=$values
+        answer="more $values"
+        if [ "$values" -le 10000 ]; then
+            joins=$((different * values))
+            answer="whole $values"
+        fi
+        none=$(least "$case join 0")
+        list=$(least "$case list $times")
+        join=$(least "$case join $joins")
+        counted=$(instructions_of "$program" "$case list 1")
+        made=$(instructions_of "$program" "$case join 0")
         awk -v kept="$kept" -v gens="$kind $size" -v different="$different" -v answer="$answer" \
             -v list="$((list - none))" -v times="$times" -v join="$((join - none))" -v counted="$((counted - made))" \
             'BEGIN { one = list / times; printf "%-8s %-12s %10d  %-12s %10.2f %10.2f %7.2f %13.1f\n", kept, gens, different, answer, one / 1000, join / 1000, one / join, counted / 1000000 }'
@@ -40,9 +42,9 @@ pairs 7 21 40
 pairs 8 28 10
 pairs 10 45 5
 pairs 50 1225 3
-chain 50 49 100
-chain 100 99 20
-chain 200 199 5
+nested 50 49 100
+nested 100 99 20
+nested 200 199 5
 product 8 8 200
 product 10 10 50
 product 13 13 10

@@ -1,23 +1,24 @@
 #!/usr/bin/env bash
 # Times machines of large files from outside: the building, beside the reading of the same text, and the questions
 # about two states, beside a plain comparison of the two at each symbol by itself in the same run. What reading and
-# building take is subtracted from the questions. The machines are those of crates/bench_machine_table.
+# building take is subtracted from the questions. The machines are those of
+# crates/bench_machines.
 set -eu
 . "$(dirname "$0")/timing.sh"
-cd "$(dirname "$0")/../crates/bench_machine_table"
-rt run -- dense 4 pairs 1 >/dev/null 2>&1
-program=out/bench_machine_table
+cd "$(dirname "$0")/../crates/bench_machines"
+rt run >/dev/null 2>&1
+program=out/bench_machines
 
 # the time of the program, in microseconds: kind, size, work, pairs
 run() {
-    least_of 5 "$program" "$1" "$2" "$3" "$4"
+    least_of 5 "$program" "$1 $2 $3 $4"
 }
 
 printf '%-7s %5s %7s %12s %12s %7s\n' kind size rows 'read (ms)' 'build (ms)' ratio
 while read -r kind size; do
     read=$(run "$kind" "$size" read 0)
     build=$(run "$kind" "$size" build 0)
-    rows=$("$program" "$kind" "$size" read 0 | awk '{ print $2 }')
+    rows=$("$program" "$kind $size read 0" | awk '{ print $5 }')
     awk -v kind="$kind" -v size="$size" -v rows="$rows" -v read="$read" -v both="$build" \
         'BEGIN { build = both - read; printf "%-7s %5s %7s %12.1f %12.1f %7.2f\n", kind, size, rows, read / 1000, build / 1000, build / read }'
 done <<'CASES'
@@ -48,9 +49,9 @@ each() {
 printf '\n%-7s %5s %7s %6s %12s %12s %14s %11s\n' kind size pairs plain 'goes (us)' 'images (us)' 'plain (us)' ratio
 while read -r kind size pairs plain; do
     build=$(run "$kind" "$size" build 0)
-    goes=$(each "$kind" "$size" pairs "$pairs" "$build")
+    goes=$(each "$kind" "$size" goes "$pairs" "$build")
     images=$(each "$kind" "$size" images "$pairs" "$build")
-    symbols=$(each "$kind" "$size" plain "$plain" "$build")
+    symbols=$(each "$kind" "$size" symbols "$plain" "$build")
     ratio=-
     if [ "$symbols" != - ]; then
         ratio=$(awk "BEGIN { printf \"%.7f\", $goes / $symbols }")

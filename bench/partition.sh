@@ -1,16 +1,16 @@
 #!/usr/bin/env bash
-# Times meet, its blocks, join and order of partitions from outside, as labels and as rows of bits, beside a
+# Times meet, join and order of partitions from outside, as labels and as rows of bits, beside a
 # plain baseline over the same partitions in the same run: whether each pair of states is together in both.
 # Prints the time of one call, from the difference of many calls and none.
 set -eu
 . "$(dirname "$0")/timing.sh"
-cd "$(dirname "$0")/../crates/bench_partition"
-rt run -- meet bits chain 20 3 >/dev/null 2>&1
-program=out/bench_partition
+cd "$(dirname "$0")/../crates/bench_sets"
+rt run >/dev/null 2>&1
+program=out/bench_sets
 
-# the least of five runs, in microseconds
+# the least of five runs, in microseconds: question, how partitions are kept, kind, states, calls
 least() {
-    least_of 5 "$program" "$@"
+    least_of 5 "$program" "$2 $3 $4 $1 $5"
 }
 
 # the time of one call, in microseconds: question, how partitions are kept, kind, states, calls
@@ -31,12 +31,12 @@ beside_plain() {
         'BEGIN { printf "%6.1f %6.0f", plain, plain / bits }'
 }
 
-printf '%-6s %6s  %20s  %20s  %20s  %20s  %14s\n' us '' 'meet, bits, ratio' 'blocks, bits, ratio' \
+printf '%-6s %6s  %20s  %20s  %20s  %14s\n' us '' 'meet, bits, ratio' \
     'join, bits, ratio' 'before, bits, ratio' 'plain, to bits'
-for kind in few chain alone; do
+for kind in few ladder alone; do
     for states in 64 128 256; do
-        printf '%-6s %6s  %20s  %20s  %20s  %20s  %14s\n' "$kind" "$states" "$(pair meet "$kind" "$states" 50000)" \
-            "$(pair blocks "$kind" "$states" 50000)" "$(pair join "$kind" "$states" 50000)" \
-            "$(pair before "$kind" "$states" 500000)" "$(beside_plain "$kind" "$states")"
+        printf '%-6s %6s  %20s  %20s  %20s  %14s\n' "$kind" "$states" "$(pair meet "$kind" "$states" 50000)" \
+            "$(pair join "$kind" "$states" 50000)" "$(pair before "$kind" "$states" 500000)" \
+            "$(beside_plain "$kind" "$states")"
     done
 done

@@ -1,5 +1,0 @@
-use Rattle.kiss2.proofs.ReadLawful.{read_lawful}
-use Rattle.bench_machine_table.proofs.file_of.Goals as goal
-
-pub returns : goal.returns
-returns c = read_lawful c.as_slice.result.now c.in-Ok.file c.in-Ok.ensures.read

@@ -1,0 +1,85 @@
+//! Works on machines, so that a script can time the work from outside, and prints counts alone. Each argument is a
+//! case, of words apart by one space: the kind of machine, its size, the work, and how often it is done. The kinds
+//! are told where they are made, in `texts`.
+//!
+//! - `read` reads the machine's file alone, and `build` builds it too.
+//! - `goes` asks of so many pairs of states whether their next states are together in the partition of the states
+//!   by the last bit of their numbers, `images` lists their pairs of next states, and `symbols` asks as `goes`
+//!   does, but at each symbol by itself, through `next`.
+//! - `closed` lists the closed partitions, `pairs` the Mm pairs, and `consistent` the closed partitions that the
+//!   outputs respect, each up to 1,000. `equal` asks of each two states whether they go to equal states, as often
+//!   as there are states, since so many pairs are what closing each pair alone may come to.
+//! - `alike` is the partition of alike states, and `marks` marks pairs of states that are not alike, until a pass
+//!   through all pairs marks no more.
+//! - `reads` finds what the gates of a code read. `search` asks each state about the first one like it, which is
+//!   searched, for each bit that is judged, and compares each two pieces of a state.
+#![tactic(auto)]
+
+mod codes;
+mod files;
+mod lattices;
+mod marks;
+mod plain;
+mod tables;
+mod texts;
+
+use anyhow::{Error, bail};
+use machine_table::Machine;
+use state_reduce::equivalence;
+use std::alloc::Global;
+use std::env;
+
+/// What is asked.
+#[derive(Clone, Copy)]
+pub(crate) struct Case<'a> {
+    kind: &'a str,
+    size: usize,
+    work: &'a str,
+    times: usize,
+}
+
+/// The case that a line says, if it says one.
+fn case_of(line: &str) -> Option<Case<'_>> {
+    let mut words = line.split(' ');
+    Some(Case {
+        kind: words.next()?,
+        size: words.next()?.parse().ok()?,
+        work: words.next()?,
+        times: words.next()?.parse().ok()?,
+    })
+}
+
+/// The number of rows, and what the work comes to.
+fn answer(alloc: Global, case: Case<'_>) -> Result<(usize, usize), Error> {
+    let file = files::file_of(alloc, case)?;
+    let rows = file.rows.as_slice().len();
+    if case.work == "read" {
+        return Ok((rows, 0));
+    }
+    let machine = files::machine_of(alloc, &file)?;
+    Ok((rows, worked(alloc, &machine, case)?))
+}
+
+/// What the work on a machine comes to.
+fn worked(alloc: Global, m: &Machine, case: Case<'_>) -> Result<usize, Error> {
+    match case.work {
+        "build" => Ok(m.states()),
+        "goes" | "images" | "symbols" => tables::answer(alloc, m, case),
+        "alike" => Ok(equivalence(alloc, m)?.blocks()),
+        "marks" => Ok(marks::classes(alloc, m)?),
+        "reads" | "search" => codes::answer(alloc, m, case),
+        _ => lattices::answer(alloc, m, case),
+    }
+}
+
+fn main(rt: HostRuntime) -> Result<(), Error> {
+    let alloc = rt.alloc();
+    for line in env::args(&rt)?.skip(1) {
+        let Some(case) = case_of(line.as_str()) else {
+            bail!("a case has a kind, a size, the work and how often");
+        };
+        let (rows, found) = answer(alloc, case)?;
+        println!(rt; "{}: {rows} {found}", line.as_str())?;
+    }
+    Ok(())
+}

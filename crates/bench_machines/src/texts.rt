@@ -1,0 +1,231 @@
+//! KISS2 texts of machines. The cubes of each state are the leaves of a tree that asks one input after another, so
+//! they are disjoint and leave no symbol out. The number of a row is the path to its leaf.
+
+use std::alloc::{AllocError, Global};
+
+/// Where states go, and what they give.
+#[derive(Clone, Copy, PartialEq, Eq)]
+enum Rule {
+    Cycle,
+    Adder,
+    Still,
+    Grid,
+    Shift,
+    Chain,
+    Halves,
+    Random,
+    Mixed,
+    Tree,
+}
+
+/// A machine: its rule, the size of its kind, its states and inputs, and how many inputs its cubes look at.
+#[derive(Clone, Copy)]
+pub(crate) struct Shape {
+    rule: Rule,
+    size: usize,
+    states: usize,
+    inputs: usize,
+    depth: usize,
+}
+
+/// The machine of that kind and size, of at most 256 states and 32 inputs.
+///
+/// - `cycle` is a counter modulo the size, which stays at 0 and goes on at 1; `still` has so many states that never
+///   move; `grid` is a product of two chains of so many states, of which 0 moves the one and 1 the other; `shift` is
+///   a shift register of so many bits. None of these has an output that is ever 1.
+/// - `chain` goes from each state to the next one and tells the last one alone by its output, so states are told
+///   apart one after another. `halves` has 256 symbols, each state of its lower half alike to one of the upper half,
+///   and no others.
+/// - `adder` has so many states and 256 symbols, a number that is added each, and `random` goes where a number says
+///   that is drawn. `copies` is such a counter of four states and two symbols. `wide` has 16 states and so many
+///   inputs, of which its rows look at eight.
+/// - `long` has one state, with a row for each symbol of so many inputs, in order; in `mixed` they stand in another
+///   order.
+/// - `dense` has so many states, each with a row for each of 256 symbols, in one order. `cubes` has so many states,
+///   each with 256 cubes of 32 inputs of its own, and `sparse` so many with 16 cubes of 27 inputs. A next state's
+///   last bit is the first input.
+pub(crate) fn shape_of(kind: &str, size: usize) -> Option<Shape> {
+    let (size, side) = (size.min(256), size.min(16));
+    let (rule, states, inputs, depth) = match kind {
+        "cycle" => (Rule::Cycle, size, 1, 1),
+        "still" => (Rule::Still, size, 1, 0),
+        "grid" => (Rule::Grid, side.wrapping_mul(side), 1, 1),
+        "shift" => (Rule::Shift, 1 << size.min(8), 1, 1),
+        "chain" => (Rule::Chain, size, 1, 0),
+        "halves" => (Rule::Halves, size, 8, 8),
+        "adder" => (Rule::Adder, size, 8, 8),
+        "random" => (Rule::Random, size, 8, 8),
+        "copies" => (Rule::Adder, 4, 1, 1),
+        "wide" => (Rule::Adder, 16, size.clamp(8, 32), 8),
+        "long" => (Rule::Random, 1, side, side),
+        "mixed" => (Rule::Mixed, 1, side, side),
+        "dense" => (Rule::Tree, size, 8, 8),
+        "cubes" => (Rule::Tree, size, 32, 8),
+        "sparse" => (Rule::Tree, size, 27, 4),
+        _ => return None,
+    };
+    Some(Shape {
+        rule,
+        size,
+        states,
+        inputs,
+        depth,
+    })
+}
+
+/// The text of a machine.
+pub(crate) fn text_of(alloc: Global, shape: Shape) -> Result<Vec<u8>, AllocError> {
+    let mut text = Vec::new(alloc);
+    add_text(&mut text, shape)?;
+    Ok(text)
+}
+
+/// Adds the text of a machine.
+fn add_text(text: &mut Vec<u8>, shape: Shape) -> Result<(), AllocError> {
+    let (tens, ones) = (digit(shape.inputs / 10), digit(shape.inputs));
+    text.extend_from_slice(&[b'.', b'i', b' ', tens, ones, b'\n'])?;
+    text.extend_from_slice(b".o 1\n")?;
+    for state in 0..shape.states {
+        add_state(text, shape, state)?;
+    }
+    text.extend_from_slice(b".e\n")
+}
+
+/// Adds the rows of a state.
+fn add_state(text: &mut Vec<u8>, shape: Shape, state: usize) -> Result<(), AllocError> {
+    let rows = 1usize << shape.depth.min(16);
+    for number in 0..rows {
+        let number = if shape.rule == Rule::Mixed {
+            number.wrapping_mul(40_503) % rows
+        } else {
+            number
+        };
+        let field = field_of(shape, state, number);
+        text.extend_from_slice(&field[..shape.inputs.min(32)])?;
+        text.extend_from_slice(&ending_of(shape, state, number))?;
+    }
+    Ok(())
+}
+
+/// The input field of a row, and dashes.
+fn field_of(shape: Shape, state: usize, number: usize) -> [u8; 32] {
+    let mut field = [b'-'; 32];
+    let depth = shape.depth.min(16);
+    for level in 0..depth {
+        let place = place_of(
+            shape,
+            state,
+            level,
+            (number | 1 << depth) >> (depth - level),
+        );
+        if place < 32 {
+            field[place] = bit_character(number >> (depth - 1 - level) & 1 == 1);
+        }
+    }
+    field
+}
+
+/// The input that is asked at a level behind these answers: in a tree one of several, but the first one first.
+fn place_of(shape: Shape, state: usize, level: usize, answers: usize) -> usize {
+    let choices = shape.inputs / shape.depth.max(1);
+    if level == 0 || shape.rule != Rule::Tree || choices == 0 {
+        return level;
+    }
+    (drawn(state, answers) % choices)
+        .wrapping_mul(shape.depth)
+        .wrapping_add(level)
+}
+
+/// What stands in a row behind its input field.
+fn ending_of(shape: Shape, state: usize, number: usize) -> [u8; 13] {
+    let next = next_of(shape, state, number) % shape.states.max(1);
+    [
+        b' ',
+        b's',
+        digit(state / 100),
+        digit(state / 10),
+        digit(state),
+        b' ',
+        b's',
+        digit(next / 100),
+        digit(next / 10),
+        digit(next),
+        b' ',
+        bit_character(gives_one(shape, state, number)),
+        b'\n',
+    ]
+}
+
+/// Where the state goes, as a number that its rest by the number of states says.
+fn next_of(shape: Shape, state: usize, number: usize) -> usize {
+    match shape.rule {
+        Rule::Cycle | Rule::Adder => state.wrapping_add(number),
+        Rule::Still => state,
+        Rule::Grid => grid_next(shape.size.clamp(1, 16), state, number),
+        Rule::Shift => state.wrapping_mul(2).wrapping_add(number),
+        Rule::Chain => state.wrapping_add(1).min(shape.states.saturating_sub(1)),
+        Rule::Halves => lower(shape, state)
+            .wrapping_mul(37)
+            .wrapping_add(number.wrapping_mul(11)),
+        Rule::Random | Rule::Mixed => drawn(state, number),
+        Rule::Tree => {
+            let half = drawn(state, number) % (shape.states / 2).max(1);
+            half.wrapping_mul(2)
+                .wrapping_add(first_answer(shape, number))
+        }
+    }
+}
+
+/// Where a state of a grid goes.
+fn grid_next(side: usize, state: usize, number: usize) -> usize {
+    let (row, column) = (state / side.max(1), state % side.max(1));
+    let last = side.wrapping_sub(1);
+    if number == 0 {
+        row.wrapping_add(1)
+            .min(last)
+            .wrapping_mul(side)
+            .wrapping_add(column)
+    } else {
+        row.wrapping_mul(side)
+            .wrapping_add(column.wrapping_add(1).min(last))
+    }
+}
+
+/// Whether the output is 1. In halves the lower bits of the number of the state in its half are its outputs.
+fn gives_one(shape: Shape, state: usize, number: usize) -> bool {
+    match shape.rule {
+        Rule::Cycle | Rule::Still | Rule::Grid | Rule::Shift => false,
+        Rule::Adder | Rule::Chain => state.wrapping_add(1) == shape.states,
+        Rule::Halves => number < 8 && lower(shape, state) / (number + 1) % 2 == 1,
+        Rule::Random | Rule::Mixed | Rule::Tree => drawn(number, state) & 1 == 1,
+    }
+}
+
+/// The number of the state in its half.
+fn lower(shape: Shape, state: usize) -> usize {
+    state % (shape.states / 2).max(1)
+}
+
+/// The first answer on the way to a row.
+fn first_answer(shape: Shape, number: usize) -> usize {
+    (number >> shape.depth.clamp(1, 16) - 1) & 1
+}
+
+/// The last decimal digit of a number.
+fn digit(number: usize) -> u8 {
+    b'0' + (number % 10) as u8
+}
+
+fn bit_character(bit: bool) -> u8 {
+    if bit { b'1' } else { b'0' }
+}
+
+/// A number that two numbers draw.
+fn drawn(a: usize, b: usize) -> usize {
+    let mut n = a
+        .wrapping_mul(0x9E37_79B9_7F4A_7C15)
+        .wrapping_add(b.wrapping_mul(0xC2B2_AE3D_27D4_EB4F));
+    n ^= n >> 29;
+    n = n.wrapping_mul(0xBF58_476D_1CE4_E5B9);
+    n ^ n >> 32
+}
