@@ -12,8 +12,8 @@ pub(crate) struct Form {
 }
 
 /// The kinds of texts. A piece that is repeated has a number from 0 on, and a piece that stands once has the size.
-/// In it `%` stands for its number in five digits, `^` for the next one, `@` for its rest by 256, `&` for the rest
-/// of its 256th part, `~` for the number's bit at the place, and `!` for a bit that number and place draw.
+/// In it `%` stands for its number in five digits, `^` for the next one, `@` for its rest by 256 in three digits, `&`
+/// for that of its 256th part, `~` for the number's bit at the place, and `!` for a bit that number and place draw.
 static FORMS: [Form; 26] = [
     // rows of so many fields of four bytes
     Form {
@@ -235,17 +235,17 @@ fn add_each(text: &mut Vec<u8>, piece: &str, times: usize) -> Result<(), AllocEr
 /// Adds a piece of that number.
 fn add_piece(text: &mut Vec<u8>, piece: &str, number: usize) -> Result<(), AllocError> {
     for (place, byte) in piece.as_bytes().iter().enumerate() {
-        let value = match *byte {
-            b'%' => number,
-            b'^' => number.wrapping_add(1),
-            b'@' => number % 256,
-            b'&' => number / 256 % 256,
+        let (value, unsaid) = match *byte {
+            b'%' => (number, 0),
+            b'^' => (number.wrapping_add(1), 0),
+            b'@' => (number % 256, 2),
+            b'&' => (number / 256 % 256, 2),
             other => {
                 text.push(character(other, number, place))?;
                 continue;
             }
         };
-        text.extend_from_slice(&digits(value))?;
+        text.extend_from_slice(&digits(value)[unsaid..])?;
     }
     Ok(())
 }
