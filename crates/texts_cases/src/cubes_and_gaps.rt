@@ -1,83 +1,107 @@
 //! Cubes and gaps.
 
-ghost use Rattle.std.specs.Prelude.{◌<◌, ◌≤◌, IfOk};
+ghost use Rattle.std.specs.Prelude.{◌<◌, ◌≤◌};
 
-use anyhow::{Context, bail, ensure};
+use crate::answers::{put, put_bits, truth};
+use crate::words::{cut, number, pieces};
 use cubes::{Cube, CubeFail, first_gap};
-use std::alloc::Global;
+use hs_io::Name;
+use std::alloc::{AllocError, Global};
 
-/// What a call answers.
-pub(crate) fn answer(alloc: Global, call: &str, words: &str) -> anyhow::Result<String> {
+/// Puts what a call answers.
+pub(crate) fn answer(
+    alloc: Global,
+    call: &str,
+    words: &[u8],
+    into: &mut Vec<u8>,
+) -> Result<(), AllocError> {
+    let (first, second) = cut(words, b' ');
     match call {
-        "parse" => parsed(alloc, words),
-        "holds" => holding(alloc, words),
-        "meets" => meeting(alloc, words),
-        _ => gap(alloc, words),
+        "parse" => put_parsed(alloc, first, second, into),
+        "holds" => into.extend_from_slice(truth(holds(first, second))),
+        "meets" => into.extend_from_slice(truth(meets(first, second))),
+        _ => put_gap(alloc, first, second, into),
     }
 }
 
 /// The number of places of a cube that a word says.
-fn places(word: &str) -> anyhow::Result<u8>
-    ensures positive { IfOk result (λ width. 0 < width) }
-    ensures bound { IfOk result (λ width. width ≤ 32) }
+fn places(word: &[u8]) -> u8
+    ensures positive { 0 < result }
+    ensures bound { result ≤ 32 }
 {
-    let width: u8 = word.parse().ok().context("no width")?;
-    ensure!(width > 0 && width <= 32, "no width");
-    Ok(width)
+    number(word).clamp(1, 32) as u8
 }
 
-/// What a text is read as.
-fn parsed(alloc: Global, words: &str) -> anyhow::Result<String> {
-    let (width, text) = words.split_once(' ').unwrap_or((words, ""));
-    match Cube::parse(text.as_bytes(), places(width)?) {
-        Ok(cube) => Ok(format!(in alloc; "{:x} {:x} {}", cube.care, cube.value, cube.width)?),
-        Err(CubeFail::BadWidth { found }) => Ok(format!(in alloc; "width {found}")?),
-        Err(CubeFail::BadChar { place }) => Ok(format!(in alloc; "place {place}")?),
+/// Puts what a text is read as.
+fn put_parsed(
+    alloc: Global,
+    width: &[u8],
+    text: &[u8],
+    into: &mut Vec<u8>,
+) -> Result<(), AllocError> {
+    match Cube::parse(text, places(width)) {
+        Ok(cube) => put_cube(alloc, b"", &cube, into),
+        Err(CubeFail::BadWidth { found }) => put(alloc, b"width ", found, into),
+        Err(CubeFail::BadChar { place }) => put(alloc, b"place ", place, into),
     }
 }
 
-/// The cube of a text that is as long as it has places.
-fn cube(text: &str) -> anyhow::Result<Cube> {
-    let bytes = text.as_bytes();
-    ensure!(!bytes.is_empty() && bytes.len() <= 32, "no cube");
-    let width = bytes.len() as u8;
-    Cube::parse(bytes, width).ok().context("no cube")
+/// Puts the front, the bits of care and of value, and the width.
+pub(crate) fn put_cube(
+    alloc: Global,
+    front: &[u8],
+    cube: &Cube,
+    into: &mut Vec<u8>,
+) -> Result<(), AllocError> {
+    put_bits(alloc, front, u64::from(cube.care), into)?;
+    put_bits(alloc, b" ", u64::from(cube.value), into)?;
+    put(alloc, b" ", cube.width, into)
 }
 
-/// Whether a cube of three places holds a symbol.
-fn holding(alloc: Global, words: &str) -> anyhow::Result<String> {
-    let (text, number) = words.split_once(' ').context("no symbol")?;
-    let cube = cube(text)?;
-    let x: u32 = number.parse().ok().context("no symbol")?;
-    if cube.width != 3 || x >= 8 {
-        bail!("no symbol of three places");
+/// Whether a cube of three places holds the symbol of a number.
+fn holds(text: &[u8], symbol: &[u8]) -> bool {
+    let x = number(symbol).min(7) as u32;
+    match Cube::parse(text, 3) {
+        Ok(cube) => cube.holds(x),
+        Err(_) => false,
     }
-    Ok(format!(in alloc; "{}", cube.holds(x))?)
 }
 
-/// Whether two cubes have a symbol in common.
-fn meeting(alloc: Global, words: &str) -> anyhow::Result<String> {
-    let (text, other) = words.split_once(' ').context("no other cube")?;
-    let (cube, other) = (cube(text)?, cube(other)?);
-    ensure!(cube.width == other.width, "other widths");
-    Ok(format!(in alloc; "{}", cube.meets(&other))?)
+/// Whether two cubes of three places have a symbol in common.
+fn meets(text: &[u8], other: &[u8]) -> bool {
+    match (Cube::parse(text, 3), Cube::parse(other, 3)) {
+        (Ok(cube), Ok(other)) => cube.meets(&other),
+        _ => false,
+    }
 }
 
-/// The least symbol that no cube holds.
-fn gap(alloc: Global, words: &str) -> anyhow::Result<String> {
-    let (width, texts) = words.split_once(' ').unwrap_or((words, ""));
-    let width = places(width)?;
+/// Puts the least symbol that no cube holds.
+fn put_gap(
+    alloc: Global,
+    width: &[u8],
+    texts: &[u8],
+    into: &mut Vec<u8>,
+) -> Result<(), AllocError> {
+    let texts = pieces(alloc, texts, b' ')?;
+    match gap(alloc, texts.as_slice(), places(width))? {
+        Some(gap) => put_bits(alloc, b"", u64::from(gap), into),
+        None => into.extend_from_slice(b"none"),
+    }
+}
+
+/// The least symbol that no cube of these fields holds. Fields of another width are left out.
+pub(crate) fn gap(alloc: Global, fields: &[Name], width: u8) -> Result<Option<u32>, AllocError>
+    requires positive { 0 < width }
+    requires bound { width ≤ 32 }
+{
     let mut cubes = Vec::new(alloc);
-    if !texts.is_empty() {
-        for text in texts.split(' ') {
-            cubes.push(cube(text)?)?;
+    for field in fields {
+        if let Ok(cube) = Cube::parse(field.bytes(), width) {
+            cubes.push(cube)?;
         }
     }
     if !cubes.iter().all(|cube| cube.width == width) {
-        bail!("other widths");
+        return Ok(None);
     }
-    match first_gap(alloc, &cubes, width)? {
-        Some(gap) => Ok(format!(in alloc; "{gap:x}")?),
-        None => Ok(String::from_str(alloc, "none")?),
-    }
+    first_gap(alloc, &cubes, width)
 }

@@ -1,72 +1,99 @@
 //! Jobs of words.
 
-use crate::forms::FORMS;
-use anyhow::{Context, bail};
-use case_lines::escaped;
+use crate::answers::{put, put_all, put_debugged, truth};
+use crate::words::pieces;
 use job_words::{Form, Job, JobFail, Words, built_forms, job, judge};
 use std::alloc::{AllocError, Global};
 
-/// What a call answers.
-pub(crate) fn answer(alloc: Global, call: &str, line: &str) -> anyhow::Result<String> {
+/// Puts what a call answers.
+pub(crate) fn answer(
+    alloc: Global,
+    call: &str,
+    line: &[u8],
+    into: &mut Vec<u8>,
+) -> Result<(), AllocError> {
     if call == "form" {
-        return form(alloc, line);
+        return put_form_of(alloc, line, into);
     }
-    let words = words_of(alloc, line)?;
-    if words.count() >= 0xffff_ffff {
-        bail!("too many words");
-    }
-    let answer = if call == "job" {
-        job(alloc, &words)
-    } else {
-        judge(alloc, &FORMS, &words)
-    };
-    match answer {
-        Ok(job) => shown(alloc, &job),
-        Err(JobFail::Usage { word }) => Ok(format!(in alloc; "word {word}")?),
-        Err(JobFail::NoMemory) => bail!("no memory"),
-    }
-}
-
-/// The words of a line, cut at each space; no words for an empty line.
-fn words_of(alloc: Global, line: &str) -> Result<Words, AllocError> {
     let mut words = Words::new(alloc);
-    if !line.is_empty() {
-        for word in line.split(' ') {
-            words.push(word.as_bytes())?;
+    add_words(alloc, line, &mut words)?;
+    if words.count() > 1000 {
+        return Ok(());
+    }
+    if call == "job" {
+        put_answer(alloc, job(alloc, &words), into)
+    } else {
+        put_answer(alloc, judge(alloc, built_forms(), &words), into)
+    }
+}
+
+/// Adds the words of a line, cut at each space; no words of an empty line.
+fn add_words(alloc: Global, line: &[u8], words: &mut Words) -> Result<(), AllocError> {
+    if line.is_empty() {
+        return Ok(());
+    }
+    let pieces = pieces(alloc, line, b' ')?;
+    for word in pieces.as_slice() {
+        words.push(word.bytes())?;
+    }
+    Ok(())
+}
+
+/// Puts a job, or the number of the refused word.
+fn put_answer(
+    alloc: Global,
+    answer: Result<Job, JobFail>,
+    into: &mut Vec<u8>,
+) -> Result<(), AllocError> {
+    match answer {
+        Ok(job) => put_job(alloc, &job, into),
+        Err(JobFail::Usage { word }) => put(alloc, b"word ", word, into),
+        Err(JobFail::NoMemory) => Err(AllocError),
+    }
+}
+
+/// Puts the command, the two names in brackets, the limit, the options, and the four numbers.
+fn put_job(alloc: Global, job: &Job, into: &mut Vec<u8>) -> Result<(), AllocError> {
+    put_debugged(alloc, b"", &job.command, into)?;
+    put_all(
+        &[b" [", job.file.bytes(), b"] [", job.second.bytes(), b"]"],
+        into,
+    )?;
+    put(alloc, b" ", job.limit, into)?;
+    put_options(job, into)?;
+    put(alloc, b" ", job.seed, into)?;
+    put(alloc, b" ", job.a, into)?;
+    put(alloc, b" ", job.b, into)?;
+    put(alloc, b" ", job.k, into)
+}
+
+/// Puts the options.
+fn put_options(job: &Job, into: &mut Vec<u8>) -> Result<(), AllocError> {
+    put_all(&[b" reduce ", truth(job.reduce)], into)?;
+    put_all(&[b" start ", start_of(job)], into)?;
+    put_all(&[b" hold ", truth(job.hold)], into)
+}
+
+/// The word of the first values of the latches.
+fn start_of(job: &Job) -> &[u8] {
+    match &job.start {
+        Some(name) => name.bytes(),
+        None => b"own",
+    }
+}
+
+/// Puts the operands and options of a command that is built.
+fn put_form_of(alloc: Global, word: &[u8], into: &mut Vec<u8>) -> Result<(), AllocError> {
+    for form in built_forms() {
+        if form.command.word() == word {
+            return put_form(alloc, form, into);
         }
     }
-    Ok(words)
+    Ok(())
 }
 
-/// A job: the command, the two names in brackets, the limit, the options, and the four numbers.
-fn shown(alloc: Global, job: &Job) -> anyhow::Result<String> {
-    let start = match &job.start {
-        Some(name) => escaped(alloc, name.bytes())?,
-        None => String::from_str(alloc, "own")?,
-    };
-    let file = escaped(alloc, job.file.bytes())?;
-    let second = escaped(alloc, job.second.bytes())?;
-    let front = format!(in alloc; "{:?} [{file}] [{second}] {}", job.command, job.limit)?;
-    let options = format!(in alloc; "reduce {} start {start} hold {}", job.reduce, job.hold)?;
-    Ok(format!(in alloc;
-        "{front} {options} {} {} {} {}",
-        job.seed, job.a, job.b, job.k
-    )?)
-}
-
-/// The operands and options of a command that is built.
-fn form(alloc: Global, word: &str) -> anyhow::Result<String> {
-    let form = form_of(built_forms(), word).context("no such command")?;
-    let (operands, options) = (form.operands, form.options);
-    Ok(format!(in alloc; "{operands:?} {options:?}")?)
-}
-
-/// The form of a word.
-fn form_of(forms: &'static [Form], word: &str) -> Option<Form> {
-    for form in forms {
-        if form.command.word() == word.as_bytes() {
-            return Some(*form);
-        }
-    }
-    None
+/// Puts operands and options.
+fn put_form(alloc: Global, form: &Form, into: &mut Vec<u8>) -> Result<(), AllocError> {
+    put_debugged(alloc, b"", &form.operands, into)?;
+    put_debugged(alloc, b" ", &form.options, into)
 }

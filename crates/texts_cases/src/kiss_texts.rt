@@ -1,40 +1,58 @@
 //! KISS2 texts and names of states.
 
-use anyhow::{Context, bail, ensure};
-use case_lines::{escaped, unescaped};
-use kiss2::{KissFail, KissFile, KissRow, StateNames, read, write};
+use crate::answers::{put, put_bits, put_debugged};
+use crate::cubes_and_gaps::put_cube;
+use crate::words::{cut, number, pieces, readable};
+use kiss2::{KissFail, KissFault, KissFile, KissRow, StateNames, read, write};
 use std::alloc::{AllocError, Global};
 
-/// What a call answers.
-pub(crate) fn answer(alloc: Global, call: &str, words: &str) -> anyhow::Result<String> {
+/// Puts what a call answers.
+pub(crate) fn answer(
+    alloc: Global,
+    call: &str,
+    words: &[u8],
+    into: &mut Vec<u8>,
+) -> Result<(), AllocError> {
     match call {
-        "state_names" => numbered(alloc, words),
-        "read" => told(alloc, unescaped(alloc, words)?.as_slice()),
-        "front" => told(alloc, front(words)?),
-        "read_repeated" => told(alloc, repeated(alloc, words)?.as_slice()),
-        _ => written(alloc, words),
+        "state_names" => put_numbered(alloc, words, into),
+        "read" => put_read(alloc, words, into),
+        "front" => put_read(alloc, front(words), into),
+        "read_repeated" => put_repeated(alloc, words, into),
+        _ => put_rewritten(alloc, words, into),
     }
 }
 
-/// The number of each name, and then all names.
-fn numbered(alloc: Global, words: &str) -> anyhow::Result<String> {
+/// Puts the number of each name, and then all names.
+fn put_numbered(alloc: Global, words: &[u8], into: &mut Vec<u8>) -> Result<(), AllocError> {
     let mut names = StateNames::new(alloc);
-    let mut text = String::new(alloc);
-    for word in words.split(' ') {
-        ensure!(names.count() < 1000, "too many names");
-        let number = names.add(word.as_bytes())?;
-        text.push_str(format!(in alloc; "{number} ")?.as_str())?;
+    let words = pieces(alloc, words, b' ')?;
+    for word in words.as_slice() {
+        add_name(alloc, &mut names, word.bytes(), into)?;
     }
-    append_names(alloc, &mut text, &names)?;
-    Ok(text)
+    put_state_names(&names, into)
 }
 
-/// Appends the names of states in order.
-fn append_names(alloc: Global, text: &mut String, names: &StateNames) -> anyhow::Result<()> {
-    text.push_str("/")?;
+/// Adds a name and puts its number.
+fn add_name(
+    alloc: Global,
+    names: &mut StateNames,
+    word: &[u8],
+    into: &mut Vec<u8>,
+) -> Result<(), AllocError> {
+    if names.count() >= 1000 {
+        return Ok(());
+    }
+    let number = names.add(word)?;
+    put(alloc, b"", number, into)?;
+    into.extend_from_slice(b" ")
+}
+
+/// Puts the names of states in order.
+fn put_state_names(names: &StateNames, into: &mut Vec<u8>) -> Result<(), AllocError> {
+    into.extend_from_slice(b"/")?;
     for i in 0..names.count() {
-        text.push_str(" ")?;
-        text.push_str(escaped(alloc, names.name(i))?.as_str())?;
+        into.extend_from_slice(b" ")?;
+        into.extend_from_slice(names.name(i))?;
     }
     Ok(())
 }
@@ -43,61 +61,86 @@ fn append_names(alloc: Global, text: &mut String, names: &StateNames) -> anyhow:
 const TOGGLE: &[u8] = b".i 1\n.o 1\n0 a a 0\n1 a b 1\n0 b b 1\n1 b a 0\n.e\n";
 
 /// The front of the toggle of a length.
-fn front(word: &str) -> anyhow::Result<&'static [u8]> {
-    let length: usize = word.parse().ok().context("no length")?;
-    let (front, _) = TOGGLE.split_at_checked(length).context("no front")?;
-    Ok(front)
+fn front(length: &[u8]) -> &'static [u8] {
+    let length = number(length).min(1000) as usize;
+    &TOGGLE[..length.min(TOGGLE.len())]
 }
 
-/// A byte so many times.
-fn repeated(alloc: Global, words: &str) -> anyhow::Result<Vec<u8>> {
-    let (times, byte) = words.split_once(' ').context("no byte")?;
-    let times: usize = times.parse().ok().context("no number")?;
-    let byte = byte.as_bytes().first().context("no byte")?;
-    Ok(vec![in alloc; *byte; times]?)
+/// Puts what a byte so many times is read as.
+fn put_repeated(alloc: Global, words: &[u8], into: &mut Vec<u8>) -> Result<(), AllocError> {
+    let (times, piece) = cut(words, b' ');
+    let mut text = Vec::new(alloc);
+    repeat(piece, number(times), &mut text)?;
+    put_read(alloc, text.as_slice(), into)
 }
 
-/// What a text is read as, or its first fault.
-fn told(alloc: Global, text: &[u8]) -> anyhow::Result<String> {
-    ensure!(text.len() < 0xffff_ffff, "too long");
-    match read(alloc, text) {
-        Ok(file) => shown(alloc, &file),
-        Err(KissFail::Refused(fault)) => Ok(format!(in alloc; "{} {:?}", fault.line, fault.kind)?),
-        Err(KissFail::NoMemory) => bail!("no memory"),
+/// Appends a piece so many times.
+pub(crate) fn repeat(piece: &[u8], times: u64, into: &mut Vec<u8>) -> Result<(), AllocError> {
+    for _ in 0..times {
+        into.extend_from_slice(piece)?;
     }
-}
-
-/// The counts, the reset state and the names of a file, and then its rows.
-fn shown(alloc: Global, file: &KissFile) -> anyhow::Result<String> {
-    let mut text = format!(in alloc; "{} {} {} ", file.inputs, file.outputs, file.reset)?;
-    append_names(alloc, &mut text, &file.states)?;
-    for row in file.rows.as_slice() {
-        append_row(alloc, &mut text, row)?;
-    }
-    Ok(text)
-}
-
-/// Appends the numbers of a row, with the bits of cubes and outputs in hexadecimal.
-fn append_row(alloc: Global, text: &mut String, row: &KissRow) -> Result<(), AllocError> {
-    let cube = row.cube;
-    let symbols = format!(in alloc; "; {:x} {:x} {}", cube.care, cube.value, cube.width)?;
-    text.push_str(symbols.as_str())?;
-    let states = match row.to {
-        Some(to) => format!(in alloc; ", {} {to}", row.from)?,
-        None => format!(in alloc; ", {} *", row.from)?,
-    };
-    text.push_str(states.as_str())?;
-    let outputs = format!(in alloc; ", {:x} {:x}", row.care, row.value)?;
-    text.push_str(outputs.as_str())?;
     Ok(())
 }
 
-/// What is written of a text that is read.
-fn written(alloc: Global, words: &str) -> anyhow::Result<String> {
-    let text = unescaped(alloc, words)?;
-    ensure!(text.len() < 0xffff_ffff, "too long");
-    let Ok(file) = read(alloc, text.as_slice()) else {
-        bail!("it is not read");
-    };
-    escaped(alloc, write(alloc, &file)?.as_slice())
+/// Puts what a text is read as, or its first fault.
+fn put_read(alloc: Global, text: &[u8], into: &mut Vec<u8>) -> Result<(), AllocError> {
+    match read(alloc, readable(text)) {
+        Ok(file) => put_file(alloc, &file, into),
+        Err(KissFail::Refused(fault)) => put_fault(alloc, &fault, into),
+        Err(KissFail::NoMemory) => Err(AllocError),
+    }
+}
+
+/// Puts a fault.
+fn put_fault(alloc: Global, fault: &KissFault, into: &mut Vec<u8>) -> Result<(), AllocError> {
+    put(alloc, b"", fault.line, into)?;
+    put_debugged(alloc, b" ", &fault.kind, into)
+}
+
+/// Puts the counts, the reset state and the names of a file, and then its rows.
+fn put_file(alloc: Global, file: &KissFile, into: &mut Vec<u8>) -> Result<(), AllocError> {
+    put(alloc, b"", file.inputs, into)?;
+    put(alloc, b" ", file.outputs, into)?;
+    put(alloc, b" ", file.reset, into)?;
+    into.extend_from_slice(b" ")?;
+    put_state_names(&file.states, into)?;
+    for row in file.rows.as_slice() {
+        put_row(alloc, row, into)?;
+    }
+    Ok(())
+}
+
+/// Puts the numbers of a row, with the bits of cubes and outputs in hexadecimal.
+fn put_row(alloc: Global, row: &KissRow, into: &mut Vec<u8>) -> Result<(), AllocError> {
+    put_cube(alloc, b"; ", &row.cube, into)?;
+    put(alloc, b", ", row.from, into)?;
+    put_next(alloc, row.to, into)?;
+    put_bits(alloc, b", ", row.care, into)?;
+    put_bits(alloc, b" ", row.value, into)
+}
+
+/// Puts the number of the next state, or a star.
+fn put_next(alloc: Global, to: Option<u16>, into: &mut Vec<u8>) -> Result<(), AllocError> {
+    match to {
+        Some(to) => put(alloc, b" ", to, into),
+        None => into.extend_from_slice(b" *"),
+    }
+}
+
+/// Puts what is written of a text that is read.
+fn put_rewritten(alloc: Global, text: &[u8], into: &mut Vec<u8>) -> Result<(), AllocError> {
+    match read(alloc, readable(text)) {
+        Ok(file) => put_written(alloc, &file, into),
+        Err(_) => into.extend_from_slice(b"not read"),
+    }
+}
+
+/// Puts what is written of a file.
+pub(crate) fn put_written(
+    alloc: Global,
+    file: &KissFile,
+    into: &mut Vec<u8>,
+) -> Result<(), AllocError> {
+    let text = write(alloc, file)?;
+    into.extend_from_slice(text.as_slice())
 }

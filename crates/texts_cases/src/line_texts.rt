@@ -1,73 +1,73 @@
 //! Lines of texts, all at once and one after another.
 
-use anyhow::{bail, ensure};
-use case_lines::{escaped, unescaped};
-use hs_io::{content_of, cut_lines, first_field, first_line, is_clean};
+use crate::answers::{put, put_all};
+use crate::words::readable;
+use hs_io::{Line, content_of, cut_lines, first_field, first_line, is_clean};
 use std::alloc::{AllocError, Global};
 
-/// The lines of a text, which are the same when they are read one after another.
-pub(crate) fn answer(alloc: Global, words: &str) -> anyhow::Result<String> {
-    let text = unescaped(alloc, words)?;
-    let lines = lines_at_once(alloc, text.as_slice())?;
-    let others = lines_in_turn(alloc, text.as_slice())?;
-    ensure!(
-        lines == others,
-        "the lines differ when they are read in turn"
-    );
-    escaped(alloc, lines.as_slice())
+/// Puts the lines of a text, and then the lines as they are read in turn where those are others.
+pub(crate) fn put_lines(alloc: Global, text: &[u8], into: &mut Vec<u8>) -> Result<(), AllocError> {
+    let mut in_turn = Vec::new(alloc);
+    put_in_turn(alloc, text, &mut in_turn)?;
+    put_at_once(alloc, text, into)?;
+    if in_turn.as_slice() == into.as_slice() {
+        return Ok(());
+    }
+    put_all(&[b"; in turn ", in_turn.as_slice()], into)
 }
 
-/// Appends the number of a line, and a mark where it is bad.
-fn append_number(
-    alloc: Global,
-    into: &mut Vec<u8>,
-    number: u32,
-    bad: bool,
-) -> Result<(), AllocError> {
-    into.extend_from_slice(number.to_string(alloc)?.as_bytes())?;
-    into.extend_from_slice(if bad { b"!:" } else { b":" })?;
+/// Puts the number of a line, and a mark where it is bad.
+fn put_number(alloc: Global, number: u32, bad: bool, into: &mut Vec<u8>) -> Result<(), AllocError> {
+    put(alloc, b"", number, into)?;
+    into.extend_from_slice(if bad {
+        b"!:".as_slice()
+    } else {
+        b":".as_slice()
+    })
+}
+
+/// Puts the lines as a list gives them.
+fn put_at_once(alloc: Global, text: &[u8], into: &mut Vec<u8>) -> Result<(), AllocError> {
+    let lines = cut_lines(alloc, readable(text))?;
+    for line in lines.iter() {
+        put_line(alloc, line, into)?;
+    }
     Ok(())
 }
 
-/// The lines as a list gives them.
-fn lines_at_once(alloc: Global, text: &[u8]) -> anyhow::Result<Vec<u8>> {
-    let mut shown = Vec::new(alloc);
-    if text.len() > 0xffff_ffff {
-        bail!("too long");
+/// Puts a line.
+fn put_line(alloc: Global, line: &Line, into: &mut Vec<u8>) -> Result<(), AllocError> {
+    put_number(alloc, line.number, line.bad, into)?;
+    for field in line.fields.as_slice() {
+        put_all(&[field.bytes(), b";"], into)?;
     }
-    let lines = cut_lines(alloc, text)?;
-    for line in lines.iter() {
-        append_number(alloc, &mut shown, line.number, line.bad)?;
-        for field in line.fields.as_slice() {
-            shown.extend_from_slice(field.bytes())?;
-            shown.push(b';')?;
-        }
-    }
-    Ok(shown)
+    Ok(())
 }
 
-/// The lines as they are read one after another.
-fn lines_in_turn(alloc: Global, text: &[u8]) -> anyhow::Result<Vec<u8>> {
-    let mut shown = Vec::new(alloc);
+/// Puts the lines as they are read one after another.
+fn put_in_turn(alloc: Global, text: &[u8], into: &mut Vec<u8>) -> Result<(), AllocError> {
     let mut rest = text;
     let mut number = 0u32;
     while !rest.is_empty() {
         let (line, more) = first_line(rest);
         number = number.saturating_add(1);
-        let content = content_of(line);
-        append_number(alloc, &mut shown, number, !is_clean(content))?;
-        append_fields(&mut shown, content)?;
+        put_content(alloc, number, content_of(line), into)?;
         rest = more;
     }
-    Ok(shown)
+    Ok(())
 }
 
-/// Appends the fields of a line.
-fn append_fields(into: &mut Vec<u8>, content: &[u8]) -> Result<(), AllocError> {
+/// Puts what a line says.
+fn put_content(
+    alloc: Global,
+    number: u32,
+    content: &[u8],
+    into: &mut Vec<u8>,
+) -> Result<(), AllocError> {
+    put_number(alloc, number, !is_clean(content), into)?;
     let (mut field, mut rest) = first_field(content);
     while !field.is_empty() {
-        into.extend_from_slice(field)?;
-        into.push(b';')?;
+        put_all(&[field, b";"], into)?;
         (field, rest) = first_field(rest);
     }
     Ok(())

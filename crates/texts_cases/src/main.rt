@@ -1,75 +1,74 @@
-//! Runs the cases of texts in the files that its words name: `io.cases` has the calls of `hs_list` and `hs_io`,
-//! `cubes.cases` those of `cubes`, `kiss.cases` those of `kiss2`, `jobs.cases` those of `job_words`, `lines.cases`
-//! those of `hs_texts`, `nets.cases` those of `blif_in`, and `files.cases` loads files of the system. The form of a
-//! line is that of [`case_lines`]; what the arguments and the answers of a call are is told at the top of each file.
-//! A new case is a line, and takes no proof.
+//! Runs the cases in the files that its words name:
+//!
+//! | File | Holds the calls of |
+//! |---|---|
+//! | `io.cases` | `hs_list` and `hs_io` |
+//! | `files.cases` | `hs_io`, on files of the system |
+//! | `cubes.cases` | `cubes` |
+//! | `kiss.cases` | `kiss2` |
+//! | `jobs.cases` | `job_words` |
+//! | `lines.cases` | `hs_texts` |
+//! | `nets.cases` | `blif_in` and `blif_out` |
+//! | `networks.cases` | `net_core` |
+//! | `runs.cases` | `net_sim` |
+//! | `machines.cases` | `machine_gen` |
+//!
+//! A case is a line: the call is its first word, the arguments are the words up to the first ` =`, and the answer
+//! is what follows after one space, as in `meets 01- -11 = true`. Empty lines and lines that begin with `#` are
+//! skipped. In the arguments and the answer `\n`, `\r` and `\t` are one byte each, and so is `\x` with two
+//! hexadecimal digits. What the arguments and the answers of a call are is told at the top of each file. A new
+//! case is a line, and takes no proof. Cases of one call follow one another.
+//!
+//! An argument that is missing is empty, a character that is no digit counts as one, and a number outside its
+//! range is the nearest one inside. So a case with a fault gets an answer, and a wrong one.
 //!
 //! Three words name no files: `streams` puts a line to standard output and nothing to standard error, `small_cubes`
 //! compares the gaps of every list of up to three small cubes with a plain count, and `short_lists` compares what is
 //! told of every short list of words with a plain judge.
 #![tactic(auto)]
 
+mod answers;
+mod cases;
 mod cubes_and_gaps;
-mod forms;
+mod io_calls;
 mod jobs;
 mod kiss_texts;
+mod letters;
 mod line_texts;
-mod lists;
+mod machines;
 mod net_texts;
+mod networks;
 mod plain_gaps;
 mod plain_words;
 mod printed;
+mod runs;
 mod shelves;
 mod word_lists;
+mod words;
 
-use anyhow::ensure;
-use case_lines::{Calls, agree};
-use std::env;
-use std::rt::Files;
-
-/// The calls of texts.
-struct TextCalls;
-
-impl Calls for TextCalls {
-    fn answer<R: Files + AllocGlobal>(
-        &self,
-        rt: &R,
-        call: &str,
-        words: &str,
-    ) -> anyhow::Result<String> {
-        let alloc = rt.alloc();
-        match call {
-            "items" | "names" | "messages" => lists::answer(alloc, call, words),
-            "file_shelf" => shelves::file(rt, words),
-            "mem_shelf" | "mem_sink" | "closed_stream" => shelves::answer(alloc, call, words),
-            "cut_lines" => line_texts::answer(alloc, words),
-            "parse" | "holds" | "meets" | "first_gap" => cubes_and_gaps::answer(alloc, call, words),
-            "state_names" | "read" | "front" | "write" | "read_repeated" => {
-                kiss_texts::answer(alloc, call, words)
-            }
-            "job" | "judge" | "form" => jobs::answer(alloc, call, words),
-            "blif" | "blif_repeated" | "blif_text" => net_texts::answer(alloc, call, words),
-            _ => printed::answer(alloc, call, words),
-        }
-    }
-}
+use std::process::ExitCode;
+use std::{env, io};
 
 /// Whether all that a word names agrees.
-fn agrees(rt: &HostRuntime, word: &str) -> anyhow::Result<bool> {
+fn agrees(rt: &HostRuntime, word: &str) -> io::Result<bool> {
     match word {
-        "streams" => shelves::put_to_streams(rt),
+        "streams" => Ok(shelves::put_to_streams(rt)),
         "small_cubes" => plain_gaps::agree(rt),
         "short_lists" => word_lists::agree(rt),
-        name => agree(rt, &TextCalls, name),
+        name => cases::agree(rt, name),
     }
 }
 
-fn main(rt: HostRuntime) -> anyhow::Result<()> {
-    let mut all = true;
+fn main(rt: HostRuntime) -> io::Result<ExitCode> {
+    let mut differ = false;
     for word in env::args(&rt)?.skip(1) {
-        let agree = agrees(&rt, word.as_str())?;
-        all = all && agree;
+        if !agrees(&rt, word.as_str())? {
+            differ = true;
+        }
     }
-    ensure!(all, "there are differences");
-    Ok(())
+    Ok(if differ {
+        ExitCode::FAILURE
+    } else {
+        ExitCode::SUCCESS
+    })
 }

@@ -1,125 +1,133 @@
 //! BLIF texts.
 
-use anyhow::{Context, bail, ensure};
+use crate::answers::{put, put_all, put_debugged, put_names};
+use crate::kiss_texts::repeat;
+use crate::words::{cut, number, readable};
 use blif_in::{BlifFail, BlifFault, BlifKind, read};
 use blif_out::{Header, append, text};
-use case_lines::{escaped, unescaped};
-use hs_io::Names;
 use hs_list::Items;
 use kiss2::StateNames;
-use net_core::{NetFail, Network};
+use net_core::{Gate, Latch, NetFail, Network};
 use state_codes::Kind;
 use std::alloc::{AllocError, Global};
 
-/// What a call answers.
-pub(crate) fn answer(alloc: Global, call: &str, words: &str) -> anyhow::Result<String> {
+/// Puts what a call answers.
+pub(crate) fn answer(
+    alloc: Global,
+    call: &str,
+    words: &[u8],
+    into: &mut Vec<u8>,
+) -> Result<(), AllocError> {
     match call {
-        "blif" => told(alloc, unescaped(alloc, words)?.as_slice()),
-        "blif_repeated" => told(alloc, repeated(alloc, words)?.as_slice()),
-        _ => written(alloc),
+        "blif" => put_read(alloc, words, into),
+        "blif_repeated" => put_repeated(alloc, words, into),
+        _ => put_written(alloc, into),
     }
 }
 
-/// A text that ends in a piece so many times.
-fn repeated(alloc: Global, words: &str) -> anyhow::Result<Vec<u8>> {
-    let (times, rest) = words.split_once('|').context("no front")?;
-    let (front, piece) = rest.split_once('|').context("no piece")?;
-    let times: u32 = times.parse().ok().context("no number")?;
-    let mut text = unescaped(alloc, front)?;
-    let piece = unescaped(alloc, piece)?;
-    for _ in 0..times {
-        text.extend_from_slice(piece.as_slice())?;
+/// Puts what a text that ends in a piece so many times is read as.
+fn put_repeated(alloc: Global, words: &[u8], into: &mut Vec<u8>) -> Result<(), AllocError> {
+    let (times, rest) = cut(words, b'|');
+    let (front, piece) = cut(rest, b'|');
+    let mut text = Vec::new(alloc);
+    text.extend_from_slice(front)?;
+    repeat(piece, number(times), &mut text)?;
+    put_read(alloc, text.as_slice(), into)
+}
+
+/// Puts the network that a text says, or its first fault.
+fn put_read(alloc: Global, text: &[u8], into: &mut Vec<u8>) -> Result<(), AllocError> {
+    match read(alloc, readable(text)) {
+        Ok(net) => put_network(&net, into),
+        Err(BlifFail::Refused(fault)) => put_fault(alloc, &fault, into),
+        Err(BlifFail::NoMemory) => Err(AllocError),
     }
-    Ok(text)
 }
 
-/// The network that a text says, or its first fault.
-fn told(alloc: Global, text: &[u8]) -> anyhow::Result<String> {
-    ensure!(text.len() < 0xffff_ffff, "too long");
-    let line = match read(alloc, text) {
-        Ok(net) => shown(alloc, &net)?,
-        Err(BlifFail::Refused(fault)) => refused(alloc, &fault)?,
-        Err(BlifFail::NoMemory) => bail!("no memory"),
-    };
-    escaped(alloc, line.as_slice())
+/// Puts a network in one line: inputs, outputs, latches with their starts, and gates with their rows.
+fn put_network(net: &Network, into: &mut Vec<u8>) -> Result<(), AllocError> {
+    put_names(b"", net.inputs.as_slice(), b" ", into)?;
+    into.extend_from_slice(b"/ ")?;
+    put_names(b"", net.outputs.as_slice(), b" ", into)?;
+    into.extend_from_slice(b"/ ")?;
+    put_latches(net.latches.as_slice(), into)?;
+    into.extend_from_slice(b"/ ")?;
+    put_gates(net.gates.as_slice(), into)
 }
 
-/// Adds a word and a space.
-fn put(into: &mut Vec<u8>, word: &[u8]) -> Result<(), AllocError> {
-    into.extend_from_slice(word)?;
-    into.push(b' ')?;
-    Ok(())
-}
-
-/// Adds names.
-fn put_names(into: &mut Vec<u8>, names: &Names) -> Result<(), AllocError> {
-    for name in names.as_slice() {
-        put(into, name.bytes())?;
-    }
-    Ok(())
-}
-
-/// A network in one line: inputs, outputs, latches with their starts, and gates with their rows.
-fn shown(alloc: Global, net: &Network) -> Result<Vec<u8>, AllocError> {
-    let mut line = Vec::new(alloc);
-    put_names(&mut line, &net.inputs)?;
-    put(&mut line, b"/")?;
-    put_names(&mut line, &net.outputs)?;
-    put(&mut line, b"/")?;
-    put_latches(&mut line, net)?;
-    put(&mut line, b"/")?;
-    put_gates(&mut line, net)?;
-    Ok(line)
-}
-
-/// Adds latches, each with the digit of its start.
-fn put_latches(into: &mut Vec<u8>, net: &Network) -> Result<(), AllocError> {
-    for latch in net.latches.as_slice() {
-        put(into, latch.input.bytes())?;
-        put(into, latch.output.bytes())?;
-        put(into, &[latch.start.digit()])?;
+/// Puts latches, each with the digit of its start.
+fn put_latches(latches: &[Latch], into: &mut Vec<u8>) -> Result<(), AllocError> {
+    for latch in latches {
+        let (input, output) = (latch.input.bytes(), latch.output.bytes());
+        let digit = latch.start.digit();
+        put_all(&[input, b" ", output, b" ", &[digit], b" "], into)?;
     }
     Ok(())
 }
 
-/// Adds gates, each with its rows and the bit that they list.
-fn put_gates(into: &mut Vec<u8>, net: &Network) -> Result<(), AllocError> {
-    for gate in net.gates.as_slice() {
-        put_names(into, &gate.inputs)?;
-        put(into, b"->")?;
-        put(into, gate.output.bytes())?;
-        put_names(into, &gate.rows)?;
-        put(into, if gate.on { b"on;" } else { b"off;" })?;
+/// Puts gates.
+fn put_gates(gates: &[Gate], into: &mut Vec<u8>) -> Result<(), AllocError> {
+    for gate in gates {
+        put_gate(gate, into)?;
     }
     Ok(())
 }
 
-/// A fault in one line.
-fn refused(alloc: Global, fault: &BlifFault) -> Result<Vec<u8>, AllocError> {
-    let mut line = Vec::new(alloc);
+/// Puts a gate with its rows and the bit that they list.
+fn put_gate(gate: &Gate, into: &mut Vec<u8>) -> Result<(), AllocError> {
+    put_names(b"", gate.inputs.as_slice(), b" ", into)?;
+    put_all(&[b"-> ", gate.output.bytes(), b" "], into)?;
+    put_names(b"", gate.rows.as_slice(), b" ", into)?;
+    into.extend_from_slice(if gate.on {
+        b"on; ".as_slice()
+    } else {
+        b"off; ".as_slice()
+    })
+}
+
+/// Puts a fault in one line.
+fn put_fault(alloc: Global, fault: &BlifFault, into: &mut Vec<u8>) -> Result<(), AllocError> {
     match &fault.kind {
-        BlifKind::Structure(NetFail::TwoDrivers { name }) => {
-            put(&mut line, b"two drivers")?;
-            put(&mut line, name.bytes())?;
-        }
-        BlifKind::Structure(NetFail::Undriven { name }) => {
-            put(&mut line, b"undriven")?;
-            put(&mut line, name.bytes())?;
-        }
-        BlifKind::Structure(NetFail::Cycle { names }) => {
-            put(&mut line, b"cycle")?;
-            put_names(&mut line, names)?;
-        }
+        BlifKind::Structure(fail) => put_unsound(fail, b" ", into),
         kind => {
-            let text = format!(in alloc; "{} {kind:?}", fault.line)?;
-            put(&mut line, text.as_bytes())?;
+            put(alloc, b"", fault.line, into)?;
+            put_debugged(alloc, b" ", kind, into)?;
+            into.extend_from_slice(b" ")
         }
     }
-    Ok(line)
 }
 
-/// The text of the network without signals, and then its network again.
-fn written(alloc: Global) -> anyhow::Result<String> {
+/// Puts why a network is not sound, with the same behind each name.
+pub(crate) fn put_unsound(
+    fail: &NetFail,
+    behind: &[u8],
+    into: &mut Vec<u8>,
+) -> Result<(), AllocError> {
+    match fail {
+        NetFail::TwoDrivers { name } => put_all(&[b"two drivers ", name.bytes(), behind], into),
+        NetFail::Undriven { name } => put_all(&[b"undriven ", name.bytes(), behind], into),
+        NetFail::Cycle { names } => {
+            into.extend_from_slice(b"cycle ")?;
+            put_names(b"", names.as_slice(), behind, into)
+        }
+        NetFail::NoMemory => Err(AllocError),
+    }
+}
+
+/// Puts the text of the network without signals, and then its network again.
+fn put_written(alloc: Global, into: &mut Vec<u8>) -> Result<(), AllocError> {
+    put_headed(alloc, into)?;
+    let net = Network {
+        inputs: Items::new(alloc),
+        outputs: Items::new(alloc),
+        latches: Items::new(alloc),
+        gates: Items::new(alloc),
+    };
+    append(alloc, &net, into)
+}
+
+/// Puts the text of the network without signals.
+fn put_headed(alloc: Global, into: &mut Vec<u8>) -> Result<(), AllocError> {
     let net = Network {
         inputs: Items::new(alloc),
         outputs: Items::new(alloc),
@@ -134,7 +142,8 @@ fn written(alloc: Global) -> anyhow::Result<String> {
         words: Items::new(alloc),
         latches: Items::new(alloc),
     };
-    let mut whole = text(alloc, &net, &header)?;
-    append(alloc, &net, &mut whole)?;
-    escaped(alloc, whole.as_slice())
+    match text(alloc, &net, &header) {
+        Ok(text) => into.extend_from_slice(text.as_slice()),
+        Err(fail) => Err(fail),
+    }
 }

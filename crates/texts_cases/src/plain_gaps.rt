@@ -1,43 +1,44 @@
 //! Every list of one to three cubes of three places, beside a plain count over the eight symbols.
 
-use anyhow::{Context, ensure};
-use cubes::{Cube, first_gap};
-use std::alloc::Global;
+use crate::cubes_and_gaps::gap;
+use hs_io::{Name, Names};
+use std::alloc::{AllocError, Global};
+use std::io;
 
 /// Whether all lists agree. Prints how many there are, and each that differs.
-pub(crate) fn agree<R: AllocGlobal + Print>(rt: &R) -> anyhow::Result<bool> {
-    let alloc = rt.alloc();
-    let mut lists = 0u32;
+pub(crate) fn agree(rt: &HostRuntime) -> io::Result<bool> {
     let mut all = true;
     for number in 0..28 * 28 * 28usize {
-        let texts = texts_of(alloc, number)?;
-        lists = lists.saturating_add(1);
-        let found = gap(alloc, texts.as_slice())?;
-        let plain = (0..8).find(|x| !texts.iter().any(|text| text_holds(text, *x)));
-        if found != plain {
-            println!(rt; "small cubes {texts:?}: found {found:?}, wanted {plain:?}")?;
+        if !agrees(rt.alloc(), number)? {
+            println!(rt; "small cubes: list {number} differs")?;
             all = false;
         }
     }
     if all {
-        println!(rt; "lists of small cubes: {lists} cases")?;
+        println!(rt; "lists of small cubes: 21952 cases")?;
     }
     Ok(all)
 }
 
-/// Up to three fields of three characters, by number: three digits below 28, of which 27 stands for none.
-fn texts_of(alloc: Global, number: usize) -> anyhow::Result<Vec<[u8; 3]>> {
-    let mut texts = Vec::new(alloc);
+/// Whether the first gap of a list is the one that is counted.
+fn agrees(alloc: Global, number: usize) -> Result<bool, AllocError> {
+    let mut fields = Names::new(alloc);
+    add_fields(alloc, number, &mut fields)?;
+    Ok(gap(alloc, fields.as_slice(), 3)? == plain_gap(fields.as_slice()))
+}
+
+/// Adds up to three fields of three characters, by number: three digits below 28, of which 27 stands for none.
+fn add_fields(alloc: Global, number: usize, fields: &mut Names) -> Result<(), AllocError> {
     for digit in [number / 784 % 28, number / 28 % 28, number % 28] {
         if digit < 27 {
-            texts.push(small_text(digit))?;
+            fields.push(Name::new(alloc, &small_field(digit))?)?;
         }
     }
-    Ok(texts)
+    Ok(())
 }
 
 /// The fields of three characters, by number.
-fn small_text(number: usize) -> [u8; 3] {
+fn small_field(number: usize) -> [u8; 3] {
     let characters = [b'0', b'1', b'-'];
     [
         characters[number / 9 % 3],
@@ -46,19 +47,43 @@ fn small_text(number: usize) -> [u8; 3] {
     ]
 }
 
-/// Whether a field allows the three bits of a number, character by character.
-fn text_holds(text: &[u8; 3], x: u32) -> bool {
-    let bits = [x / 4 % 2, x / 2 % 2, x % 2];
-    text.iter().zip(&bits).all(|(character, bit)| *character == b'-'
-        || (*character == b'1') == (*bit == 1))
+/// The least of the eight symbols that no field allows.
+fn plain_gap(fields: &[Name]) -> Option<u32> {
+    for x in 0..8 {
+        if !any_allows(fields, x) {
+            return Some(x);
+        }
+    }
+    None
 }
 
-/// The first gap of the cubes of these fields.
-fn gap(alloc: Global, texts: &[[u8; 3]]) -> anyhow::Result<Option<u32>> {
-    let mut cubes = Vec::new(alloc);
-    for text in texts {
-        cubes.push(Cube::parse(text, 3).ok().context("no cube")?)?;
+/// Whether a field allows a symbol.
+fn any_allows(fields: &[Name], x: u32) -> bool {
+    for field in fields {
+        if allows(field.bytes(), x) {
+            return true;
+        }
     }
-    ensure!(cubes.iter().all(|cube| cube.width == 3), "no cubes");
-    Ok(first_gap(alloc, &cubes, 3)?)
+    false
+}
+
+/// Whether a field allows the three bits of a number, character by character.
+fn allows(field: &[u8], x: u32) -> bool {
+    match field {
+        [first, second, third] => {
+            is_allowed(*first, x / 4 % 2)
+                && is_allowed(*second, x / 2 % 2)
+                && is_allowed(*third, x % 2)
+        }
+        _ => false,
+    }
+}
+
+/// Whether a character allows a bit.
+fn is_allowed(character: u8, bit: u32) -> bool {
+    match character {
+        b'0' => bit == 0,
+        b'1' => bit == 1,
+        _ => true,
+    }
 }

@@ -1,7 +1,6 @@
 //! A judge of words that looks at each word by itself and counts what stands before it.
 
-use crate::forms::FORMS;
-use job_words::{CommandOption, Form, OperandKind};
+use job_words::{CommandOption, Form, OperandKind, built_forms};
 use std::str;
 
 /// The number of the refused word, counted from 1, or 0 where the words are a job.
@@ -25,9 +24,9 @@ fn form_of(words: &[&[u8]]) -> Option<Form> {
     if words.is_empty() {
         return None;
     }
-    for form in FORMS {
+    for form in built_forms() {
         if form.command.word() == words[0] {
-            return Some(form);
+            return Some(*form);
         }
     }
     None

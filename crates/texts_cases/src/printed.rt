@@ -1,113 +1,109 @@
 //! Lines to err and reports.
 
-use anyhow::{Context, bail};
-use case_lines::escaped;
-use hs_io::{Name, Names};
+use crate::words::{count, cut, number, pieces};
 use hs_list::Items;
 use hs_texts::err_lines;
 use hs_texts::reports::{TrialFigures, counts, trial};
 use std::alloc::{AllocError, Global};
 
-/// What a call answers.
-pub(crate) fn answer(alloc: Global, call: &str, words: &str) -> anyhow::Result<String> {
-    let (first, rest) = words.split_once(' ').unwrap_or((words, ""));
-    let (second, third) = rest.split_once(' ').unwrap_or((rest, ""));
-    let (name, other) = (first.as_bytes(), second.as_bytes());
-    let text = match call {
-        "cannot_read" => err_lines::cannot_read(alloc, name)?,
-        "too_long" => err_lines::too_long(alloc, name)?,
-        "kiss" => err_lines::kiss(alloc, number(first)?, rest.as_bytes())?,
-        "net" => err_lines::net(alloc, number(first)?, rest.as_bytes())?,
-        "two_drivers" => err_lines::two_drivers(alloc, name)?,
-        "undriven" => err_lines::undriven(alloc, name)?,
-        "cycle" => err_lines::cycle(alloc, names(alloc, words)?.as_slice())?,
-        "bad_start" => err_lines::bad_start(alloc)?,
-        "start_unknown" => err_lines::start_unknown(alloc, name)?,
-        "not_apart" => err_lines::not_apart(alloc, name, other)?,
-        "no_split" => err_lines::no_split(alloc, name)?,
-        "unspecified" => unspecified(alloc, name, second, third)?,
-        "counts" => counted(alloc, first, rest)?,
-        "trial" => summary(alloc, words)?,
-        _ => of_numbers(alloc, call, number(first)?, second, third)?,
-    };
-    escaped(alloc, text.as_slice())
-}
-
-/// The number that a word says.
-fn number(word: &str) -> anyhow::Result<u32> {
-    word.parse().ok().context("no number")
-}
-
-/// The lines that have numbers alone.
-fn of_numbers(
+/// Puts what a call answers.
+pub(crate) fn answer(
     alloc: Global,
     call: &str,
-    first: u32,
-    second: &str,
-    third: &str,
-) -> anyhow::Result<Vec<u8>> {
-    let place = first as usize;
-    let text = match call {
-        "usage" => err_lines::usage(alloc, first)?,
-        "symbols" => err_lines::symbols(alloc, first)?,
-        "conflict" => err_lines::conflict(alloc, first, number(second)?)?,
-        "more" => err_lines::more(alloc, place)?,
-        "code_bits" => err_lines::code_bits(alloc, place)?,
-        "part_place" => err_lines::part_place(alloc, place, number(second)? as usize)?,
-        "part_length" => {
-            let (found, states) = (number(second)? as usize, number(third)? as usize);
-            err_lines::part_length(alloc, place, found, states)?
-        }
-        _ => bail!("no such call"),
-    };
-    Ok(text)
+    words: &[u8],
+    into: &mut Vec<u8>,
+) -> Result<(), AllocError> {
+    let text = text_of(alloc, call, words)?;
+    into.extend_from_slice(text.as_slice())
 }
 
-/// The names of a text, with spaces between them.
-fn names(alloc: Global, text: &str) -> Result<Names, AllocError> {
-    let mut names = Names::new(alloc);
-    for name in text.split(' ') {
-        names.push(Name::new(alloc, name.as_bytes())?)?;
+/// The text of a call.
+fn text_of(alloc: Global, call: &str, words: &[u8]) -> Result<Vec<u8>, AllocError> {
+    let (first, rest) = cut(words, b' ');
+    match call {
+        "counts" => counted(alloc, first, rest),
+        "trial" => summary(alloc, words),
+        "cycle" => cycle(alloc, words),
+        "kiss" => err_lines::kiss(alloc, count(first), rest),
+        "net" => err_lines::net(alloc, count(first), rest),
+        "usage" | "symbols" | "conflict" | "more" | "code_bits" | "part_place" | "part_length" => {
+            numbered(alloc, call, first, rest)
+        }
+        _ => named(alloc, call, first, rest),
     }
-    Ok(names)
+}
+
+/// The lines that have names alone.
+fn named(alloc: Global, call: &str, name: &[u8], rest: &[u8]) -> Result<Vec<u8>, AllocError> {
+    match call {
+        "cannot_read" => err_lines::cannot_read(alloc, name),
+        "too_long" => err_lines::too_long(alloc, name),
+        "two_drivers" => err_lines::two_drivers(alloc, name),
+        "undriven" => err_lines::undriven(alloc, name),
+        "bad_start" => err_lines::bad_start(alloc),
+        "start_unknown" => err_lines::start_unknown(alloc, name),
+        "not_apart" => err_lines::not_apart(alloc, name, rest),
+        "no_split" => err_lines::no_split(alloc, name),
+        _ => unspecified(alloc, name, rest),
+    }
 }
 
 /// The line of what a machine leaves open.
-fn unspecified(
-    alloc: Global,
-    state: &[u8],
-    symbol: &str,
-    part: &str,
-) -> Result<Vec<u8>, AllocError> {
-    err_lines::unspecified(alloc, state, symbol.as_bytes(), part.as_bytes())
+fn unspecified(alloc: Global, state: &[u8], words: &[u8]) -> Result<Vec<u8>, AllocError> {
+    let (symbol, part) = cut(words, b' ');
+    err_lines::unspecified(alloc, state, symbol, part)
+}
+
+/// The lines that have numbers alone.
+fn numbered(alloc: Global, call: &str, first: &[u8], rest: &[u8]) -> Result<Vec<u8>, AllocError> {
+    let (second, third) = cut(rest, b' ');
+    let (first, second, third) = (count(first), count(second), count(third));
+    match call {
+        "usage" => err_lines::usage(alloc, first),
+        "symbols" => err_lines::symbols(alloc, first),
+        "conflict" => err_lines::conflict(alloc, first, second),
+        "more" => err_lines::more(alloc, first as usize),
+        "code_bits" => err_lines::code_bits(alloc, first as usize),
+        "part_place" => err_lines::part_place(alloc, first as usize, second as usize),
+        _ => err_lines::part_length(alloc, first as usize, second as usize, third as usize),
+    }
+}
+
+/// The line of a cycle.
+fn cycle(alloc: Global, words: &[u8]) -> Result<Vec<u8>, AllocError> {
+    let names = pieces(alloc, words, b' ')?;
+    err_lines::cycle(alloc, names.as_slice())
 }
 
 /// The counts of a machine whose reset state is named last.
-fn counted(alloc: Global, states: &str, words: &str) -> anyhow::Result<Vec<u8>> {
-    let (inputs, rest) = words.split_once(' ').context("no inputs")?;
-    let (outputs, rest) = rest.split_once(' ').context("no outputs")?;
-    let (rows, reset) = rest.split_once(' ').context("no rows")?;
-    let inputs: u8 = inputs.parse().ok().context("no number")?;
-    let outputs: u8 = outputs.parse().ok().context("no number")?;
-    let (states, rows) = (number(states)? as usize, number(rows)? as usize);
-    Ok(counts(alloc, states, inputs, outputs, rows, reset.as_bytes())?)
+fn counted(alloc: Global, states: &[u8], words: &[u8]) -> Result<Vec<u8>, AllocError> {
+    let (inputs, rest) = cut(words, b' ');
+    let (outputs, rest) = cut(rest, b' ');
+    let (rows, reset) = cut(rest, b' ');
+    let inputs = number(inputs).min(255) as u8;
+    let outputs = number(outputs).min(255) as u8;
+    let (states, rows) = (count(states) as usize, count(rows) as usize);
+    counts(alloc, states, inputs, outputs, rows, reset)
 }
 
 /// The summary of the trial of 42 2 2 1 with so many closed partitions, or more than 1,000.
-fn summary(alloc: Global, closed: &str) -> anyhow::Result<Vec<u8>> {
-    let mut parts = Items::new(alloc);
-    parts.push(2)?;
-    parts.push(2)?;
+fn summary(alloc: Global, closed: &[u8]) -> Result<Vec<u8>, AllocError> {
+    let closed = if closed == b"more".as_slice() {
+        None
+    } else {
+        Some(count(closed) as usize)
+    };
+    let parts = vec![in alloc; 2, 2]?;
     let figures = TrialFigures {
         seed: 42,
         a: 2,
         b: 2,
         k: 1,
         states: 4,
-        closed: closed.parse().ok(),
-        parts,
+        closed,
+        parts: Items::from(parts),
         latches: 2,
         ones: 1000,
     };
-    Ok(trial(alloc, &figures)?)
+    trial(alloc, &figures)
 }

@@ -1,97 +1,108 @@
 //! Shelves and sinks.
 
-use anyhow::{Context, bail, ensure};
-use case_lines::{escaped, unescaped};
-use hs_io::{FileShelf, LoadFail, MemShelf, MemSink, Shelf, Sink, StdSink};
-use std::alloc::Global;
+use crate::answers::{put_all, put_debugged};
+use crate::words::{cut, number, pieces};
+use hs_io::{FileShelf, LoadFail, MemShelf, MemSink, Shelf, Sink, SinkFail, StdSink};
+use std::alloc::{AllocError, Global};
 use std::io;
-use std::rt::Files;
 
-/// What a call answers.
-pub(crate) fn answer(alloc: Global, call: &str, words: &str) -> anyhow::Result<String> {
-    match call {
-        "mem_shelf" => loaded(alloc, words),
-        "mem_sink" => put(alloc, words),
-        _ => put_to_closed(alloc),
+/// What a load tells.
+fn told(answer: Result<(), LoadFail>) -> &'static [u8] {
+    match answer {
+        Ok(()) => b"ok ",
+        Err(LoadFail::Failed) => b"failed ",
+        Err(LoadFail::TooLong) => b"too long ",
+        Err(LoadFail::NoMemory) => b"no memory ",
     }
 }
 
-/// What a load told, and the bytes of it.
-fn told(alloc: Global, answer: Result<(), LoadFail>, bytes: &[u8]) -> anyhow::Result<String> {
-    let word = match answer {
-        Ok(()) => "ok",
-        Err(LoadFail::Failed) => "failed",
-        Err(LoadFail::TooLong) => "too long",
-        Err(LoadFail::NoMemory) => bail!("no memory"),
-    };
-    let bytes = escaped(alloc, bytes)?;
-    Ok(format!(in alloc; "{word} {bytes}")?)
-}
-
-/// What each load of a shelf in memory tells.
-fn loaded(alloc: Global, words: &str) -> anyhow::Result<String> {
+/// Puts what each load of a shelf in memory tells, and the bytes of it.
+pub(crate) fn load_all(alloc: Global, words: &[u8], into: &mut Vec<u8>) -> Result<(), AllocError> {
     let mut shelf = MemShelf::new(alloc);
-    let mut text = String::new(alloc);
-    for step in words.split(';') {
-        let (verb, rest) = step.split_once(' ').context("no step")?;
-        match verb {
-            "add" => {
-                let (name, bytes) = rest.split_once(' ').context("no bytes")?;
-                shelf.add(name.as_bytes(), bytes.as_bytes())?;
-            }
-            "fail" => {
-                let call: u32 = rest.parse().ok().context("no number")?;
-                ensure!(call > 0, "no load");
-                shelf.fail_at(u64::from(call))?;
-            }
-            _ => {
-                text.push_str(load_step(alloc, &mut shelf, rest)?.as_str())?;
-                text.push_str(";")?;
-            }
-        }
+    let steps = pieces(alloc, words, b';')?;
+    for step in steps.as_slice() {
+        take_step(alloc, &mut shelf, step.bytes(), into)?;
     }
-    Ok(text)
+    Ok(())
 }
 
-/// What a load of a name with a limit tells.
-fn load_step(alloc: Global, shelf: &mut MemShelf, words: &str) -> anyhow::Result<String> {
-    let (name, limit) = words.split_once(' ').context("no limit")?;
-    let limit: u16 = limit.parse().ok().context("no limit")?;
-    let mut into = Vec::new(alloc);
-    let answer = shelf.load(name.as_bytes(), usize::from(limit), &mut into);
-    told(alloc, answer, into.as_slice())
-}
-
-/// What each put to a sink in memory tells, and the bytes that the sink was given so far.
-fn put(alloc: Global, words: &str) -> anyhow::Result<String> {
-    let (room, steps) = words.split_once(';').context("no room")?;
-    let mut sink = MemSink::new(alloc, room.parse().ok().context("no room")?)?;
-    let mut text = String::new(alloc);
-    for step in steps.split(';') {
-        let (verb, rest) = step.split_once(' ').context("no step")?;
-        if verb == "fail" {
-            let (call, take) = rest.split_once(' ').context("no number")?;
-            let call: u32 = call.parse().ok().context("no number")?;
-            ensure!(call > 0, "no put");
-            sink.fail_at(u64::from(call), take.parse().ok().context("no number")?);
-        } else {
-            let answer = sink.put(rest.as_bytes());
-            text.push_str(if answer.is_ok() { "ok " } else { "failed " })?;
-            text.push_str(escaped(alloc, sink.bytes())?.as_str())?;
-            text.push_str(";")?;
-        }
+/// Takes a step of a shelf.
+fn take_step(
+    alloc: Global,
+    shelf: &mut MemShelf,
+    step: &[u8],
+    into: &mut Vec<u8>,
+) -> Result<(), AllocError> {
+    let (verb, rest) = cut(step, b' ');
+    let (first, second) = cut(rest, b' ');
+    match verb {
+        b"add" => shelf.add(first, second),
+        b"fail" => shelf.fail_at(number(first).clamp(1, 1000)),
+        _ => load(alloc, shelf, first, second, into),
     }
-    Ok(text)
 }
 
-/// What a load of a file with a limit of ten bytes tells.
-pub(crate) fn file<R: Files + AllocGlobal>(rt: &R, words: &str) -> anyhow::Result<String> {
-    let alloc = rt.alloc();
+/// Puts what a load of a name with a limit tells, and the bytes of it.
+fn load(
+    alloc: Global,
+    shelf: &mut MemShelf,
+    name: &[u8],
+    limit: &[u8],
+    into: &mut Vec<u8>,
+) -> Result<(), AllocError> {
+    let limit = number(limit).min(1000) as usize;
+    let mut bytes = Vec::new(alloc);
+    let answer = shelf.load(name, limit, &mut bytes);
+    put_all(&[told(answer), bytes.as_slice(), b";"], into)
+}
+
+/// Puts what a load of a file with a limit of ten bytes tells, and the bytes of it.
+pub(crate) fn load_file(
+    rt: &HostRuntime,
+    name: &[u8],
+    into: &mut Vec<u8>,
+) -> Result<(), AllocError> {
     let mut shelf = FileShelf::new(rt);
-    let mut into = Vec::new(alloc);
-    let name = unescaped(alloc, words)?;
-    let answer = shelf.load(name.as_slice(), 10, &mut into);
-    told(alloc, answer, into.as_slice())
+    let mut bytes = Vec::new(rt.alloc());
+    let answer = shelf.load(name, 10, &mut bytes);
+    put_all(&[told(answer), bytes.as_slice()], into)
+}
+
+/// Puts what each put to a sink in memory tells, and the bytes that the sink was given so far.
+pub(crate) fn put_pieces(
+    alloc: Global,
+    words: &[u8],
+    into: &mut Vec<u8>,
+) -> Result<(), AllocError> {
+    let (room, steps) = cut(words, b';');
+    let steps = pieces(alloc, steps, b';')?;
+    let mut sink = MemSink::new(alloc, number(room).min(1000) as usize)?;
+    for step in steps.as_slice() {
+        put_step(&mut sink, step.bytes(), into)?;
+    }
+    Ok(())
+}
+
+/// Takes a step of a sink.
+fn put_step(sink: &mut MemSink, step: &[u8], into: &mut Vec<u8>) -> Result<(), AllocError> {
+    let (verb, rest) = cut(step, b' ');
+    if verb == b"fail".as_slice() {
+        let (call, take) = cut(rest, b' ');
+        sink.fail_at(number(call).clamp(1, 1000), number(take).min(1000) as usize);
+        return Ok(());
+    }
+    let answer = sink.put(rest);
+    into.extend_from_slice(taken(answer))?;
+    into.extend_from_slice(sink.bytes())?;
+    into.extend_from_slice(b";")
+}
+
+/// What a put tells.
+fn taken(answer: Result<(), SinkFail>) -> &'static [u8] {
+    match answer {
+        Ok(()) => b"ok ",
+        Err(SinkFail::Failed) => b"failed ",
+    }
 }
 
 /// A stream that takes nothing.
@@ -111,15 +122,15 @@ impl Print for Closed {
     }
 }
 
-/// What a put to a stream that takes nothing tells.
-fn put_to_closed(alloc: Global) -> anyhow::Result<String> {
+/// Puts what a put to a stream that takes nothing tells.
+pub(crate) fn put_to_closed(alloc: Global, into: &mut Vec<u8>) -> Result<(), AllocError> {
     let answer = StdSink::new(&Closed).put(b"a line\n");
-    Ok(format!(in alloc; "{answer:?}")?)
+    put_debugged(alloc, b"", &answer, into)
 }
 
-/// Puts a line to standard output, and nothing to standard error.
-pub(crate) fn put_to_streams(rt: &HostRuntime) -> anyhow::Result<bool> {
-    StdSink::new(rt.stdout()).put(b"a line\n")?;
-    StdSink::new(rt.stderr()).put(b"")?;
-    Ok(true)
+/// Puts a line to standard output, and nothing to standard error, and tells whether they took it.
+pub(crate) fn put_to_streams(rt: &HostRuntime) -> bool {
+    let line = StdSink::new(rt.stdout()).put(b"a line\n");
+    let nothing = StdSink::new(rt.stderr()).put(b"");
+    line.is_ok() && nothing.is_ok()
 }

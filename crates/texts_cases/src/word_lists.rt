@@ -1,10 +1,9 @@
 //! Every short list of words, beside a plain judge of each word by itself.
 
-use crate::forms::FORMS;
 use crate::plain_words::refused_word;
-use anyhow::bail;
-use job_words::{JobFail, Words, judge};
+use job_words::{JobFail, Words, built_forms, judge};
 use std::alloc::{AllocError, Global};
+use std::io;
 
 /// Words that stand for commands, operands, options, and numbers at each limit and past it.
 const ALPHABET: [&[u8]; 18] = [
@@ -42,7 +41,7 @@ const NUMBERS: [&[u8]; 9] = [
 ];
 
 /// Whether all lists agree. Prints how many there are, and each that differs.
-pub(crate) fn agree<R: AllocGlobal + Print>(rt: &R) -> anyhow::Result<bool> {
+pub(crate) fn agree(rt: &HostRuntime) -> io::Result<bool> {
     let mut all = true;
     for (count, lists) in [(0, 1), (1, 18), (2, 324), (3, 5832), (4, 104_976)] {
         let agree = agree_on(rt, None, &ALPHABET, count, lists)?;
@@ -53,13 +52,13 @@ pub(crate) fn agree<R: AllocGlobal + Print>(rt: &R) -> anyhow::Result<bool> {
 }
 
 /// Whether the lists of so many words agree.
-fn agree_on<R: AllocGlobal + Print>(
-    rt: &R,
-    first: Option<&[u8]>,
+fn agree_on(
+    rt: &HostRuntime,
+    first: Option<&'static [u8]>,
     alphabet: &[&'static [u8]],
     count: u32,
     lists: usize,
-) -> anyhow::Result<bool> {
+) -> io::Result<bool> {
     let mut all = true;
     for number in 0..lists {
         if !agrees(rt.alloc(), first, alphabet, count, number)? {
@@ -73,42 +72,60 @@ fn agree_on<R: AllocGlobal + Print>(
     Ok(all)
 }
 
-/// Whether the plain judge refuses the same word of a list. The digits of the number say which words of the
-/// alphabet are in the list, after a first word if there is one.
+/// Whether the plain judge refuses the same word of a list.
 fn agrees(
     alloc: Global,
-    first: Option<&[u8]>,
+    first: Option<&'static [u8]>,
     alphabet: &[&'static [u8]],
     count: u32,
     number: usize,
-) -> anyhow::Result<bool> {
+) -> Result<bool, AllocError> {
     let mut plain = Vec::new(alloc);
     let mut words = Words::new(alloc);
     if let Some(word) = first {
-        plain.push(word)?;
-        words.push(word)?;
+        add_word(word, &mut plain, &mut words)?;
     }
-    let mut left = number;
-    for _ in 0..count {
-        if alphabet.is_empty() {
-            break;
-        }
-        let word = alphabet[left % alphabet.len()];
-        left /= alphabet.len();
-        plain.push(word)?;
-        words.push(word)?;
-    }
+    add_words(alphabet, count, number, &mut plain, &mut words)?;
     Ok(refused(alloc, &words)? == refused_word(plain.as_slice()))
 }
 
-/// The number of the refused word, or 0.
-fn refused(alloc: Global, words: &Words) -> anyhow::Result<usize> {
-    if words.count() >= 0xffff_ffff {
-        bail!("too many words");
+/// Adds words of the alphabet, which the digits of the number say.
+fn add_words(
+    alphabet: &[&'static [u8]],
+    count: u32,
+    number: usize,
+    plain: &mut Vec<&'static [u8]>,
+    words: &mut Words,
+) -> Result<(), AllocError> {
+    if alphabet.is_empty() {
+        return Ok(());
     }
-    match judge(alloc, &FORMS, words) {
+    let mut left = number;
+    for _ in 0..count {
+        add_word(alphabet[left % alphabet.len()], plain, words)?;
+        left /= alphabet.len();
+    }
+    Ok(())
+}
+
+/// Adds a word.
+fn add_word(
+    word: &'static [u8],
+    plain: &mut Vec<&'static [u8]>,
+    words: &mut Words,
+) -> Result<(), AllocError> {
+    plain.push(word)?;
+    words.push(word)
+}
+
+/// The number of the refused word, or 0.
+fn refused(alloc: Global, words: &Words) -> Result<usize, AllocError> {
+    if words.count() > 1000 {
+        return Ok(0);
+    }
+    match judge(alloc, built_forms(), words) {
         Ok(_) => Ok(0),
         Err(JobFail::Usage { word }) => Ok(word as usize),
-        Err(JobFail::NoMemory) => Err(AllocError)?,
+        Err(JobFail::NoMemory) => Err(AllocError),
     }
 }

@@ -1,0 +1,55 @@
+//! The calls of `hs_list` and `hs_io`.
+
+use crate::answers::{put, put_names};
+use crate::words::pieces;
+use crate::{line_texts, shelves};
+use hs_io::{LoadFail, Name, SinkFail, copied_names};
+use hs_list::Items;
+use std::alloc::{AllocError, Global};
+
+/// Puts what a call answers.
+pub(crate) fn answer(
+    alloc: Global,
+    call: &str,
+    words: &[u8],
+    into: &mut Vec<u8>,
+) -> Result<(), AllocError> {
+    match call {
+        "items" => put_items(alloc, words, into),
+        "names" => put_copies(alloc, words, into),
+        "messages" => put_message(alloc, words, into),
+        "mem_shelf" => shelves::load_all(alloc, words, into),
+        "mem_sink" => shelves::put_pieces(alloc, words, into),
+        "closed_stream" => shelves::put_to_closed(alloc, into),
+        _ => line_texts::put_lines(alloc, words, into),
+    }
+}
+
+/// Puts how many names there are, and then the names.
+fn put_counted(alloc: Global, names: &[Name], into: &mut Vec<u8>) -> Result<(), AllocError> {
+    put(alloc, b"", names.len(), into)?;
+    put_names(b"/", names, b"", into)
+}
+
+/// Puts the names of a list that is made from the vector of another one.
+fn put_items(alloc: Global, words: &[u8], into: &mut Vec<u8>) -> Result<(), AllocError> {
+    let list = Items::from(pieces(alloc, words, b'/')?.into_vec());
+    put_counted(alloc, list.as_slice(), into)
+}
+
+/// Puts the names of a copy.
+fn put_copies(alloc: Global, words: &[u8], into: &mut Vec<u8>) -> Result<(), AllocError> {
+    let names = pieces(alloc, words, b'/')?;
+    let copies = copied_names(alloc, names.as_slice())?;
+    put_counted(alloc, copies.as_slice(), into)
+}
+
+/// Puts what a failure says.
+fn put_message(alloc: Global, word: &[u8], into: &mut Vec<u8>) -> Result<(), AllocError> {
+    match word {
+        b"LoadFail::Failed" => put(alloc, b"", LoadFail::Failed, into),
+        b"LoadFail::TooLong" => put(alloc, b"", LoadFail::TooLong, into),
+        b"LoadFail::NoMemory" => put(alloc, b"", LoadFail::NoMemory, into),
+        _ => put(alloc, b"", SinkFail::Failed, into),
+    }
+}

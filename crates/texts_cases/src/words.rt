@@ -1,0 +1,84 @@
+//! Words of cases.
+
+ghost use Rattle.std.specs.Prelude.{◌<◌, ◌≤◌, length};
+
+use hs_io::{Name, Names};
+use std::alloc::{AllocError, Global};
+
+/// What stands before the first such byte, and what stands after it: all and nothing where there is none.
+pub fn cut(text: &[u8], mark: u8) -> (&[u8], &[u8]) {
+    for i in 0..text.len() {
+        if text[i] == mark {
+            return (&text[..i], &text[i + 1..]);
+        }
+    }
+    (text, &text[text.len()..])
+}
+
+/// What stands between the bytes of that kind.
+pub fn pieces(alloc: Global, text: &[u8], mark: u8) -> Result<Names, AllocError> {
+    let mut pieces = Names::new(alloc);
+    for piece in text.split(|byte| *byte == mark) {
+        pieces.push(Name::new(alloc, piece)?)?;
+    }
+    Ok(pieces)
+}
+
+/// The number that a word says.
+pub fn number(word: &[u8]) -> u64 {
+    let mut number = 0u64;
+    for byte in word {
+        number = number
+            .saturating_mul(10)
+            .saturating_add(u64::from(byte.saturating_sub(b'0')));
+    }
+    number
+}
+
+/// The number of a line or of words.
+pub fn count(word: &[u8]) -> u32 {
+    number(word).min(0xffff_ffff) as u32
+}
+
+/// A text that is short enough to be read.
+pub fn readable(text: &[u8]) -> &[u8]
+    ensures { length result.now < 4294967295 }
+{
+    &text[..text.len().min(0xffff_fffe)]
+}
+
+/// Appends the bytes that a text with escapes says.
+pub fn unescape(text: &str, into: &mut Vec<u8>) -> Result<(), AllocError> {
+    let mut pieces = text.split('\\');
+    if let Some(front) = pieces.next() {
+        into.extend_from_slice(front.as_bytes())?;
+    }
+    for piece in pieces {
+        append_escape(piece.as_bytes(), into)?;
+    }
+    Ok(())
+}
+
+/// Appends what a backslash and the piece after it mean.
+fn append_escape(piece: &[u8], into: &mut Vec<u8>) -> Result<(), AllocError> {
+    let (byte, rest) = match piece {
+        [b'n', rest @ ..] => (b'\n', rest),
+        [b'r', rest @ ..] => (b'\r', rest),
+        [b't', rest @ ..] => (b'\t', rest),
+        [b'x', high, low, rest @ ..] => (digit(*high) * 16 + digit(*low), rest),
+        _ => (b'\\', piece),
+    };
+    into.push(byte)?;
+    into.extend_from_slice(rest)
+}
+
+/// The number of a hexadecimal digit.
+fn digit(byte: u8) -> u8
+    ensures { result < 16 }
+{
+    match byte {
+        b'0'..=b'9' => byte - b'0',
+        b'a'..=b'f' => byte - b'a' + 10,
+        _ => 0,
+    }
+}
