@@ -1,0 +1,151 @@
+//! Words of cases that say numbers and partitions, and the words of answers.
+
+ghost use Rattle.std.specs.Prelude.{◌<◌, ◌≤◌, IfSome};
+ghost use Rattle.partition.specs.Partition.{IsStateCount};
+
+use itoa::Buffer;
+use partition::{PartFail, Partition};
+use std::alloc::{AllocError, Global};
+
+/// The first word, and the words after it.
+pub(crate) fn cut(words: &str) -> (&str, &str) {
+    words.split_once(' ').unwrap_or((words, ""))
+}
+
+/// The number that a word says.
+pub(crate) fn number(word: &str) -> Option<usize> {
+    word.parse().ok()
+}
+
+/// The number of states that a word says.
+pub(crate) fn count(word: &str) -> Option<usize>
+    ensures { IfSome result IsStateCount }
+{
+    let n = number(word)?;
+    if n > 0 && n <= 256 { Some(n) } else { None }
+}
+
+/// The number of one state, or the numbers of two: the second is 0 where there is none.
+pub(crate) fn states(words: &str) -> Option<(usize, usize)> {
+    let (s, t) = cut(words);
+    let t = number(t).unwrap_or(0);
+    Some((number(s)?, t))
+}
+
+/// The label that a word says.
+fn label(word: &str) -> Option<u16> {
+    word.parse().ok()
+}
+
+/// The labels that a word says: `-` says none, and `0*300` says 0 three hundred times.
+pub(crate) fn labels(alloc: Global, word: &str) -> Option<Vec<u16>> {
+    match word.split_once('*') {
+        Some((label, times)) => repeated(alloc, label, times),
+        None => listed(alloc, word),
+    }
+}
+
+/// A label, so many times.
+fn repeated(alloc: Global, word: &str, times: &str) -> Option<Vec<u16>> {
+    let label = label(word)?;
+    vec![in alloc; label; number(times)?].ok()
+}
+
+/// Labels with commas between them.
+fn listed(alloc: Global, word: &str) -> Option<Vec<u16>> {
+    let mut labels = Vec::new(alloc);
+    if word == "-" || add_labels(&mut labels, word).is_some() {
+        Some(labels)
+    } else {
+        None
+    }
+}
+
+/// Adds labels with commas between them.
+fn add_labels(labels: &mut Vec<u16>, words: &str) -> Option<()> {
+    for word in words.split(',') {
+        labels.push(label(word)?).ok()?;
+    }
+    Some(())
+}
+
+/// The partition that a word says: its labels, or the word for one of n states.
+pub(crate) fn part(alloc: Global, word: &str) -> Option<Partition> {
+    match word.split_once('*') {
+        Some((kind, n)) => named(alloc, kind, count(n)?),
+        None => Partition::from_labels(alloc, labels(alloc, word)?.as_slice()).ok(),
+    }
+}
+
+/// The partitions that two words say.
+pub(crate) fn two_parts(alloc: Global, words: &str) -> Option<(Partition, Partition)> {
+    let (p, q) = cut(words);
+    let p = part(alloc, p)?;
+    Some((p, part(alloc, q)?))
+}
+
+/// The partition of n states that a word says.
+pub(crate) fn named(alloc: Global, kind: &str, n: usize) -> Option<Partition>
+    requires { IsStateCount n }
+{
+    match kind {
+        "zero" => Partition::zero(alloc, n).ok(),
+        "one" => Partition::one(alloc, n).ok(),
+        "even" => neighbours(alloc, n, 0),
+        "odd" => neighbours(alloc, n, 1),
+        _ => None,
+    }
+}
+
+/// The partition of n states into pairs of neighbours, the first pair beginning with that state.
+fn neighbours(alloc: Global, n: usize, first: u16) -> Option<Partition>
+    requires n { n ≤ 256 }
+    requires first { first ≤ 1 }
+{
+    let mut labels = Vec::new(alloc);
+    for s in 0..n as u16 {
+        labels.push((s + first) / 2).ok()?;
+    }
+    Partition::from_labels(alloc, labels.as_slice()).ok()
+}
+
+/// Adds a partition: its labels, or where it has more than eight states and is zero or one, the word for it.
+pub(crate) fn add_part(alloc: Global, p: &Partition, text: &mut Vec<u8>) -> Result<(), AllocError> {
+    let n = p.len();
+    if n > 8 && p.blocks() == n {
+        add(text, "zero*")?;
+        return add_number(n, text);
+    }
+    if n > 8 && p.blocks() == 1 {
+        add(text, "one*")?;
+        return add_number(n, text);
+    }
+    p.show(alloc, text)
+}
+
+/// Adds a partition, or why there is none.
+pub(crate) fn add_part_or_fault(
+    alloc: Global,
+    answer: Result<Partition, PartFail>,
+    text: &mut Vec<u8>,
+) -> Result<(), AllocError> {
+    match answer {
+        Ok(p) => add_part(alloc, &p, text),
+        Err(fail) => add(text, format!(in alloc; "{fail:?}")?.as_str()),
+    }
+}
+
+/// Adds a piece of text.
+pub(crate) fn add(text: &mut Vec<u8>, piece: &str) -> Result<(), AllocError> {
+    text.extend_from_slice(piece.as_bytes())
+}
+
+/// Adds a number.
+pub(crate) fn add_number(number: usize, text: &mut Vec<u8>) -> Result<(), AllocError> {
+    add(text, Buffer::new().format(number))
+}
+
+/// Adds a truth.
+pub(crate) fn add_truth(holds: bool, text: &mut Vec<u8>) -> Result<(), AllocError> {
+    add(text, if holds { "true" } else { "false" })
+}

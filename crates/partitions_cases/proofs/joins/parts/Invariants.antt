@@ -1,6 +1,0 @@
-use Rattle.std.proofs.Common.{All}
-use Rattle.partition.specs.Partition.{IsPartition}
-use Rattle.partitions_cases.proofs.joins.parts.Given as goal
-
-abbrev pub invariant-loop-word : goal.invariant-loop-word
-invariant-loop-word l = All (IsPartition l.n) l.list.items
