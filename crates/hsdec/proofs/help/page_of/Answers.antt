@@ -1,4 +1,4 @@
-use Rattle.std.proofs.Common.{◌≡◌, ℕ, List, [], ◌∷◌, Some, None, IfOk, MatchOption, length, slice_get, sym, subst}
+use Rattle.std.proofs.Common.{◌≡◌, ℕ, List, [], ◌∷◌, Some, None, IfOk, MatchOption, length, slice_get, sym, subst, arith}
 use Rattle.hsdec.specs.Pages.{page_asked}
 use Rattle.hsdec.proofs.help.page_of.Goals as goal
 
@@ -11,5 +11,6 @@ two_words (word ∷ other ∷ more ∷ words) first second two is_first is_secon
 
 pub returns-then-count-eq2 : goal.returns-then-count-eq2
 returns-then-count-eq2 c =
-    let words = two_words c.args.words.now c.word-then-count-eq2.result.now c.word-then-count-eq2-2.result.now c.if-count-eq2.true c.word-then-count-eq2.ensures c.word-then-count-eq2-2.ensures in
+    let two : length c.args.words.now ≡ 2 = (let counted = c.count-count.ensures in let is = c.if-count-eq2.true in omega (arith, counted, is)) in
+    let words = two_words c.args.words.now c.word-then-count-eq2.result.now c.word-then-count-eq2-2.result.now two c.word-then-count-eq2.ensures c.word-then-count-eq2-2.ensures in
     subst (λ (ws : List (List ℕ)). IfOk c.paired_page.result (λ page. MatchOption page (page_asked ws ≡ None) (λ text. page_asked ws ≡ Some text.items))) (sym words) c.paired_page.ensures

@@ -1,8 +1,8 @@
-use Rattle.std.proofs.Common.{◌≡◌, ◌⊎◌, None, inl, sym}
+use Rattle.std.proofs.Common.{◌≡◌, ◌⊎◌, None, Some, inl, sym}
 use Rattle.hs_io.specs.Counts.{Rose}
-use Rattle.answers.specs.declared.refusals.Refusal.TheVariants.{NoMemory}
+use Rattle.answers.specs.declared.refusals.Refusal.TheVariants.{NoMemory, Unwritable}
 use Rattle.hsdec.specs.Pages.{page_asked}
-use Rattle.hsdec.proofs.Answering.{answered_by_run, completed_by_run, completed_by_want, page_is_none, refused_by_run, refused_by_want}
+use Rattle.hsdec.proofs.Answering.{answered_by_run, completed_by_run, completed_by_want, page_is_none, page_is_some, refused_by_page, refused_by_run, refused_by_want}
 use Rattle.hsdec.proofs.program.answer_to_words.Goals as goal
 
 pub returns-in-Ok-None-clause-answer : goal.returns-in-Ok-None-clause-answer
@@ -43,3 +43,11 @@ returns-in-Err-clause-complete g c =
 pub returns-in-Err-clause-refused : goal.returns-in-Err-clause-refused
 returns-in-Err-clause-refused g c = λ undone.
     (NoMemory, sym c.refuse.ensures.answer, refused_by_want (page_asked c.args.words.now) c.args.words.now (g.F.Shelf.holds c.args.shelf.now) _ _, c.refuse.ensures.line)
+
+pub returns-in-Ok-Some-clause-refused : goal.returns-in-Ok-Some-clause-refused
+returns-in-Ok-Some-clause-refused g c = λ undone.
+    let is : c.in-Ok-Some.field-0 ≡ Some c.in-Ok-Some.page = cc in
+    let some : page_asked c.args.words.now ≡ Some c.in-Ok-Some.page.items = page_is_some (page_asked c.args.words.now) c.in-Ok-Some.field-0 c.in-Ok-Some.page (λ page. page.items) is c.in-Ok-Some.ensures in
+    let told = refused_by_page (page_asked c.args.words.now) c.in-Ok-Some.page.items c.args.words.now (g.F.Shelf.holds c.args.shelf.now) c.put_page.result
+    (Rose (g.F.Shelf.faults c.args.shelf.now) (g.F.Shelf.faults c.args.shelf.now)) (Rose (g.O.Sink.faults c.args.out.now) (g.O.Sink.faults c.put_page.new.out)) some c.put_page.ensures.answer c.put_page.ensures.write_fault undone in
+    (Unwritable, told.0, told.1, c.put_page.ensures.line undone)
