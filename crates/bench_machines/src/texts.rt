@@ -28,7 +28,25 @@ pub(crate) struct Shape {
     depth: usize,
 }
 
-/// The machine of that kind and size, of at most 256 states and 32 inputs.
+/// A number that a kind has, by the size.
+#[derive(Clone, Copy)]
+enum Amount {
+    Fixed(usize),
+    Size,
+    Square,
+    Power,
+}
+
+/// A kind of machine: its rule, its states and inputs, and how many inputs its cubes look at.
+struct Kind {
+    name: &'static str,
+    rule: Rule,
+    states: Amount,
+    inputs: Amount,
+    depth: Amount,
+}
+
+/// The kinds, by rules.
 ///
 /// - `cycle` is a counter modulo the size, which stays at 0 and goes on at 1; `still` has so many states that never
 ///   move; `grid` is a product of two chains of so many states, of which 0 moves the one and 1 the other; `shift` is
@@ -44,33 +62,138 @@ pub(crate) struct Shape {
 /// - `dense` has so many states, each with a row for each of 256 symbols, in one order. `cubes` has so many states,
 ///   each with 256 cubes of 32 inputs of its own, and `sparse` so many with 16 cubes of 27 inputs. A next state's
 ///   last bit is the first input.
-pub(crate) fn shape_of(kind: &str, size: usize) -> Option<Shape> {
-    let (size, side) = (size.min(256), size.min(16));
-    let (rule, states, inputs, depth) = match kind {
-        "cycle" => (Rule::Cycle, size, 1, 1),
-        "still" => (Rule::Still, size, 1, 0),
-        "grid" => (Rule::Grid, side.wrapping_mul(side), 1, 1),
-        "shift" => (Rule::Shift, 1 << size.min(8), 1, 1),
-        "chain" => (Rule::Chain, size, 1, 0),
-        "halves" => (Rule::Halves, size, 8, 8),
-        "adder" => (Rule::Adder, size, 8, 8),
-        "random" => (Rule::Random, size, 8, 8),
-        "copies" => (Rule::Adder, 4, 1, 1),
-        "wide" => (Rule::Adder, 16, size.clamp(8, 32), 8),
-        "long" => (Rule::Random, 1, side, side),
-        "mixed" => (Rule::Mixed, 1, side, side),
-        "dense" => (Rule::Tree, size, 8, 8),
-        "cubes" => (Rule::Tree, size, 32, 8),
-        "sparse" => (Rule::Tree, size, 27, 4),
-        _ => return None,
-    };
-    Some(Shape {
-        rule,
-        size,
-        states,
-        inputs,
-        depth,
-    })
+static KINDS: [Kind; 15] = [
+    Kind {
+        name: "cycle",
+        rule: Rule::Cycle,
+        states: Amount::Size,
+        inputs: Amount::Fixed(1),
+        depth: Amount::Fixed(1),
+    },
+    Kind {
+        name: "still",
+        rule: Rule::Still,
+        states: Amount::Size,
+        inputs: Amount::Fixed(1),
+        depth: Amount::Fixed(0),
+    },
+    Kind {
+        name: "grid",
+        rule: Rule::Grid,
+        states: Amount::Square,
+        inputs: Amount::Fixed(1),
+        depth: Amount::Fixed(1),
+    },
+    Kind {
+        name: "shift",
+        rule: Rule::Shift,
+        states: Amount::Power,
+        inputs: Amount::Fixed(1),
+        depth: Amount::Fixed(1),
+    },
+    Kind {
+        name: "chain",
+        rule: Rule::Chain,
+        states: Amount::Size,
+        inputs: Amount::Fixed(1),
+        depth: Amount::Fixed(0),
+    },
+    Kind {
+        name: "halves",
+        rule: Rule::Halves,
+        states: Amount::Size,
+        inputs: Amount::Fixed(8),
+        depth: Amount::Fixed(8),
+    },
+    Kind {
+        name: "adder",
+        rule: Rule::Adder,
+        states: Amount::Size,
+        inputs: Amount::Fixed(8),
+        depth: Amount::Fixed(8),
+    },
+    Kind {
+        name: "random",
+        rule: Rule::Random,
+        states: Amount::Size,
+        inputs: Amount::Fixed(8),
+        depth: Amount::Fixed(8),
+    },
+    Kind {
+        name: "copies",
+        rule: Rule::Adder,
+        states: Amount::Fixed(4),
+        inputs: Amount::Fixed(1),
+        depth: Amount::Fixed(1),
+    },
+    Kind {
+        name: "wide",
+        rule: Rule::Adder,
+        states: Amount::Fixed(16),
+        inputs: Amount::Size,
+        depth: Amount::Fixed(8),
+    },
+    Kind {
+        name: "long",
+        rule: Rule::Random,
+        states: Amount::Fixed(1),
+        inputs: Amount::Size,
+        depth: Amount::Size,
+    },
+    Kind {
+        name: "mixed",
+        rule: Rule::Mixed,
+        states: Amount::Fixed(1),
+        inputs: Amount::Size,
+        depth: Amount::Size,
+    },
+    Kind {
+        name: "dense",
+        rule: Rule::Tree,
+        states: Amount::Size,
+        inputs: Amount::Fixed(8),
+        depth: Amount::Fixed(8),
+    },
+    Kind {
+        name: "cubes",
+        rule: Rule::Tree,
+        states: Amount::Size,
+        inputs: Amount::Fixed(32),
+        depth: Amount::Fixed(8),
+    },
+    Kind {
+        name: "sparse",
+        rule: Rule::Tree,
+        states: Amount::Size,
+        inputs: Amount::Fixed(27),
+        depth: Amount::Fixed(4),
+    },
+];
+
+/// The number that an amount says.
+fn number_of(amount: Amount, size: usize) -> usize {
+    match amount {
+        Amount::Fixed(number) => number,
+        Amount::Size => size,
+        Amount::Square => size.wrapping_mul(size),
+        Amount::Power => 1 << size.min(16),
+    }
+}
+
+/// The machine of that kind and size, of at most 256 states and 32 inputs.
+pub(crate) fn shape_of(name: &str, size: usize) -> Option<Shape> {
+    for kind in &KINDS {
+        if kind.name == name {
+            return Some(Shape {
+                rule: kind.rule,
+                size,
+                states: number_of(kind.states, size).min(256),
+                inputs: number_of(kind.inputs, size).min(32),
+                depth: number_of(kind.depth, size).min(16),
+            });
+        }
+    }
+    None
 }
 
 /// The text of a machine.
