@@ -5,9 +5,7 @@
 # gates, or 0 and the line of the first fault.
 set -eu
 . "$(dirname "$0")/timing.sh"
-cd "$(dirname "$0")/../crates/bench_texts"
-rt run >/dev/null 2>&1
-program=out/bench_texts
+use_program bench_texts
 
 # the time of one call, in milliseconds: kind, size, work, calls
 each() {

@@ -5,12 +5,11 @@
 # machine; there is no ratio to less than two milliseconds. With words, as `closed pairs`, only these listings are
 # timed.
 set -eu
+words="closed pairs consistent"
 . "$(dirname "$0")/timing.sh"
-cd "$(dirname "$0")/../crates/bench_machines"
-rt run >/dev/null 2>&1
-program=out/bench_machines
+use_program bench_machines
 works=("$@")
-[ $# -gt 0 ] || works=(closed pairs consistent)
+[ $# -gt 0 ] || works=($words)
 
 printf '%-10s %8s %-10s %6s %10s %10s %8s\n' machine states listing listed 'time (ms)' 'ask (ms)' ratio
 while read -r kind size; do

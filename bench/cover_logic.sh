@@ -5,9 +5,7 @@
 # column.
 set -eu
 . "$(dirname "$0")/timing.sh"
-cd "$(dirname "$0")/../crates/bench_sets"
-rt run >/dev/null 2>&1
-program=out/bench_sets
+use_program bench_sets
 
 # the time of one call, in microseconds: kind, size, work, calls
 each() {

@@ -4,9 +4,8 @@
 # processor time, the least of three runs without that of a run that only makes the case, for one call. The cases are
 # those of crates/bench_machines.
 set -eu
-cd "$(dirname "$0")/../crates/bench_machines"
-rt run >/dev/null 2>&1
-program=out/bench_machines
+. "$(dirname "$0")/timing.sh"
+use_program bench_machines
 TIMEFORMAT='%U %S'
 
 # the processor time of the program in milliseconds, the least of three runs: case, size, work, calls

@@ -4,9 +4,7 @@
 # many calls and none, the least of five runs.
 set -eu
 . "$(dirname "$0")/timing.sh"
-cd "$(dirname "$0")/../crates/bench_texts"
-rt run >/dev/null 2>&1
-program=out/bench_texts
+use_program bench_texts
 
 # the time of one call, in microseconds: question, rows, fields of a row, calls
 each() {

@@ -7,9 +7,7 @@
 # to count them.
 set -eu
 . "$(dirname "$0")/timing.sh"
-cd "$(dirname "$0")/../crates/bench_sets"
-rt run >/dev/null 2>&1
-program=out/bench_sets
+use_program bench_sets
 
 # the least of five runs of a case, in microseconds
 least() {

@@ -4,12 +4,8 @@
 # that each listing has a pair for each space of vectors of n bits. Each time is the least of three runs.
 set -eu
 . "$(dirname "$0")/timing.sh"
-[ $# -eq 0 ] || { echo "io_pairs.sh takes no words" >&2; exit 2; }
-cd "$(dirname "$0")/../crates/hsdec"
-[ -x out/hsdec ] || rt run >/dev/null 2>&1
-program=$PWD/out/hsdec
-room=$(mktemp -d)
-trap 'rm -rf "$room"' EXIT
+use_program hsdec --version
+make_room
 
 # the machine of so many inputs
 xor_machine() {

@@ -3,12 +3,8 @@
 # machines of eight states with 8 and with 13 inputs: 256 and 8,192 rows a state. Each time is the least of three runs.
 set -eu
 . "$(dirname "$0")/timing.sh"
-[ $# -eq 0 ] || { echo "least_codes.sh takes no words" >&2; exit 2; }
-cd "$(dirname "$0")/../crates/hsdec"
-[ -x out/hsdec ] || rt run >/dev/null 2>&1
-program=$PWD/out/hsdec
-room=$(mktemp -d)
-trap 'rm -rf "$room"' EXIT
+use_program hsdec --version
+make_room
 
 # a random machine of eight states with so many inputs
 random_machine() {

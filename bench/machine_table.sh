@@ -5,9 +5,7 @@
 # crates/bench_machines.
 set -eu
 . "$(dirname "$0")/timing.sh"
-cd "$(dirname "$0")/../crates/bench_machines"
-rt run >/dev/null 2>&1
-program=out/bench_machines
+use_program bench_machines
 
 # the time of the program, in microseconds: kind, size, work, pairs
 run() {

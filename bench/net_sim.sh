@@ -4,9 +4,7 @@
 # only makes the texts, reads the network and puts it in order.
 set -eu
 . "$(dirname "$0")/timing.sh"
-cd "$(dirname "$0")/../crates/bench_texts"
-rt run >/dev/null 2>&1
-program=out/bench_texts
+use_program bench_texts
 
 # the time of the work, in milliseconds: kind, size, symbols, work
 each() {

@@ -4,9 +4,7 @@
 # Prints the time of one call, from the difference of many calls and none.
 set -eu
 . "$(dirname "$0")/timing.sh"
-cd "$(dirname "$0")/../crates/bench_sets"
-rt run >/dev/null 2>&1
-program=out/bench_sets
+use_program bench_sets
 
 # the least of five runs, in microseconds: question, how partitions are kept, kind, states, calls
 least() {

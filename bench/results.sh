@@ -5,19 +5,13 @@
 #
 # Needs the packages berkeley-abc and yosys. It takes about five minutes, most of them for the 60 states.
 set -eu
-[ $# -eq 0 ] || { echo "results.sh: takes no words" >&2; exit 2; }
 for tool in berkeley-abc yosys awk; do
     command -v "$tool" >/dev/null || { echo "results.sh: $tool is missing" >&2; exit 2; }
 done
-cd "$(dirname "$0")/../crates/hsdec"
-program=${HSDEC:-$PWD/out/hsdec}
-if [ ! -x "$program" ]; then
-    echo "results.sh: proving and building the program first" >&2
-    rt run >/dev/null 2>&1
-fi
+. "$(dirname "$0")/timing.sh"
+use_program hsdec --version
 examples=$PWD/../../examples
-room=$(mktemp -d)
-trap 'rm -rf "$room"' EXIT
+make_room
 
 resyn='balance; rewrite; refactor; balance; rewrite; rewrite -z; balance; refactor -z; rewrite -z; balance'
 

@@ -3,11 +3,8 @@
 # machine, which no split needs. Each time is the least of three runs of the program, reading and writing included.
 set -eu
 . "$(dirname "$0")/timing.sh"
-cd "$(dirname "$0")/../crates/hsdec"
-[ -x out/hsdec ] || rt run >/dev/null 2>&1
-program=$PWD/out/hsdec
-room=$(mktemp -d)
-trap 'rm -rf "$room"' EXIT
+use_program hsdec --version
+make_room
 
 # so many states that never move
 still() {

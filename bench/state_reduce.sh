@@ -4,9 +4,7 @@
 # that of a run that only makes the machine.
 set -eu
 . "$(dirname "$0")/timing.sh"
-cd "$(dirname "$0")/../crates/bench_machines"
-rt run >/dev/null 2>&1
-program=out/bench_machines
+use_program bench_machines
 
 printf '%-8s %8s %8s %12s %12s %8s\n' machine states classes 'alike (ms)' 'plain (ms)' ratio
 while read -r kind states; do
