@@ -20,7 +20,8 @@
 //! case is a line, and takes no proof. Cases of one call follow one another.
 //!
 //! An argument that is missing is empty, a character that is no digit counts as one, and a number outside its
-//! range is the nearest one inside. So a case with a fault gets an answer, and a wrong one.
+//! range is the nearest one inside. So a case with a fault is not refused: it shows as a difference where it is given
+//! another answer than the one that it asks for.
 //!
 //! Three words name no files: `streams` puts a line to standard output and nothing to standard error, `small_cubes`
 //! compares the gaps of every list of up to three small cubes with a plain count, and `short_lists` compares what is
