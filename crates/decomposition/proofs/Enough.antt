@@ -10,7 +10,7 @@ use Rattle.dependence.specs.declared.sets.ReadSet.{ReadSet}
 use Rattle.dependence.specs.declared.sets.Reads.{Reads}
 use Rattle.dependence.specs.Candidates.{IsBitOfCode, IsCandidate}
 use Rattle.dependence.specs.Permits.{PermitsOutput, PermitsValue, next_value, output_value}
-use Rattle.dependence.specs.ReadRule.{LatchRuleIsLeast, OutputRuleIsLeast}
+use Rattle.dependence.specs.ReadRule.{LatchRuleIsIrredundant, OutputRuleIsIrredundant}
 use Rattle.dependence.specs.Reads.{AreReads, IsReadSet}
 use Rattle.kiss2.specs.declared.kiss_file.KissFile.{KissFile}
 use Rattle.realise.specs.Realised.{AreEnough, IsEnough, IsWithin}
@@ -54,7 +54,7 @@ module _ (W : KissFile) (parts : List Part) (codes : Codes) (code : IsCode (leng
   enough_of Candidate value set is permits = record { permits = permits; matter = λ a below matters. (is.inputs a).1 (below, matters) }
 
   -- the read sets are enough
-  pub enough : (sets : Reads) → LatchRuleIsLeast → OutputRuleIsLeast → CandidatesPermit W parts codes → AreDistinct (length W.states) codes.words → AreReads W parts codes sets → AreEnough W codes.bits codes.words sets
+  pub enough : (sets : Reads) → LatchRuleIsIrredundant → OutputRuleIsIrredundant → CandidatesPermit W parts codes → AreDistinct (length W.states) codes.words → AreReads W parts codes sets → AreEnough W codes.bits codes.words sets
   enough sets latch_rule output_rule permit distinct are =
       record {
         latch_count = are.latch_count;

@@ -3,7 +3,7 @@ use Rattle.std.proofs.Common.{◌≡◌, ◌<◌, ◌≤◌, All, List, length, 
 use Rattle.blif_out.specs.declared.header.LatchNote.{LatchNote}
 use Rattle.dependence.specs.declared.sets.ReadSet.{ReadSet}
 use Rattle.dependence.specs.declared.sets.Reads.{Reads}
-use Rattle.dependence.specs.ReadRule.{LatchRuleIsLeast, OutputRuleIsLeast}
+use Rattle.dependence.specs.ReadRule.{LatchRuleIsIrredundant, OutputRuleIsIrredundant}
 use Rattle.dependence.specs.Reads.{AreReads}
 use Rattle.kiss2.specs.declared.kiss_file.KissFile.{KissFile}
 use Rattle.machine_table.specs.Staying.{NeverLeaves}
@@ -44,11 +44,11 @@ pub record IsSplitAsked (W : KissFile) (parts : List Part) (codes : Codes) (name
   pub short : codes.bits ≤ 64
   pub counted : AreCounted W codes.bits names
   pub apart : ArePairwiseDistinct names
-  pub latch_rule : LatchRuleIsLeast
-  pub output_rule : OutputRuleIsLeast
+  pub latch_rule : LatchRuleIsIrredundant
+  pub output_rule : OutputRuleIsIrredundant
 
 pub asked_of : (W : KissFile) (parts : List Part) (codes : Codes) (names : SignalNames) → NeverLeaves W → IsTable W → All (IsPart (length W.states)) parts → Flows W parts → IsCode (length W.states) parts codes → AreDistinct (length W.states) codes.words → codes.bits ≤ 64
-    → AreCounted W codes.bits names → ArePairwiseDistinct names → LatchRuleIsLeast → OutputRuleIsLeast → IsSplitAsked W parts codes names
+    → AreCounted W codes.bits names → ArePairwiseDistinct names → LatchRuleIsIrredundant → OutputRuleIsIrredundant → IsSplitAsked W parts codes names
 asked_of W parts codes names stays table lawful flows code distinct short counted apart latch_rule output_rule =
     record {
       stays = stays;

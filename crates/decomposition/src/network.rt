@@ -11,7 +11,7 @@ ghost use Rattle.decomposition.specs.Network.{IsNetworkOf};
 
 use crate::notes::notes_of;
 use blif_out::LatchNotes;
-use dependence::{reads, rule_is_least};
+use dependence::{reads, rule_is_irredundant};
 use machine_table::Machine;
 use net_core::{Network, SignalNames};
 use realise::network;
@@ -43,7 +43,7 @@ pub fn network_of_split(
     requires apart { ArePairwiseDistinct names.now }
     ensures { IfOk result (λ made. IsNetworkOf machine.now split.now.parts codes.now names.now made.network made.notes) }
 {
-    rule_is_least();
+    rule_is_irredundant();
     machine.keeps_its_states();
     let sets = reads(alloc, machine, split, codes)?;
     let net = network(alloc, machine, codes, &sets, names)?;

@@ -2,7 +2,7 @@ pub mod Words
 pub mod Agreeing
 pub mod Firsts
 pub mod Judged
-pub mod Least
+pub mod Irredundant
 pub mod Listed
 pub mod Symbols
 pub mod Adding

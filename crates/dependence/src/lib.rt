@@ -22,7 +22,7 @@ mod reading;
 mod sets;
 
 pub use asking::{permits, permits_output};
-pub use laws::rule_is_least;
+pub use laws::rule_is_irredundant;
 pub use numbers::Numbers;
 pub use reading::reads;
 pub use sets::{ReadSet, ReadSets, Reads};

@@ -7,9 +7,9 @@ use Rattle.kiss2.specs.declared.kiss_file.KissFile.{KissFile}
 use Rattle.state_codes.specs.Code.{need}
 use Rattle.state_codes.specs.Laws.Need.{need-least}
 use Rattle.dependence.specs.Permits.{InWord, PermitsValue}
-use Rattle.dependence.specs.ReadRule.{Beside, IsLeast, IsReadRule}
+use Rattle.dependence.specs.ReadRule.{Beside, IsIrredundant, IsReadRule}
 use Rattle.dependence.proofs.Judged.{permits_more}
-use Rattle.dependence.proofs.Least.{rule_least}
+use Rattle.dependence.proofs.Irredundant.{rule_least}
 use Rattle.dependence.proofs.Listed.{listed_or_not}
 use Rattle.least_codes.specs.Inner.Choice.{Ascend}
 use Rattle.least_codes.specs.Laws.{RuleGivesLeast, RuleGivesLeastSet}
@@ -39,7 +39,7 @@ module _ (F : KissFile) (words : List ℕ) (value : ℕ → List Bool → Bool) 
     candidates = All-from_get_or Candidate reads 0 (λ k within. rule.candidates (get_or reads k 0) (Contains-get_or reads k 0 within));
     permit = least.permits;
   } where
-    least : IsLeast F words (Contains reads) value
+    least : IsIrredundant F words (Contains reads) value
     least = rule_least F words Candidate (Contains reads) value (listed_or_not reads) rule (need (length F.states)) (λ c is. is) (all_bits_permit F words (need (length F.states)) value codes)
 
   -- no others that permit the value are among the bits below a read one and the read ones above it

@@ -1,7 +1,7 @@
-//! Runs the cases of machines: `pairs.cases` has the calls of `io_pairs`, `registers.cases` those of `shift_real`,
-//! `covers.cases` those of `cover_split`, and `codes.cases` those of `least_codes`. The form of a line is that of
-//! [`case_lines`]. Its first argument is the file of a machine; what the others and the answers of a call are is told
-//! at the top of each file. A new case is a line, and takes no proof.
+//! Runs the cases of machines: `pairs.cases` has the calls of `io_pairs` and of the world of Mm pairs,
+//! `registers.cases` those of `shift_real`, `covers.cases` those of `cover_split`, and `codes.cases` those of
+//! `least_codes`. The form of a line is that of [`case_lines`]. Its first argument is the file of a machine; what the
+//! others and the answers of a call are is told at the top of each file. A new case is a line, and takes no proof.
 #![tactic(auto)]
 
 ghost use Rattle.std.specs.Prelude.{◌≡◌};
@@ -13,6 +13,7 @@ mod networks;
 mod pairs;
 mod registers;
 mod words;
+mod worlds;
 
 use anyhow::{Context, ensure};
 use case_lines::{Calls, agree};
@@ -98,6 +99,7 @@ fn add_answer(
         "cover" => covers::add_cover(alloc, words, m, text),
         "latch_reads" | "output_reads" => codes::add_reads(alloc, call, words, m, text),
         "least_code" => codes::add_least_code(alloc, m, text),
+        "mm_least" | "mm_join" | "mm_before" => worlds::add_in_mm_world(alloc, call, words, m, text),
         _ => pairs::add_answer(alloc, call, words, m, text),
     }
 }

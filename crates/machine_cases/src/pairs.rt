@@ -1,12 +1,12 @@
 //! The calls of `io_pairs`.
 
-ghost use Rattle.std.specs.Prelude.{◌≤◌, All};
-ghost use Rattle.hs_lattice.specs.Listing.{IfWhole};
+ghost use Rattle.std.specs.Prelude.{◌≤◌};
 ghost use Rattle.io_pairs.specs.Outputs.{AreOutputs};
 
-use crate::words::{add, add_between, add_debug, add_number, add_part, cut, number, part};
+use crate::words::{add, add_between, add_debug, add_number, add_part, part};
+use crate::worlds::{add_in_listing, add_pair};
 use case_lines::limit;
-use hs_lattice::{JoinWorld, Listing};
+use hs_lattice::Listing;
 use io_pairs::{
     InputWorld, IoPair, OutputWorld, Outs, OutsFail, input_high, input_low, input_pairs,
     output_high, output_low, output_pairs, outputs,
@@ -134,13 +134,6 @@ fn add_pairs(alloc: Global, pairs: &[IoPair], text: &mut Vec<u8>) -> Result<(), 
     Ok(())
 }
 
-/// Adds the sides of a pair with a bar between them.
-fn add_pair(alloc: Global, pair: &IoPair, text: &mut Vec<u8>) -> Result<(), AllocError> {
-    add_part(alloc, &pair.left, text)?;
-    add(text, "|")?;
-    add_part(alloc, &pair.right, text)
-}
-
 /// Adds what is asked of the world of pairs of symbols and states.
 fn add_in_input_world(
     alloc: Global,
@@ -174,62 +167,5 @@ fn add_in_output_world(
     match output_pairs(alloc, m, outs, 10000) {
         Ok(listing) => add_in_listing(alloc, &world, call, words, &listing, text),
         Err(_) => None,
-    }
-}
-
-/// Adds what is asked of a world with a whole listing.
-fn add_in_listing<W: JoinWorld<Item = IoPair>>(
-    alloc: Global,
-    world: &W,
-    call: &str,
-    words: &str,
-    listing: &Listing<IoPair>,
-    text: &mut Vec<u8>,
-) -> Option<()>
-    requires world { W.lawful world.now }
-    requires listing { IfWhole listing.now (All (λ pair. W.fits world.now (W.meaning pair))) }
-{
-    match listing {
-        Listing::Whole(pairs) => { add_in_world(alloc, world, call, words, pairs.as_slice(), text) }
-        Listing::More(_) => None,
-    }
-}
-
-/// Adds what is asked of a world and of the pairs at two places of its listing.
-fn add_in_world<W: JoinWorld<Item = IoPair>>(
-    alloc: Global,
-    world: &W,
-    call: &str,
-    words: &str,
-    pairs: &[IoPair],
-    text: &mut Vec<u8>,
-) -> Option<()>
-    requires world { W.lawful world.now }
-    requires pairs { All (λ pair. W.fits world.now (W.meaning pair)) pairs.now }
-{
-    let (i, j) = cut(words);
-    let x = pairs.get(usize::from(number(i).unwrap_or(0)))?;
-    let y = pairs.get(usize::from(number(j).unwrap_or(0)))?;
-    add_of_two(alloc, world, call, x, y, text).ok()
-}
-
-/// Adds the least pair of a world, the join of two pairs, or whether the first comes before the second.
-fn add_of_two<W: JoinWorld<Item = IoPair>>(
-    alloc: Global,
-    world: &W,
-    call: &str,
-    x: &IoPair,
-    y: &IoPair,
-    text: &mut Vec<u8>,
-) -> Result<(), AllocError>
-    requires world { W.lawful world.now }
-    requires x { W.fits world.now (W.meaning x.now) }
-    requires y { W.fits world.now (W.meaning y.now) }
-{
-    match call {
-        "input_least" | "output_least" => add_pair(alloc, &world.bottom(alloc)?, text),
-        "input_join" | "output_join" => add_pair(alloc, &world.join(alloc, x, y)?, text),
-        "input_before" | "output_before" => add_debug(alloc, &world.before(x, y), text),
-        _ => add(text, "no such call"),
     }
 }

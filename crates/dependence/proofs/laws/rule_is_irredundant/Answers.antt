@@ -1,8 +1,8 @@
 use Rattle.std.proofs.Common.{Contains}
 use Rattle.dependence.specs.Candidates.{IsBitOfCode, IsCandidate}
-use Rattle.dependence.proofs.Least.{rule_least}
+use Rattle.dependence.proofs.Irredundant.{rule_least}
 use Rattle.dependence.proofs.Listed.{listed_or_not}
-use Rattle.dependence.proofs.laws.rule_is_least.Goals as goal
+use Rattle.dependence.proofs.laws.rule_is_irredundant.Goals as goal
 
 pub returns-clause-tests : goal.returns-clause-tests
 returns-clause-tests c F words bits candidate read value within permits rule =

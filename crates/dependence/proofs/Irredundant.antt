@@ -3,7 +3,7 @@ use Rattle.std.proofs.Common.{◌≡◌, ◌≢◌, ◌⊎◌, ℕ, zero, suc, �
 use Rattle.std.proofs.lemmas.Bool.{cases_eq, cases_order}
 use Rattle.kiss2.specs.declared.kiss_file.KissFile.{KissFile}
 use Rattle.dependence.specs.Permits.{PermitsValue}
-use Rattle.dependence.specs.ReadRule.{Beside, IsLeast, IsReadRule, Without}
+use Rattle.dependence.specs.ReadRule.{Beside, IsIrredundant, IsReadRule, Without}
 use Rattle.dependence.proofs.Judged.{permits_more}
 
 -- the candidates below c, and the read bits from it on
@@ -63,7 +63,7 @@ module _ (F : KissFile) (words : List ℕ) (Candidate R : ℕ → Type 0) (value
   down_to zero permits = permits
   down_to (suc c) permits = down_to c (one_down c permits)
 
-  pub rule_least : (bits : ℕ) → ((c : ℕ) → Candidate c → c < bits) → PermitsValue F words Candidate value → IsLeast F words R value
+  pub rule_least : (bits : ℕ) → ((c : ℕ) → Candidate c → c < bits) → PermitsValue F words Candidate value → IsIrredundant F words R value
   rule_least bits within permits = record {
     permits = permits_more F words (From Candidate R 0) R value
         (λ d is. elim is [ inl low ↦ absurd (omega (arith, low.0)) | inr high ↦ high.1 ])
