@@ -1,5 +1,5 @@
 -- The first fault of lines that are written out.
-use Rattle.std.proofs.Common.{◌≡◌, ℕ, List, [], ◌∷◌, ◌++◌, length, Option, Some, None, ap, sym, ◌∙◌, refl, subst, inl, inr, append_assoc, append-nil}
+use Rattle.std.proofs.Common.{◌≡◌, ℕ, List, [], ◌∷◌, ◌++◌, length, Option, Some, None, ap, sym, ◌∙◌, refl, subst, inl, inr, append_assoc, append-nil, map}
 use Rattle.hs_io.specs.declared.lines.Line.{Line}
 use Rattle.kiss2.specs.declared.fault.KissFault.{KissFault}
 use Rattle.kiss2.specs.declared.fault.KissKind.{KissKind}
@@ -60,3 +60,7 @@ three_rows states a b c (x ∷ []) all = absurd all.1
 three_rows states a b c (x ∷ y ∷ []) all = absurd all.1.1
 three_rows states a b c (x ∷ y ∷ z ∷ []) all = (x, y, z, record { are = refl; first = all.0; second = all.1.0; third = all.1.1.0 })
 three_rows states a b c (x ∷ y ∷ z ∷ w ∷ rows) all = absurd all.1.1.1
+
+-- what a list of three rows is mapped to
+pub three_mapped : {A : Type 0} (f : KissRow → A) (list : List KissRow) (x y z : KissRow) (a b c : A) → list ≡ x ∷ y ∷ z ∷ [] → f x ≡ a → f y ≡ b → f z ≡ c → map f list ≡ a ∷ b ∷ c ∷ []
+three_mapped f list x y z a b c is p q r = ap (map f) is ∙ (ap (λ n. n ∷ f y ∷ f z ∷ []) p ∙ (ap (λ n. a ∷ n ∷ f z ∷ []) q ∙ ap (λ n. a ∷ b ∷ n ∷ []) r))

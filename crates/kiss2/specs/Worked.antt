@@ -1,6 +1,6 @@
 -- Worked texts: what they say, and what they are refused for.
-use Rattle.std.specs.Prelude.{ℕ, false, List, [], ◌∷◌, ◌++◌, codes}
-use Rattle.std.specs.List.{flat_map}
+use Rattle.std.specs.Prelude.{ℕ, false, List, [], ◌∷◌, ◌++◌, codes, map, replicate}
+use Rattle.std.specs.List.{flat_map, range_with_len}
 use Rattle.hs_io.specs.declared.lines.Line.{Line}
 use Rattle.hs_io.specs.Spelling.{ended}
 use Rattle.kiss2.specs.declared.fault.KissKind.{KissKind}
@@ -31,6 +31,19 @@ worked_lines =
     ∷ codes "junk"
     ∷ []
 
+-- a text with more rows and states than it says, whose states come in another order in the lines than by their columns
+abbrev pub passing_lines : List (List ℕ)
+passing_lines =
+    codes ".s 1"
+    ∷ codes ".o 1"
+    ∷ codes ".p 1"
+    ∷ codes ".i 1"
+    ∷ codes ".r d"
+    ∷ codes "0 a c 0"
+    ∷ codes "1 b - 1"
+    ∷ codes "- c d 1"
+    ∷ []
+
 -- a row to a state of that name, whose output field has a bad character
 abbrev pub row_to : List ℕ → List ℕ
 row_to name = codes "0 a " ++ name ++ codes " 2"
@@ -41,3 +54,27 @@ bad_output_line = record { number = 3; fields = codes "0" ∷ codes "a" ∷ code
 
 abbrev pub bad_cube_line : Line
 bad_cube_line = record { number = 3; fields = codes "2" ∷ codes "a" ∷ codes "a" ∷ codes "0" ∷ []; bad = false }
+
+-- a row of three fields, whose input field is bad too, and one with a name of 65 bytes
+abbrev pub three_fields_line : Line
+three_fields_line = record { number = 3; fields = codes "2" ∷ codes "a" ∷ codes "a" ∷ []; bad = false }
+
+abbrev pub long_state_line : Line
+long_state_line = record { number = 3; fields = codes "0" ∷ codes "a" ∷ replicate 65 97 ∷ codes "0" ∷ []; bad = false }
+
+-- a word and its number
+abbrev pub word_line : List ℕ → List ℕ → Line
+word_line word operand = record { number = 1; fields = word ∷ operand ∷ []; bad = false }
+
+-- a row from a state to a state
+abbrev pub state_line : List ℕ → List ℕ → Line
+state_line current next = record { number = 3; fields = codes "0" ∷ current ∷ next ∷ codes "0" ∷ []; bad = false }
+
+-- the rows from `aA` to `Aa`, from `aB` to `Ba` and so on to the one from `pH` to `Hp`: 128 rows of 256 states
+abbrev pub rows_of_256_states : List Line
+rows_of_256_states = flat_map (λ a. map (λ b. state_line (a ∷ b ∷ []) (b ∷ a ∷ [])) (range_with_len 65 8)) (range_with_len 97 16)
+
+-- one input, one output, a row to no state, and these rows
+abbrev pub lines_of_256_states : List Line
+lines_of_256_states =
+    word_line (codes ".i") (codes "1") ∷ word_line (codes ".o") (codes "1") ∷ state_line (codes "aA") (codes "*") ∷ rows_of_256_states

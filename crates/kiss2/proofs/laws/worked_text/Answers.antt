@@ -1,4 +1,4 @@
-use Rattle.std.proofs.Common.{◌≡◌, refl, ℕ, List, [], ◌∷◌, Some, None, ap, sym, ◌∙◌, map, subst}
+use Rattle.std.proofs.Common.{◌≡◌, refl, ℕ, List, [], ◌∷◌, Some, None, ap, sym, ◌∙◌, subst}
 use Rattle.std.specs.Prelude.{Option, codes, slice_get}
 use Rattle.std.proofs.lemmas.Option.{same_Some}
 use Rattle.cubes.specs.Cube.{text_of}
@@ -12,7 +12,7 @@ use Rattle.kiss2.specs.Words.{care_in, kind_of_field, value_in}
 use Rattle.kiss2.specs.Worked.{text, worked_lines}
 use Rattle.kiss2.proofs.Ending.{faultless_none}
 use Rattle.kiss2.proofs.Made.{a_record}
-use Rattle.kiss2.proofs.Scanning.{scanned_none, three_rows}
+use Rattle.kiss2.proofs.Scanning.{scanned_none, three_mapped, three_rows}
 use Rattle.kiss2.proofs.SameRecord.{next_once, number_once, states_distinct}
 use Rattle.kiss2.proofs.laws.worked_text.Goals as goal
 
@@ -73,20 +73,17 @@ rows F read =
       record { cube_is = three.3.third.cube; from_is = number_once F.states (codes "a") three.2.from 0 distinct three.3.third.from a; to_is = next_once F.states (codes "b") three.2.to (Some 1) distinct three.3.third.to (refl, b); care_is = three.3.third.care; value_is = three.3.third.value },
     )
 
-three : {A : Type 0} (f : KissRow → A) (list : List KissRow) (x y z : KissRow) (a b c : A) → list ≡ x ∷ y ∷ z ∷ [] → f x ≡ a → f y ≡ b → f z ≡ c → map f list ≡ a ∷ b ∷ c ∷ []
-three f list x y z a b c is p q r = ap (map f) is ∙ (ap (λ n. n ∷ f y ∷ f z ∷ []) p ∙ (ap (λ n. a ∷ n ∷ f z ∷ []) q ∙ ap (λ n. a ∷ b ∷ n ∷ []) r))
-
 pub returns-clause-cubes : goal.returns-clause-cubes
-returns-clause-cubes c F read = let r = rows F read in three (λ row. text_of row.cube) F.rows r.0 r.1 r.2 _ _ _ r.3 r.4.cube_is r.5.cube_is r.6.cube_is
+returns-clause-cubes c F read = let r = rows F read in three_mapped (λ row. text_of row.cube) F.rows r.0 r.1 r.2 _ _ _ r.3 r.4.cube_is r.5.cube_is r.6.cube_is
 
 pub returns-clause-from : goal.returns-clause-from
-returns-clause-from c F read = let r = rows F read in three (λ row. row.from) F.rows r.0 r.1 r.2 _ _ _ r.3 r.4.from_is r.5.from_is r.6.from_is
+returns-clause-from c F read = let r = rows F read in three_mapped (λ row. row.from) F.rows r.0 r.1 r.2 _ _ _ r.3 r.4.from_is r.5.from_is r.6.from_is
 
 pub returns-clause-to : goal.returns-clause-to
-returns-clause-to c F read = let r = rows F read in three (λ row. row.to) F.rows r.0 r.1 r.2 _ _ _ r.3 r.4.to_is r.5.to_is r.6.to_is
+returns-clause-to c F read = let r = rows F read in three_mapped (λ row. row.to) F.rows r.0 r.1 r.2 _ _ _ r.3 r.4.to_is r.5.to_is r.6.to_is
 
 pub returns-clause-care : goal.returns-clause-care
-returns-clause-care c F read = let r = rows F read in three (λ row. row.care) F.rows r.0 r.1 r.2 _ _ _ r.3 r.4.care_is r.5.care_is r.6.care_is
+returns-clause-care c F read = let r = rows F read in three_mapped (λ row. row.care) F.rows r.0 r.1 r.2 _ _ _ r.3 r.4.care_is r.5.care_is r.6.care_is
 
 pub returns-clause-value : goal.returns-clause-value
-returns-clause-value c F read = let r = rows F read in three (λ row. row.value) F.rows r.0 r.1 r.2 _ _ _ r.3 r.4.value_is r.5.value_is r.6.value_is
+returns-clause-value c F read = let r = rows F read in three_mapped (λ row. row.value) F.rows r.0 r.1 r.2 _ _ _ r.3 r.4.value_is r.5.value_is r.6.value_is
