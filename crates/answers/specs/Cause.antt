@@ -1,4 +1,5 @@
--- Causes: which refusals, with the values that show them, something calls for, and which of several causes is judged first.
+-- Causes: which refusals, with the values that show them, something calls for, and which of several causes is
+-- judged first.
 use Rattle.std.specs.Prelude.{◌≡◌, ◌⊎◌, List, [], ◌∷◌}
 use Rattle.answers.specs.declared.refusals.Refusal.{Refusal}
 
@@ -6,7 +7,7 @@ use Rattle.answers.specs.declared.refusals.Refusal.{Refusal}
 abbrev pub Cause : Type 1
 Cause = Refusal → Type 0
 
--- it calls for no refusal
+-- the cause calls for no refusal
 abbrev pub CallsForNone : Cause → Type 0
 CallsForNone cause = (refusal : Refusal) → cause refusal → ⊥
 

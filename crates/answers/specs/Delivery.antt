@@ -1,4 +1,4 @@
--- What becomes of what a command gave: what is put, which refusal is answered, and what a sink makes of a line.
+-- What happens to what a command made: what is put, which refusal is answered, and how much of a line a sink takes.
 use Rattle.std.specs.Prelude.{◌≡◌, ◌≢◌, ◌⊎◌, ℕ, List, [], Option, Result, Ok, Err}
 use Rattle.hs_io.specs.Counts.{Rose}
 use Rattle.hs_io.specs.Pieces.{Appends, AppendsFront}
@@ -18,16 +18,16 @@ IsTextOf (Ok (Whole whole)) text = text ≡ whole
 IsTextOf (Ok (Evidence evidence limit)) text = text ≡ evidence
 IsTextOf (Err refusal) text = ⊥
 
--- a whole text is put; where it is empty nothing is, and the sink stays as it was
+-- a whole text is put; if it is empty, nothing is put and the sink stays as it was
 abbrev pub IsDone : Result Report Refusal → Option (List ℕ) → Option (List ℕ) → Type 0 → Type 0
 IsDone (Ok (Whole text)) given given' Stays = Appends given text given' × (text ≡ [] → Stays)
 IsDone _ given given' Stays = ⊥
 
--- a front of a text is put that is not empty, and there was a fault
+-- a front of a text that is not empty is put, and there was a fault
 abbrev pub IsCut : Result Report Refusal → Option (List ℕ) → Option (List ℕ) → Type 0 → Type 0
 IsCut made given given' Faulted = (text : List ℕ) × IsTextOf made text × (text ≢ []) × AppendsFront given text given' × Faulted
 
--- the refusal that is answered in place of Done, with what out was given before and after
+-- the refusal that is answered instead of Done, with what out was given before and after
 abbrev pub IsRefusedWith : Result Report Refusal → Option (List ℕ) → Option (List ℕ) → Type 0 → Refusal → Type 0
 IsRefusedWith (Ok (Whole text)) given given' Faulted refusal = (refusal ≡ Unwritable) × IsCut (Ok (Whole text)) given given' Faulted
 IsRefusedWith (Ok (Evidence text limit)) given given' Faulted refusal =

@@ -1,4 +1,4 @@
--- What comes of a step of a command: what it was to give, or a refusal that has its cause.
+-- The outcome of a step of a command: what the step is to give, or a refusal that has its cause.
 use Rattle.std.specs.Prelude.{◌≡◌, ◌≢◌, ◌⊎◌, ℕ, List, Result, Ok, Err}
 use Rattle.answers.specs.declared.numbers.Answer.TheVariants as answers
 use Rattle.answers.specs.declared.refusals.Refusal.{Refusal}
@@ -8,17 +8,17 @@ use Rattle.answers.specs.declared.reports.Report.TheVariants.{Evidence, Whole}
 use Rattle.answers.specs.Cause.{CallsForNone, Cause}
 use Rattle.answers.specs.Refusal.{answer_of}
 
--- the refusal is called for, or memory is wanting
+-- the refusal is called for, or memory ran out
 abbrev pub IsStop : Cause → Refusal → Type 0
 IsStop cause refusal = (refusal ≡ NoMemory) ⊎ cause refusal
 
--- a step gave what it was to give, and nothing called for a refusal; or it gave a refusal that was called for
+-- a step gave what it is to give, and nothing called for a refusal; or it gave a refusal that was called for
 abbrev pub IsJudged : {V : Type 0} → Cause → (V → Type 0) → Result V Refusal → Type 0
 IsJudged cause IsRight (Ok value) = CallsForNone cause × IsRight value
 IsJudged cause IsRight (Err refusal) = IsStop cause refusal
 
--- a command gave its whole text, and nothing called for a refusal; or evidence that there is more than the limit, where that
--- was called for; or another refusal that was called for
+-- the command gave its whole text, and nothing called for a refusal; or it gave evidence that there are more than
+-- the limit, which was called for; or it gave another refusal that was called for
 abbrev pub IsReported : Cause → (List ℕ → Type 0) → (List ℕ → Type 0) → Result Report Refusal → Type 0
 IsReported cause IsWhole IsEvidence (Ok (Whole text)) = CallsForNone cause × IsWhole text
 IsReported cause IsWhole IsEvidence (Ok (Evidence text limit)) = cause (More limit) × IsEvidence text

@@ -1,4 +1,4 @@
--- What is said of each kind of fault in a KISS2 text.
+-- The text of each kind of fault in a KISS2 text.
 use Rattle.std.specs.Prelude.{ℕ, List, ◌++◌, codes}
 use Rattle.std.specs.Fmt.{decimal}
 use Rattle.kiss2.specs.declared.fault.KissKind.{KissKind}

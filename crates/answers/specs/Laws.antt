@@ -1,2 +1,2 @@
--- What follows of causes.
+-- What follows from the definitions of causes.
 pub mod Causes

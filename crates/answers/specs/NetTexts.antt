@@ -1,4 +1,4 @@
--- What is said of each fault of a BLIF text.
+-- The text of each fault of a BLIF text.
 use Rattle.std.specs.Prelude.{ℕ, List, [], ◌++◌, codes}
 use Rattle.std.specs.Fmt.{decimal}
 use Rattle.blif_in.specs.declared.fault.BlifFault.{BlifFault}

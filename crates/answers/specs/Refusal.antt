@@ -14,7 +14,7 @@ use Rattle.hs_texts.specs.ErrLines.{bad_start_line, cannot_read_line, cannot_wri
 use Rattle.machine_table.specs.declared.missing.Missing.{Missing}
 use Rattle.machine_table.specs.declared.missing.Missing.TheVariants.{Next, Output}
 
--- the answer
+-- the answer of a refusal
 abbrev pub answer_of : Refusal → Answer
 answer_of (Usage word) = answers.Usage
 answer_of (Unreadable name) = answers.ReadFault
@@ -46,7 +46,7 @@ abbrev pub missing_text : Missing → List ℕ
 missing_text Next = codes "next"
 missing_text (Output b) = codes "output " ++ decimal b
 
--- the line of a cover
+-- the line of a flaw of a cover
 abbrev pub flaw_line : CoverFlaw → List ℕ
 flaw_line (flaws.Place block place) = cover_place_line block place
 flaw_line (flaws.Within block other) = cover_within_line block other
@@ -55,7 +55,7 @@ flaw_line (flaws.Places found) = cover_places_line found
 flaw_line flaws.Trivial = cover_trivial_line
 flaw_line (flaws.Leaves block symbol) = cover_leaves_line block symbol
 
--- the line
+-- the line of a refusal
 abbrev pub line_of : Refusal → List ℕ
 line_of (Usage word) = usage_line word
 line_of (Unreadable name) = cannot_read_line name

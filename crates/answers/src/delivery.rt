@@ -1,4 +1,4 @@
-//! Putting what a command gave.
+//! Putting what a command made.
 
 ghost use Rattle.std.specs.Prelude.{◌≡◌, ◌≢◌, ◌≤◌, ◌⊎◌, [], OnOk, OnErr};
 ghost use Rattle.answers.specs.declared.numbers.Answer.TheVariants as answers;
@@ -16,9 +16,9 @@ use hs_io::{Sink, SinkFail};
 use hs_texts::err_lines::{self, CANNOT_WRITE, NO_MEMORY};
 use std::alloc::Global;
 
-/// Puts what a command gave, the text to `out` and then the line of every answer but `Done` to `err`. The line
-/// is made before the text is put, so all memory is taken before. An empty text is not put. What becomes of the
-/// line changes no answer.
+/// Puts what a command made: the text to `out`, and then the line of every answer but `Done` to `err`. The line
+/// is made before the text is put, so that all memory is taken first. An empty text is not put. Whether the
+/// line can be put does not change the answer.
 pub fn deliver<O: Sink, E: Sink>(
     alloc: Global,
     made: Result<Report, Refusal>,
@@ -67,7 +67,7 @@ fn put_text<O: Sink>(text: &[u8], out: &mut O) -> Result<(), SinkFail>
     out.put(text)
 }
 
-/// Answers a refusal, and hands its line to err.
+/// Gives the answer of a refusal, and hands its line to err.
 fn refuse<E: Sink>(alloc: Global, refusal: &Refusal, err: &mut E) -> Answer
     ensures told { (told : refusals.Refusal) × ((told ≡ refusal.now) ⊎ (told ≡ NoMemory)) × (result ≡ answer_of told)
         × LinePut (line_of told) (E.given err.old) (E.given err.new) (E.faults err.old) (E.faults err.new) }

@@ -8,7 +8,7 @@ ghost use Rattle.cubes.specs.Symbol.{symbol_of};
 use crate::reports::Bytes;
 use std::alloc::{AllocError, Global};
 
-/// The digits of the symbol of a number, the most significant bit first.
+/// The digits of the symbol of this number, the most significant bit first.
 pub fn symbol_text(alloc: Global, inputs: u8, symbol: u32) -> Result<Bytes, AllocError>
     requires { inputs ≤ 32 }
     ensures { IfOk result (λ text. text ≡ map digit (symbol_of inputs symbol)) }

@@ -1,4 +1,4 @@
-//! What is said of each kind of fault in a KISS2 text.
+//! The text of each kind of fault in a KISS2 text.
 
 ghost use Rattle.std.specs.Prelude.{◌≡◌, IfOk};
 ghost use Rattle.answers.specs.KissTexts.{kind_text, limit_text};
@@ -27,7 +27,7 @@ pub fn text_of_kind(alloc: Global, kind: KissKind) -> Result<Vec<u8>, AllocError
     Vec::from_slice(alloc, words)
 }
 
-/// The text of a limit that is passed.
+/// The text of a limit that is exceeded.
 fn over_limit(alloc: Global, what: KissLimit, found: u32) -> Result<Vec<u8>, AllocError>
     ensures { IfOk result (λ text. text.items ≡ kind_text (KissKind.OverLimit what found)) }
 {

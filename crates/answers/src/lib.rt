@@ -1,11 +1,15 @@
 //! Answers of the program, refusals with their values, and the one function that puts what a command made.
 //!
-//! A command gives a [`Report`], or the [`Refusal`] that tells why there is none. A refusal has the values that
-//! its line shows, so a cause is told once: `specs/Cause` says what it is for something to call for a refusal,
-//! and which of several causes is judged first. `specs/Refusal` has the answer and the line of each refusal,
-//! `specs/Answer` the number of each answer, and `specs/Delivery` what [`deliver`] puts.
+//! A command gives a [`Report`], or the [`Refusal`] that says why there is none. A refusal has the values that
+//! its line shows, so that each cause is stated only once:
 //!
-//! Commands are in crates above this one. Each says in its contract which causes it judges, in their order, and
+//! - `specs/Cause` says what it means that something calls for a refusal, and which of several causes is judged
+//!   first;
+//! - `specs/Refusal` has the answer and the line of each refusal;
+//! - `specs/Answer` has the number of each answer;
+//! - `specs/Delivery` says what [`deliver`] puts.
+//!
+//! Commands are in crates above this one. The contract of each says which causes it judges, in their order, and
 //! what its text is (`specs/Judged`).
 #![tactic(auto)]
 

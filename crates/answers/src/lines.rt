@@ -14,7 +14,7 @@ use machine_table::Missing;
 use std::alloc::{AllocError, Global};
 
 impl Refusal {
-    /// The answer of the program.
+    /// The answer of a refusal.
     pub fn answer(&self) -> Answer
         ensures { result ≡ answer_of self.now }
     {
@@ -46,7 +46,7 @@ impl Refusal {
         }
     }
 
-    /// The line for err. That of a failed put and that of want of memory are constants of `hs_texts` too.
+    /// The line for err. The lines of a failed put and of a lack of memory are also constants of `hs_texts`.
     pub fn line(&self, alloc: Global) -> Result<Vec<u8>, AllocError>
         ensures { IfOk result (λ line. line.items ≡ line_of self.now) }
     {
@@ -91,7 +91,7 @@ impl Refusal {
     }
 }
 
-/// The line of a text that says no machine.
+/// The line of a text that is not a machine.
 fn line_of_text(alloc: Global, fault: KissFault) -> Result<Vec<u8>, AllocError>
     ensures { IfOk result (λ line. line.items ≡ line_of (Refusal.NoMachine fault)) }
 {
@@ -99,7 +99,7 @@ fn line_of_text(alloc: Global, fault: KissFault) -> Result<Vec<u8>, AllocError>
     err_lines::kiss(alloc, fault.line, text.as_slice())
 }
 
-/// The line of an entry that is open.
+/// The line of an open entry.
 fn line_of_entry(
     alloc: Global,
     state: &[u8],

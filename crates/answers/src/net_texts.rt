@@ -1,4 +1,4 @@
-//! What is said of each fault of a BLIF text.
+//! The text of each fault of a BLIF text.
 
 ghost use Rattle.std.specs.Prelude.{◌≡◌, IfOk};
 ghost use Rattle.answers.specs.NetTexts.{fault_line, net_kind_text, net_limit_text, structure_line};
@@ -42,7 +42,7 @@ fn line_of_structure(alloc: Global, fail: &NetFail) -> Result<Vec<u8>, AllocErro
     }
 }
 
-/// The text of a limit that is passed.
+/// The text of a limit that is exceeded.
 fn over_limit(alloc: Global, what: NetLimit, found: u32) -> Result<Vec<u8>, AllocError>
     ensures { IfOk result (λ text. text.items ≡ net_kind_text (BlifKind.OverLimit what found)) }
 {

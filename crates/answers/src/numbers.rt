@@ -10,7 +10,7 @@ pub enum Answer {
     Done,
     /// There is no decomposition of that kind.
     NoSplit,
-    /// The words are no job.
+    /// The words are not a job.
     Usage,
     /// The text of a machine is refused.
     KissRefused,
@@ -18,9 +18,9 @@ pub enum Answer {
     Conflict,
     /// A machine leaves something open.
     Unspecified,
-    /// There is more to be listed than the limit.
+    /// There are more to be listed than the limit.
     More,
-    /// The text of a partition is refused, or the partitions do not tell all states apart.
+    /// The text of a partition is refused, or two states are together in all partitions.
     PartRefused,
     /// The codes have too many bits.
     CodeTooLong,
@@ -34,7 +34,7 @@ pub enum Answer {
     TooLong,
     /// The text could not be put whole.
     WriteFault,
-    /// Memory was wanting.
+    /// Memory ran out.
     NoMemory,
     /// The machine has too few or too many states.
     StateCount,
@@ -51,7 +51,7 @@ pub enum Answer {
 }
 
 impl Answer {
-    /// The exit status that stands for it.
+    /// The exit status of the answer.
     pub fn code(&self) -> u8
         ensures { result ≡ answer_code self.now }
     {

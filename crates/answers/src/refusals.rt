@@ -11,41 +11,42 @@ use std::alloc::AllocError;
 /// Why a job is not done, with the values that its line shows.
 #[derive(Debug, Drop)]
 pub enum Refusal {
-    /// The words are no job: the number of the first that is refused, counted from 1.
+    /// The words are not a job: the number of the first refused word, counted from 1.
     Usage {
         word: u32,
     },
-    /// The operand of that name cannot be read.
+    /// The operand of this name cannot be read.
     Unreadable {
         name: Name,
     },
-    /// The operand of that name is longer than a text may be.
+    /// The operand of this name is longer than a text may be.
     TooLong {
         name: Name,
     },
-    /// The text of FILE says no machine: its first fault.
+    /// The text of FILE is not a machine: its first fault.
     NoMachine(KissFault),
-    /// Two rows conflict, counted from 1. Of all such pairs the second row is the least, then the first.
+    /// Two rows conflict, counted from 1. Of all such pairs this one has the least second row, and then the
+    /// least first row.
     Conflict {
         row: u32,
         other: u32,
     },
-    /// The machine leaves a part open, at a state and at the digits of a symbol.
+    /// The machine leaves a part open, for this state and the symbol of these digits.
     Unspecified {
         state: Name,
         symbol: Items<u8>,
         part: Missing,
     },
-    /// There is more to be listed than the limit.
+    /// There are more to be listed than the limit.
     More {
         limit: usize,
     },
-    /// The text of a part has a label at that place that is none.
+    /// The text of a part has, at this place, a piece that is not a label.
     PartLabel {
         part: usize,
         place: usize,
     },
-    /// The text of a part has another number of labels than there are states.
+    /// The text of a part does not have as many labels as there are states.
     PartLength {
         part: usize,
         found: usize,
@@ -64,25 +65,25 @@ pub enum Refusal {
     CodeTooLong {
         bits: usize,
     },
-    /// The text of NET says no network: its first fault.
+    /// The text of NET is not a network: its first fault.
     NoNetwork(BlifFault),
-    /// The start that is given is no bit text of the latches.
+    /// The given start is not a text of a bit for each latch.
     BadStart,
-    /// No start is given, and that of this latch is not known.
+    /// No start is given, and the start of this latch is not known.
     UnknownStart {
         latch: Name,
     },
-    /// The line of SYMBOLS of that number is none.
+    /// The line of SYMBOLS of this number is not a symbol.
     BadSymbol {
         line: u32,
     },
-    /// A least code is sought for 3 to 8 states alone.
+    /// A least code is sought only for 3 to 8 states.
     StateCount {
         states: usize,
     },
     /// COVER is refused.
     BadCover(CoverFlaw),
-    /// Words of every length keep two states apart.
+    /// For every length, some word of that length keeps these two states apart.
     NotDefinite {
         state: Name,
         other: Name,
@@ -99,24 +100,24 @@ pub enum Refusal {
     TooManyOutputs,
     /// The text could not be put whole.
     Unwritable,
-    /// Memory is wanting.
+    /// Memory ran out.
     NoMemory,
 }
 
 /// What is wrong with a cover. Blocks, and the places within one, are counted from 0.
 #[derive(Debug, Drop)]
 pub enum CoverFlaw {
-    /// The number at a place of a block is none, or not the next greater one.
+    /// The piece at a place of a block is not a number of a state, or not greater than the number before it.
     Place { block: usize, place: usize },
-    /// Every state of a block is in another one.
+    /// Every state of a block is in another block.
     Within { block: usize, other: usize },
     /// A state is in no block.
     Lacks { state: Name },
     /// The blocks have too many places in all.
     Places { found: usize },
-    /// It is one block alone, or no block has two states.
+    /// There is only one block, or no block has two states.
     Trivial,
-    /// No block holds the next states of a block at the digits of a symbol.
+    /// No block holds the next states of this block for the symbol of these digits.
     Leaves { block: usize, symbol: Items<u8> },
 }
 

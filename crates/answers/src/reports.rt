@@ -5,7 +5,7 @@ use hs_list::Items;
 /// A text or a line.
 pub type Bytes = Items<u8>;
 
-/// What a command gives out: its whole text, or evidence that there is more than its limit.
+/// What a command gives out: its whole text, or evidence that there are more than its limit.
 #[derive(Debug, Drop)]
 pub enum Report {
     /// The whole text.

@@ -1,4 +1,4 @@
--- The headline: what is said of a text that is written as a decomposition of a file's machine.
+-- The headline: what holds of a text that is written as a decomposition of a file's machine.
 use Rattle.std.specs.Prelude.{◌≡◌, ℕ, ◌<◌, ◌++◌, Bool, List, length, slice_get, slice_index, Some}
 use Rattle.std.specs.List.{flat_map, AllByRecursion}
 use Rattle.blif_out.specs.declared.header.Header.{Header}
@@ -27,15 +27,17 @@ use Rattle.decomposition.specs.OwnPairs.{OwnPairs}
 use Rattle.decomposition.specs.Within.{IsWithinParts}
 use Rattle.decomposition.specs.Work.{AreClasses}
 
--- the words printed for the states of the file are the codes of their classes; a latch stands for each bit, with its part
+-- the words printed for the states of the file are the codes of their classes; there is a latch for each bit, with
+-- the bit's part
 pub record PrintsCodes (F : KissFile) (class : ℕ → ℕ) (codes : Codes) (H : Header) : Type 0 where
   pub count : length H.words ≡ length F.states
   pub words : (s : ℕ) → s < length F.states → slice_index H.words s ≡ slice_index codes.words (class s)
   pub bits : length H.latches ≡ codes.bits
   pub owners : (i : ℕ) (note : LatchNote) → slice_get H.latches i ≡ Some note → note.part ≡ slice_index codes.owner i
 
--- Each gate lists exactly its read set, whose bits are those of the rule, with none to spare, and whose inputs are those that
--- matter; its rows are a good cover of the values at which it gives 1 and those at which it gives 0.
+-- Each gate lists exactly its read set. The bits of the set are those of the rule, with none to spare, and its
+-- inputs are those that matter. The rows of the gate are a good cover of the values at which it gives 1 and of
+-- those at which it gives 0.
 pub record HasGates (F W : KissFile) (parts : List Part) (codes : Codes) (N : Network) : Type 0 where
   pub sets : Reads
   pub by_rule : AreReads W parts codes sets
@@ -43,11 +45,15 @@ pub record HasGates (F W : KissFile) (parts : List Part) (codes : Codes) (N : Ne
   pub own : AreNames F codes.bits names
   pub realised : IsRealised W codes.bits codes.words sets names N
 
--- The text is that of a network behind its header, and denotes the network; comments in front of the text change nothing of
--- what it denotes. The network is sound, starts at known values and answers every word as the machine of the file does from
--- its reset state. The header has the names, the classes, and the codes that carry every step of the file's machine. The
--- codes are those that the parts give to the states of the work machine W, and each gate of a latch reads only what its own
--- pair and its part permit. The header is the only lawful one that the text has, as HeadOnce of blif_out says.
+-- The text consists of a header and the text of a network after it, and denotes the network; comments in front of
+-- the text do not change what it denotes. Of the network and the header this holds:
+-- - The network is sound, starts at known values, and answers every word as the machine of the file does from its
+--   reset state.
+-- - The header has the names, the classes, and the codes that carry every step of the file's machine.
+-- - The codes are those that the parts give to the states of the work machine W.
+-- - Each gate of a latch reads only what its own pair and its part permit.
+--
+-- The header is the only lawful one that the text has, as HeadOnce of blif_out says.
 pub record IsDecomposition (reduce : Bool) (F W : KissFile) (class : ℕ → ℕ) (codes : Codes) (text : List ℕ) (N : Network) (H : Header) : Type 0 where
   pub whole : text ≡ net_text_of H N
   pub head : Head text H
@@ -67,7 +73,7 @@ pub record IsDecomposition (reduce : Bool) (F W : KissFile) (class : ℕ → ℕ
   pub within : IsWithinParts W N codes.words H.latches H.parts
   pub gates : HasGates F W H.parts codes N
 
--- the text is that of a split of this kind into these parts, of the work machine W of a file
+-- the text is that of a split, of this kind and into these parts, of the work machine W of a file
 unfoldable pub IsTextOf : Bool → KissFile → KissFile → Kind → List Part → List ℕ → Type 0
 IsTextOf reduce F W kind parts text =
     (class : ℕ → ℕ) × (codes : Codes) × (N : Network) × (H : Header)

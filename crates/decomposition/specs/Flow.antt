@@ -16,17 +16,18 @@ use Rattle.state_codes.specs.Split.{IsPart}
 abbrev pub TogetherInReads : List Part → Part → ℕ → ℕ → Type 0
 TogetherInReads parts part s t = (l : ℕ) (other : Part) → Contains part.reads l → slice_get parts l ≡ Some other → Together other.carrier s t
 
--- the next block of each part follows from its own block and the blocks of the carriers that it reads, for each symbol
+-- for each symbol, the next block of each part follows from its own block and the blocks of the carriers that it
+-- reads
 abbrev pub Flows : KissFile → List Part → Type 0
 Flows W parts =
     (j : ℕ) (part : Part) (s t : ℕ) (x : List Bool) → slice_get parts j ≡ Some part → s < length W.states → t < length W.states → length x ≡ W.inputs
     → Together part.partition s t → TogetherInReads parts part s t → Together part.partition (next W s x) (next W t x)
 
--- the candidates of each latch permit it
+-- the candidates of each latch permit its bit
 abbrev pub CandidatesPermit : KissFile → List Part → Codes → Type 0
 CandidatesPermit W parts codes = (i : ℕ) → i < codes.bits → Permits W codes.words (IsCandidate parts codes i) i
 
--- they do where information flows so
+-- if information flows so, the candidates of each latch permit its bit
 abbrev pub FlowPermits : Type 0
 FlowPermits =
     (W : KissFile) (parts : List Part) (codes : Codes) → All (IsPart (length W.states)) parts → IsCode (length W.states) parts codes

@@ -13,7 +13,7 @@ pub record HasNames (N : Network) (names : SignalNames) : Type 0 where
   pub latch_inputs : map (λ latch. latch.input) N.latches ≡ names.latch_inputs
   pub latch_outputs : map (λ latch. latch.output) N.latches ≡ names.latch_outputs
 
--- states, inputs and outputs have the names that the file gives; the other signals have own names
+-- states, inputs and outputs have the names that the file gives; the other signals have names of their own
 pub record Named (F : KissFile) (N : Network) (H : Header) : Type 0 where
   pub states : H.states ≡ F.states
   pub names : SignalNames

@@ -1,4 +1,4 @@
--- The network of a machine, a split and its codes, with what is noted of its latches.
+-- The network of a machine, a split and its codes, with the notes of its latches.
 use Rattle.std.specs.Prelude.{◌≡◌, List, length}
 use Rattle.blif_out.specs.declared.header.LatchNote.{LatchNote}
 use Rattle.blif_out.specs.Order.{HasKnownStarts, HasRowsInOrder}
@@ -16,9 +16,9 @@ use Rattle.decomposition.specs.Notes.{AreNotes}
 use Rattle.decomposition.specs.OwnPairs.{OwnPairs}
 use Rattle.decomposition.specs.Within.{IsWithinParts}
 
--- Each gate reads by the rule, which is enough for what it gives. The network has a latch for each bit. It is sound, starts
--- at the code of the reset state, and goes from code to code as the machine goes from state to state. Each gate of a latch
--- reads only what the latch's own pair and its part permit.
+-- The gates have read sets by the rule, which are enough for what the gates give. The network has a latch for each
+-- bit. It is sound, starts at the code of the reset state, and goes from code to code as the machine goes from
+-- state to state. Each gate of a latch reads only what the latch's own pair and its part permit.
 pub record IsNetworkOf (W : KissFile) (parts : List Part) (codes : Codes) (names : SignalNames) (N : Network) (notes : List LatchNote) : Type 0 where
   pub sets : Reads
   pub by_rule : AreReads W parts codes sets

@@ -17,20 +17,20 @@ use Rattle.dependence.specs.Permits.{AgreeOn, Permits}
 abbrev pub Reads : Network → Gate → ℕ → Type 0
 Reads N gate c = (latch : Latch) × (slice_get N.latches c ≡ Some latch) × Contains gate.inputs latch.output
 
--- the meet of the partitions of the bits that a gate reads, which is one where it reads none: states are together where
--- their codes agree on all of these bits
+-- the meet of the partitions of the bits that a gate reads: two states are together exactly where their codes agree
+-- on all of these bits, so that the partition is one where the gate reads none
 pub record IsReadPartition (states : ℕ) (N : Network) (gate : Gate) (words p : List ℕ) : Type 0 where
   pub lawful : IsPartition states p
   pub together : (s t : ℕ) → s < states → t < states → Together p s t ↔ AgreeOn words (Reads N gate) s t
 
--- the note of latch i is the pair of what its gate reads and what it codes
+-- the note of latch i is the pair of what its gate reads and what its bit codes
 pub record HasOwnPair (W : KissFile) (N : Network) (words : List ℕ) (i : ℕ) (note : LatchNote) (gate : Gate) : Type 0 where
   pub from : IsReadPartition (length W.states) N gate words note.from
   pub to : IsBitPartition (length W.states) words i note.to
   pub pair : Pair W note.from note.to
 
--- There is a gate for each latch input in order, then one for each output, and no other. Each reads inputs and latch
--- outputs alone, and that of a latch reads what the latch's own pair permits.
+-- There is a gate for each latch input in order, then one for each output, and no other. Each gate reads only
+-- inputs and latch outputs, and the gate of a latch reads what the latch's own pair permits.
 pub record OwnPairs (W : KissFile) (N : Network) (words : List ℕ) (notes : List LatchNote) : Type 0 where
   pub gates : driven_by N.gates ≡ map (λ latch. latch.input) N.latches ++ N.outputs
   pub reads : All (λ gate. All (Contains (base_of N)) gate.inputs) N.gates

@@ -5,7 +5,7 @@ use Rattle.kiss2.specs.declared.kiss_file.KissFile.{KissFile}
 use Rattle.state_reduce.specs.Alike.{IsEquivalence}
 use Rattle.state_reduce.specs.WorkMachine.{IsWorkMachine}
 
--- the classes are the partition of the file's states into alike states, or there are none without `--reduce`
+-- the classes are the partition of the file's states into alike states; without `--reduce` there are none
 abbrev pub AreClasses : Bool → KissFile → Option (List ℕ) → Type 0
 AreClasses true F (Some classes) = IsEquivalence F classes
 AreClasses true F None = ⊥
@@ -23,7 +23,8 @@ pub record IsWork (reduce : Bool) (F : KissFile) (work : WorkMachine) : Type 0 w
   pub classes : AreClasses reduce F work.classes
   pub names : AreWorkNames F work.machine work.names
 
--- W is the machine that a command works on: that of the file, or with `--reduce` that of the classes of alike states
+-- W is the machine that a command works on: the machine of the file, or with `--reduce` the machine of the classes
+-- of alike states
 abbrev pub IsWorkOf : Bool → KissFile → KissFile → Type 0
 IsWorkOf reduce F W = (class : ℕ → ℕ) × IsWorkMachine reduce F W class
 

@@ -9,8 +9,8 @@ use partition::Partition;
 use state_codes::{CodeWords, Codes, Part, Split};
 use std::alloc::{AllocError, Global};
 
-/// The header of a split with its codes and the notes of its latches, where the states of the file have these
-/// names and, where there are classes, these classes.
+/// The header of a split with its codes and the notes of its latches. The states of the file have these names
+/// and, if classes are given, belong to these classes.
 pub fn header_of(
     alloc: Global,
     states: StateNames,
@@ -34,7 +34,7 @@ pub fn header_of(
     })
 }
 
-/// What each part reads is small. It changes nothing.
+/// The numbers of the parts that each part reads are small. It changes nothing.
 fn reads_fit(parts: &[Part])
     ensures { All HasSmallReads parts.now }
 {
@@ -50,7 +50,7 @@ fn numbers_fit(numbers: &[u16])
     let _ = numbers.len();
 }
 
-/// The word of each state of the file: that of its class, or its own.
+/// The word of each state of the file: the word of its class, or its own.
 fn printed_words(
     alloc: Global,
     classes: &Option<Partition>,

@@ -9,7 +9,7 @@ ghost use Rattle.decomposition.specs.Notes.{IsPartitionOn};
 use partition::{PartFail, Partition};
 use std::alloc::{AllocError, Global};
 
-/// The partition in which two states are together where their code words agree on the bits of a set.
+/// The partition in which two states are together exactly where their code words agree on the bits of a set.
 pub fn agreeing(alloc: Global, words: &[u64], set: u64) -> Result<Partition, AllocError>
     requires { IsStateCount (length words.now) }
     ensures { IfOk result (IsPartitionOn words.now (InWord set)) }
@@ -18,8 +18,8 @@ pub fn agreeing(alloc: Global, words: &[u64], set: u64) -> Result<Partition, All
     partition_of(alloc, labels.as_slice())
 }
 
-/// The labels of the states by a set of bits: a state has the label of the first one whose bits of the set
-/// are its own.
+/// The labels of the states by a set of bits: a state has the label of the first state that has the same bits
+/// of the set.
 fn labels_by(alloc: Global, words: &[u64], set: u64) -> Result<Vec<u16>, AllocError>
     requires { IsStateCount (length words.now) }
     ensures { IfOk result (λ labels. IsPartitionOn words.now (InWord set) labels.items) }
@@ -33,7 +33,7 @@ fn labels_by(alloc: Global, words: &[u64], set: u64) -> Result<Vec<u16>, AllocEr
     Ok(labels)
 }
 
-/// The number of a value among those seen. One that was not seen goes last.
+/// The number of a value among those seen. A value that was not seen is appended to them.
 fn block_of(seen: &mut Vec<u64>, value: u64) -> Result<usize, AllocError>
     ensures { IfOk result (λ block. IsSeenAt seen.old.items value block seen.new.items) }
 {

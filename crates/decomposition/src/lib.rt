@@ -1,17 +1,17 @@
 //! One way from a split to a text.
 //!
-//! A split of a machine's states into parts gives the states codes, the codes and the flow between the parts
-//! give each gate what it reads, and these give a network and the header that explains it. [`text_of_split`]
-//! goes this way for every split through whose parts information flows as the parts say (`specs/Flow`), so
-//! that what is special to a kind of decomposition is its split alone. The text that it writes denotes a network
-//! that answers as the machine of the file does, and all that `specs/Decomposition` says besides.
+//! A split of a machine's states into parts gives codes to the states. The codes and the flow between the parts
+//! give what each gate reads, and these give a network and the header that explains it. [`text_of_split`] does
+//! this for every split through whose parts information flows as the parts say (`specs/Flow`), so that only the
+//! split is special to a kind of decomposition. The text that it writes denotes a network that answers as the
+//! machine of the file does; `specs/Decomposition` says all that holds of it.
 //!
-//! [`network_of_split`] goes as far as the network, for any machine and any names of its signals; `specs/Network`
-//! says all that is known of it.
+//! [`network_of_split`] goes as far as the network, for any machine and any names of its signals;
+//! `specs/Network` says all that is known of it.
 //!
-//! [`work_machine`] makes the machine that is split: that of the file, or of the classes of its alike states
-//! (`specs/Work`). The other definitions are `Named` for names, `Notes` and `OwnPairs` for the partition pair of
-//! each latch, and `Within` for what the gates of a part read.
+//! [`work_machine`] makes the machine that is split: the machine of the file, or of the classes of its alike
+//! states (`specs/Work`). The other definitions are `Named` for names, `Notes` and `OwnPairs` for the partition
+//! pair of each latch, and `Within` for what the gates of a part read.
 #![tactic(auto)]
 
 mod header;

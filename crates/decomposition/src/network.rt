@@ -18,15 +18,15 @@ use realise::network;
 use state_codes::{Codes, Split};
 use std::alloc::{AllocError, Global};
 
-/// A network, and of each of its latches the part of its bit and its partition pair.
+/// A network, and for each of its latches the part of its bit and its partition pair.
 #[derive(Debug, Drop)]
 pub struct SplitNetwork {
     pub network: Network,
     pub notes: LatchNotes,
 }
 
-/// The network of a machine that is split, with the codes that `encode` gives for the split and these names of
-/// the signals, latch by latch in the order of the bits. Each gate reads no more than it must.
+/// The network of a machine that is split, with these names of the signals and the codes that `encode` gives
+/// for the split. Its latches are in the order of the bits. Each gate reads no more than it must.
 pub fn network_of_split(
     alloc: Global,
     machine: &Machine,

@@ -1,4 +1,4 @@
-//! What is noted of the latches of a network.
+//! The notes of the latches of a network.
 
 ghost use Rattle.std.specs.Prelude.{◌≡◌, ◌<◌, ◌≤◌, All, IfOk, length};
 ghost use Rattle.partition.specs.Partition.{IsStateCount};
@@ -10,7 +10,7 @@ use dependence::ReadSet;
 use state_codes::Codes;
 use std::alloc::{AllocError, Global};
 
-/// The notes of the latches, whose gates read these sets.
+/// The notes of the latches whose gates read these sets.
 pub fn notes_of(alloc: Global, codes: &Codes, sets: &[ReadSet]) -> Result<LatchNotes, AllocError>
     requires count { IsStateCount (length codes.now.words) }
     requires owners { length codes.now.owner ≡ length sets.now }
@@ -25,7 +25,7 @@ pub fn notes_of(alloc: Global, codes: &Codes, sets: &[ReadSet]) -> Result<LatchN
     Ok(notes)
 }
 
-/// The note of a latch, whose gate reads the set.
+/// The note of a latch whose gate reads the set.
 fn note_of(alloc: Global, codes: &Codes, i: usize, set: &ReadSet) -> Result<LatchNote, AllocError>
     requires count { IsStateCount (length codes.now.words) }
     requires owner { i < length codes.now.owner }

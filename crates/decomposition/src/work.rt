@@ -14,8 +14,9 @@ use partition::Partition;
 use state_reduce::{QuotientFail, equivalence, quotient};
 use std::alloc::{AllocError, Global};
 
-/// The machine that a command works on: that of its file, or that of the classes of the file's alike states,
-/// with the partition of the file's states into these classes and the names that these have.
+/// The machine that a command works on: the machine of its file, or the machine of the classes of the file's
+/// alike states. In the second case there are also the partition of the file's states into these classes, and
+/// the names of the classes.
 #[derive(Drop)]
 pub struct WorkMachine {
     pub machine: Machine,
@@ -23,8 +24,8 @@ pub struct WorkMachine {
     pub names: Option<StateNames>,
 }
 
-/// The machine that a command works on. With `reduce` its states are the classes of alike states of the
-/// file's machine, in the order of their least states; else it is the file's machine.
+/// The machine that a command works on. With `reduce` its states are the classes of alike states of the file's
+/// machine, in the order of their least states; without, it is the file's machine.
 pub fn work_machine(
     alloc: Global,
     file: &KissFile,
@@ -48,7 +49,7 @@ pub fn work_machine(
     }
 }
 
-/// The name of a state of the machine that a command works on: a class has that of its least state.
+/// The name of a state of the machine that a command works on: a class has the name of its least state.
 pub fn state_name<'a>(file: &'a KissFile, work: &'a WorkMachine, s: usize) -> &'a [u8]
     requires work { (reduce : Bool) × IsWork reduce file.now work.now }
     requires state { s < length work.now.machine.states }

@@ -18,7 +18,7 @@ use realise::names;
 use state_codes::{Codes, Split};
 use std::alloc::{AllocError, Global};
 
-/// The text of the network of a split, with the codes that `encode` gives for it: its header and the network
+/// The text of the network of a split, with the codes that `encode` gives for it: its header, and the network,
 /// in which each gate reads no more than it must. The machine is one that `work_machine` gives for the file,
 /// which is accepted.
 pub fn text_of_split(

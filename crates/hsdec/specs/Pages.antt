@@ -13,7 +13,7 @@ use Rattle.job_words.specs.Job.{row_named}
 use Rattle.job_words.specs.Table.{Row, built}
 use Rattle.hsdec.specs.Phrases.{example_of, operand_note, operand_word, option_note, option_words, phrase_of}
 
--- a line of each operand, and of each option
+-- a line for each operand, and for each option
 abbrev pub operand_lines : List OperandKind → List ℕ
 operand_lines operands = flat_map (λ kind. ended (operand_note kind)) operands
 
@@ -92,7 +92,7 @@ help_page_of rows operands options =
     usage_text ++ flat_map form_lines rows ++ ended [] ++ ended (codes "Operands and options:") ++ operand_lines operands
     ++ option_lines options ++ answers_text
 
--- the page about the program: each command that is built, and the operands and options of these
+-- the page about the program: every command that is built, and their operands and options
 unfoldable pub help_page : List ℕ
 help_page = help_page_of built (File ∷ Net ∷ Symbols ∷ Part ∷ Parts ∷ Cover ∷ Seed ∷ A ∷ B ∷ K ∷ []) (Limit ∷ Reduce ∷ Start ∷ Fill ∷ [])
 
@@ -100,8 +100,8 @@ help_page = help_page_of built (File ∷ Net ∷ Symbols ∷ Part ∷ Parts ∷ 
 abbrev pub version_page : List ℕ
 version_page = ended (codes "hsdec 0.1.0")
 
--- the page that words ask for: that about the program or its version, by one lone word, or that about a command that is
--- built, by two
+-- the page that words ask for: one word alone asks for the page about the program or for its version, and two words
+-- for the page about a command that is built
 abbrev pub page_asked : List (List ℕ) → Option (List ℕ)
 page_asked [] = None
 page_asked (word ∷ []) =

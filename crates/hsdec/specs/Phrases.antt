@@ -1,4 +1,4 @@
--- What the pages say of commands, operands and options, a line each without its line feed.
+-- What the pages say about commands, operands and options; each is a line without its line feed.
 use Rattle.std.specs.Prelude.{ℕ, List, codes}
 use Rattle.job_words.specs.declared.command.Command.{Command}
 use Rattle.job_words.specs.declared.command.Command.TheVariants as commands
@@ -33,7 +33,7 @@ phrase_of commands.Shift = codes "writes a definite machine as a shift register"
 phrase_of commands.Ispairs = codes "lists the Mm pairs of inputs and states"
 phrase_of commands.Sopairs = codes "lists the Mm pairs of states and outputs"
 
--- the words of an example of a command
+-- the words of an example of each command
 abbrev pub example_of : Command → List ℕ
 example_of commands.Check = codes "check modulo4.kiss"
 example_of commands.Reduce = codes "reduce alike.kiss"

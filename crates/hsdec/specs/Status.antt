@@ -1,4 +1,5 @@
--- What the answer to words comes of, what out is given with it, and which refusal is answered in place of Done.
+-- What the answer to words depends on, what out is given with it, and which refusal an answer other than Done
+-- belongs to.
 use Rattle.std.specs.Prelude.{◌≡◌, ◌≢◌, ◌⊎◌, ℕ, List, [], Option, Some, None, IfOk, IfSome, IsErr}
 use Rattle.answers.specs.declared.numbers.Answer.{Answer}
 use Rattle.answers.specs.declared.numbers.Answer.TheVariants.{Done, Usage, More, ReadFault, WriteFault, NoMemory}
@@ -16,16 +17,20 @@ use Rattle.hsdec.specs.Pages.{page_asked}
 use Rattle.hsdec.specs.Words.{AreTold}
 use Rattle.job_words.specs.Job.{JobOf}
 
--- ---- words that ask for a job, or for nothing
+-- ---- words that do not ask for a page
 -- the words are judged, and what they and the texts of the shelf call for is answered
 pub record IsJudged (words : List (List ℕ)) (holds : List ℕ → Option (List ℕ)) (given : Answer) : Type 0 where
   pub usage : IsErr (JobOf words) → (given ≡ Usage) ⊎ (given ≡ NoMemory)
   pub comes : IfTold words holds (λ job bytes. Comes given (first_cause job bytes))
   pub all_come : IfAllTold words holds (λ job bytes symbols. Comes given (all_causes job bytes symbols))
 
--- out is given the whole text that the job asks for, a whole decomposition where it decomposes, or the evidence that there
--- is more than the limit; a front of either where it could not be given whole. `out` and `out'` are what out was given
--- before and after; `Stays` says that out is as it was, which it is where the text is empty
+-- what out is given by each answer:
+-- - Done: the whole text that the job asks for, which is a whole decomposition if the job decomposes;
+-- - More: the evidence that there are more than the limit;
+-- - WriteFault: a front of either, as it could not be given whole.
+--
+-- `out` and `out'` are what out was given before and after. `Stays` says that out is as it was; at Done it holds if
+-- the text is empty.
 pub record IsGivenOut (words : List (List ℕ)) (holds : List ℕ → Option (List ℕ)) (given : Answer) (out out' : Option (List ℕ)) (Stays : Type 0) : Type 0 where
   pub headline :
       given ≡ Done → IfOk (JobOf words) (λ job. IfSome (kind_of (task_of job.command)) (λ kind.
@@ -42,22 +47,22 @@ pub record IsPageAnswer (page : List ℕ) (given : Answer) (out out' : Option (L
   pub whole : given ≡ Done → Appends out page out'
   pub front : given ≡ WriteFault → AppendsFront out page out'
 
--- a page is not put whole where out had a fault, or memory is wanting
+-- a page is not put whole only if out had a fault or memory ran out
 abbrev pub IsPageRefusal : Type 0 → Refusal → Type 0
 IsPageRefusal PutFaulted refusal = ((refusal ≡ refusals.Unwritable) × PutFaulted) ⊎ (refusal ≡ refusals.NoMemory)
 
 -- ---- whole
--- by the page that the words ask for, if they ask for one
+-- the answer, by the page that the words ask for, if they ask for one
 abbrev pub IsAnswerBy : Option (List ℕ) → List (List ℕ) → (List ℕ → Option (List ℕ)) → Answer → Option (List ℕ) → Option (List ℕ) → Type 0 → Type 0
 IsAnswerBy (Some page) words holds given out out' Stays = IsPageAnswer page given out out'
 IsAnswerBy None words holds given out out' Stays = IsJudged words holds given × IsGivenOut words holds given out out' Stays
 
--- the answer to words, with what out was given before and after; memory may be wanting for any of them
+-- the answer to words, with what out was given before and after; in every case memory may run out
 abbrev pub IsAnswerTo : List (List ℕ) → (List ℕ → Option (List ℕ)) → Answer → Option (List ℕ) → Option (List ℕ) → Type 0 → Type 0
 IsAnswerTo words holds given out out' Stays = IsAnswerBy (page_asked words) words holds given out out' Stays ⊎ (given ≡ NoMemory)
 
--- where no count of faults rises, a page is put, and so is the text of a job for which nothing calls for a refusal, or
--- memory is wanting
+-- where no count of faults rises, a page is put, and so is the text of a job for which nothing calls for a refusal,
+-- unless memory runs out
 abbrev pub IsCompleteBy : Option (List ℕ) → List (List ℕ) → (List ℕ → Option (List ℕ)) → Answer → Type 0 → Type 0
 IsCompleteBy (Some page) words holds given Rises = (Rises → ⊥) → (given ≡ Done) ⊎ (given ≡ NoMemory)
 IsCompleteBy None words holds given Rises =
@@ -66,7 +71,8 @@ IsCompleteBy None words holds given Rises =
 abbrev pub IsComplete : List (List ℕ) → (List ℕ → Option (List ℕ)) → Answer → Type 0 → Type 0
 IsComplete words holds given Rises = IsCompleteBy (page_asked words) words holds given Rises
 
--- the refusal that is answered to words; `Faulted` and `PutFaulted` say that the counts of the shelf and of out rose
+-- the refusal that words are answered with; `Faulted` and `PutFaulted` say that the counts of the shelf and of out
+-- rose
 abbrev pub IsRefusedBy : Option (List ℕ) → List (List ℕ) → (List ℕ → Option (List ℕ)) → Type 0 → Type 0 → Refusal → Type 0
 IsRefusedBy (Some page) words holds Faulted PutFaulted refusal = IsPageRefusal PutFaulted refusal
 IsRefusedBy None words holds Faulted PutFaulted refusal = IsRefusedFor (JobOf words) holds Faulted PutFaulted refusal
@@ -75,9 +81,9 @@ abbrev pub IsRefusedTo : List (List ℕ) → (List ℕ → Option (List ℕ)) �
 IsRefusedTo words holds Faulted PutFaulted refusal = IsRefusedBy (page_asked words) words holds Faulted PutFaulted refusal
 
 -- ---- the arguments
--- What is said of the answer to arguments, by words of theirs: `told` are the arguments, where they are told. The shelf holds
--- `holds`; `Faulted` and `PutFaulted` say that the counts of the shelf and of out rose, `Stays` and `Silent` that out and err
--- are as they were, and `PutsLine` which line was handed to err.
+-- What holds of the answer to arguments, by their words. `told` are the arguments, where they are known, and
+-- `holds` is what the shelf holds. `Faulted` and `PutFaulted` say that the counts of the shelf and of out rose,
+-- `Stays` and `Silent` that out and err are as they were, and `PutsLine` that a line was handed to err.
 pub record IsAnswered (told : Option (List (List ℕ))) (words : List (List ℕ)) (holds : List ℕ → Option (List ℕ)) (Faulted PutFaulted Stays Silent : Type 0) (PutsLine : List ℕ → Type 0) (out out' : Option (List ℕ)) (given : Answer) : Type 0 where
   pub words_told : given ≢ NoMemory → AreTold told words
   pub answer : IsAnswerTo words holds given out out' Stays

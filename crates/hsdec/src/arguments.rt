@@ -12,16 +12,16 @@ use std::str;
 
 /// The arguments after the program's name.
 pub trait Arguments {
-    /// All of them in order, where they are told.
+    /// All of them in order, where they are known.
     ghost given: { Self → Option (List (List ℕ)) };
 
-    /// The argument of a number, counted from 0, if there is one.
+    /// The argument of this number, counted from 0, if there is one.
     fn argument(&self, alloc: Global, number: usize) -> Result<Option<Name>, AllocError>
         requires { number < 2 ^ 32 }
         ensures { IfOk result (λ argument. IfSome (given self.now) (λ all. argument ≡ slice_get all number)) };
 }
 
-/// The arguments of the system. It tells none of them.
+/// The arguments of the system. Contracts know none of them.
 #[derive(Drop)]
 pub struct SystemArguments<R: Env> {
     environment: R,
@@ -53,7 +53,7 @@ impl<R: Env> Arguments for SystemArguments<R> {
     }
 }
 
-/// The words of the arguments. More of them than words may be are taken for want of memory.
+/// The words of the arguments. More arguments than there may be words count as a lack of memory.
 #[tactic(auto, using(crate::proofs::ToldWords::told_none, crate::proofs::ToldWords::told_more, crate::proofs::ToldWords::told_all))]
 pub fn words_of<A: Arguments>(alloc: Global, arguments: &A) -> Result<Words, AllocError>
     ensures few { IfOk result (λ words. length words < 2 ^ 32 - 1) }
@@ -69,7 +69,7 @@ pub fn words_of<A: Arguments>(alloc: Global, arguments: &A) -> Result<Words, All
     Err(AllocError)
 }
 
-/// The word of an argument: one that is not text is an empty word.
+/// The word of an argument; an argument that is not text gives the empty word.
 fn word_of(argument: &[u8]) -> &[u8]
     ensures { IsWordOf argument.now result.now }
 {

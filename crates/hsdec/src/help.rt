@@ -117,7 +117,7 @@ fn paired_page(alloc: Global, first: &[u8], second: &[u8]) -> Result<Option<Vec<
     Ok(None)
 }
 
-/// The page about the command of a word, if it is one of these.
+/// The page about the command of a word, if the word names one of these commands.
 fn page_about(alloc: Global, forms: &[Form], word: &[u8]) -> Result<Option<Vec<u8>>, AllocError>
     ensures { let asked = option_map command_page (row_named (map row_of forms.now) word.now) in
         IfOk result (λ page. MatchOption page (asked ≡ None) (λ text. asked ≡ Some text.items)) }

@@ -11,13 +11,13 @@ use std::rt::Files;
 /// The name of standard input.
 const INPUT: &[u8] = b"-";
 
-/// How many bytes one read asks for at most.
+/// The greatest number of bytes that one read asks for.
 const PIECE: usize = 4096;
 
-/// The files of the system, each under its path, and standard input under the name `-`. The first load of
-/// `-` reads the input to its end, and later ones find nothing more there. It tells no bytes, and grants
-/// every name. Contracts see its count of faults alone, which rises at each error of the system and at a
-/// name that is no path.
+/// The files of the system, each under its path, and standard input under the name `-`. The first load of `-`
+/// reads the input to its end, and later loads find nothing more there. Contracts do not know the bytes of any
+/// name, and every name is granted. They see only the count of faults, which rises at each error of the system
+/// and at a name that is no path.
 #[derive(Drop)]
 pub struct InputShelf<R: Files, I: Read + Drop> {
     files: FileShelf<R>,
@@ -58,7 +58,7 @@ impl<R: Files, I: Read + Drop> Shelf for InputShelf<R, I> {
         ensures one_more { IsErrOf result LoadFail.TooLong → vec_len into.new ≡ limit + 1 }
         ensures never_falls { self.old ≤ self.new }
 
-        // It counts each failure and nothing else.
+        // The count rises at each failure, and at nothing else.
         ensures counted { IsErrOf result LoadFail.Failed → self.new ≡ next_count self.old }
         ensures not_counted { ¬ IsErrOf result LoadFail.Failed → self.new ≡ self.old }
     {
@@ -74,7 +74,7 @@ impl<R: Files, I: Read + Drop> Shelf for InputShelf<R, I> {
     }
 }
 
-/// Loads what is left of the input: all of it, or nothing where it was loaded before.
+/// Loads what is left of the input: all of it, or nothing if it was loaded before.
 fn load_input<I: Read + Drop>(
     input: &mut Option<I>,
     limit: usize,
@@ -91,7 +91,7 @@ fn load_input<I: Read + Drop>(
     }
 }
 
-/// Reads to the end, or one byte more than the limit.
+/// Reads to the end, or until there is one byte more than the limit.
 fn read_to_end(reader: &mut impl Read, limit: usize, into: &mut Vec<u8>) -> Result<(), LoadFail>
     requires empty { into.old.items ≡ [] }
     requires limited { limit < 2 ^ 32 }
@@ -109,7 +109,7 @@ fn read_to_end(reader: &mut impl Read, limit: usize, into: &mut Vec<u8>) -> Resu
     unreachable!("each turn takes a byte")
 }
 
-/// Appends some of the bytes that are left, and says how many; at the end there are none.
+/// Appends some of the bytes that are left, and gives their number, which is 0 only at the end.
 fn read_piece(reader: &mut impl Read, most: usize, into: &mut Vec<u8>) -> Result<usize, LoadFail>
     requires { vec_len into.old < most }
     ensures ok { IfOk result (λ n. vec_len into.new ≡ vec_len into.old + n) }

@@ -1,11 +1,11 @@
-//! The program `hsdec`. What it does is said of [`program::status`], over the arguments, a shelf and two
-//! sinks: which answer to which words its exit status is the number of, which page `--help` and `--version`
-//! put, and that what is put else is what `run` of the crate `hsdec_core` promises. The words of the arguments are
-//! in `specs/Words`, the pages in `specs/Pages` and `specs/Phrases`, the answers in `specs/Status`.
+//! The program `hsdec`. The contract of [`program::status`] says what it does, over the arguments, a shelf and
+//! two sinks: which answer the words get, whose number is the exit status; which page `--help` and `--version`
+//! put; and that everything else is what `run` of the crate `hsdec_core` promises. The words of the arguments
+//! are in `specs/Words`, the pages in `specs/Pages` and `specs/Phrases`, the answers in `specs/Status`.
 //!
-//! `main` hands over those of the system: [`arguments::SystemArguments`], which tells no arguments,
-//! [`input_shelf::InputShelf`], which loads files and standard input and tells no bytes, and the sinks on
-//! standard output and standard error. These are the edge where nothing is proved of the system.
+//! `main` hands over those of the system: [`arguments::SystemArguments`], [`input_shelf::InputShelf`] over
+//! files and standard input, and the sinks on standard output and standard error. Contracts know neither the
+//! system's arguments nor the bytes of its files. Nothing is proved about the system beyond this edge.
 #![tactic(auto)]
 
 mod arguments;

@@ -1,4 +1,4 @@
-//! What the pages say of commands, operands and options, a line each without its line feed.
+//! What the pages say about commands, operands and options; each is a line without its line feed.
 
 ghost use Rattle.std.specs.Prelude.{◌≡◌};
 ghost use Rattle.hsdec.specs.Phrases.{example_of, operand_note, operand_word, option_note, option_words, phrase_of};

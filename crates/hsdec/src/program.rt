@@ -22,8 +22,8 @@ use hsdec_core::{Answer, run};
 use job_words::Words;
 use std::alloc::{AllocError, Global};
 
-/// The exit status of the program. `--help` and `--version` are answered here, all else by `run`. No name is loaded
-/// but the operands of a job.
+/// The exit status of the program. `--help` and `--version` are answered here, everything else by `run`. Only
+/// the operands of a job are loaded.
 pub fn status<A: Arguments, F: Shelf, O: Sink, E: Sink>(
     alloc: Global,
     arguments: &A,
@@ -34,8 +34,8 @@ pub fn status<A: Arguments, F: Shelf, O: Sink, E: Sink>(
     requires { (words : List (List ℕ)) → AreTold (A.given arguments.now) words
         → IfOk (JobOf words) (AreGranted (F.grants shelf.old)) }
 
-    // It is the number of the answer to the words of the arguments, if memory is not wanting. The answer comes
-    // where they and the texts of the shelf call for it, and out is given what they ask for.
+    // It is the number of the answer to the words of the arguments, unless memory runs out. The answer is the
+    // one that they and the texts of the shelf call for, and out is given what they ask for.
     ensures { (answer : Answer) × (result ≡ answer_code answer) × (words : List (List ℕ))
         × IsAnswered (A.given arguments.now) words (F.holds shelf.old)
         (Rose (F.faults shelf.old) (F.faults shelf.new)) (Rose (O.faults out.old) (O.faults out.new))

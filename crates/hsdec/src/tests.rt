@@ -6,7 +6,7 @@ use std::env::FillError;
 use std::rt::Env;
 use std::test::Fail;
 
-/// An environment whose arguments are these, after the program's name.
+/// An environment with these arguments after the program's name.
 #[derive(Drop)]
 struct Given {
     words: &'static [&'static [u8]],

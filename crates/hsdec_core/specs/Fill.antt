@@ -4,6 +4,6 @@ use Rattle.kiss2.specs.declared.fill.Fill.{Fill}
 use Rattle.kiss2.specs.declared.fill.Fill.TheVariants.{Refuse, Hold}
 use Rattle.job_words.specs.declared.jobs.Job.{Job}
 
--- open entries are filled where the words say so, and else refused
+-- open entries are filled where the words ask for it, and are refused otherwise
 abbrev pub fill_of : Job → Fill
 fill_of job = if job.hold then Hold else Refuse

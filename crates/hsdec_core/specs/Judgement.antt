@@ -1,5 +1,5 @@
--- What a job calls for by what it loads, in the order of judgement: the causes before a command's own are in `Causes`, and a
--- command's own in the crate of its family.
+-- What a job calls for by what it loads, in the order of judgement. The causes that come before a command's own are
+-- in `Causes`; a command's own causes are in the crate of its family.
 use Rattle.std.specs.Prelude.{ℕ, List, [], ◌∷◌, length}
 use Rattle.answers.specs.Cause.{Cause, FirstOf}
 use Rattle.closed_lattice.specs.Closed.{IsClosedPartition}
@@ -24,7 +24,8 @@ use Rattle.shift_texts.specs.Causes.{RefusesShift}
 use Rattle.split_texts.specs.Causes.{IsNotWritten}
 use Rattle.symbol_runs.specs.Causes.{BadSymbolRow, NoStart}
 
--- a command's own answers, by what it does with the machine of FILE; one that prints what it finds on every machine has none
+-- a command's own causes, by what it does with the machine of FILE; a command that prints a result for every
+-- machine has none
 abbrev pub own_cause : MachineTask → Job → KissFile → Cause
 own_cause Check job F = Never
 own_cause Reduce job F = Never
@@ -53,7 +54,7 @@ abbrev pub first_cause : Job → List ℕ → Cause
 first_cause job bytes = first_cause_of (task_of job.command) job bytes
 
 -- ---- by the symbols
--- the symbols of an operand have so many bits each
+-- the operand is too long, or one of its lines is not a symbol of `width` bits
 abbrev pub BadSymbols : List ℕ → ℕ → List ℕ → Cause
 BadSymbols name width symbols = FirstOf (Lengthy name symbols ∷ BadSymbolRow width symbols ∷ [])
 

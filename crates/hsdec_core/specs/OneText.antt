@@ -1,4 +1,4 @@
--- What `sim` and `walk` print of a network and of the machine that it was made from.
+-- What `sim` prints of a network and what `walk` prints of the machine that the network was made from.
 use Rattle.std.specs.Prelude.{◌≡◌, ℕ, Bool, List, None}
 use Rattle.kiss2.specs.declared.kiss_file.KissFile.{KissFile}
 use Rattle.net_core.specs.declared.Network.{Network}
@@ -8,8 +8,8 @@ use Rattle.state_codes.specs.declared.split.Kind.{Kind}
 use Rattle.symbol_runs.specs.Texts.{IsWalkText}
 use Rattle.split_texts.specs.Written.{IsWritten}
 
--- the network that a written decomposition denotes, from its own start, and the machine of the file give one text for one file
--- of symbols
+-- for one file of symbols, the network that a written decomposition denotes, run from its own start, and the
+-- machine of the file give one text
 abbrev pub GiveOneText : Type 0
 GiveOneText =
     (kind : Kind) (parts : List ℕ) (reduce : Bool) (F : KissFile) (N : Network) (written symbols simulated walked : List ℕ) → IsWritten kind parts reduce F written → Denotes written N

@@ -1,4 +1,4 @@
--- What each command promises of the text that it puts: one relation for each, by the definition of its family.
+-- What each command promises of the text that it puts: one relation for each command, defined by its family.
 use Rattle.std.specs.Prelude.{◌≡◌, ℕ, ◌⊎◌, List, Option}
 use Rattle.closed_lattice.specs.Closed.{IsClosedPartition}
 use Rattle.cover_texts.specs.Written.{IsCoverText}
@@ -38,7 +38,7 @@ use Rattle.state_codes.specs.declared.split.Kind.{Kind}
 use Rattle.symbol_runs.specs.Texts.{IsWalkText}
 
 -- ---- of the machine of FILE
--- the whole text
+-- the text is the whole text of the task
 abbrev pub IsReport : MachineTask → Job → KissFile → List ℕ → Type 0
 IsReport Check job F text = IsChecked F text
 IsReport Reduce job F text = IsReducedText F (fill_of job) text
@@ -54,7 +54,7 @@ IsReport Cover job F text = IsCoverText F job.second text
 IsReport Shift job F text = IsShiftText job.reduce F text
 IsReport (Decompose kind) job F text = IsWritten kind job.second job.reduce F text
 
--- the text of evidence that there are more than the limit
+-- the text is evidence that there are more than the limit
 abbrev pub IsShown : MachineTask → Job → KissFile → List ℕ → Type 0
 IsShown Closed job F text = IsEvidenceText partition_line Before (IsClosedPartition F) job.limit text
 IsShown Output job F text = IsEvidenceText partition_line Before (IsClosedAndConsistent F) job.limit text
@@ -64,18 +64,18 @@ IsShown OutputPairs job F text = IsOutputEvidence F job.limit text
 IsShown _ job F text = ⊥
 
 -- ---- of what a shelf holds
--- the bytes that a shelf holds say a lawful machine, which is accepted with a fill
+-- the bytes that a shelf holds denote a lawful machine that is accepted with the fill
 pub record HoldsMachine (held : Option (List ℕ)) (fill : Fill) (bytes : List ℕ) (F : KissFile) : Type 0 where
   pub text : IsText held bytes
   pub kiss : Kiss bytes F
   pub lawful : IsLawful F
   pub accepted : Accepted F fill
 
--- the bytes that a shelf holds say a network
+-- the bytes that a shelf holds denote a network
 abbrev pub HoldsNetwork : Option (List ℕ) → List ℕ → Network → Type 0
 HoldsNetwork held bytes N = IsText held bytes × Blif bytes N
 
--- the text that a job asks for, by its task, of what the shelf holds under its names
+-- the text that a job asks for, by its task and by what the shelf holds under the job's names
 abbrev pub IsAskedOf : Task → Job → (List ℕ → Option (List ℕ)) → List ℕ → Type 0
 IsAskedOf (OnMachine task) job holds text =
     (bytes : List ℕ) × (F : KissFile) × HoldsMachine (holds job.file) (fill_of job) bytes F × IsReport task job F text
@@ -91,7 +91,7 @@ IsAskedOf Trial job holds text = OfGenerated job.seed job.a job.b job.k (λ F. I
 abbrev pub IsAsked : Job → (List ℕ → Option (List ℕ)) → List ℕ → Type 0
 IsAsked job holds text = IsAskedOf (task_of job.command) job holds text
 
--- the text of evidence that a job shows, of what the shelf holds under its file
+-- the text is the evidence that a job puts, by what the shelf holds under its FILE
 abbrev pub IsShownBy : Task → Job → KissFile → List ℕ → Type 0
 IsShownBy (OnMachine task) job F text = IsShown task job F text
 IsShownBy _ job F text = ⊥
@@ -100,11 +100,11 @@ abbrev pub IsEvidence : Job → (List ℕ → Option (List ℕ)) → List ℕ �
 IsEvidence job holds text =
     (bytes : List ℕ) × (F : KissFile) × HoldsMachine (holds job.file) (fill_of job) bytes F × IsShownBy (task_of job.command) job F text
 
--- either of the two
+-- the text that a job asks for, or its evidence
 abbrev pub IsAskedOrShown : Job → (List ℕ → Option (List ℕ)) → List ℕ → Type 0
 IsAskedOrShown job holds text = IsAsked job holds text ⊎ IsEvidence job holds text
 
--- a decomposition of that kind, of the machine that a job's file says
+-- the text is a decomposition of that kind, of the machine that the job's FILE denotes
 abbrev pub IsDecompositionOf : Kind → Job → (List ℕ → Option (List ℕ)) → List ℕ → Type 0
 IsDecompositionOf kind job holds text =
     (bytes : List ℕ) × (F : KissFile) × HoldsMachine (holds job.file) (fill_of job) bytes F × IsWritten kind job.second job.reduce F text

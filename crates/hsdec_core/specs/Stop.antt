@@ -1,4 +1,4 @@
--- Which refusal is answered, and what is answered where something calls for one.
+-- Which refusals may be answered, and what is answered where something calls for a refusal.
 use Rattle.std.specs.Prelude.{◌≡◌, ◌⊎◌, ℕ, IsTrue, List, Option, Result, Ok, Err}
 use Rattle.answers.specs.declared.numbers.Answer.{Answer}
 use Rattle.answers.specs.declared.numbers.Answer.TheVariants as answers
@@ -12,37 +12,39 @@ use Rattle.hsdec_core.specs.Operands.{file_held, symbols_held, takes_file, takes
 use Rattle.hsdec_core.specs.Task.{task_of}
 use Rattle.job_words.specs.declared.jobs.Job.{Job}
 
--- FILE or NET cannot be read, or SYMBOLS, where nothing that is judged before calls for a refusal
+-- FILE or NET cannot be read; or SYMBOLS cannot be read, and nothing that is judged before it calls for a refusal
 abbrev pub IsFailedLoad : Job → (List ℕ → Option (List ℕ)) → Refusal → Type 0
 IsFailedLoad job holds refusal =
     (IsTrue (takes_file (task_of job.command)) × (refusal ≡ Unreadable job.file))
     ⊎ (IsTrue (takes_symbols (task_of job.command)) × (refusal ≡ Unreadable job.second)
     × ((bytes : List ℕ) × MayBe (file_held job holds) bytes × CallsForNone (first_cause job bytes)))
 
--- what is loaded calls for the refusal, by the order of judgement; where the shelf tells no bytes, some bytes do
+-- what is loaded calls for the refusal, in the order of judgement; where the shelf's bytes are not known, some
+-- bytes call for it
 abbrev pub IsCalledFor : Job → (List ℕ → Option (List ℕ)) → Refusal → Type 0
 IsCalledFor job holds refusal =
     (bytes symbols : List ℕ) × MayBe (file_held job holds) bytes × MayBe (symbols_held job holds) symbols × all_causes job bytes symbols refusal
 
--- a job is refused: memory is wanting, a load failed, or what is loaded calls for the refusal
+-- a job is refused: memory ran out, a load failed, or what is loaded calls for the refusal
 abbrev pub IsStopOf : Job → (List ℕ → Option (List ℕ)) → Type 0 → Refusal → Type 0
 IsStopOf job holds Faulted refusal = (refusal ≡ NoMemory) ⊎ (Faulted × IsFailedLoad job holds refusal) ⊎ IsCalledFor job holds refusal
 
--- the words are no job, the first that is refused being of this number; or their job is refused
+-- the words are refused, `word` being the number of the first refused word; or they are a job, and the job is
+-- refused
 abbrev pub IsStopFor : Result Job ℕ → (List ℕ → Option (List ℕ)) → Type 0 → Refusal → Type 0
 IsStopFor (Ok job) holds Faulted refusal = IsStopOf job holds Faulted refusal
 IsStopFor (Err word) holds Faulted refusal = (refusal ≡ NoMemory) ⊎ (refusal ≡ Usage word)
 
--- or the text could not be put
+-- the same, or the text could not be put
 abbrev pub IsRefusedFor : Result Job ℕ → (List ℕ → Option (List ℕ)) → Type 0 → Type 0 → Refusal → Type 0
 IsRefusedFor job holds Faulted PutFaulted refusal = IsStopFor job holds Faulted refusal ⊎ ((refusal ≡ Unwritable) × PutFaulted)
 
--- what may be answered in place of an answer: memory may be wanting, a load may fail, and so may the put of the one answer that
--- comes with a text
+-- what may be answered instead of an answer that is called for: memory may run out, a load may fail, or the put of
+-- evidence may fail, as `More` is the only such answer that comes with a text
 abbrev pub IsExcused : Answer → Answer → Type 0
 IsExcused result answer =
     (result ≡ answers.NoMemory) ⊎ (result ≡ answers.ReadFault) ⊎ ((answer ≡ answers.More) × (result ≡ answers.WriteFault))
 
--- what a cause calls for is answered
+-- the answer is the one that the cause calls for, or an excused one
 abbrev pub Comes : Answer → Cause → Type 0
 Comes result cause = (refusal : Refusal) → cause refusal → (result ≡ answer_of refusal) ⊎ IsExcused result (answer_of refusal)

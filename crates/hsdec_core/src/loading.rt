@@ -8,7 +8,7 @@ use answers::{Bytes, Refusal};
 use hs_io::{LoadFail, Name, Shelf};
 use std::alloc::Global;
 
-/// How many bytes a text has at most.
+/// The greatest number of bytes that a text may have.
 const TEXT_LIMIT: usize = 4_194_304;
 
 /// Loads the text of an operand.

@@ -53,7 +53,7 @@ pub fn on_machine<F: Shelf>(
     report(alloc, job, task, opened)
 }
 
-/// What a task makes of the machine of a file.
+/// Makes what a task asks for of the machine of a file.
 fn report(
     alloc: Global,
     job: &Job,
@@ -93,7 +93,7 @@ fn report(
     }
 }
 
-/// The report of a text that nothing but want of memory stands against.
+/// The report of a text that only a lack of memory can prevent.
 fn whole(text: Result<Vec<u8>, AllocError>) -> Result<Report, Refusal>
     ensures { MatchResult text (λ written. result ≡ Ok (Whole written.items)) (λ _. result ≡ Err NoMemory) }
 {

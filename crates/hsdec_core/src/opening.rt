@@ -1,4 +1,4 @@
-//! Opening the operand FILE or NET: its load, and what its text says.
+//! Opening the operand FILE or NET: loading it, and reading its text.
 
 ghost use Rattle.std.specs.Prelude.{◌≡◌, ◌<◌, ◌≤◌, ◌↔◌, ℕ, List, IfOk, length};
 ghost use Rattle.hs_io.specs.Counts.{Rose};
@@ -57,7 +57,7 @@ pub fn open_machine<F: Shelf>(
     read_machine(alloc, fill(job), text.as_slice())
 }
 
-/// The machine that a text says.
+/// The machine that a text denotes.
 fn read_machine(alloc: Global, fill: Fill, text: &[u8]) -> Result<OpenedMachine, Refusal>
     requires { IsShortText text.now }
     ensures { IsReadOf fill text.now result }
@@ -91,7 +91,7 @@ fn build_machine(alloc: Global, fill: Fill, file: KissFile) -> Result<OpenedMach
     }
 }
 
-/// The refusal of a machine that leaves a part open, at a state and the symbol of a number.
+/// The refusal of a machine that leaves a part open, for this state and the symbol of this number.
 fn unspecified(
     alloc: Global,
     file: &KissFile,
@@ -129,7 +129,7 @@ pub fn open_network<F: Shelf>(
     read_network(alloc, text.as_slice())
 }
 
-/// The network that a text says.
+/// The network that a text denotes, with an order of its gates.
 fn read_network(alloc: Global, text: &[u8]) -> Result<OpenedNetwork, Refusal>
     requires { IsShortText text.now }
     ensures { IsReadAs text.now result }
@@ -144,7 +144,7 @@ fn read_network(alloc: Global, text: &[u8]) -> Result<OpenedNetwork, Refusal>
     }
 }
 
-/// The order of the gates of a sound network.
+/// An order of the gates of a sound network.
 fn order_of(alloc: Global, net: &Network) -> Result<Order, AllocError>
     requires { Sound net.now }
     ensures { IfOk result (IsOrderOf net.now) }

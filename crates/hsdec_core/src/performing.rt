@@ -17,7 +17,7 @@ use hs_io::Shelf;
 use job_words::{Job, JobFail, Words, job};
 use std::alloc::Global;
 
-/// Makes what the words ask for, in memory: judges the words, and hands their job to its command.
+/// Makes in memory what the words ask for: judges the words, and passes their job to its command.
 pub fn perform<F: Shelf>(alloc: Global, words: &Words, shelf: &mut F) -> Result<Report, Refusal>
     requires few { length words.now < 2 ^ 32 - 1 }
     requires granted { IfOk (JobOf words.now) (AreGranted (F.grants shelf.old)) }

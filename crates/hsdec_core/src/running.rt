@@ -32,7 +32,8 @@ pub fn run<F: Shelf, O: Sink, E: Sink>(
     requires few { length words.now < 2 ^ 32 - 1 }
     requires granted { IfOk (JobOf words.now) (AreGranted (F.grants shelf.old)) }
 
-    // Every answer but `Done` is that of a refusal that has its cause, and the line of this refusal goes to err.
+    // Every answer but `Done` is the answer of a refusal that has its cause, and this refusal's line goes to
+    // err.
     ensures refused { result ≢ Answer.Done → (refusal : Refusal) × (answer_of refusal ≡ result)
         × IsRefusedFor (JobOf words.now) (F.holds shelf.old)
         (Rose (F.faults shelf.old) (F.faults shelf.new)) (Rose (O.faults out.old) (O.faults out.new)) refusal
@@ -41,21 +42,22 @@ pub fn run<F: Shelf, O: Sink, E: Sink>(
     ensures read_fault { result ≡ Answer.ReadFault → Rose (F.faults shelf.old) (F.faults shelf.new) }
     ensures write_fault { result ≡ Answer.WriteFault → Rose (O.faults out.old) (O.faults out.new) }
 
-    // What is called for is answered: refused words, what FILE or NET calls for, and what all that is loaded does.
+    // What is called for is answered: refused words, what FILE or NET calls for, and what all loaded operands
+    // together call for.
     ensures usage { IsErr (JobOf words.now) → (result ≡ Answer.Usage) ⊎ (result ≡ Answer.NoMemory) }
     ensures comes { IfTold words.now (F.holds shelf.old) (λ job bytes. Comes result (first_cause job bytes)) }
     ensures all_come { IfAllTold words.now (F.holds shelf.old) (λ job bytes symbols.
         Comes result (all_causes job bytes symbols)) }
 
-    // Where nothing calls for a refusal and no count rises, the job is done or memory is wanting.
+    // Where nothing calls for a refusal and no count rises, the job is done or memory ran out.
     ensures complete { IfAllTold words.now (F.holds shelf.old) (λ job bytes symbols. CallsForNone (all_causes job bytes symbols)
         → (Rose (F.faults shelf.old) (F.faults shelf.new) → ⊥) → (Rose (O.faults out.old) (O.faults out.new) → ⊥)
         → (result ≡ Answer.Done) ⊎ (result ≡ Answer.NoMemory)) }
 
-    // A command that decomposes gives out a whole decomposition of the machine of its file. Every command
-    // gives the whole text that the job asks for, or the evidence that there is more than the limit; a front
-    // of either at `WriteFault`, where there is something to put; and nothing at a refusal. An empty text is
-    // not put.
+    // A command that decomposes gives out a whole decomposition of the machine of its file. Every command gives
+    // out the whole text that the job asks for, or the evidence that there are more than the limit. At
+    // `WriteFault` it gives out a front of either, where there is something to put; at any other refusal
+    // nothing. An empty text is not put.
     ensures headline { result ≡ Answer.Done → IfOk (JobOf words.now) (λ job. IfSome (kind_of (task_of job.command)) (λ kind.
         (text : List ℕ) × IsDecompositionOf kind job (F.holds shelf.old) text
         × Appends (O.given out.old) text (O.given out.new))) }
@@ -70,7 +72,7 @@ pub fn run<F: Shelf, O: Sink, E: Sink>(
         → out.new ≡ out.old }
     ensures silent { result ≡ Answer.Done → err.new ≡ err.old }
 
-    // The shelf holds and grants what it did, and no count falls; without an operand nothing is loaded.
+    // The shelf holds and grants what it did, and no count falls. A job without an operand loads nothing.
     ensures unloaded { IsErr (JobOf words.now) → shelf.new ≡ shelf.old }
     ensures no_operand { IfOk (JobOf words.now) (λ job. takes_file (task_of job.command) ≡ false → shelf.new ≡ shelf.old) }
     ensures holds_the_same { (other : List ℕ) → F.holds shelf.new other ≡ F.holds shelf.old other }

@@ -15,9 +15,9 @@ pub enum Task {
     Walk,
     /// The network of NET, and then SYMBOLS.
     Sim,
-    /// Numbers: the machine that is made of them.
+    /// Numbers: the machine that is made from them.
     Gen,
-    /// Numbers: the machine that is made of them, and its parallel decomposition.
+    /// Numbers: the machine that is made from them, and its parallel decomposition.
     Trial,
 }
 

@@ -10,11 +10,12 @@ use Rattle.io_pairs.specs.Sides.{RightBefore}
 use Rattle.kiss2.specs.declared.kiss_file.KissFile.{KissFile}
 use Rattle.shift_real.specs.Definite.{AreFirstApart}
 
--- more than the limit have a property, as limit + 1 of them in order show
+-- there are more values with the property than the limit, as limit + 1 of them in order show
 abbrev pub MoreThan : {M : Type 0} → (M → M → Type 0) → (M → Type 0) → ℕ → Cause
 MoreThan {M} precedes P limit refusal = (refusal ≡ More limit) × ((members : List M) × Evidence precedes P limit members)
 
--- some word of every length keeps two states of a machine apart: the names of the least two such
+-- for every length, some word of that length keeps two states of a machine apart: the refusal names the least two
+-- such states
 abbrev pub KeepsApart : KissFile → Cause
 KeepsApart W refusal =
     (s t : ℕ) × (name other : List ℕ) × (refusal ≡ NotDefinite name other)
@@ -24,7 +25,7 @@ KeepsApart W refusal =
 abbrev pub NotDefiniteRow : Bool → KissFile → Cause
 NotDefiniteRow reduce F refusal = OnWork reduce F (λ W. KeepsApart W refusal)
 
--- there are more inputs than pairs of symbols and states are made for
+-- the machine has more inputs than pairs of symbols and states are made for
 abbrev pub TooManyInputsRow : KissFile → Cause
 TooManyInputsRow F refusal = (refusal ≡ TooManyInputs F.inputs) × (8 < F.inputs)
 

@@ -6,14 +6,14 @@ use Rattle.partition.specs.Partition.{IsOne}
 use Rattle.shift_real.specs.Chain.{AreTogetherAfter, IsChain}
 use Rattle.machine_reports.specs.ListTexts.{lines_of, partition_line}
 
--- the members are the chain of the machine; in member j states are together exactly where every word of j symbols brings
--- them to one; the last member is one
+-- the members are the chain of the machine; in member j two states are together exactly where every word of j
+-- symbols leads both to the same state; the last member is one
 pub record IsWholeChain (W : KissFile) (members : List (List ℕ)) : Type 0 where
   pub chain : IsChain W members
   pub together : AreTogetherAfter W members
   pub last : (p : List ℕ) × (slice_get members (length members - 1) ≡ Some p) × IsOne p
 
--- the members of that chain in order, one a line
+-- the members of that chain in order, one on each line
 abbrev pub IsChainText : Bool → KissFile → List ℕ → Type 0
 IsChainText reduce F text =
     OnWork reduce F (λ W. (members : List (List ℕ)) × IsWholeChain W members × (text ≡ lines_of partition_line members))

@@ -1,2 +1,2 @@
--- What follows of the causes.
+-- What follows from the causes.
 pub mod Causes

@@ -1,4 +1,4 @@
--- What commands that list print: one partition or one pair a line, in ascending order.
+-- What commands that list print: one partition or one pair on each line, in ascending order.
 use Rattle.std.specs.Prelude.{◌≡◌, ◌≤◌, ◌++◌, ◌∷◌, ℕ, List, length}
 use Rattle.std.specs.List.{flat_map}
 use Rattle.hs_lattice.specs.Listing.{Evidence, Lists}
@@ -18,11 +18,11 @@ pair_line pair = labels_text pair.0 ++ 32 ∷ partition_line pair.1
 abbrev pub lines_of : {M : Type 0} → (M → List ℕ) → List M → List ℕ
 lines_of line members = flat_map line members
 
--- the lines of all values with a property, which are no more than the limit
+-- the lines of all values with a property, if there are no more of them than the limit
 abbrev pub IsListText : {M : Type 0} → (M → List ℕ) → (M → M → Type 0) → (M → Type 0) → ℕ → List ℕ → Type 0
 IsListText {M} line precedes P limit text =
     (members : List M) × Lists precedes P members × (length members ≤ limit) × (text ≡ lines_of line members)
 
--- the lines of limit + 1 of them
+-- the lines of limit + 1 values with a property, in order
 abbrev pub IsEvidenceText : {M : Type 0} → (M → List ℕ) → (M → M → Type 0) → (M → Type 0) → ℕ → List ℕ → Type 0
 IsEvidenceText {M} line precedes P limit text = (members : List M) × Evidence precedes P limit members × (text ≡ lines_of line members)

@@ -1,14 +1,14 @@
--- What `low` and `high` print: the line of m(PART), and of M(PART), for the partition that a text tells.
+-- What `low` and `high` print: the line of m(PART) or of M(PART), for the partition of a text.
 use Rattle.std.specs.Prelude.{◌≡◌, ℕ, List, length}
 use Rattle.kiss2.specs.declared.kiss_file.KissFile.{KissFile}
 use Rattle.pair_operators.specs.Extremes.{IsHigh, IsLow}
 use Rattle.part_texts.specs.Texts.{IsTextOfPartition}
 use Rattle.machine_reports.specs.ListTexts.{partition_line}
 
--- the line of the least partition that the partition of a text makes a pair with
+-- the line of m(p), the least partition that the partition p of a text makes a pair with
 abbrev pub IsLowText : KissFile → List ℕ → List ℕ → Type 0
 IsLowText F part text = (p q : List ℕ) × IsTextOfPartition (length F.states) part p × IsLow F p q × (text ≡ partition_line q)
 
--- the line of the greatest partition that makes a pair with the partition of a text
+-- the line of M(q), the greatest partition that makes a pair with the partition q of a text
 abbrev pub IsHighText : KissFile → List ℕ → List ℕ → Type 0
 IsHighText F part text = (q p : List ℕ) × IsTextOfPartition (length F.states) part q × IsHigh F q p × (text ≡ partition_line p)

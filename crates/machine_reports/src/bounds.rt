@@ -1,4 +1,4 @@
-//! How much of a machine pairs on its inputs and outputs are made for.
+//! The bounds on the inputs and outputs of a machine whose pairs of symbols or of outputs are listed.
 
 ghost use Rattle.std.specs.Prelude.{◌≤◌};
 ghost use Rattle.answers.specs.Judged.{IsJudged};
@@ -13,7 +13,7 @@ use std::alloc::Global;
 /// The greatest number of inputs.
 const MOST_INPUTS: u8 = 8;
 
-/// Judges the number of inputs.
+/// Judges whether the machine has few enough inputs.
 pub fn few_inputs(machine: &Machine) -> Result<(), Refusal>
     ensures { IsJudged (TooManyInputsRow machine.now) (λ _. machine.now.inputs ≤ 8) result }
 {

@@ -16,8 +16,9 @@ use machine_table::Machine;
 use shift_real::chain;
 use std::alloc::Global;
 
-/// How the states of the machine that is worked on come together symbol by symbol, or two of them that some word of
-/// every length keeps apart. The machine is that of the file under the fill.
+/// How the states of the machine that is worked on come together symbol by symbol; or the refusal that names
+/// two states that, for every length, some word of that length keeps apart. The machine is that of the file
+/// under the fill.
 pub fn definite(
     alloc: Global,
     file: &KissFile,

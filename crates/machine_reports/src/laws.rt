@@ -1,5 +1,5 @@
-//! What follows from the definitions, for the crates above. Each law is the contract of a function that does
-//! nothing.
+//! What follows from the definitions, for the crates above. Each law is stated as the contract of a function
+//! that does nothing.
 
 ghost use Rattle.std.specs.Prelude.{◌≡◌, ℕ, ◌-◌, Bool, List, length, map};
 ghost use Rattle.answers.specs.Digits.{digit};
@@ -19,7 +19,7 @@ ghost use Rattle.machine_reports.specs.Causes.{KeepsApart, MoreThan, NotDefinite
 ghost use Rattle.machine_reports.specs.DefiniteText.{IsWholeChain};
 ghost use Rattle.machine_reports.specs.OutputTexts.{output_digits};
 
-/// What a command calls for has one answer.
+/// All refusals that a command calls for have one answer.
 pub fn commands_have_one_answer()
     ensures closed { (F : KissFile) (limit : ℕ) → HasOneAnswer (MoreThan Before (IsClosedPartition F) limit) }
     ensures output { (F : KissFile) (limit : ℕ) → HasOneAnswer (MoreThan Before (IsClosedAndConsistent F) limit) }
@@ -36,7 +36,7 @@ pub fn chains_tell_definite_machines()
     ensures apart { (W : KissFile) (refusal : Refusal) (k : ℕ) → KeepsApart W refusal → Definite W k → ⊥ }
 {}
 
-/// The digits of the number of an output are those of the outputs, output 0 first.
+/// The digits of the number of an output are the digits of its bits, output 0 first.
 pub fn lines_show_outputs()
     ensures { (F : KissFile) (s x : ℕ) → output_digits F.outputs (output_word F s x) ≡ map digit (out F s (symbol_of F.inputs x)) }
 {

@@ -1,16 +1,18 @@
-//! Reports on a machine: what the commands print that write no network.
+//! Reports on a machine: what those commands print that write no network.
 //!
-//! Each function makes the whole text of one command, or gives the refusal that tells why there is none. What a
-//! machine calls for is told once, by the causes of `specs/Causes`, and each contract says which of them are
-//! judged, in their order, and what the text is:
+//! Each function makes the whole text of one command, or gives the refusal that says why there is none. The
+//! causes of `specs/Causes` say what a machine calls for. Each contract says which of them are judged, in their
+//! order, and what the text is:
 //!
-//! - [`check`] tells the counts of a file, and [`reduce`] the machine of its classes of alike states;
-//! - [`closed`], [`output`], [`pairs`], [`ispairs`] and [`sopairs`] list, or give evidence of more than a limit;
-//! - [`low`] and [`high`] tell the partner of a partition that is given as a text;
-//! - [`definite`] tells how the states of a machine come together symbol by symbol, and [`order_of`] after how many.
+//! - [`check`] gives the counts of a file, and [`reduce`] the machine of its classes of alike states;
+//! - [`closed`], [`output`], [`pairs`], [`ispairs`] and [`sopairs`] give a list, or evidence that there are
+//!   more than the limit;
+//! - [`low`] and [`high`] give the partner of a partition that is given as a text;
+//! - [`definite`] shows how the states of a machine come together symbol by symbol, and [`order_of`] gives the
+//!   number of symbols that this takes.
 //!
-//! `specs/` says what each text is, one file for each kind of report. The laws of `specs/Laws` say that what a
-//! command calls for has one answer.
+//! `specs/` says what each text is, one file for each kind of report. The laws of `specs/Laws` say that all
+//! refusals that a command calls for have one answer.
 #![tactic(auto)]
 
 mod bounds;

@@ -72,7 +72,7 @@ pub fn pairs(alloc: Global, machine: &Machine, limit: usize) -> Result<Report, R
     }
 }
 
-/// The lines of partitions that are kept as rows.
+/// The lines of partitions that are kept as rows of bits.
 fn bit_lines(alloc: Global, parts: &[BitPart]) -> Result<Vec<u8>, AllocError>
     ensures { IfOk result (λ text. text.items ≡ lines_of partition_line parts.now) }
 {

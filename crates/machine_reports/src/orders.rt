@@ -13,8 +13,8 @@ use kiss2::KissFile;
 use shift_real::{OrderFail, order};
 use std::alloc::{AllocError, Global};
 
-/// The order of the machine that is worked on, or the refusal that names two states that some word of every length
-/// keeps apart.
+/// The order of the machine that is worked on; or the refusal that names two states that, for every length,
+/// some word of that length keeps apart.
 pub fn order_of(alloc: Global, file: &KissFile, work: &WorkMachine) -> Result<usize, Refusal>
     requires work { (reduce : Bool) × IsWork reduce file.now work.now }
     ensures judged { IsJudged (KeepsApart work.now.machine) (IsOrder work.now.machine) result }

@@ -8,7 +8,7 @@ ghost use Rattle.machine_reports.specs.OutputTexts.{output_digits, output_line};
 
 use std::alloc::{AllocError, Global};
 
-/// The lines of outputs of that many bits, numbered from 0.
+/// The lines of outputs of this number of bits, numbered from 0.
 pub fn output_lines(alloc: Global, bits: u8, outs: &[u64]) -> Result<Vec<u8>, AllocError>
     requires { bits ≤ 64 }
     ensures { IfOk result (λ text. text.items ≡ flat_map (output_line bits) (enumerate_from 0 outs.now)) }

@@ -16,8 +16,8 @@ use io_pairs::{Outs, output_pairs};
 use machine_table::Machine;
 use std::alloc::Global;
 
-/// The outputs that occur, and after them the Mm pairs of partitions of the states and of the outputs, or evidence
-/// that there are more than the limit.
+/// The outputs that occur, and after them the Mm pairs of partitions of the states and of the outputs, or
+/// evidence that there are more pairs than the limit.
 pub fn sopairs(alloc: Global, machine: &Machine, limit: usize) -> Result<Report, Refusal>
     requires positive { 1 ≤ limit }
     requires bounded { limit ≤ 10000 }

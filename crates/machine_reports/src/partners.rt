@@ -11,7 +11,7 @@ use machine_table::Machine;
 use part_texts::read_part;
 use std::alloc::Global;
 
-/// The least partner of the partition that a text tells.
+/// The least partner of the partition of a text.
 pub fn low(alloc: Global, machine: &Machine, part: &[u8]) -> Result<Vec<u8>, Refusal>
     ensures { IsJudged (BadPart (length machine.now.states) part.now) (λ text. IsLowText machine.now part.now text.items) result }
 {
@@ -20,7 +20,7 @@ pub fn low(alloc: Global, machine: &Machine, part: &[u8]) -> Result<Vec<u8>, Ref
     Ok(line_of(alloc, &least)?)
 }
 
-/// The greatest partner of the partition that a text tells.
+/// The greatest partner of the partition of a text.
 pub fn high(alloc: Global, machine: &Machine, part: &[u8]) -> Result<Vec<u8>, Refusal>
     ensures { IsJudged (BadPart (length machine.now.states) part.now) (λ text. IsHighText machine.now part.now text.items) result }
 {

@@ -1,6 +1,6 @@
--- The kinds of decomposition in one table: what each asks of its parts, that no step of one can be taken in smaller ones,
--- which of several right ones it is, and what it promises of codes and gates (source: Hartmanis and Stearns; for least codes
--- this project).
+-- The kinds of decomposition in one table: what each asks of its parts, that no step of it can be taken in smaller
+-- ones, which of several right lists of parts it takes, and what it promises of codes and gates (source: Hartmanis
+-- and Stearns; for least codes this project).
 use Rattle.std.specs.Prelude.{◌≡◌, ⊤, ℕ, List, length}
 use Rattle.answers.specs.Cause.{Cause}
 use Rattle.feedback_split.specs.Best.{IsBestFeedback}
@@ -24,9 +24,13 @@ use Rattle.state_codes.specs.declared.split.Part.{Part}
 use Rattle.split_plans.specs.Given.{AreGivenParts, code_parts}
 use Rattle.split_plans.specs.LeastNetwork.{HasOtherCount, IsLeastNetwork}
 
--- What is told of a kind, of the operand PARTS, a machine and parts of it: what the kind refuses before a split is sought, what
--- it asks of the parts, what makes them best, which of several right ones they are, where there are none, and what it promises
--- of the codes and the network besides what holds for each kind.
+-- What is stated for each kind, of the operand PARTS, a machine and parts of it:
+-- - `refuses`: what the kind refuses before a split is sought;
+-- - `asks`: what it asks of the parts;
+-- - `best`: what makes them best;
+-- - `choice`: which of several right lists of parts they are;
+-- - `none`: for which machines there are none;
+-- - `promises`: what it promises of the codes and the network, besides what holds for each kind.
 pub record KindRow : Type 1 where
   pub refuses : List ℕ → KissFile → Cause
   pub asks : List ℕ → KissFile → List Part → Type 0

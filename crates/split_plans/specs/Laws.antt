@@ -1,4 +1,4 @@
--- What follows of the definitions.
+-- What follows from the definitions.
 pub mod Parts
 pub mod Flows
 pub mod Least

@@ -13,19 +13,20 @@ use Rattle.net_core.specs.declared.Network.{Network}
 use Rattle.state_codes.specs.declared.Codes.{Codes}
 use Rattle.state_codes.specs.Code.{need}
 
--- the machine has not 3 to 8 states: it is refused with their number
+-- the number of states is not from 3 to 8: the machine is refused with this number
 abbrev pub HasOtherCount : KissFile → Cause
 HasOtherCount W refusal = (refusal ≡ StateCount (length W.states)) × ((length W.states < 3) ⊎ (8 < length W.states))
 
--- the gate of a value reads the latches of these state bits and no others; they permit the value, no fewer bits of the code
--- permit it, and of those that are as many and permit it these have the first list
+-- The gate of a value reads the latches of the state bits in `bits`, and no others. These bits permit the value,
+-- and no smaller set of bits of the code permits it. Of the sets of this size that permit it, theirs is the first
+-- list.
 pub record ReadsLeast (W : KissFile) (codes : Codes) (N : Network) (value : ℕ → List Bool → Bool) (gate : Gate) : Type 0 where
   pub bits : List ℕ
   pub reads : (c : ℕ) → Reads N gate c ↔ Contains bits c
   pub least : AreLeastReads W codes.words (IsBitOfCode codes) value bits
 
--- the codes are the least code, of as few bits as the states need; the gates of latches come first, then those of outputs,
--- and each reads as few state bits as permit what it gives
+-- The codes are the least code, with as few bits as the states need. The gates of latches come first, then those of
+-- outputs, and each reads as few state bits as permit what it gives.
 pub record IsLeastNetwork (W : KissFile) (codes : Codes) (N : Network) : Type 0 where
   pub code : IsLeastCode W codes.words
   pub size : codes.bits ≡ need (length W.states)

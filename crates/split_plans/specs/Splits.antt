@@ -10,18 +10,18 @@ use Rattle.state_codes.specs.Fault.{AreApart}
 use Rattle.state_codes.specs.Split.{IsPart}
 use Rattle.split_plans.specs.Kinds.{row_of}
 
--- the parts are as the kind asks them, best of their kind, and the ones that are chosen
+-- the parts are what the kind asks, best of their kind, and the ones that it takes
 pub record AreParts (kind : Kind) (text : List ℕ) (W : KissFile) (parts : List Part) : Type 0 where
   pub asked : (row_of kind).asks text W parts
   pub best : (row_of kind).best W parts
   pub choice : (row_of kind).choice W parts
 
--- and they tell all states apart, so they are a split of this kind
+-- such parts that also distinguish all states, so that they are a split of this kind
 pub record IsSplitOf (kind : Kind) (text : List ℕ) (W : KissFile) (parts : List Part) : Type 0 where
   pub made : AreParts kind text W parts
   pub apart : AreApart (length W.states) parts
 
--- what is known of a split of this kind before it has codes, which it has where its parts tell all states apart
+-- what is known of a split of this kind before it has codes; it gets codes if its parts distinguish all states
 pub record IsPlanned (kind : Kind) (text : List ℕ) (W : KissFile) (split : Split) : Type 0 where
   pub same_kind : split.kind ≡ kind
   pub few : length split.parts ≤ 256

@@ -13,7 +13,7 @@ use part_texts::read_parts;
 use state_codes::{Kind, Split, given, one_part};
 use std::alloc::{AllocError, Global};
 
-/// The split that a kind makes of a machine. `text` is the operand PARTS, which the kind `Assign` reads alone.
+/// The split that a kind makes of a machine. `text` is the operand PARTS, which only the kind `Assign` reads.
 pub fn plan(alloc: Global, kind: Kind, text: &[u8], machine: &Machine) -> Result<Split, Refusal>
     requires { kind ≡ kinds.Assign → HasFewParts text.now }
     ensures { IsJudged (HasNoPlan kind text.now machine.now) (IsPlanned kind text.now machine.now) result }
@@ -45,7 +45,7 @@ fn found(
     }
 }
 
-/// The split into one part, which tells all states apart.
+/// The split into one part, which distinguishes all states.
 fn natural(alloc: Global, machine: &Machine) -> Result<Split, AllocError>
     ensures { (text : List ℕ) → IfOk result (IsPlanned kinds.Code text machine.now) }
 {

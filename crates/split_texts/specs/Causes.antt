@@ -1,4 +1,4 @@
--- Why no decomposition of a machine is written: which refusals that calls for.
+-- The refusals that a machine of which no decomposition is written calls for.
 use Rattle.std.specs.Prelude.{◌≡◌, ◌<◌, ℕ, Bool, List, [], ◌∷◌, Some, length, slice_get}
 use Rattle.answers.specs.declared.refusals.Refusal.TheVariants.{CodeTooLong, NotApart}
 use Rattle.answers.specs.Cause.{Cause, FirstOf}
@@ -11,7 +11,7 @@ use Rattle.state_codes.specs.Code.{IsLength}
 use Rattle.state_codes.specs.Fault.{FirstTogether}
 
 -- ---- parts of the states of a machine W
--- the first two states, by s and then by t, that are together in all parts have these names
+-- `state` and `other` are the names of the first two states, by s and then by t, that are together in all parts
 pub record AreFirstTogether (W : KissFile) (parts : List Part) (state other : List ℕ) : Type 0 where
   pub s : ℕ
   pub t : ℕ
@@ -19,11 +19,11 @@ pub record AreFirstTogether (W : KissFile) (parts : List Part) (state other : Li
   pub state_name : slice_get W.states s ≡ Some state
   pub other_name : slice_get W.states t ≡ Some other
 
--- some states are together in all parts
+-- two states are together in all parts
 abbrev pub LeavesTogether : KissFile → List Part → Cause
 LeavesTogether W parts refusal = (state other : List ℕ) × (refusal ≡ NotApart state other) × AreFirstTogether W parts state other
 
--- their codes have more than 64 bits
+-- the codes of the parts have more than 64 bits
 abbrev pub HasLongCode : List Part → Cause
 HasLongCode parts refusal = (bits : ℕ) × (refusal ≡ CodeTooLong bits) × IsLength parts bits × (64 < bits)
 
@@ -41,6 +41,6 @@ abbrev pub HasNoText : Kind → List ℕ → KissFile → Cause
 HasNoText kind text W =
     FirstOf (Refuses kind text W ∷ OfParts kind text W (LeavesTogether W) ∷ LacksSplit kind W ∷ OfParts kind text W HasLongCode ∷ [])
 
--- the same of the machine that a command works on
+-- the same for the machine that a command works on
 abbrev pub IsNotWritten : Kind → List ℕ → Bool → KissFile → Cause
 IsNotWritten kind text reduce F refusal = OnWork reduce F (λ W. HasNoText kind text W refusal)

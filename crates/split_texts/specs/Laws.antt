@@ -1,3 +1,3 @@
--- What follows of the definitions.
+-- What follows from the definitions.
 pub mod Codes
 pub mod Causes

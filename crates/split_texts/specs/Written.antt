@@ -1,4 +1,4 @@
--- The headline: what is said of a text that is written as a decomposition of a file's machine.
+-- The headline: what holds of a text that is written as a decomposition of a file's machine.
 use Rattle.std.specs.Prelude.{◌≡◌, ◌≤◌, ℕ, Bool, List}
 use Rattle.blif_out.specs.declared.header.Header.{Header}
 use Rattle.decomposition.specs.declared.work.WorkMachine.{WorkMachine}
@@ -15,26 +15,27 @@ use Rattle.state_codes.specs.Agreement.{AreDistinct}
 use Rattle.state_codes.specs.Code.{IsCode}
 use Rattle.state_codes.specs.Fault.{AreApart}
 
--- the codes and the network of a text are as the kind promises them: of the least code, with gates that read the fewest bits
+-- the codes and the network of a text keep what the kind promises: a least code, for example, has gates that read
+-- the fewest bits
 abbrev pub KeepsPromises : Kind → Bool → KissFile → KissFile → List Part → List ℕ → Type 0
 KeepsPromises kind reduce F W parts written =
     (class : ℕ → ℕ) (codes : Codes) (N : Network) (H : Header) → H.parts ≡ parts → IsDecomposition reduce F W class codes written N H → (row_of kind).promises W codes N
 
--- The text is a decomposition of the machine of a file, of this kind: that of a split of the work machine into parts as the
--- kind asks them. `IsTextOf` says that the text denotes a network which answers as the machine of the file does, that its
--- codes carry every step, and that each gate reads what its pair and its part permit, with nothing to spare. The codes and
--- the network that it says there are keep what the kind promises besides.
+-- The text is a decomposition of the machine of a file, of this kind: it is the text of a split of the work machine
+-- into parts that the kind asks for. `IsTextOf` says that the text denotes a network that answers as the machine of
+-- the file does, that its codes carry every step, and that each gate reads what its pair and its part permit, with
+-- nothing to spare. These codes and this network also keep what the kind promises.
 abbrev pub IsWritten : Kind → List ℕ → Bool → KissFile → List ℕ → Type 0
 IsWritten kind text reduce F written =
     (W : KissFile) × (parts : List Part) × IsSplitOf kind text W parts × IsTextOf reduce F W kind parts written × KeepsPromises kind reduce F W parts written
 
--- the codes that the parts give to n states, which the parts tell apart
+-- the codes that the parts give to n states, which the parts all distinguish
 pub record AreCodes (n : ℕ) (parts : List Part) (codes : Codes) : Type 0 where
   pub apart : AreApart n parts
   pub code : IsCode n parts codes
   pub distinct : AreDistinct n codes.words
   pub short : codes.bits ≤ 64
 
--- the text is that of the parts, whichever machine of the file the command works on
+-- the text is the text of the parts, whichever machine of the file the command works on
 abbrev pub IsTextOfParts : KissFile → WorkMachine → Kind → List Part → List ℕ → Type 0
 IsTextOfParts F work kind parts written = (reduce : Bool) → IsWork reduce F work → IsTextOf reduce F work.machine kind parts written

@@ -18,8 +18,8 @@ use split_plans::plan;
 use state_codes::Kind;
 use std::alloc::Global;
 
-/// The text of the decomposition of a kind. `text` is the operand PARTS, which the kind `Assign` reads alone. With
-/// `reduce` the machine that is split is that of the classes of alike states.
+/// The text of the decomposition of a kind. `text` is the operand PARTS, which only the kind `Assign` reads.
+/// With `reduce` the machine that is split is the machine of the classes of alike states.
 pub fn decompose(
     alloc: Global,
     kind: Kind,

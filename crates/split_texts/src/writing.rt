@@ -18,7 +18,7 @@ use kiss2::KissFile;
 use state_codes::{CodeFail, Codes, Split, encode};
 use std::alloc::{AllocError, Global};
 
-/// The text of a split that `plan` gives of a machine that `work_machine` gives for the file.
+/// The text of a split that `plan` gives for a machine that `work_machine` gives for the file.
 pub fn write(
     alloc: Global,
     file: KissFile,

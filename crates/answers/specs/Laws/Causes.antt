@@ -1,4 +1,4 @@
--- Laws of causes: of what refusals a list of causes calls for there is one answer.
+-- Laws of causes: all refusals that a list of causes calls for have one answer.
 use Rattle.std.specs.Prelude.{◌≡◌, ◌≢◌, ◌⊎◌, ⊤, ℕ, List, [], ◌∷◌, Result, Ok, Err, refl}
 use Rattle.std.proofs.Common.{inl, inr, sym, ap, ◌∙◌, subst}
 use Rattle.answers.specs.declared.numbers.Answer.{Answer}
@@ -12,15 +12,15 @@ use Rattle.answers.specs.Judged.{IsJudged, IsReported, IsStop}
 use Rattle.answers.specs.Refusal.{answer_of}
 
 -- ---- one answer
--- a cause calls for refusals of this answer alone
+-- a cause calls only for refusals of this answer
 abbrev pub IsOf : Answer → Cause → Type 0
 IsOf answer cause = (refusal : Refusal) → cause refusal → answer_of refusal ≡ answer
 
--- a cause calls for refusals of one answer
+-- all refusals that a cause calls for have one answer
 abbrev pub HasOneAnswer : Cause → Type 0
 HasOneAnswer cause = (one other : Refusal) → cause one → cause other → answer_of one ≡ answer_of other
 
--- and so does each of some causes
+-- so do the refusals of each of some causes
 abbrev pub EachHasOne : List Cause → Type 0
 EachHasOne [] = ⊤
 EachHasOne (cause ∷ later) = HasOneAnswer cause × EachHasOne later
@@ -28,7 +28,7 @@ EachHasOne (cause ∷ later) = HasOneAnswer cause × EachHasOne later
 pub one_of : (answer : Answer) (cause : Cause) → IsOf answer cause → HasOneAnswer cause
 one_of answer cause of one other h k = of one h ∙ sym (of other k)
 
--- what causes call for in the order of judgement has one answer, where what each calls for has
+-- if the refusals of each cause have one answer, so have those of the causes in the order of judgement
 pub first_has_one : (causes : List Cause) → EachHasOne causes → HasOneAnswer (FirstOf causes)
 first_has_one [] each one other h k = absurd h
 first_has_one (cause ∷ later) each one other (inl h) (inl k) = each.0 one other h k
@@ -48,7 +48,7 @@ none_first (cause ∷ later) none refusal (inl h) = none.0 refusal h
 none_first (cause ∷ later) none refusal (inr h) = none_first later none.1 refusal h.1
 
 -- ---- from one cause to another that calls for the same
--- what one cause calls for, another does
+-- whatever the one cause calls for, the other does
 abbrev pub Within : Cause → Cause → Type 0
 Within cause other = (refusal : Refusal) → cause refusal → other refusal
 

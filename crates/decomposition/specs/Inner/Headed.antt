@@ -6,7 +6,7 @@ use Rattle.state_codes.specs.declared.Codes.{Codes}
 use Rattle.state_codes.specs.declared.split.Part.{Part}
 use Rattle.state_codes.specs.declared.split.Split.{Split}
 
--- the word of each state of the file: that of its class, or its own where there are no classes
+-- the word of each state of the file: the word of its class, or its own where there are no classes
 abbrev pub words_by : Option (List ℕ) → List ℕ → List ℕ
 words_by None words = words
 words_by (Some classes) words = map (slice_index words) classes

@@ -2,14 +2,14 @@
 use Rattle.std.specs.Prelude.{◌≡◌, ◌≢◌, ℕ, ◌<◌, ◌≤◌, ◌++◌, ◌∷◌, [], List, bit_and, length, slice_index}
 use Rattle.partition.specs.Partition.{IsNumbered, blocks_of}
 
--- the block of a value among those seen; one that was not seen begins a block
+-- the block of a value among those seen; a value that was not seen begins a block
 pub record IsSeenAt (old : List ℕ) (value block : ℕ) (new : List ℕ) : Type 0 where
   pub within : block ≤ length old
   pub before : (b : ℕ) → b < block → slice_index old b ≢ value
   pub known : block < length old → (slice_index old block ≡ value) × (new ≡ old)
   pub begun : block ≡ length old → new ≡ old ++ value ∷ []
 
--- the labels of the first words, and what is seen of the first word of each block
+-- the labels of the first `count` words, and for each block what was seen of its first word
 pub record AreLabelled (words : List ℕ) (set : ℕ) (seen labels : List ℕ) (count : ℕ) : Type 0 where
   pub size : length labels ≡ count
   pub numbered : IsNumbered labels

@@ -1,4 +1,4 @@
--- A command works on one machine.
+-- A command works on only one machine.
 use Rattle.std.proofs.Common.{◌≡◌, ℕ, ◌<◌, Bool, true, false, List, Option, length, sym, ◌∙◌, subst, arith}
 use Rattle.kiss2.specs.declared.kiss_file.KissFile.{KissFile}
 use Rattle.kiss2.specs.declared.kiss_file.KissRow.{KissRow}
@@ -9,7 +9,7 @@ use Rattle.state_reduce.specs.Quotient.{IsQuotient}
 use Rattle.state_reduce.specs.WorkMachine.{IsWorkMachine}
 use Rattle.decomposition.specs.Work.{IsWorkOf}
 
--- the partition into alike states is one
+-- there is only one partition into alike states
 held_by : (F : KissFile) (p q : List ℕ) → IsEquivalence F p → IsEquivalence F q → (s t : ℕ) → Together p s t → Together q s t
 held_by F p q one other s t held =
     let in_s : s < length F.states = omega (arith, held.0, one.lawful.length) in
@@ -21,7 +21,7 @@ equivalence_once F p q one other =
     same_labels p q one.lawful.numbered other.lawful.numbered (one.lawful.length ∙ sym other.lawful.length)
     (λ s t. (held_by F p q one other s t, held_by F q p other one s t))
 
--- the machine of its classes is one
+-- there is only one machine of its classes
 same_files : (a b c d e f : ℕ) (g h : List (List ℕ)) (i j : List KissRow) (k l m n : Option (List (List ℕ))) → a ≡ b → c ≡ d → e ≡ f → g ≡ h → i ≡ j → k ≡ l → m ≡ n
     → ◌≡◌ {A = KissFile} (record { inputs = a; outputs = c; reset = e; states = g; rows = i; input_names = k; output_names = m })
     (record { inputs = b; outputs = d; reset = f; states = h; rows = j; input_names = l; output_names = n })
@@ -39,6 +39,6 @@ work_once true F W V class other_class one other =
     (subst (λ (p : List ℕ). IsQuotient F p V) (equivalence_once F other.classes one.classes other.alike one.alike) other.quotient)
 work_once false F W V class other_class one other = one.file ∙ sym other.file
 
--- with `--reduce` and without
+-- a command works on one machine, with `--reduce` and without
 pub one_work : (reduce : Bool) (F W V : KissFile) → IsWorkOf reduce F W → IsWorkOf reduce F V → W ≡ V
 one_work reduce F W V (class, one) (other_class, other) = work_once reduce F W V class other_class one other

@@ -15,7 +15,7 @@ use Rattle.hsdec_core.specs.Promise.{IsAsked, IsEvidence}
 use Rattle.hsdec_core.specs.Stop.{IsCalledFor, IsFailedLoad}
 use Rattle.job_words.specs.declared.jobs.Job.{Job}
 
--- an answer that what is loaded calls for, and that comes without a text
+-- an answer that comes without a text and that what is loaded may call for
 abbrev pub IsPlain : Answer → Type 0
 IsPlain answers.Done = ⊥
 IsPlain answers.More = ⊥
@@ -25,7 +25,7 @@ IsPlain answers.WriteFault = ⊥
 IsPlain answers.NoMemory = ⊥
 IsPlain _ = ⊤
 
--- a job is refused: memory is wanting, a load failed, or what is loaded calls for the refusal
+-- a job is refused: memory ran out, a load failed, or what is loaded calls for the refusal, which is plain
 abbrev pub IsUndone : Job → (List ℕ → Option (List ℕ)) → Type 0 → Refusal → Type 0
 IsUndone job holds Faulted refusal =
     (refusal ≡ NoMemory) ⊎ (Faulted × IsFailedLoad job holds refusal) ⊎ (IsCalledFor job holds refusal × IsPlain (answer_of refusal))
@@ -35,14 +35,14 @@ abbrev pub IsPassed : Job → (List ℕ → Option (List ℕ)) → Type 0
 IsPassed job holds =
     (bytes symbols : List ℕ) × MayBe (file_held job holds) bytes × MayBe (symbols_held job holds) symbols × CallsForNone (all_causes job bytes symbols)
 
--- the shelf holds `holds`, and `Faulted` says that its count of faults rose
+-- what is made for a job; the shelf holds `holds`, and `Faulted` says that its count of faults rose
 abbrev pub IsMadeOf : Job → (List ℕ → Option (List ℕ)) → Type 0 → Result Report Refusal → Type 0
 IsMadeOf job holds Faulted (Ok (Whole text)) = IsAsked job holds text × IsPassed job holds
 IsMadeOf job holds Faulted (Ok (Evidence text limit)) =
     IsEvidence job holds text × ((bytes : List ℕ) × MayBe (file_held job holds) bytes × first_cause job bytes (More limit))
 IsMadeOf job holds Faulted (Err refusal) = IsUndone job holds Faulted refusal
 
--- a text is made for a job, or it is refused
+-- a text is made for a job, or the job is refused
 abbrev pub IsMadeOfText : Job → (List ℕ → Option (List ℕ)) → Type 0 → Result (List ℕ) Refusal → Type 0
 IsMadeOfText job holds Faulted (Ok text) = IsMadeOf job holds Faulted (Ok (Whole text))
 IsMadeOfText job holds Faulted (Err refusal) = IsMadeOf job holds Faulted (Err refusal)

@@ -1,4 +1,4 @@
--- What came of the operands FILE and NET.
+-- The outcome of opening the operands FILE and NET.
 use Rattle.std.specs.Prelude.{◌≡◌, ◌⊎◌, ℕ, List, Option, Some, Result, Ok, Err, map, slice_get}
 use Rattle.answers.specs.declared.refusals.Refusal.{Refusal}
 use Rattle.answers.specs.declared.refusals.Refusal.TheVariants.{NoMemory, Unspecified}
@@ -21,34 +21,34 @@ use Rattle.machine_table.specs.declared.missing.Missing.{Missing}
 use Rattle.net_core.specs.Blif.{Blif}
 use Rattle.net_core.specs.Order.{IsOrderOf}
 
--- the refusal names an entry: the state by its name, and the symbol by its digits
+-- the refusal names an open entry: its state by name, and its symbol by digits
 abbrev pub IsEntryRefusal : KissFile → ℕ → ℕ → Missing → Refusal → Type 0
 IsEntryRefusal F s x part refusal =
     (name : List ℕ) × (refusal ≡ Unspecified name (map digit (symbol_of F.inputs x)) part) × (slice_get F.states s ≡ Some name)
 
--- a machine of a file, or what the file calls for
+-- the machine of a file, or the refusal that the file calls for
 abbrev pub IsBuiltOf : Fill → KissFile → Result OpenedMachine Refusal → Type 0
 IsBuiltOf fill F (Ok opened) = (opened.file ≡ F) × (opened.machine ≡ F) × Accepted F fill
 IsBuiltOf fill F (Err refusal) = (refusal ≡ NoMemory) ⊎ Conflicts F refusal ⊎ LeavesOpen fill F refusal
 
--- a machine of bytes, or what they call for
+-- the machine that bytes denote, or the refusal that they call for
 abbrev pub IsReadOf : Fill → List ℕ → Result OpenedMachine Refusal → Type 0
 IsReadOf fill bytes (Ok opened) = Kiss bytes opened.file × IsLawful opened.file × Accepted opened.file fill × (opened.machine ≡ opened.file)
 IsReadOf fill bytes (Err refusal) =
     (refusal ≡ NoMemory) ⊎ SaysNoMachine bytes refusal ⊎ OfFile bytes Conflicts refusal ⊎ OfFile bytes (LeavesOpen fill) refusal
 
--- a machine of the operand FILE, or why there is none
+-- the machine of the operand FILE, or why there is none
 abbrev pub IsOpened : Job → (List ℕ → Option (List ℕ)) → Type 0 → Result OpenedMachine Refusal → Type 0
 IsOpened job holds Faulted (Ok opened) =
     ((bytes : List ℕ) × HoldsMachine (holds job.file) (fill_of job) bytes opened.file) × (opened.machine ≡ opened.file)
 IsOpened job holds Faulted (Err refusal) = IsStopAt (holds job.file) Faulted job.file (NoMachineOf job.file (fill_of job)) refusal
 
--- a network of bytes with an order of its gates, or what they call for
+-- the network that bytes denote with an order of its gates, or the refusal that they call for
 abbrev pub IsReadAs : List ℕ → Result OpenedNetwork Refusal → Type 0
 IsReadAs bytes (Ok opened) = Blif bytes opened.net × IsOrderOf opened.net opened.order
 IsReadAs bytes (Err refusal) = IsStop (SaysNoNetwork bytes) refusal
 
--- a network of the operand NET, or why there is none
+-- the network of the operand NET with an order of its gates, or why there is none
 abbrev pub IsNetOpened : Job → (List ℕ → Option (List ℕ)) → Type 0 → Result OpenedNetwork Refusal → Type 0
 IsNetOpened job holds Faulted (Ok opened) =
     ((bytes : List ℕ) × HoldsNetwork (holds job.file) bytes opened.net) × IsOrderOf opened.net opened.order

@@ -1,4 +1,4 @@
--- Laws of the causes: each calls for refusals of one answer, and so does each command's list of them.
+-- Laws of the causes: each calls for refusals of one answer, and so does the list of causes of each command.
 use Rattle.std.proofs.Common.{ℕ, Bool, [], ◌∷◌, ap}
 use Rattle.answers.specs.Laws.Causes.{HasOneAnswer, IsOf, first_has_one, one_of}
 use Rattle.answers.specs.Refusal.{answer_of}

@@ -10,11 +10,11 @@ use Rattle.net_core.specs.declared.Network.{Network}
 use Rattle.state_codes.specs.declared.Codes.{Codes}
 use Rattle.state_codes.specs.declared.split.Part.{Part}
 
--- the gate of that number reads the bits of a set
+-- the gate of this number reads exactly the bits of the set
 abbrev pub HasReads : Network → ℕ → ReadSet → Type 0
 HasReads N at set = (gate : Gate) → slice_get N.gates at ≡ Some gate → (c : ℕ) → ReadsBit N gate c ↔ Contains set.latches c
 
--- the gates of latches, and behind them those of outputs, read the bits of the sets by the rule
+-- the gates of latches, and the gates of outputs after them, read the bits of sets by the rule
 pub record ReadByRule (W : KissFile) (parts : List Part) (codes : Codes) (N : Network) : Type 0 where
   pub sets : Reads
   pub by_rule : AreReads W parts codes sets

@@ -1,4 +1,4 @@
--- What was found of a kind of decomposition.
+-- The result of the search for a split of a kind.
 use Rattle.std.specs.Prelude.{◌↔◌, ℕ, IfSome, IsNone, List, Option}
 use Rattle.kiss2.specs.declared.kiss_file.KissFile.{KissFile}
 use Rattle.state_codes.specs.declared.split.Kind.{Kind}
@@ -6,7 +6,7 @@ use Rattle.state_codes.specs.declared.split.Split.{Split}
 use Rattle.split_plans.specs.Kinds.{row_of}
 use Rattle.split_plans.specs.Splits.{IsPlanned}
 
--- a split of this kind, or none where the machine has none
+-- a split of this kind, or none exactly where the machine has none
 pub record IsFound (kind : Kind) (text : List ℕ) (W : KissFile) (found : Option Split) : Type 0 where
   pub none : IsNone found ↔ (row_of kind).none W
   pub some : IfSome found (IsPlanned kind text W)

@@ -1,4 +1,4 @@
--- Laws of the causes: each row has its answer, and so have they all.
+-- Laws of the causes: each cause has one answer, and so have all of them in their order.
 use Rattle.std.proofs.Common.{ℕ, List, [], ◌∷◌, length, ap}
 use Rattle.answers.specs.declared.numbers.Answer.TheVariants as answers
 use Rattle.answers.specs.Laws.Causes.{HasOneAnswer, IsOf, first_has_one, one_of}
@@ -21,6 +21,6 @@ pub no_plan_one : (kind : Kind) (text : List ℕ) (W : KissFile) → HasOneAnswe
 no_plan_one kind text W =
     first_has_one (Refuses kind text W ∷ LacksSplit kind W ∷ []) (refuses_one kind text W, (one_of answers.NoSplit (LacksSplit kind W) (lacks_split_is_of kind W), tt))
 
--- where the machine has no split of a kind, no parts of it leave states together
+-- where the machine has no split of a kind, no parts of this kind leave two states together
 pub lacking_is_apart : (kind : Kind) (text : List ℕ) (W : KissFile) (parts : List Part) → (row_of kind).none W → AreParts kind text W parts → AreApart (length W.states) parts
 lacking_is_apart kind text W parts none made = (each_is_sound kind).apart text W parts none made.asked

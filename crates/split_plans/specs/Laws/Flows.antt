@@ -26,13 +26,13 @@ use Rattle.state_codes.specs.Split.{IsPart, TogetherInAll, given_parts, others}
 use Rattle.state_codes.specs.Laws.Splits.{given_parts-length}
 use Rattle.state_reduce.proofs.Members.{has_filter}
 
--- one state goes to one state
+-- equal states have equal next states
 same_state : (W : KissFile) (p : List ℕ) (s t : ℕ) (x : List Bool) → NeverLeaves W → IsPartition (length W.states) p → s < length W.states → length x ≡ W.inputs → s ≡ t → Together p (next W s x) (next W t x)
 same_state W p s t x stays lawful in_s symbol same =
     subst (λ (u : ℕ). Together p (next W s x) (next W u x)) same (together_itself p (next W s x) (omega (arith, stays s x in_s symbol, lawful.length)))
 
 -- ---- given parts
--- the part of a given partition reads all others, and is its own carrier
+-- the part of a given partition reads all others, and its partition is its own carrier
 given_part : (count j k : ℕ) (partitions : List (List ℕ)) (part : Part) → slice_get (given_parts count j partitions) k ≡ Some part → (part.reads ≡ others count (j + k)) × IsOwnCarrier part
 given_part count j k [] part at = absurd (none-some part at)
 given_part count j zero (p ∷ partitions) part at =
@@ -49,7 +49,7 @@ other_among : (count j k : ℕ) → k < count → (k ≡ j → ⊥) → Contains
 other_among count j k within apart =
     has_filter (λ (part : ℕ). not (part == j)) (range_with_len 0 count) k (k, omega (arith, length-range_with_len 0 count), get_or-range_with_len 0 count k k within ∙ omega arith) (ap not (ne_eqb k j apart))
 
--- states that a given part and all others hold together, all parts hold together
+-- states that a given part and all parts that it reads hold together are together in all parts
 given_together : (partitions : List (List ℕ)) (j : ℕ) (part : Part) (s t : ℕ) → slice_get (given_parts (length partitions) 0 partitions) j ≡ Some part → Together part.partition s t
     → TogetherInReads (given_parts (length partitions) 0 partitions) part s t → TogetherInAll (given_parts (length partitions) 0 partitions) s t
 given_together partitions j part s t at held reads k d within =
@@ -70,7 +70,7 @@ given_together partitions j part s t at held reads k d within =
               subst (λ (p : List ℕ). Together p s t) (given_part (length partitions) 0 k partitions other here).1 (reads k other among here)
         ]
 
--- states that all parts hold together are one, where the parts tell all states apart
+-- states that all parts hold together are equal, if the parts distinguish all states
 one_state : (n : ℕ) (parts : List Part) (s t : ℕ) → AreApart n parts → s < n → t < n → TogetherInAll parts s t → s ≡ t
 one_state n parts s t apart in_s in_t together =
     elim (cases_order s t) [
@@ -79,7 +79,7 @@ one_state n parts s t apart in_s in_t together =
       | inr (inr after) ↦ absurd (apart t s after in_s (λ k d within. let held = together k d within in (held.1, held.0, sym held.2)))
     ]
 
--- so nothing more is needed where given parts tell all states apart
+-- so it is enough that given parts distinguish all states
 pub given_flows : (W : KissFile) (partitions : List (List ℕ)) → NeverLeaves W → All (IsPart (length W.states)) (given_parts (length partitions) 0 partitions) → AreApart (length W.states) (given_parts (length partitions) 0 partitions)
     → Flows W (given_parts (length partitions) 0 partitions)
 given_flows W partitions stays lawful apart j part s t x at in_s in_t symbol held reads =
@@ -88,12 +88,12 @@ given_flows W partitions stays lawful apart j part s t x at in_s in_t symbol hel
     (one_state (length W.states) parts s t apart in_s in_t (given_together partitions j part s t at held reads))
 
 -- ---- parts that are found
--- a closed partition needs no other
+-- a closed partition needs no other part
 pub parallel_flows : (W : KissFile) (parts : List Part) → IsParallel W parts → Flows W parts
 parallel_flows W parts parallel j part s t x at in_s in_t symbol held reads =
     (all_at (λ (p : Part). IsClosedPartition W p.partition) parts j part parallel.closed at).1 s t x held symbol
 
--- the first part is closed, and the second and the first tell all states apart
+-- the first part is closed, and the two parts together distinguish all states
 two_flow : (W : KissFile) (first second : Part) → NeverLeaves W → IsPartition (length W.states) second.partition → IsOwnCarrier first → IsClosedPartition W first.partition → PartsMeetInZero (first ∷ second ∷ []) → second.reads ≡ 0 ∷ [] → Flows W (first ∷ second ∷ [])
 two_flow W first second stays lawful own closed in_zero second_reads zero part s t x at in_s in_t symbol held reads =
     let same : first ≡ part = same_Some first part at in
@@ -115,7 +115,7 @@ serial_flows W parts stays lawful serial =
     let own : IsOwnCarrier serial.first = all_at IsOwnCarrier parts 0 serial.first serial.own (ap (λ (list : List Part). slice_get list 0) two) in
     subst (Flows W) (sym two) (two_flow W serial.first serial.second stays in_second.partition own serial.closed (subst PartsMeetInZero two serial.in_zero) serial.second_reads)
 
--- The meet of a part with those before it is closed, and below the part.
+-- The meet of a part with the parts before it is closed, and lies below the part.
 down_flow : (W : KissFile) (c d : List ℕ) (parts : List Part) → Descends W c parts d → (j : ℕ) (part : Part) (s t : ℕ) (x : List Bool) → slice_get parts j ≡ Some part → length x ≡ W.inputs
     → Together c s t → ((l : ℕ) (other : Part) → l ≤ j → slice_get parts l ≡ Some other → Together other.partition s t) → Together part.partition (next W s x) (next W t x)
 down_flow W c d [] down j part s t x at symbol top each = absurd (none-some part at)
@@ -144,12 +144,12 @@ cascade_flows W parts cascade j part s t x at in_s in_t symbol held reads =
           | inr apart ↦ subst (λ (p : List ℕ). Together p s t) (all_at IsOwnCarrier parts l other cascade.own here) (reads l other (among l (omega arith)) here)
         ]
 
--- a part and all others tell the state
+-- a part and all others determine the state
 pub least_flows : (W : KissFile) (parts : List Part) → NeverLeaves W → All (IsPart (length W.states)) parts → IsLeastSplit parts → Flows W parts
 least_flows W parts stays lawful split j part s t x at in_s in_t symbol held reads =
     same_state W part.partition s t x stays (all_at (IsPart (length W.states)) parts j part lawful at).partition in_s symbol (parts_tell_all parts j part s t split at held reads)
 
--- each part is sufficed by its own block and the carrier of the other one
+-- for the next block of each part, its own block and the carrier of the other part suffice
 pub feedback_flows : (W : KissFile) (parts : List Part) → IsFeedback W parts → Flows W parts
 feedback_flows W parts feedback = subst (Flows W) (sym feedback.two) (two_flow feedback.first feedback.second feedback.first_reads feedback.second_reads feedback.second_suffices feedback.first_suffices) where
   two_flow : (first second : Part) → first.reads ≡ 1 ∷ [] → second.reads ≡ 0 ∷ [] → Suffices W first.partition second.carrier → Suffices W second.partition first.carrier → Flows W (first ∷ second ∷ [])

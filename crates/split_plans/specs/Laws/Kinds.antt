@@ -1,5 +1,5 @@
--- Laws of the kinds: the parts of each are one list, tell all states apart where the machine may have none, and let information
--- flow as they say; and what a kind promises of codes and gates holds.
+-- Laws of the kinds: there is only one list of parts for each, the parts distinguish all states where the machine
+-- may have none, and information flows through them as they say. What a kind promises of codes and gates holds.
 use Rattle.std.proofs.Common.{◌≡◌, ℕ, All, List, [], ◌∷◌, length, sym, ap, ◌∙◌, subst, arith}
 use Rattle.answers.specs.declared.numbers.Answer.TheVariants as answers
 use Rattle.answers.specs.Cause.{CallsForNone}
@@ -31,25 +31,25 @@ use Rattle.split_plans.specs.Splits.{AreParts}
 use Rattle.split_plans.specs.Laws.Flows.{cascade_flows, feedback_flows, given_flows, least_flows, parallel_flows, serial_flows}
 use Rattle.split_plans.specs.Laws.Least.{least_kept, other_count_is_of}
 
--- what a row of the table has to meet
+-- what every row of the table has to satisfy
 pub record IsSound (row : KindRow) : Type 0 where
-  -- the parts that are chosen are one list
+  -- there is only one list of parts that the kind takes
   pub once : (text : List ℕ) (W : KissFile) (one other : List Part) → row.asks text W one → row.asks text W other → row.choice W one → row.choice W other → one ≡ other
-  -- parts of a machine that may have none tell all states apart
+  -- if a machine may have none, the parts asked for distinguish all states
   pub apart : (text : List ℕ) (W : KissFile) (parts : List Part) → row.none W → row.asks text W parts → AreApart (length W.states) parts
-  -- information flows through parts that tell all states apart as they say
+  -- through parts that distinguish all states, information flows as they say
   pub flows : (text : List ℕ) (W : KissFile) (parts : List Part) → NeverLeaves W → All (IsPart (length W.states)) parts → AreApart (length W.states) parts → row.asks text W parts → Flows W parts
   -- what is refused before a split is sought has one answer
   pub one_answer : (text : List ℕ) (W : KissFile) → HasOneAnswer (row.refuses text W)
   -- the codes of parts, and a network whose gates read by the rule, are as the row promises
   pub kept : (text : List ℕ) (W : KissFile) (parts : List Part) (codes : Codes) (N : Network) → CallsForNone (row.refuses text W) → row.asks text W parts → row.choice W parts → IsCode (length W.states) parts codes → ReadByRule W parts codes N → row.promises W codes N
 
--- ---- words of several rows
--- parts that meet in zero tell all states apart
+-- ---- lemmas for several rows
+-- parts that meet in zero distinguish all states
 pub apart_of_zero : (n : ℕ) (parts : List Part) → PartsMeetInZero parts → AreApart n parts
 apart_of_zero n parts zero s t before in_t together = let same : s ≡ t = zero s t together in omega (arith, same, before)
 
--- given parts are one
+-- there is only one list of given parts
 given_once : (n : ℕ) (text : List ℕ) (one other : List Part) → AreGivenParts n text one → AreGivenParts n text other → one ≡ other
 given_once n text one other first second =
     first.are ∙ ap (λ (ps : List (List ℕ)). given_parts (length ps) 0 ps) (one_list_of_parts n text first.partitions second.partitions first.texts second.texts) ∙ sym second.are
@@ -122,7 +122,7 @@ least_sound = record {
   kept = λ text W parts codes N fit asked choice code read. least_kept W parts codes N fit asked choice code read;
 }
 
--- each is sound
+-- each row is sound
 pub each_is_sound : (kind : Kind) → IsSound (row_of kind)
 each_is_sound Code = code_sound
 each_is_sound Assign = assign_sound
@@ -133,11 +133,11 @@ each_is_sound Feedback = feedback_sound
 each_is_sound Least = least_sound
 
 -- ---- of every kind
--- the parts that a kind makes of a machine are one list
+-- there is only one list of parts that a kind takes for a machine
 pub parts_once : (kind : Kind) (text : List ℕ) (W : KissFile) (one other : List Part) → AreParts kind text W one → AreParts kind text W other → one ≡ other
 parts_once kind text W one other first second = (each_is_sound kind).once text W one other first.asked second.asked first.choice second.choice
 
--- where they tell all states apart, information flows as they say
+-- if the parts distinguish all states, information flows through them as they say
 pub parts_flow : (kind : Kind) (text : List ℕ) (W : KissFile) (parts : List Part) → NeverLeaves W → All (IsPart (length W.states)) parts → AreParts kind text W parts → AreApart (length W.states) parts → Flows W parts
 parts_flow kind text W parts stays lawful made apart = (each_is_sound kind).flows text W parts stays lawful apart made.asked
 

@@ -30,7 +30,7 @@ count_fits W fit = (
   elim (cases_lt 8 (length W.states)) [ inl many ↦ absurd (fit (StateCount (length W.states)) (refl, inr many)) | inr most ↦ omega (arith, most) ],
 )
 
--- the rule gives the gates of the least code least sets
+-- the rule gives least read sets to the gates of the least code
 pub least_kept : (W : KissFile) (parts : List Part) (codes : Codes) (N : Network) → CallsForNone (HasOtherCount W) → IsLeastSplit parts → GiveLeastCode W parts → IsCode (length W.states) parts codes → ReadByRule W parts codes N → IsLeastNetwork W codes N
 least_kept W parts codes N fit split give code read = record {
   code = given_codes_are_least W parts codes give code;

@@ -4,7 +4,7 @@ use Rattle.answers.specs.declared.refusals.Refusal.{Refusal}
 use Rattle.answers.specs.declared.refusals.Refusal.TheVariants.{NotApart}
 use Rattle.kiss2.specs.declared.kiss_file.KissFile.{KissFile}
 
--- it has the names of the states s and t
+-- the refusal has the names of the states s and t
 abbrev pub NamesStates : KissFile → ℕ → ℕ → Refusal → Type 0
 NamesStates W s t refusal =
     (state other : List ℕ) × (refusal ≡ NotApart state other) × (slice_get W.states s ≡ Some state) × (slice_get W.states t ≡ Some other)

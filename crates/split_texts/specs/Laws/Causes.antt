@@ -1,4 +1,4 @@
--- Laws of the causes: each row has its answer, and all of a text have one.
+-- Laws of the causes: each has one answer, and so have all causes of a text in their order.
 use Rattle.std.proofs.Common.{ℕ, Bool, List, [], ◌∷◌, length, ap, subst, arith}
 use Rattle.answers.specs.declared.numbers.Answer.{Answer}
 use Rattle.answers.specs.declared.numbers.Answer.TheVariants as answers
@@ -49,26 +49,26 @@ no_text_one kind text W =
       ),
     )
 
--- a command works on one machine
+-- a command works on only one machine
 pub not_written_one : (kind : Kind) (text : List ℕ) (reduce : Bool) (F : KissFile) → HasOneAnswer (IsNotWritten kind text reduce F)
 not_written_one kind text reduce F one other (W, work, calls) (V, also_work, also_calls) =
     no_text_one kind text W one other calls (subst (λ (M : KissFile). HasNoText kind text M other) (one_work reduce F V W also_work work) also_calls)
 
 -- ---- none
--- parts that tell all states apart leave no states together
+-- parts that distinguish all states do not leave states together
 pub apart_leaves_none : (W : KissFile) (parts : List Part) → AreApart (length W.states) parts → CallsForNone (LeavesTogether W parts)
 apart_leaves_none W parts apart refusal (state, other, is, pair) = apart pair.s pair.t pair.first.partner.above pair.first.partner.within pair.first.partner.together
 
--- parts with short codes have no long ones
+-- parts that have codes do not have long ones
 pub short_has_none : (n : ℕ) (parts : List Part) (codes : Codes) → AreCodes n parts codes → CallsForNone (HasLongCode parts)
 short_has_none n parts codes are refusal (bits, is, size, long) = omega (arith, length_once parts codes.bits bits (length_of_codes n parts codes are.code) size, are.short, long)
 
--- a kind makes one list of parts
+-- a kind makes only one list of parts
 pub of_parts_none : (kind : Kind) (text : List ℕ) (W : KissFile) (parts : List Part) (cause : List Part → Cause) → AreParts kind text W parts → CallsForNone (cause parts) → CallsForNone (OfParts kind text W cause)
 of_parts_none kind text W parts cause made none refusal (others, also_made, calls) =
     none refusal (subst (λ (list : List Part). cause list refusal) (parts_once kind text W others parts also_made made) calls)
 
--- what a command refuses, the machine that it works on calls for
+-- if the machine that a command works on calls for no refusal, neither does the command
 pub on_work_none : (kind : Kind) (text : List ℕ) (reduce : Bool) (F W : KissFile) → IsWorkOf reduce F W → CallsForNone (HasNoText kind text W) → CallsForNone (IsNotWritten kind text reduce F)
 on_work_none kind text reduce F W work none refusal (V, also_work, calls) =
     none refusal (subst (λ (M : KissFile). HasNoText kind text M refusal) (one_work reduce F V W also_work work) calls)

@@ -1,4 +1,5 @@
--- Laws of codes: those of one list of parts have one length, and parts whose codes are distinct tell all states apart.
+-- Laws of codes: the codes of one list of parts have one length, and parts whose codes are distinct distinguish all
+-- states.
 use Rattle.std.proofs.Common.{◌≡◌, ℕ, ◌<◌, ◌≤◌, All, List, get_or, length, refl, sym, ap, ◌∙◌, inl, inr, arith}
 use Rattle.std.proofs.lemmas.Bool.{cases_lt}
 use Rattle.std.proofs.lemmas.List.{get_or_past, length-map}
@@ -20,20 +21,20 @@ pub length_once : (parts : List Part) (one other : ℕ) → IsLength parts one �
 length_once parts one other first second =
     first.size ∙ ap (λ (inners : List (List ℕ)). length (places_of 0 parts inners)) (AreInside-once parts first.inners second.inners first.inside second.inside) ∙ sym second.size
 
--- codes have the length of their parts
+-- codes have the length that their parts give
 pub length_of_codes : (n : ℕ) (parts : List Part) (codes : Codes) → IsCode n parts codes → IsLength parts codes.bits
 length_of_codes n parts codes code = record { inners = code.inners; inside = code.inside; size = code.written.size }
 
 -- ---- distinct codes
 module _ (n : ℕ) (parts : List Part) (codes : Codes) (lawful : All (IsPart n) parts) (code : IsCode n parts codes) (s t : ℕ) (in_s : s < n) (in_t : t < n) (together : TogetherInAll parts s t) where
-  -- at each place of the codes the bits of two states that are together in all parts agree
+  -- if two states are together in all parts, their codes agree at each bit
   bit_within : (i : ℕ) → i < codes.bits → bit_at (get_or codes.words s 0) i ≡ bit_at (get_or codes.words t 0) i
   bit_within i below =
       let owner : ℕ = get_or codes.owner i 0 in
       let found = item_at parts owner (owner-lt n parts codes code i below) in
       (part_bits_tell n parts codes lawful code owner found.0 found.1 s t in_s in_t).1 (all_at (λ (part : Part). Together part.partition s t) parts owner found.0 together found.1) i below refl
 
-  -- and no bit is after them
+  -- and codes have no bit that is 1 beyond their length
   bit_past : (u : ℕ) → u < n → (i : ℕ) → codes.bits ≤ i → bit_at (get_or codes.words u 0) i ≡ 0
   bit_past u in_u i past =
       let places : List Place = places_of 0 parts code.inners in
