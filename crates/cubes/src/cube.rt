@@ -1,7 +1,7 @@
 //! A cube: the input field of a row.
 ghost use Rattle.std.specs.Prelude.{◌≡◌, ◌<◌, ◌≤◌, ◌^◌, bit_and};
 
-/// A character of an input field: a bit, or a dash for both.
+/// A character of an input field: a bit, or a dash, which allows both bits.
 #[derive(Clone, Copy)]
 enum Character {
     Zero,
@@ -26,7 +26,7 @@ impl Character {
         }
     }
 
-    /// The lowest bit of the care whose last character it is.
+    /// The lowest bit of `care` in a field that ends with this character.
     fn care(self) -> u32
         ensures { result ≡ care_of self }
     {
@@ -36,7 +36,7 @@ impl Character {
         }
     }
 
-    /// The lowest bit of the value whose last character it is.
+    /// The lowest bit of `value` in a field that ends with this character.
     fn value(self) -> u32
         ensures { result ≡ value_of self }
     {
@@ -47,21 +47,21 @@ impl Character {
     }
 }
 
-/// Why a text is no cube of a width.
+/// Why a text is not a cube of a width.
 #[derive(Clone, Copy, Debug, PartialEq, Eq)]
 pub enum CubeFail {
-    /// The text has another number of characters than the width, that many.
+    /// The text does not have as many characters as the width, but this number.
     BadWidth { found: usize },
-    /// The character at this place, counted from 0, is none of `0`, `1` and `-`; it is the first such.
+    /// The character at this place, counted from 0, is the first that is not `0`, `1` or `-`.
     BadChar { place: usize },
 }
 
 /// The input field of a row: as many characters `0`, `1` or `-` as a symbol has bits. The first character
-/// stands for the highest of the `width` lowest bits of `care` and `value`, the last for the lowest. A dash
-/// stands where the bit of `care` is 0, and elsewhere the bit of `value`.
+/// belongs to the highest of the `width` lowest bits of `care` and `value`, the last to the lowest. A character
+/// is a dash where the bit of `care` is 0, and otherwise the bit of `value`.
 #[derive(Clone, Copy, Debug, PartialEq, Eq)]
 pub struct Cube {
-    /// The places at which no dash stands.
+    /// The places that have no dash.
     pub care: u32,
     /// The bits at those places, and 0 elsewhere.
     pub value: u32,
@@ -77,8 +77,8 @@ impl Cube {
     ghost use Rattle.std.specs.Prelude.{ℕ, IfOk, Err, IsTrue, length, ◌↔◌, ◌≢◌};
     ghost use Rattle.cubes.specs.Cube.{HoldsNumber, IsFirstBad, Meets, text_of};
 
-    /// Reads an input field of `width` characters. The length is judged first, then the characters from
-    /// the first to the last.
+    /// Reads an input field of `width` characters. The length is judged first, then the characters from the
+    /// first to the last.
     pub fn parse(text: &[u8], width: u8) -> Result<Cube, CubeFail>
         requires positive { 0 < width }
         requires bound { width ≤ 32 }
@@ -104,7 +104,7 @@ impl Cube {
         Ok(Cube { care, value, width })
     }
 
-    /// Whether it holds the symbol of this number.
+    /// Whether the cube holds the symbol of this number.
     pub fn holds(&self, x: u32) -> bool
         requires { x < 2 ^ self.now.width }
         ensures { IsTrue result ↔ HoldsNumber self.now x }

@@ -1,11 +1,16 @@
 //! The first symbol that a list of cubes leaves out.
 //!
-//! A region is a cube whose symbols are searched for a gap, a symbol that no cube of the list holds. Only
-//! the cubes that touch the region are looked at, and only where the region has a dash. A cube that does not
-//! look there holds the whole region. Where all cubes that look at a place want one bit, those with the other
-//! bit there are held by fewer cubes, so they alone are searched. Else the region is halved at a place at
-//! which cubes look that hold most of it. The least gap is found from some gap: where it has a 1, the half
-//! with a 0 is searched, from the highest place on.
+//! A region is a cube whose symbols are searched for a gap, which is a symbol that no cube of the list holds.
+//! Only the cubes that touch the region matter, and of these only their bits at the dashes of the region:
+//!
+//! - A cube that has no bit at a dash of the region holds the whole region.
+//! - If all cubes that have a bit at some dash have the same bit there, fewer cubes hold the symbols with the
+//!   other bit there, so only these symbols are searched.
+//! - Otherwise the region is halved at a dash: at one for which the cubes that have a bit there hold most of
+//!   the region.
+//!
+//! The least gap is found from some gap: from the highest place on, wherever the gap has a 1, the half with a 0
+//! there is searched.
 ghost use Rattle.std.specs.Prelude.{ℕ, ◌≡◌, ◌<◌, ◌≤◌, ◌^◌, ◌↔◌, All, Any, Bool, IfNone, IfOk, IfSome, IsTrue, filter, true};
 ghost use Rattle.cubes.specs.Cube.{HoldsNumber};
 ghost use Rattle.cubes.specs.Gap.{HoldsEach, IsFirstGap, IsHeld};
@@ -15,7 +20,7 @@ ghost use Rattle.cubes.specs.Inner.Region.{AreWanted, HasDashesBelow, HoldsRegio
 use crate::cube::Cube;
 use std::alloc::{AllocError, Global};
 
-/// The least symbol of that width that no cube of the list holds, if there is one.
+/// The least symbol of this width that no cube of the list holds, if there is one.
 pub fn first_gap(alloc: Global, list: &[Cube], width: u8) -> Result<Option<u32>, AllocError>
     requires positive { 0 < width }
     requires bound { width ≤ 32 }
@@ -34,7 +39,7 @@ pub fn first_gap(alloc: Global, list: &[Cube], width: u8) -> Result<Option<u32>,
     }
 }
 
-/// The least gap of a region with bits at all places but the lowest, of which some gap is known.
+/// The least gap of a region whose dashes are its lowest `places` places, from a known gap of the region.
 fn least_gap(
     alloc: Global,
     list: &[Cube],
@@ -59,7 +64,7 @@ fn least_gap(
     }
 }
 
-/// Some gap of the region: the known one, where it is one of the region's.
+/// Some gap of the region, if there is one: the known gap, if it is in the region.
 fn gap_in_half(
     alloc: Global,
     list: &[Cube],
@@ -115,21 +120,21 @@ fn touching(alloc: Global, list: &[Cube], region: &Cube) -> Result<Vec<Cube>, Al
         .collect(alloc)
 }
 
-/// Whether the two differ at no place at which both look.
+/// Whether there is no place where both have a bit and the bits differ.
 fn is_touching(region: &Cube, cube: &Cube) -> bool
     ensures { result ≡ touches region.now cube.now }
 {
     (cube.value ^ region.value) & cube.care & region.care == 0
 }
 
-/// The places at which the cube looks and the region has a dash.
+/// The places where the cube has a bit and the region has a dash.
 fn looks(region: &Cube, cube: &Cube) -> u32
     ensures { result ≡ looked_at region.now cube.now }
 {
     cube.care & (cube.care ^ region.care)
 }
 
-/// Whether some cube looks at no dash of the region.
+/// Whether some cube has no bit at a dash of the region.
 fn holds_whole(cubes: &[Cube], region: &Cube) -> bool
     ensures { IsTrue result ↔ Any (λ c. looked_at region.now c ≡ 0) cubes.now }
 {
@@ -141,14 +146,14 @@ fn holds_whole(cubes: &[Cube], region: &Cube) -> bool
     false
 }
 
-/// The dashes of a region at which some cube wants a 1, and those at which some cube wants a 0.
+/// The dashes of a region at which some cube has a 1, and those at which some cube has a 0.
 #[derive(Clone, Copy)]
 struct Wanted {
     ones: u32,
     zeros: u32,
 }
 
-/// What the cubes want at the dashes of the region.
+/// The bits that the cubes have at the dashes of the region.
 fn wanted_bits(cubes: &[Cube], region: &Cube) -> Wanted
     requires { All (λ c. c.width ≡ region.now.width) cubes.now }
     ensures { AreWanted cubes.now region.now result.ones result.zeros }
@@ -163,7 +168,7 @@ fn wanted_bits(cubes: &[Cube], region: &Cube) -> Wanted
     Wanted { ones, zeros }
 }
 
-/// One of the places: one at which cubes look that hold most of the region.
+/// The one of these places for which the cubes with a bit there hold most of the region.
 fn most_looked_at(places: u32, shares: &[u64; 32]) -> u32
     requires { 0 < places }
     ensures { bit places result ≡ true }
@@ -180,7 +185,8 @@ fn most_looked_at(places: u32, shares: &[u64; 32]) -> u32
     best
 }
 
-/// At each place, how much of the region the cubes hold that look there, all of it being 2^32.
+/// For each place, how much of the region the cubes with a bit there hold in all, where the whole region is
+/// 2^32.
 fn shares_of(cubes: &[Cube], region: &Cube) -> [u64; 32] {
     let mut shares = [0u64; 32];
     for cube in cubes {
@@ -189,7 +195,7 @@ fn shares_of(cubes: &[Cube], region: &Cube) -> [u64; 32] {
     shares
 }
 
-/// Adds what a cube holds at the places at which it looks: half for each of them.
+/// Adds what a cube holds at the places where it has a bit: half for each of them.
 fn add_share(shares: &mut [u64; 32], looks: u32) {
     let share = (1u64 << 32) >> looks.count_ones();
     let mut rest = looks;
@@ -222,7 +228,7 @@ fn narrowed(region: &Cube, places: u32, bits: u32) -> Cube
     }
 }
 
-/// The symbols of the region that have the bit at the place of a dash.
+/// The symbols of the region that have this bit at the place of a dash.
 fn half(region: &Cube, place: u32, bit: bool) -> Cube
     requires { IsOpen region.now place }
     ensures { IsHalfOf region.now result place bit }

@@ -1,10 +1,10 @@
-//! Laws of symbols and cubes, for the crates above. Each is the contract of a function that does nothing.
+//! Laws of symbols and cubes, for the crates above. Each law is the contract of a function that does nothing.
 ghost use Rattle.std.specs.Prelude.{ℕ, ◌≡◌, ◌+◌, ◌<◌, ◌≤◌, ◌^◌, ◌↔◌, Bool, true, List, bit_and, length};
 ghost use Rattle.cubes.specs.declared.cube.Cube.{Cube};
 ghost use Rattle.cubes.specs.Cube.{DiffersAtPlace, HasBitsOf, Holds, HoldsNumber, IsBoth, IsHalf, Meets, greatest_of, holds};
 ghost use Rattle.cubes.specs.Symbol.{bit, number_of, symbol_of};
 
-/// Symbols of a width and the numbers below its power of two stand for one another.
+/// Symbols of a width correspond to the numbers below 2 to the power of the width.
 pub fn symbols_are_numbers()
     ensures number { (places x : ℕ) → x < 2 ^ places → number_of (symbol_of places x) ≡ x }
     ensures places { (places x : ℕ) → length (symbol_of places x) ≡ places }
@@ -23,12 +23,12 @@ pub fn holding_is_decided()
     ensures { (c : Cube) (symbol : List Bool) → (holds c symbol ≡ true) ↔ Holds c symbol }
 {}
 
-/// Cubes of one width that share no symbol differ at a place where neither has a dash.
+/// Cubes of one width share no symbol exactly where they differ at a place at which neither has a dash.
 pub fn apart_cubes_differ()
     ensures differ { (c d : Cube) → c.width ≡ d.width → (¬ Meets c d) ↔ DiffersAtPlace c d }
 {}
 
-/// The least symbol of a cube has 0 at each dash, the greatest has 1 there.
+/// The least symbol of a cube has a 0 at each dash, and the greatest has a 1 there.
 pub fn ends_of_a_cube()
     ensures least { (c : Cube) → HoldsNumber c c.value }
     ensures greatest { (c : Cube) → HoldsNumber c (greatest_of c) }
@@ -37,7 +37,7 @@ pub fn ends_of_a_cube()
     ensures to { (c : Cube) (x : ℕ) → x < 2 ^ c.width → HoldsNumber c x → x ≤ greatest_of c }
 {}
 
-/// What two cubes that meet hold both is one cube, and the half of a cube at a dash is one.
+/// The symbols that two cubes that meet both hold are one cube, and the half of a cube at a dash is one cube.
 pub fn parts_of_cubes()
     ensures both { (c d both : Cube) → IsBoth c d both → Meets c d
         → (x : ℕ) → HoldsNumber both x ↔ (HoldsNumber c x × HoldsNumber d x) }

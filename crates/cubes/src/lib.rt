@@ -1,13 +1,13 @@
-//! Input cubes and the first symbol that a list of them leaves out.
+//! Input cubes, and the first symbol that a list of them leaves out.
 //!
 //! A symbol is a list of bits, and its number is its text read in binary, the first character the most
-//! significant bit. A [`Cube`] is an input field: as many characters `0`, `1` or `-` as a symbol has bits.
-//! It holds a symbol where each character that is no dash is the symbol's bit at that place.
+//! significant bit. A [`Cube`] is an input field: as many characters `0`, `1` or `-` as a symbol has bits. It
+//! holds a symbol if each character that is not a dash is the symbol's bit at that place.
 //!
-//! The definitions stand in `specs/`: `Symbol` has symbols and their numbers, `Field` the characters of a
-//! field, `Cube` what a cube holds and where two cubes meet, `Gap` the first symbol that a list leaves out.
-//! They speak of characters and bits one by one. The code compares whole numbers under masks, and
-//! `first_gap` halves the symbols by one bit at a time.
+//! The definitions are in `specs/`: `Symbol` has symbols and their numbers, `Field` the characters of a field,
+//! `Cube` what a cube holds and where two cubes meet, and `Gap` the first symbol that a list leaves out. They
+//! speak of characters and bits one by one. The code compares whole numbers under masks, and `first_gap` halves
+//! the symbols by one bit at a time.
 #![tactic(auto)]
 
 mod cube;

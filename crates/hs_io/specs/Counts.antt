@@ -9,6 +9,6 @@ last_count = 2 ^ 64 - 1
 abbrev pub next_count : ℕ → ℕ
 next_count count = min (count + 1) last_count
 
--- the count rose in a call: it is greater than at the entry, or it can rise no more
+-- the count rose in a call: it is greater than at the entry, or it has reached the last value
 abbrev pub Rose : ℕ → ℕ → Type 0
 Rose old new = (old < new) ⊎ (new ≡ last_count)

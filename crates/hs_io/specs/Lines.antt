@@ -8,11 +8,11 @@ use Rattle.hs_io.specs.declared.lines.Line.{Line}
 abbrev pub ends_line : ℕ → Bool
 ends_line b = b == 10
 
--- the mark from which on a line is a comment
+-- the mark that begins the comment of a line
 abbrev pub begins_comment : ℕ → Bool
 begins_comment b = b == 35
 
--- space and tab, which stand between fields
+-- a space or a tab, which separate fields
 abbrev pub is_blank : ℕ → Bool
 is_blank b = b == 32 || b == 9
 
@@ -20,7 +20,7 @@ is_blank b = b == 32 || b == 9
 abbrev pub is_allowed : ℕ → Bool
 is_allowed b = b == 9 || (nat_le 32 b && nat_le b 126)
 
--- the pieces between line feeds as lines: an empty piece after the last line feed is none
+-- the pieces between line feeds as lines: an empty piece after the last line feed is not a line
 abbrev pub lines_of_pieces : List (List ℕ) → List (List ℕ)
 lines_of_pieces [] = []
 lines_of_pieces (piece ∷ []) = if length piece == 0 then [] else piece ∷ []
@@ -29,11 +29,12 @@ lines_of_pieces (piece ∷ next ∷ more) = piece ∷ lines_of_pieces (next ∷ 
 abbrev pub physical_lines : List ℕ → List (List ℕ)
 physical_lines bytes = lines_of_pieces (slice_split ends_line bytes)
 
--- what is read of a line: one carriage return at its end is dropped, and then everything from the comment's mark on
+-- the part of a line that is read: a carriage return at its end is dropped, and then everything from the comment's
+-- mark on
 abbrev pub content : List ℕ → List ℕ
 content line = before_first begins_comment (strip_carriage_return line)
 
--- a run is a field where it is not empty
+-- a run is a field if it is not empty
 abbrev pub is_field : List ℕ → Bool
 is_field run = not (length run == 0)
 
@@ -44,7 +45,7 @@ fields_in runs = filter is_field runs
 abbrev pub fields_of : List ℕ → List (List ℕ)
 fields_of text = fields_in (slice_split is_blank text)
 
--- a line with its number; it is bad where a byte of it is not allowed
+-- a line with its number; it is bad if it has a byte that is not allowed outside its comment
 abbrev pub line_of : ℕ → List ℕ → Line
 line_of number line =
     record { number = number; fields = fields_of (content line); bad = not (list_all is_allowed (content line)) }

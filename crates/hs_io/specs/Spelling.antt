@@ -1,4 +1,4 @@
--- Lines that are spelled by their fields, one space between each two and a line feed behind the last.
+-- Lines that are spelled by their fields, with one space between fields and a line feed after the last.
 use Rattle.std.specs.Prelude.{◌≡◌, ◌≢◌, ℕ, ◌<◌, ◌≤◌, List, [], ◌∷◌, ◌++◌, length}
 use Rattle.std.specs.List.{flat_map, AllByRecursion}
 
@@ -6,7 +6,7 @@ use Rattle.std.specs.List.{flat_map, AllByRecursion}
 abbrev pub spaced : List ℕ → List ℕ
 spaced field = 32 ∷ field
 
--- the fields with one space between each two
+-- the fields with one space between each and the next
 abbrev pub line_text : List (List ℕ) → List ℕ
 line_text [] = []
 line_text (field ∷ fields) = field ++ flat_map spaced fields
@@ -25,7 +25,7 @@ pub record IsFieldByte (byte : ℕ) : Type 0 where
   pub high : byte ≤ 126
   pub no_comment : byte ≢ 35
 
--- what can stand as a field: one or more such bytes
+-- what can be a field: one or more such bytes
 pub record IsPlainField (field : List ℕ) : Type 0 where
   pub some : 0 < length field
   pub visible : AllByRecursion IsFieldByte field
@@ -33,7 +33,7 @@ pub record IsPlainField (field : List ℕ) : Type 0 where
 abbrev pub ArePlainFields : List (List ℕ) → Type 0
 ArePlainFields fields = AllByRecursion IsPlainField fields
 
--- a line that is a comment alone
+-- a line that is only a comment
 abbrev pub IsComment : List ℕ → Type 0
 IsComment [] = ⊥
 IsComment (b ∷ bs) = (b ≡ 35) × AllByRecursion (λ c. c ≢ 10) bs

@@ -7,11 +7,12 @@ use std::marker::Model;
 use std::rt::Files;
 use std::{fs, str};
 
-/// How many bytes one read asks for at most.
+/// The greatest number of bytes that one read asks for.
 const PIECE: usize = 4096;
 
-/// The files of the system, each under its path. It tells no bytes, and grants every name. Contracts see
-/// its count of faults alone, which rises at each error of the system and at a name that is no path.
+/// The files of the system, each under its path. Contracts do not know the bytes of any file, and every name is
+/// granted. They see only the count of faults, which rises at each error of the system and at a name that is no
+/// path.
 #[derive(Drop)]
 pub struct FileShelf<R: Files> {
     files: R,
@@ -47,7 +48,7 @@ impl<R: Files> Shelf for FileShelf<R> {
         ensures one_more { IsErrOf result LoadFail.TooLong → vec_len into.new ≡ limit + 1 }
         ensures never_falls { self.old ≤ self.new }
 
-        // It counts each failure and nothing else.
+        // The count rises at each failure, and at nothing else.
         ensures counted { IsErrOf result LoadFail.Failed → self.new ≡ next_count self.old }
         ensures not_counted { ¬ IsErrOf result LoadFail.Failed → self.new ≡ self.old }
     {
@@ -84,7 +85,7 @@ fn load_file<R: Files>(
     unreachable!("each turn takes a byte")
 }
 
-/// Appends some of the bytes that are left, and says how many; at the end there are none.
+/// Appends some of the bytes that are left, and gives their number, which is 0 only at the end.
 fn read_piece(file: &mut impl Read, most: usize, into: &mut Vec<u8>) -> Result<usize, LoadFail>
     requires { vec_len into.old < most }
     ensures ok { IfOk result (λ n. vec_len into.new ≡ vec_len into.old + n) }

@@ -1,17 +1,16 @@
 //! Where bytes come from and where they go.
 //!
-//! A [`Shelf`] holds bytes under names, a [`Sink`] takes bytes. Each is a trait whose meanings stand in
-//! its ghost members: what a shelf holds and which names it grants, what a sink was given, and a count
-//! of faults that never falls. A fault is answered only where the count rose in that call, so who calls
-//! with a shelf and sinks can say of each answer what it rests on. What "rose" means stands in
-//! `specs/Counts.antt`.
+//! A [`Shelf`] holds bytes under names, and a [`Sink`] takes bytes. Each is a trait whose meaning is in its
+//! ghost members: what a shelf holds and which names it grants, what a sink was given, and a count of faults
+//! that never falls. A fault is answered only if the count rose in that call, so that a caller with a shelf and
+//! sinks can say what each answer is due to. `specs/Counts.antt` defines "rose".
 //!
-//! [`MemShelf`] and [`MemSink`] tell their bytes, fail where they are told to and nowhere else, and serve
-//! tests. [`FileShelf`] and [`StdSink`] stand on the system and tell nothing.
+//! Contracts know the bytes of [`MemShelf`] and [`MemSink`], which serve tests and fail only where they are
+//! made to. [`FileShelf`] and [`StdSink`] are built on the system, and contracts do not know their bytes.
 //!
-//! Three forms of text are read as lines of fields. [`cut_lines`] gives all lines of a text at once, and
-//! [`first_line`], [`content_of`], [`is_clean`] and [`first_field`] read them one after another without
-//! memory. What the lines of a text are is said in `specs/Lines.antt`.
+//! Three forms of text are read as lines of fields. [`cut_lines`] gives all lines of a text at once.
+//! [`first_line`], [`content_of`], [`is_clean`] and [`first_field`] read them one after another without memory.
+//! `specs/Lines.antt` says what the lines of a text are.
 #![tactic(auto)]
 
 mod file_shelf;

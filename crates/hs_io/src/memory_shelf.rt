@@ -46,7 +46,7 @@ impl MemShelf {
         }
     }
 
-    /// Puts the bytes under a name, in place of what it held.
+    /// Puts the bytes under a name, instead of what it held.
     pub fn add(&mut self, name: &[u8], bytes: &[u8]) -> Result<(), AllocError>
         ensures ok { OnOk result (Replaces self.old self.new name.now bytes.now) }
         ensures err { OnErr result (self.new ≡ self.old) }
@@ -84,7 +84,7 @@ impl Shelf for MemShelf {
         ensures longer { IsErrOf result LoadFail.TooLong → IfSome (held self.old name.now) (λ bytes. limit < length bytes) }
         ensures never_falls { self.old.faults ≤ self.new.faults }
 
-        // It fails exactly at a listed load and at a name that it does not have, and counts just these.
+        // It fails exactly at a listed load and at a name that the shelf does not have, and counts only these.
         ensures fails { IsErrOf result LoadFail.Failed ↔ FailsNext self.old name.now }
         ensures counted { FailsNext self.old name.now → self.new.faults ≡ next_count self.old.faults }
         ensures not_counted { ¬ FailsNext self.old name.now → self.new.faults ≡ self.old.faults }
@@ -104,7 +104,7 @@ impl Shelf for MemShelf {
     }
 }
 
-/// Puts the bytes under a name, in place of what it held.
+/// Puts the bytes under a name, instead of what it held.
 fn put_text(
     alloc: Global,
     texts: &mut Vec<Text>,
@@ -125,7 +125,7 @@ fn put_text(
     Ok(())
 }
 
-/// Where the text of a name stands.
+/// The place of the text with this name.
 fn place_of(texts: &[Text], name: &[u8]) -> Option<usize>
     ensures { IsPlaceOf texts.now name.now result }
 {

@@ -29,7 +29,7 @@ impl Model for MemSink {
 }
 
 impl MemSink {
-    /// A sink with room for so many bytes, which takes all its memory here.
+    /// A sink with room for this number of bytes, all of whose memory is taken here.
     pub fn new(alloc: Global, room: usize) -> Result<MemSink, AllocError>
         ensures { IfOk result (λ sink. sink ≡ record { given = []; room = room; puts = 0; failing = None; faults = 0 }) }
     {
@@ -42,8 +42,8 @@ impl MemSink {
         })
     }
 
-    /// Keeps one failing put, in place of an earlier one: the put of that number, counted from 1, appends the
-    /// first `take` bytes of its piece, or what fits of it, and fails.
+    /// Keeps one failing put, instead of an earlier one. The put of this number, counted from 1, appends the
+    /// first `take` bytes of its piece, or as many of them as fit, and fails.
     pub fn fail_at(&mut self, call: u64, take: usize)
         requires first { 1 ≤ call }
         requires before_last { call < 2 ^ 64 - 1 }
@@ -70,11 +70,11 @@ impl Sink for MemSink {
         ensures front { OnErr result (AppendsFront (Some self.old.given) piece.now (Some self.new.given)) }
         ensures never_falls { self.old.faults ≤ self.new.faults }
 
-        // It fails exactly at the kept put and at a piece past the room, and counts just these.
+        // It fails exactly at the kept put and at a piece that does not fit, and counts only these.
         ensures fails { IsErr result ↔ FailsNext self.old piece.now }
         ensures counted { self.new.faults ≡ (if is_err result then next_count self.old.faults else self.old.faults) }
 
-        // It takes what fits, at the kept put at most the bytes that were asked for.
+        // It takes what fits; the kept put takes at most the number of bytes that was kept for it.
         ensures kept { (n : ℕ) → self.old.failing ≡ Some (next_count self.old.puts, n) → self.new.given ≡ self.old.given ++ take (min n (fitting self.old piece.now)) piece.now }
         ensures other { ¬ IsKept self.old → self.new.given ≡ self.old.given ++ take (fitting self.old piece.now) piece.now }
         ensures puts { self.new.puts ≡ next_count self.old.puts }
@@ -94,7 +94,7 @@ impl Sink for MemSink {
     }
 }
 
-/// How many bytes the kept put takes, where this call is that one.
+/// The number of bytes that the kept put takes, if this call is that put.
 fn kept_bytes(failing: Option<(u64, usize)>, call: u64) -> Option<usize>
     ensures some { IfSome result (λ n. failing ≡ Some (call, n)) }
     ensures none { IfNone result ((n : ℕ) → failing ≢ Some (call, n)) }

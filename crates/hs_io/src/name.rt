@@ -5,7 +5,7 @@ use std::alloc::{AllocError, Global};
 use std::default::MadeWith;
 use std::marker::Model;
 
-/// A name of a state, a signal or a file: a list of bytes of its own.
+/// A name of a state, a signal or a file: a list of bytes that the name owns.
 #[derive(Debug, Drop)]
 pub struct Name {
     text: Vec<u8>,

@@ -14,7 +14,7 @@ pub enum LoadFail {
     /// The text is longer than the limit.
     #[error("too long")]
     TooLong,
-    /// Memory was wanting.
+    /// Memory ran out.
     #[error("no memory")]
     NoMemory,
 }
@@ -29,13 +29,13 @@ impl From<AllocError> for LoadFail {
 
 /// Bytes under names.
 pub trait Shelf {
-    /// The bytes of a name, where the shelf tells them.
+    /// The bytes of a name, where they are known.
     ghost holds: { Self → List ℕ → Option (List ℕ) };
 
     /// Whether a name may be loaded.
     ghost grants: { Self → List ℕ → Type 0 };
 
-    /// How many faults there were.
+    /// The number of faults so far.
     ghost faults: { Self → ℕ };
 
     /// Puts the bytes of a name into `into`, at most `limit` of them. After `TooLong`, `into` has the first
@@ -48,7 +48,8 @@ pub trait Shelf {
         ensures within { OnOk result (vec_len into.new ≤ limit) }
         ensures whole { OnOk result (IfSome (holds self.old name.now) (λ bytes. into.new.items ≡ bytes)) }
 
-        // A failure is due to a fault. A text that is told is too long exactly where it is longer than the limit.
+        // A failure comes only with a fault. Where the bytes are known, they are longer than the limit at
+        // `TooLong`, and longer bytes give no text.
         ensures failed { IsErrOf result LoadFail.Failed → Rose (faults self.old) (faults self.new) }
         ensures one_more { IsErrOf result LoadFail.TooLong → vec_len into.new ≡ limit + 1 }
         ensures front { IsErrOf result LoadFail.TooLong → IfSome (holds self.old name.now) (λ bytes. into.new.items ≡ take (limit + 1) bytes) }

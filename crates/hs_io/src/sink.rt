@@ -14,13 +14,13 @@ pub enum SinkFail {
 
 /// Takes bytes.
 pub trait Sink {
-    /// The bytes taken so far, where the sink tells them.
+    /// The bytes taken so far, where they are known.
     ghost given: { Self → Option (List ℕ) };
 
-    /// How many faults there were.
+    /// The number of faults so far.
     ghost faults: { Self → ℕ };
 
-    /// Appends the piece, or a front of it where there is a fault. It takes no memory.
+    /// Appends the piece, or a front of it if there is a fault. It takes no memory.
     fn put(&mut self, piece: &[u8]) -> Result<(), SinkFail>
         ensures whole { OnOk result (Appends (given self.old) piece.now (given self.new)) }
         ensures front { OnErr result (AppendsFront (given self.old) piece.now (given self.new)) }

@@ -4,8 +4,8 @@ ghost use Rattle.hs_io.specs.Counts.{next_count};
 use crate::{Sink, SinkFail};
 use std::marker::Model;
 
-/// Standard output or standard error. It tells no bytes. Contracts see its count of faults alone, which
-/// rises at each error of the system.
+/// Standard output or standard error. Contracts do not know the bytes that it took. They see only the count of
+/// faults, which rises at each error of the system.
 #[derive(Drop)]
 pub struct StdSink<P: Print> {
     stream: P,
@@ -36,7 +36,7 @@ impl<P: Print> Sink for StdSink<P> {
     fn put(&mut self, piece: &[u8]) -> Result<(), SinkFail>
         ensures never_falls { self.old ≤ self.new }
 
-        // It counts each failure and nothing else.
+        // The count rises at each failure, and at nothing else.
         ensures counted { OnErr result (self.new ≡ next_count self.old) }
         ensures not_counted { OnOk result (self.new ≡ self.old) }
     {

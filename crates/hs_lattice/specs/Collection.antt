@@ -2,7 +2,7 @@
 use Rattle.std.specs.Prelude.{◌≡◌, ℕ, ◌+◌, ◌<◌, ◌≤◌, ◌⊎◌, List, [], length, All, AllPairs, Any, Contains, slice_index_or}
 use Rattle.hs_lattice.specs.declared.collection.Collection.{Collection}
 
--- the items, in the order in which they came
+-- the items, in the order in which they were added
 abbrev pub items_in : {T : Type 0} → Collection T → List T
 items_in c = c.items.items
 
@@ -10,11 +10,11 @@ items_in c = c.items.items
 abbrev pub order_in : {T : Type 0} → Collection T → List ℕ
 order_in c = c.order.items
 
--- some item stands for the value
+-- the value is that of some item
 abbrev pub Knows : {X M : Type 0} → (X → M) → List X → M → Type 0
 Knows meaning items z = Any (λ x. meaning x ≡ z) items
 
--- the items ascend by what they stand for
+-- the values of the items ascend
 abbrev pub IsAscending : {X M : Type 0} → (X → M) → (M → M → Type 0) → List X → Type 0
 IsAscending meaning precedes items = AllPairs (λ x y. precedes (meaning x) (meaning y)) items
 
@@ -35,12 +35,12 @@ pub record AreDifferent {X M : Type 0} (meaning : X → M) (fits : M → Type 0)
 abbrev pub IsCollection : {X M : Type 0} → (X → M) → (M → Type 0) → (M → M → Type 0) → Collection X → Type 0
 IsCollection meaning fits precedes c = AreDifferent meaning fits precedes (items_in c) (order_in c)
 
--- no item stands in the collection
+-- the collection has no items
 pub record IsEmpty {X : Type 0} (c : Collection X) : Type 0 where
   pub items : items_in c ≡ []
   pub order : order_in c ≡ []
 
--- what was known stays so, the items keep their places, and the value becomes known and nothing else
+-- what was known stays known, the items keep their places, and only the value becomes known
 pub record Adds {X M : Type 0} (meaning : X → M) (items : List X) (value : M) (new_items : List X) : Type 0 where
   pub kept : (z : M) → Knows meaning items z → Knows meaning new_items z
   pub added : Knows meaning new_items value

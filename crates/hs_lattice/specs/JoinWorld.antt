@@ -2,8 +2,8 @@
 use Rattle.std.specs.Prelude.{List, [], ◌∷◌, Contains}
 use Rattle.std.specs.List.{AllByRecursion}
 
--- the value is the join of the list: the least value of no values, and of more the join of the first and
--- the join of the rest
+-- the value is the join of the list: the least value if the list is empty, and otherwise the join of the first
+-- value and the join of the rest
 abbrev pub IsJoinOf : {M : Type 0} → (M → Type 0) → (M → M → M → Type 0) → List M → M → Type 0
 IsJoinOf least joins [] z = least z
 IsJoinOf {M} least joins (x ∷ xs) z = (y : M) × IsJoinOf least joins xs y × joins x y z

@@ -1,4 +1,4 @@
--- What follows of the definitions alone.
+-- What follows from the definitions alone.
 use Rattle.std.specs.Prelude.{List, [], ◌∷◌, All, Contains, refl}
 use Rattle.std.specs.List.{AllByRecursion}
 use Rattle.std.proofs.Common.{subst, sym}
@@ -7,7 +7,7 @@ use Rattle.hs_lattice.specs.declared.collection.Collection.{Collection}
 use Rattle.hs_lattice.specs.Collection.{AreDifferent, IsCollection, IsEmpty, order_in}
 use Rattle.hs_lattice.specs.JoinWorld.{IsJoinOf, IsGenerated}
 
--- what the least value has and joins keep, the join of values that have it has
+-- if the least value has a property and joins keep it, the join of values that have it has it too
 pub IsJoinOf-has :
     {M : Type 0} (least : M → Type 0) (joins : M → M → M → Type 0) (P : M → Type 0) →
     ((x : M) → least x → P x) → ((x y z : M) → P x → P y → joins x y z → P z) →
@@ -16,16 +16,16 @@ IsJoinOf-has least joins P bottom kept [] z each of = bottom z of
 IsJoinOf-has least joins P bottom kept (x ∷ xs) z (has, each) (y, of, joined) =
     kept x y z has (IsJoinOf-has least joins P bottom kept xs y each of) joined
 
--- what each element has, each value that stands in the list has
+-- if each element of a list has a property, so has each value that the list contains
 All-contained : {M : Type 0} (P : M → Type 0) (xs : List M) (z : M) → All P xs → Contains xs z → P z
 All-contained P xs z all (k, lt, read) = subst P read (all k z lt)
 
--- and so has a list of such values
+-- and so has each value of a list of such values
 AllByRecursion-contained : {M : Type 0} (P : M → Type 0) (xs chosen : List M) → All P xs → AllByRecursion (Contains xs) chosen → AllByRecursion P chosen
 AllByRecursion-contained P xs [] all each = tt
 AllByRecursion-contained P xs (z ∷ chosen) all (among, each) = (All-contained P xs z all among, AllByRecursion-contained P xs chosen all each)
 
--- what the least value and the generators have and joins keep, every generated value has
+-- if the least value and the generators have a property and joins keep it, every generated value has it
 pub IsGenerated-has :
     {M : Type 0} (least : M → Type 0) (joins : M → M → M → Type 0) (P : M → Type 0) (generators : List M) (z : M) →
     ((x : M) → least x → P x) → ((x y z : M) → P x → P y → joins x y z → P z) → All P generators →
@@ -33,7 +33,7 @@ pub IsGenerated-has :
 IsGenerated-has least joins P generators z bottom kept all (chosen, each, of) =
     IsJoinOf-has least joins P bottom kept chosen z (AllByRecursion-contained P generators chosen all each) of
 
--- a collection with no item is one, in any world
+-- a collection without items is a collection in any world
 pub IsCollection-none :
     {X M : Type 0} (meaning : X → M) (fits : M → Type 0) (precedes : M → M → Type 0) (c : Collection X) → IsEmpty c → IsCollection meaning fits precedes c
 IsCollection-none {X} {M} meaning fits precedes c empty =

@@ -9,7 +9,7 @@ pub record Lists {M : Type 0} (precedes : M → M → Type 0) (P : M → Type 0)
   pub members : All P xs
   pub complete : (z : M) → P z → Contains xs z
 
--- one more than the limit of the values with the property, each once, in ascending order
+-- limit + 1 of the values with the property, each once, in ascending order
 pub record Evidence {M : Type 0} (precedes : M → M → Type 0) (P : M → Type 0) (limit : ℕ) (xs : List M) : Type 0 where
   pub ascending : AllPairs precedes xs
   pub members : All P xs
@@ -20,12 +20,12 @@ abbrev pub items_of : {T : Type 0} → Listing T → List T
 items_of (Whole xs) = xs
 items_of (More xs) = xs
 
--- what holds of the items where the listing is whole
+-- a property of the items, asked if the listing is whole
 abbrev pub IfWhole : {T : Type 0} → Listing T → (List T → Type 0) → Type 0
 IfWhole (Whole xs) P = P xs
 IfWhole (More xs) P = ⊤
 
--- what holds of the items where there are more than the limit
+-- a property of the items, asked if there are more than the limit
 abbrev pub IfMore : {T : Type 0} → Listing T → (List T → Type 0) → Type 0
 IfMore (Whole xs) P = ⊤
 IfMore (More xs) P = P xs

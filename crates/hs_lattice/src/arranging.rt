@@ -5,7 +5,7 @@ ghost use Rattle.hs_lattice.specs.Inner.Arranging.{AreNumbers, IsArranged};
 
 use std::alloc::{AllocError, Global};
 
-/// The numbers from 0 on, so many.
+/// The numbers from 0 on, `count` of them.
 fn numbers(alloc: Global, count: usize) -> Result<Vec<usize>, AllocError>
     ensures { IfOk result (λ numbers. AreNumbers count numbers.items) }
 {
@@ -16,10 +16,10 @@ fn numbers(alloc: Global, count: usize) -> Result<Vec<usize>, AllocError>
     Ok(numbers)
 }
 
-/// Puts at each place the item whose place the order gives. Each step moves one item to where it stays.
+/// Puts at each place the item whose old place the order gives. Each step moves one item to its final place.
 ///
-/// Items are told by the places at which they stood at first. Of those that are not where they stay, `standing`
-/// says which one stands at a place, and `places` where it stands.
+/// Items are named by their old places. For the items that are not yet at their final places, `standing` gives
+/// the item at a place, and `places` the place of an item.
 pub fn arrange<T>(alloc: Global, items: &mut [T], order: &[usize]) -> Result<(), AllocError>
     requires count { length order.now ≡ length items.old }
     requires within { All (λ i. i < length items.old) order.now }

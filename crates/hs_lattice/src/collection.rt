@@ -9,15 +9,15 @@ use crate::arranging::arrange;
 use hs_list::Items;
 use std::alloc::{AllocError, Global};
 
-/// Different values of a world, in the order in which they came, and their places in ascending order.
+/// Different values of a world, in the order in which they were added, and their places in ascending order.
 #[derive(Drop)]
 pub struct Collection<T> {
     items: Vec<T>,
     order: Vec<usize>,
 }
 
-/// The place among the ordered places where an item belongs that would come next, or None where an
-/// item of its value stands already.
+/// The place among the ordered places at which the next item belongs, or None if there is already an item of
+/// its value.
 fn place_for<W: JoinWorld>(
     world: &W,
     items: &[W::Item],
@@ -68,14 +68,14 @@ impl<T: Drop> Collection<T> {
         self.items.len()
     }
 
-    /// Lends the items in the order in which they came.
+    /// Lends the items in the order in which they were added.
     pub fn as_slice(&self) -> &[T]
         ensures { result.now ≡ items_in self.now }
     {
         self.items.as_slice()
     }
 
-    /// Whether one of the items stands for the item's value.
+    /// Whether one of the items has the value of this item.
     pub fn holds<W: JoinWorld<Item = T>>(&self, world: &W, item: &T) -> bool
         requires world { W.lawful world.now }
         requires collection { IsCollection W.meaning (W.fits world.now) (W.precedes world.now) self.now }
@@ -85,9 +85,9 @@ impl<T: Drop> Collection<T> {
         place_for(world, self.items.as_slice(), self.order.as_slice(), item).is_none()
     }
 
-    /// Puts an item at the end, unless one of the items stands for its value.
+    /// Adds an item at the end, unless one of the items has its value.
     ///
-    /// Where memory is wanting, nothing is said of the items that stand.
+    /// If memory runs out, nothing is known of the items.
     pub fn add<W: JoinWorld<Item = T>>(&mut self, world: &W, item: T) -> Result<(), AllocError>
         requires world { W.lawful world.now }
         requires collection { IsCollection W.meaning (W.fits world.now) (W.precedes world.now) self.old }

@@ -6,21 +6,21 @@ use std::alloc::{AllocError, Global};
 
 /// A world of values that can be joined, with a bottom and a total order.
 ///
-/// An item stands for a value, its meaning; two items may stand for one value. A world may be
-/// unlawful, and then nothing is said of it; an item fits a lawful world where its meaning is one of
-/// the world's values. The least value and joins are given by relations, since in some worlds they are
-/// the greatest or the least with some property.
+/// The meaning of an item is its value; two items may have one value. A world may be unlawful, and then nothing
+/// is promised of it. An item fits a lawful world if its meaning is one of the world's values. The least value
+/// and joins are given by relations, since in some worlds they are the greatest or the least value with some
+/// property.
 pub trait JoinWorld {
-    /// What keeps a value.
+    /// The type of the items, which keep values.
     type Item: Drop;
 
-    /// The values: plain data.
+    /// The type of the values: plain data.
     ghost Meaning: { Type 0 };
 
-    /// The value that an item stands for.
+    /// The value of an item.
     ghost meaning: { Self.Item → Meaning };
 
-    /// The world has values as it should.
+    /// The world is one whose values can be joined.
     ghost lawful: { Self → Type 0 };
 
     /// The value is one of the world's.
@@ -32,7 +32,7 @@ pub trait JoinWorld {
     /// `joins w x y z`: the join of x and y is z.
     ghost joins: { Self → Meaning → Meaning → Meaning → Type 0 };
 
-    /// `precedes w x y`: x stands before y in the order.
+    /// `precedes w x y`: x comes before y in the order.
     ghost precedes: { Self → Meaning → Meaning → Type 0 };
 
     /// The least value.
@@ -53,14 +53,14 @@ pub trait JoinWorld {
         requires value { fits self.now (meaning a.now) }
         ensures { IfOk result (λ item. meaning item ≡ meaning a.now) };
 
-    /// Whether a stands before b.
+    /// Whether a comes before b.
     fn before(&self, a: &Self::Item, b: &Self::Item) -> bool
         requires world { lawful self.now }
         requires left { fits self.now (meaning a.now) }
         requires right { fits self.now (meaning b.now) }
         ensures { IsTrue result ↔ precedes self.now (meaning a.now) (meaning b.now) };
 
-    /// Whether a and b stand for one value.
+    /// Whether a and b have the same value.
     fn same(&self, a: &Self::Item, b: &Self::Item) -> bool
         requires world { lawful self.now }
         requires left { fits self.now (meaning a.now) }
@@ -70,15 +70,15 @@ pub trait JoinWorld {
     /// The least value is one of the world's.
     ghost least_fits: { (w : Self) (x : Meaning) → lawful w → least w x → fits w x };
 
-    /// There is one least value.
+    /// There is only one least value.
     ghost least_once: { (w : Self) (x other : Meaning) → lawful w → least w x → least w other
         → x ≡ other };
 
-    /// A join of the world's values is one of them.
+    /// A join of two of the world's values is one of its values.
     ghost joins_fit: { (w : Self) (x y z : Meaning) → lawful w → fits w x → fits w y
         → joins w x y z → fits w z };
 
-    /// Two values have one join.
+    /// Two values have only one join.
     ghost joins_once: { (w : Self) (x y z other : Meaning) → lawful w → fits w x → fits w y
         → joins w x y z → joins w x y other → z ≡ other };
 
@@ -97,7 +97,7 @@ pub trait JoinWorld {
     /// The least value is the unit of the join.
     ghost joins_least: { (w : Self) (x y : Meaning) → lawful w → least w x → fits w y → joins w x y y };
 
-    /// No value stands before itself.
+    /// No value comes before itself.
     ghost precedes_irreflexive: { (w : Self) (x : Meaning) → lawful w → fits w x
         → precedes w x x → ⊥ };
 
@@ -106,7 +106,7 @@ pub trait JoinWorld {
         → fits w x → fits w y → fits w z
         → precedes w x y → precedes w y z → precedes w x z };
 
-    /// Of two values one stands before the other.
+    /// Of two different values one comes before the other.
     ghost precedes_total: { (w : Self) (x y : Meaning) → lawful w → fits w x → fits w y
         → precedes w x y ⊎ ((x ≡ y) ⊎ precedes w y x) };
 }

@@ -1,9 +1,8 @@
 //! The list type that records of this product have as fields.
 //!
-//! Contracts see an [`Items`] as the plain list of its items: `new` is the empty list, `push` adds at
-//! the end or changes nothing, `as_slice` and `into_vec` give the list, and `From<Vec<T>>` takes one
-//! over. Only `push` takes memory. A crate that has such a field names it by an alias, as
-//! `type Rows = Items<Row>`.
+//! Contracts see an [`Items`] as the plain list of its items. `new` is the empty list, `push` adds at the end
+//! or changes nothing, `as_slice` and `into_vec` give the list, and `From<Vec<T>>` takes over a vector. Only
+//! `push` takes memory. A crate that has such a field names its type by an alias, as `type Rows = Items<Row>`.
 #![tactic(auto)]
 
 ghost use Rattle.std.specs.Prelude.{◌≡◌, List, [], ◌∷◌, ◌++◌, OnOk, OnErr};
@@ -33,7 +32,7 @@ impl<T> Items<T> {
         }
     }
 
-    /// Adds an item at the end. Where memory is wanting, the list stays as it was.
+    /// Adds an item at the end. If memory runs out, the list stays as it was.
     pub fn push(&mut self, x: T) -> Result<(), AllocError>
     where
         T: Drop,

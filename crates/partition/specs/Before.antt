@@ -9,7 +9,7 @@ pub record IsSmaller (p q : List ℕ) : Type 0 where
   pub same : (s : ℕ) → s < first → slice_index p s ≡ slice_index q s
   pub smaller : slice_index p first < slice_index q first
 
--- a partition with more blocks comes first; among equally many blocks the one with the smaller label at
--- the first difference does
+-- a partition with more blocks comes first; of two partitions with as many blocks, the one with the smaller label
+-- at the first difference comes first
 abbrev pub Before : List ℕ → List ℕ → Type 0
 Before p q = (blocks_of q < blocks_of p) ⊎ ((blocks_of p ≡ blocks_of q) × IsSmaller p q)

@@ -2,6 +2,6 @@
 use Rattle.std.specs.Prelude.{ℕ, ◌/◌, ◌%◌, List, slice_index}
 use Rattle.std.specs.Int.{bit_at}
 
--- bit t stands at 2 ^ (t modulo 64) of the word whose number is t divided by 64, rounded down
+-- bit t is the bit of value 2 ^ (t modulo 64) in the word whose number is t divided by 64, rounded down
 abbrev pub bit_of : List ℕ → ℕ → ℕ
 bit_of words t = bit_at (slice_index words (t / 64)) (t % 64)

@@ -7,8 +7,8 @@ use Rattle.partition.specs.Partition.{IsPartition, IsZero}
 abbrev pub least_of : List ℕ → ℕ → ℕ
 least_of q s = position_or_len (λ label. label == slice_index q s) q
 
--- how many of the states below k are the least of their block of q and lie in that block of p: so many
--- blocks of q have a least state below k that lies there
+-- the number of blocks of q whose least state is below k and lies in this block of p: the number of states below k
+-- that are the least of their block of q and lie there
 abbrev pub blocks_below : List ℕ → List ℕ → ℕ → ℕ → ℕ
 blocks_below p q block zero = 0
 blocks_below p q block (suc k) = blocks_below p q block k + (if (least_of q k == k) && (slice_index p k == block) then 1 else 0)
@@ -19,17 +19,17 @@ pub record IsInside (p q r : List ℕ) : Type 0 where
   pub lawful : IsPartition (length p) r
   pub numbers : (s : ℕ) → s < length p → slice_index r s ≡ blocks_below p q (slice_index p s) (least_of q s)
 
--- what lies inside p where each state is a block of its own: each state has the number of the smaller
--- states that are together with it
+-- the numbering inside p where each state is a block of its own: each state has the number of the smaller states
+-- that are together with it
 pub record IsComplement (p r : List ℕ) : Type 0 where
   pub lawful : IsPartition (length p) r
   pub inside : (zero : List ℕ) → IsPartition (length p) zero → IsZero zero → IsInside p zero r
 
--- how many states a block has
+-- the number of states of a block
 abbrev pub size_of : List ℕ → ℕ → ℕ
 size_of p block = count_by (λ label. label == block) p
 
--- so many states has the largest block
+-- the largest block has this number of states
 pub record IsLargestSize (p : List ℕ) (size : ℕ) : Type 0 where
   pub block : ℕ
   pub reached : size_of p block ≡ size

@@ -2,21 +2,22 @@
 use Rattle.std.specs.Prelude.{◌≡◌, ℕ, ◌<◌, ◌↔◌, ◌⊎◌, List, [], ◌∷◌, length}
 use Rattle.partition.specs.Partition.{IsPartition, Together, Le}
 
--- states are together in the meet where they are together in both
+-- states are together in the meet exactly where they are together in both
 pub record IsMeet (p q r : List ℕ) : Type 0 where
   pub lawful : IsPartition (length p) r
   pub together : (s t : ℕ) → Together r s t ↔ (Together p s t × Together q s t)
 
--- From s one goes through the states of the list to t, and neighbours are together in p or in q.
+-- The list leads from s to t: of s and the states of the list, each is together with the next in p or in q, and the
+-- last is t.
 abbrev pub Leads : List ℕ → List ℕ → ℕ → List ℕ → ℕ → Type 0
 Leads p q s [] t = s ≡ t
 Leads p q s (u ∷ us) t = (Together p s u ⊎ Together q s u) × Leads p q u us t
 
--- a finite chain of states leads from the one to the other
+-- a finite chain of states leads from s to t
 abbrev pub Chain : List ℕ → List ℕ → ℕ → ℕ → Type 0
 Chain p q s t = (s < length p) × ((us : List ℕ) × Leads p q s us t)
 
--- states are together in the join where a finite chain of states leads from the one to the other
+-- states are together in the join exactly where a finite chain of states leads from the one to the other
 pub record IsJoin (p q r : List ℕ) : Type 0 where
   pub lawful : IsPartition (length p) r
   pub together : (s t : ℕ) → Together r s t ↔ Chain p q s t

@@ -2,7 +2,7 @@
 use Rattle.std.specs.Prelude.{ℕ, ◌⊎◌, ◌↔◌, List, length}
 use Rattle.partition.specs.Partition.{IsPartition, Together}
 
--- r has the block of s and the block of t in one, and each other block as p has it
+-- in r the blocks of s and of t in p are one block, and each other block of p stays
 pub record IsMerged (p : List ℕ) (s t : ℕ) (r : List ℕ) : Type 0 where
   pub lawful : IsPartition (length p) r
   pub together : (u v : ℕ) → Together r u v

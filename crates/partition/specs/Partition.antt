@@ -1,7 +1,7 @@
 -- Partitions of the states 0 to n - 1 of a machine, as lists of labels, after Hartmanis and Stearns.
 use Rattle.std.specs.Prelude.{◌≡◌, ℕ, zero, suc, ◌+◌, ◌<◌, ◌≤◌, ◌↔◌, ◌⊎◌, max, List, [], ◌∷◌, ◌++◌, length, take, slice_index}
 
--- how many blocks these labels name: one more than the greatest label, and none of no labels
+-- the number of blocks that labels name: the greatest label plus 1, or 0 where there are no labels
 abbrev pub blocks_of : List ℕ → ℕ
 blocks_of [] = 0
 blocks_of (label ∷ labels) = max (label + 1) (blocks_of labels)
@@ -11,7 +11,7 @@ blocks_of (label ∷ labels) = max (label + 1) (blocks_of labels)
 abbrev pub IsNumbered : List ℕ → Type 0
 IsNumbered p = (s : ℕ) → s < length p → slice_index p s ≤ blocks_of (take s p)
 
--- a number of states that a partition may have
+-- a number of states for which there are partitions
 abbrev pub IsStateCount : ℕ → Type 0
 IsStateCount n = (0 < n) × (n ≤ 256)
 
@@ -37,7 +37,7 @@ SameTogether p q = (s t : ℕ) → Together p s t ↔ Together q s t
 abbrev pub IsZero : List ℕ → Type 0
 IsZero p = (s t : ℕ) → Together p s t → s ≡ t
 
--- the partition of n states with no two together: each state has its own number for a label
+-- the partition of n states that has no two of them together: the label of each state is its own number
 abbrev pub zero_of : ℕ → List ℕ
 zero_of zero = []
 zero_of (suc n) = zero_of n ++ n ∷ []

@@ -1,4 +1,4 @@
--- What is wrong with labels or with a text that is no partition, by the first of its causes.
+-- What is wrong with labels, or with a text, that are not a partition, by the first cause.
 use Rattle.std.specs.Prelude.{◌≡◌, ℕ, ◌<◌, ◌≤◌, List, [], length, take, slice_index}
 use Rattle.partition.specs.declared.PartFail.{PartFail}
 use Rattle.partition.specs.declared.PartFail.TheVariants.{Empty, NotCanonical, BadText, WrongLength, NoMemory}
@@ -11,13 +11,13 @@ IsLawfulLabel labels place = (slice_index labels place ≤ blocks_of (take place
 abbrev pub AllLawful : List ℕ → Type 0
 AllLawful labels = (place : ℕ) → place < length labels → IsLawfulLabel labels place
 
--- the first label that is not lawful stands there
+-- the first label that is not lawful is at this place
 pub record FirstUnlawful (labels : List ℕ) (place : ℕ) : Type 0 where
   pub within : place < length labels
   pub before : (earlier : ℕ) → earlier < place → IsLawfulLabel labels earlier
   pub unlawful : IsLawfulLabel labels place → ⊥
 
--- why labels are refused: there are none, or one is not lawful, or all are and there are too many
+-- why labels are refused: there are none, or one is not lawful, or all are lawful and there are too many
 abbrev pub LabelFault : List ℕ → PartFail → Type 0
 LabelFault labels Empty = labels ≡ []
 LabelFault labels (NotCanonical place) = FirstUnlawful labels place

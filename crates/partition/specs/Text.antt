@@ -10,7 +10,7 @@ use Rattle.partition.specs.Partition.{blocks_of, IsNumbered}
 abbrev pub labels_text : List ℕ → List ℕ
 labels_text labels = join_with_byte 44 (map decimal labels)
 
--- what stands between the commas of a text
+-- the pieces of a text between its commas
 abbrev pub pieces_of : List ℕ → List (List ℕ)
 pieces_of text = slice_split (λ byte. byte == 44) text
 
@@ -19,7 +19,7 @@ pub record BeginsWith (text labels : List ℕ) : Type 0 where
   pub numbered : IsNumbered labels
   pub spelled : (place : ℕ) → place < length labels → slice_get (pieces_of text) place ≡ Some (decimal (slice_index labels place))
 
--- the piece at that place is the first that is no label which may stand there
+-- the piece at this place is the first that is not a label that is allowed there
 pub record FirstBadPiece (text : List ℕ) (place : ℕ) : Type 0 where
   pub labels : List ℕ
   pub size : length labels ≡ place
@@ -27,7 +27,7 @@ pub record FirstBadPiece (text : List ℕ) (place : ℕ) : Type 0 where
   pub within : place < length (pieces_of text)
   pub bad : (label : ℕ) → label ≤ blocks_of labels → slice_get (pieces_of text) place ≢ Some (decimal label)
 
--- the text is that of so many labels, which are numbered by first appearance, and not of n
+-- the text is the text of `found` labels, which are numbered by first appearance, and `found` is not n
 pub record OtherLength (n : ℕ) (text : List ℕ) (found : ℕ) : Type 0 where
   pub labels : List ℕ
   pub size : length labels ≡ found
@@ -36,7 +36,7 @@ pub record OtherLength (n : ℕ) (text : List ℕ) (found : ℕ) : Type 0 where
   pub numbered : IsNumbered labels
   pub spelled : text ≡ labels_text labels
 
--- why a text is no partition of n states
+-- why a text is not a partition of n states
 abbrev pub TextFault : ℕ → List ℕ → PartFail → Type 0
 TextFault n text Empty = ⊥
 TextFault n text (NotCanonical place) = ⊥

@@ -21,9 +21,9 @@ use std::marker::Model;
 
 /// A partition of n states as its labels and rows of n bits, seen by contracts as the list of labels.
 ///
-/// Bit t of row s is 1 exactly where s and t are together. States of one block have one row, which is kept
-/// where the block has two states or more: the row of a state that is alone needs no place. The rows stand
-/// in one vector, each in as many words as n bits need.
+/// Bit t of row s is 1 exactly where s and t are together. States of one block have one row, which is kept if
+/// the block has two states or more; the row of a state that is alone in its block is not kept. The rows are in
+/// one vector, one after another, each in as many words as n bits need.
 #[derive(Debug, Drop)]
 pub struct BitPart {
     partition: Partition,
@@ -76,7 +76,7 @@ impl BitPart {
         self.partition.len()
     }
 
-    /// Row s: bit t stands at 2^(t modulo 64) of word t / 64, and is 1 exactly where s and t are
+    /// Row s: bit t is the bit of value 2^(t modulo 64) in word t / 64, and is 1 exactly where s and t are
     /// together. There are as many words as n bits need, and the bits from n on are 0.
     pub fn row(&self, s: usize) -> &[u64]
         requires { s < length self.now }
@@ -118,7 +118,7 @@ impl BitPart {
         self.partition.equal(&q.partition)
     }
 
-    /// Whether this partition stands before q in a listing, in the order of `Partition::before`.
+    /// Whether this partition comes before q in a listing, in the order of `Partition::before`.
     pub fn before(&self, q: &BitPart) -> bool
         requires { length q.now ≡ length self.now }
         ensures { IsTrue result ↔ Before self.now q.now }

@@ -1,4 +1,4 @@
-//! Blocks that are put together, in place.
+//! Merging of blocks, in the partition itself.
 ghost use Rattle.std.specs.Prelude.{◌≡◌, ℕ, ◌<◌, length, slice_index};
 ghost use Rattle.partition.specs.Merging.{IsMerged};
 ghost use Rattle.partition.specs.Inner.Relabelled.{relabelled};
@@ -20,7 +20,7 @@ impl Partition {
     }
 }
 
-/// Gives `kept` to the states that have `gone`, and closes the gap that it leaves among the labels.
+/// Gives `kept` to the states that have `gone`, and closes the gap that this leaves among the labels.
 fn relabel(labels: &mut [u16], kept: u16, gone: u16)
     requires { kept < gone }
     ensures { (s : ℕ) → s < length labels.old

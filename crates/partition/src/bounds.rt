@@ -10,7 +10,8 @@ use crate::{MOST_STATES, Partition};
 use std::alloc::{AllocError, Global};
 
 impl Partition {
-    /// States are together where they are together here and in q.
+    /// The partition in which two states are together exactly where they are together in both this partition
+    /// and q.
     pub fn meet(&self, alloc: Global, q: &Partition) -> Result<Partition, AllocError>
         requires { length q.now ≡ length self.now }
         ensures meet { IfOk result (λ r. IsMeet self.now q.now r) }
@@ -19,7 +20,8 @@ impl Partition {
         meet_of(alloc, self.labels(), self.blocks(), q.labels(), q.blocks())
     }
 
-    /// States are together where a chain of states leads from the one to the other.
+    /// The partition in which two states are together exactly where a chain of states leads from the one to the
+    /// other.
     pub fn join(&self, alloc: Global, q: &Partition) -> Result<Partition, AllocError>
         requires { length q.now ≡ length self.now }
         ensures join { IfOk result (λ r. IsJoin self.now q.now r) }
@@ -61,7 +63,7 @@ fn join_of(alloc: Global, p: &[u16], blocks: usize, q: &[u16]) -> Result<Partiti
     numbered(alloc, values.as_slice(), blocks)
 }
 
-/// For each state a number for its pair of blocks, the block of q counting below `width`.
+/// A number for the pair of blocks of each state: the label in p times `width`, plus the label in q.
 fn block_pairs(alloc: Global, p: &[u16], q: &[u16], width: usize) -> Result<Vec<u16>, AllocError>
     requires p { IsPartition (length p.now) p.now }
     requires q { IsPartition (length p.now) q.now }
@@ -78,7 +80,7 @@ fn block_pairs(alloc: Global, p: &[u16], q: &[u16], width: usize) -> Result<Vec<
     Ok(values)
 }
 
-/// For each place of `places` the value there.
+/// The values at the places that `places` gives, one after another.
 fn values_at(alloc: Global, values: &[u16], places: &[u16]) -> Result<Vec<u16>, AllocError>
     requires { (s : ℕ) → s < length places.now → slice_index places.now s < length values.now }
     ensures length { IfOk result (λ v. length v.items ≡ length places.now) }
@@ -92,7 +94,7 @@ fn values_at(alloc: Global, values: &[u16], places: &[u16]) -> Result<Vec<u16>, 
     Ok(found)
 }
 
-/// Gives the blocks of p, each of which has its own number, one number where blocks of q tie them.
+/// Gives blocks of p the same number where blocks of q tie them. At first each block has its own number.
 fn tie_blocks(numbers: &mut [u16], p: &[u16], q: &[u16])
     requires p { IsPartition (length p.now) p.now }
     requires q { IsPartition (length p.now) q.now }
@@ -128,7 +130,7 @@ fn own_numbers(alloc: Global, n: usize) -> Result<Vec<u16>, AllocError>
     Ok(numbers)
 }
 
-/// Puts one number in the place of another.
+/// Replaces one number by another.
 fn renumber(numbers: &mut [u16], from: u16, to: u16)
     ensures { (k : ℕ) → k < length numbers.old → slice_index numbers.new k
         ≡ (if slice_index numbers.old k == from then to else slice_index numbers.old k) }

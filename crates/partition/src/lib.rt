@@ -1,11 +1,16 @@
 //! Partitions of the states of a machine, as a lattice.
 //!
-//! A partition of n states is kept as labels (`Partition`), or as labels and a row of n bits for each block of two
-//! states or more (`BitPart`). Contracts see both as the list of labels. Each call meets its definition: blocks and
-//! states together in `specs/Partition`, rows in `specs/Bits`, meet and join in `specs/MeetAndJoin`, the order of
-//! listings in `specs/Before`, blocks inside blocks and complements in `specs/Inside`, texts and refusals in
-//! `specs/Text` and `specs/Refusal`. The laws that other crates cite stand in `specs/Laws`. Partitions of n states
-//! are two worlds of joins, `PartWorld` and `BitWorld`.
+//! A partition of n states is kept as labels (`Partition`), or as labels and a row of n bits for each block of
+//! two states or more (`BitPart`). Contracts see both as the list of labels. Partitions of n states are two
+//! worlds of joins, `PartWorld` and `BitWorld`. The definitions that the calls meet are in these files:
+//!
+//! - `specs/Partition`: blocks, and states that are together;
+//! - `specs/Bits`: rows;
+//! - `specs/MeetAndJoin`: meet and join;
+//! - `specs/Before`: the order of listings;
+//! - `specs/Inside`: blocks inside blocks, and complements;
+//! - `specs/Text` and `specs/Refusal`: texts and refusals;
+//! - `specs/Laws`: the laws that other crates cite.
 #![tactic(auto)]
 
 ghost use Rattle.std.specs.Prelude.{◌≡◌, ◌<◌, ◌≤◌, ◌↔◌, length, slice_index, IsTrue, IfOk};
@@ -55,19 +60,19 @@ impl Model for Partition {
     ghost invariant = { λ p. IsPartition (length p.labels.items) p.labels.items × (p.blocks ≡ blocks_of p.labels.items) };
 }
 
-/// Why labels or a text are no partition. Places count labels from 0.
+/// Why labels or a text are not a partition. Places count labels from 0.
 #[derive(Debug, Drop, PartialEq)]
 pub enum PartFail {
     /// There are no labels.
     Empty,
     /// The label at this place is the first that breaks the rule of labels or is above 255.
     NotCanonical { place: usize },
-    /// The label at this place is the first that is no decimal number without leading zeros or breaks
+    /// The label at this place is the first that is not a decimal number without leading zeros, or that breaks
     /// the rule of labels.
     BadText { place: usize },
     /// All labels are lawful, and this is their number.
     WrongLength { found: usize },
-    /// Memory was wanting.
+    /// Memory ran out.
     NoMemory,
 }
 

@@ -6,7 +6,7 @@ ghost use Rattle.partition.specs.Partition.{IsPartition, IsStateCount, SameToget
 use crate::Partition;
 use std::alloc::{AllocError, Global};
 
-/// The partition that has two states together where their values are equal. Values are below `bound`.
+/// The partition that has two states together exactly where their values are equal. Values are below `bound`.
 pub fn numbered(alloc: Global, values: &[u16], bound: usize) -> Result<Partition, AllocError>
     requires states { IsStateCount (length values.now) }
     requires bounded { (s : ℕ) → s < length values.now → slice_index values.now s < bound }
@@ -27,7 +27,7 @@ pub fn numbered(alloc: Global, values: &[u16], bound: usize) -> Result<Partition
     })
 }
 
-/// The label that a value has, or the next one for a value that was not seen.
+/// The label of a value, or the next label for a value that was not seen.
 fn label_for(seen: &mut [Option<u16>], blocks: &mut u16, value: usize) -> u16
     requires value { value < length seen.old }
     requires room { blocks.old < 256 }

@@ -1,4 +1,4 @@
-//! Comparisons of partitions: at or below, equal, and the order in which listings stand.
+//! Comparisons of partitions: at or below, equal, and the order of listings.
 
 ghost use Rattle.std.specs.Prelude.{◌≡◌, ◌<◌, ◌↔◌, length, slice_index, IsTrue, IfOk};
 ghost use Rattle.partition.specs.Partition.{IsPartition, Le};
@@ -7,7 +7,7 @@ ghost use Rattle.partition.specs.Before.{Before, IsSmaller};
 use crate::{MOST_STATES, Partition};
 
 impl Partition {
-    /// Whether states that are together here are together in q.
+    /// Whether all states that are together here are together in q.
     pub fn le(&self, q: &Partition) -> bool
         requires { length q.now ≡ length self.now }
         ensures { IsTrue result ↔ Le self.now q.now }
@@ -22,8 +22,8 @@ impl Partition {
         self.labels() == q.labels()
     }
 
-    /// Whether this partition stands before q in a listing: one with more blocks comes first, and among
-    /// equally many blocks the one with the smaller label at the first difference.
+    /// Whether this partition comes before q in a listing: the one with more blocks comes first, and if both
+    /// have as many, the one with the smaller label at the first difference.
     pub fn before(&self, q: &Partition) -> bool
         requires { length q.now ≡ length self.now }
         ensures { IsTrue result ↔ Before self.now q.now }
@@ -37,7 +37,7 @@ impl Partition {
     }
 }
 
-/// Whether p has the smaller label where the two first differ.
+/// Whether p has the smaller label at the first state where the two differ.
 fn is_smaller(p: &[u16], q: &[u16]) -> bool
     requires { length q.now ≡ length p.now }
     ensures { IsTrue result ↔ IsSmaller p.now q.now }

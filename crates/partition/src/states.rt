@@ -23,7 +23,7 @@ impl Model for StateSet {
 }
 
 impl StateSet {
-    /// The states whose bits stand in up to four words.
+    /// The states whose bits are in up to four words.
     pub fn of(words: &[u64]) -> StateSet
         ensures { result ≡ four_of words.now }
     {
@@ -37,7 +37,7 @@ impl StateSet {
         }
     }
 
-    /// Takes a state out of the set.
+    /// Removes a state from the set.
     pub fn remove(&mut self, t: usize)
         requires { t < 256 }
         ensures out { bit_of self.new t ≡ 0 }
@@ -71,7 +71,7 @@ pub fn first_bit(words: &[u64]) -> Option<usize>
     None
 }
 
-/// A word, and 0 past the last one.
+/// A word, or 0 past the last word.
 fn word_at(words: &[u64], i: usize) -> u64
     ensures { result ≡ slice_index words.now i }
 {

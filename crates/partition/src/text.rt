@@ -1,4 +1,4 @@
-//! Labels and texts that come from outside: each refusal with the first place that shows it.
+//! Labels and texts that come from outside: each refusal has the first place that shows it.
 
 ghost use Rattle.std.specs.Prelude.{◌≡◌, ◌≢◌, ℕ, ◌<◌, ◌≤◌, ◌↔◌, ◌++◌, length, slice_index, IfOk, MatchResult, OnOk, OnErr};
 ghost use Rattle.partition.specs.Partition.{IsPartition, IsStateCount, blocks_of};
@@ -62,8 +62,8 @@ impl Partition {
     }
 }
 
-/// What `parse` reads of the text that `show` writes: the same partition, unless memory is wanting. A law,
-/// told of the two calls themselves.
+/// The partition that `parse` reads from the text that `show` writes: the same partition, unless memory runs
+/// out. It is a law, stated of the two calls themselves.
 pub fn parse_of_show(alloc: Global, p: &Partition) -> Result<Partition, PartFail>
     ensures { MatchResult result (λ q. q ≡ p.now) (λ fail. fail ≡ PartFail.NoMemory) }
 {
@@ -112,7 +112,7 @@ fn read_labels(alloc: Global, text: &[u8], n: usize) -> Result<Partition, PartFa
     Ok(Partition { labels, blocks })
 }
 
-/// The label that a piece spells, if it is at most `most`.
+/// The label that a piece spells, if the label is at most `most`.
 fn label_of(piece: &[u8], most: usize) -> Option<usize>
     ensures some { IfSome result (λ label. (label ≤ most) × (piece.now ≡ decimal label)) }
     ensures none { IfNone result ((label : ℕ) → label ≤ most → piece.now ≢ decimal label) }
@@ -140,7 +140,7 @@ fn is_plain(piece: &[u8]) -> bool
     }
 }
 
-/// The number of blocks of lawful labels, or the place of the first that is not.
+/// The number of blocks of lawful labels, or the place of the first label that is not lawful.
 fn blocks_named(labels: &[u16]) -> Result<usize, usize>
     ensures { MatchResult result
         (λ blocks. (blocks ≡ blocks_of labels.now) × AllLawful labels.now)

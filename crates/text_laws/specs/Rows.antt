@@ -1,4 +1,4 @@
--- Texts that differ in the rows of gates alone.
+-- Texts that differ only in the rows of gates.
 use Rattle.std.specs.Prelude.{◌≡◌, ℕ, Bool, List}
 use Rattle.std.specs.List.{AllZip}
 use Rattle.blif_out.specs.declared.header.Header.{Header}
@@ -11,21 +11,22 @@ use Rattle.net_core.specs.Denotes.{Denotes}
 use Rattle.split_texts.specs.Written.{IsWritten}
 use Rattle.state_codes.specs.declared.split.Kind.{Kind}
 
--- two gates read the same signals in one order and drive the same one, and where a row of theirs holds they give the same value
+-- two gates read the same signals in the same order and drive the same signal, and give the same value where a row
+-- of theirs holds
 pub record HasSameSignals (gate other : Gate) : Type 0 where
   pub inputs : gate.inputs ≡ other.inputs
   pub output : gate.output ≡ other.output
   pub on : gate.on ≡ other.on
 
--- two networks are equal but for the rows of their gates
+-- two networks are equal except for the rows of their gates
 pub record EqualButForRows (N M : Network) : Type 0 where
   pub inputs : N.inputs ≡ M.inputs
   pub outputs : N.outputs ≡ M.outputs
   pub latches : N.latches ≡ M.latches
   pub gates : AllZip HasSameSignals N.gates M.gates
 
--- Both texts are those of networks behind one lawful header, and denote the networks, which are equal but for the rows of
--- their gates.
+-- The texts are those of two networks after one lawful header, and denote these networks, which are equal except
+-- for the rows of their gates.
 pub record DifferInRowsAlone (text other : List ℕ) : Type 0 where
   pub header : Header
   pub network : Network
@@ -37,8 +38,8 @@ pub record DifferInRowsAlone (text other : List ℕ) : Type 0 where
   pub other_denotes : Denotes other other_network
   pub equal : EqualButForRows network other_network
 
--- two texts of decompositions of one file, of one kind, with one operand PARTS, both with `--reduce` or both without, differ in
--- the rows of gates alone
+-- two texts of decompositions of one file, of one kind, with one operand PARTS, both with `--reduce` or both
+-- without, differ only in the rows of gates
 abbrev pub RowsAloneDiffer : Type 0
 RowsAloneDiffer =
     (kind : Kind) (operand : List ℕ) (reduce : Bool) (F : KissFile) (text other : List ℕ)

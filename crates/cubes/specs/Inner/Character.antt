@@ -9,7 +9,7 @@ bit_of Zero = Some false
 bit_of One = Some true
 bit_of Dash = None
 
--- the bits that it adds at the end of the care and of the value
+-- the bits that a character adds at the end of the care and of the value
 abbrev pub care_of : Character → ℕ
 care_of Zero = 1
 care_of One = 1

@@ -1,20 +1,20 @@
--- A region, a cube whose symbols are searched for one that no cube of a list holds. Private functions need
--- it; no public contract cites it.
+-- A region: a cube whose symbols are searched for one that no cube of a list holds. Private functions need it; no
+-- public contract cites it.
 use Rattle.std.specs.Prelude.{ℕ, ◌≡◌, ◌<◌, ◌/◌, ◌^◌, ◌==◌, Bool, true, false, if◌then◌else◌, List, All, bit_and, bit_or, bit_xor}
 use Rattle.cubes.specs.declared.cube.Cube.{Cube}
 use Rattle.cubes.specs.Symbol.{bit}
 use Rattle.cubes.specs.Cube.{HoldsNumber}
 use Rattle.cubes.specs.Gap.{IsHeld}
 
--- the places with both cares and two values
+-- the places where both have a bit, and the bits differ
 abbrev pub clash_of : Cube → Cube → ℕ
 clash_of c d = bit_and (bit_and (bit_xor c.value d.value) c.care) d.care
 
--- the cube differs from the region at no place at which both look
+-- there is no place where both the cube and the region have a bit and the bits differ
 abbrev pub touches : Cube → Cube → Bool
 touches region c = clash_of c region == 0
 
--- the places at which the cube looks and the region has a dash
+-- the places where the cube has a bit and the region has a dash
 abbrev pub looked_at : Cube → Cube → ℕ
 looked_at region c = bit_and c.care (bit_xor c.care region.care)
 
@@ -22,7 +22,7 @@ looked_at region c = bit_and c.care (bit_xor c.care region.care)
 abbrev pub IsOpen : Cube → ℕ → Type 0
 IsOpen region place = (place < region.width) × (bit region.care place ≡ false)
 
--- no cube of the list holds the symbol of that number, which is one of the region's
+-- the number is that of a symbol of the region that no cube of the list holds
 pub record IsGapIn (list : List Cube) (region : Cube) (number : ℕ) : Type 0 where
   pub within : number < 2 ^ region.width
   pub inside : HoldsNumber region number
@@ -37,12 +37,12 @@ pub record IsLeastGapIn (list : List Cube) (region : Cube) (number : ℕ) : Type
   pub gap : IsGapIn list region number
   pub least : (lesser : ℕ) → HoldsNumber region lesser → lesser < number → IsHeld list lesser
 
--- the region has dashes at the lowest places, and its symbols are alike above them
+-- the lowest places of the region are dashes, and its symbols are alike above them
 pub record HasDashesBelow (region : Cube) (places : ℕ) : Type 0 where
   pub dashes : (place : ℕ) → place < places → bit region.care place ≡ false
   pub alike : (x y : ℕ) → x < 2 ^ region.width → y < 2 ^ region.width → HoldsNumber region x → HoldsNumber region y → x / 2 ^ places ≡ y / 2 ^ places
 
--- the dashes of the region at which some cube of the list wants a 1, and those at which one wants a 0
+-- the dashes of the region at which some cube of the list has a 1, and those at which some cube has a 0
 pub record AreWanted (list : List Cube) (region : Cube) (ones zeros : ℕ) : Type 0 where
   pub ones_open : (place : ℕ) → bit ones place ≡ true → IsOpen region place
   pub zeros_open : (place : ℕ) → bit zeros place ≡ true → IsOpen region place

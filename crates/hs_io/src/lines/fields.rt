@@ -5,7 +5,7 @@ use smallvec::SmallVec;
 use std::alloc::{AllocError, Global};
 use std::marker::Model;
 
-/// The fields of a line in order. A list of up to four takes no memory besides that of the names.
+/// The fields of a line in order. A list of up to four fields takes no memory besides that of the names.
 #[derive(Debug, Drop)]
 pub struct Fields {
     names: SmallVec<Name, 4>,
@@ -27,7 +27,7 @@ impl Fields {
         }
     }
 
-    /// Adds a field at the end. Where memory is wanting, the list stays as it was.
+    /// Adds a field at the end. If memory runs out, the list stays as it was.
     pub fn push(&mut self, field: Name) -> Result<(), AllocError>
         ensures ok { OnOk result (self.new ≡ self.old ++ field ∷ []) }
         ensures err { OnErr result (self.new ≡ self.old) }

@@ -7,8 +7,8 @@ use super::{Fields, Line, content_of, first_field, first_line, is_clean};
 use crate::Name;
 use std::alloc::{AllocError, Global};
 
-/// The lines of a text, cut at each line feed. What is after the last one is a line where it is not
-/// empty; a line without fields is a line too.
+/// The lines of a text, cut at each line feed. What follows the last line feed is a line if it is not empty. A
+/// line without fields is a line too.
 pub fn cut_lines(alloc: Global, bytes: &[u8]) -> Result<Vec<Line>, AllocError>
     requires { length bytes.now < 2 ^ 32 }
     ensures { IfOk result (λ lines. lines.items ≡ lines_of bytes.now) }

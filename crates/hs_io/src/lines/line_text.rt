@@ -33,8 +33,8 @@ pub fn is_clean(text: &[u8]) -> bool
         .all(|b| *b == b'\t' || (*b >= b' ' && *b <= b'~'))
 }
 
-/// The first field of a line without its comment, and what is left after it. The field is empty where there
-/// is none.
+/// The first field of a line without its comment, and what is left after it. The field is empty if there is
+/// none.
 pub fn first_field(text: &[u8]) -> (&[u8], &[u8])
     ensures none { length result.0.now ≡ 0 → fields_of text.now ≡ [] }
     ensures some { 0 < length result.0.now → fields_of text.now ≡ result.0.now ∷ fields_of result.1.now }
@@ -73,7 +73,7 @@ fn is_cut(cut: Cut, byte: u8) -> bool
     }
 }
 
-/// Where the text is cut first, or its end.
+/// The place of the first cut of the text, or its end.
 fn first_cut(cut: Cut, text: &[u8]) -> usize
     ensures place { result ≡ position_or_len (cuts cut) text.now }
     ensures within { result ≤ length text.now }
@@ -86,7 +86,7 @@ fn first_cut(cut: Cut, text: &[u8]) -> usize
     text.len()
 }
 
-/// What is left after a place, if that is not the end.
+/// What is left after a place, if the place is not the end.
 fn after(text: &[u8], place: usize) -> &[u8]
     requires { place ≤ length text.now }
     ensures { result.now ≡ drop (place + 1) text.now }

@@ -1,6 +1,6 @@
--- For private functions and proofs alone: how a piece of a text begins.
+-- For private functions and proofs only: how a piece of a text begins.
 use Rattle.std.specs.Prelude.{◌≡◌, ℕ, ◌<◌, ◌≤◌, ◌⊎◌, List, [], ◌∷◌, slice_index}
 
--- it is the digit 0, or begins with another digit
+-- the piece is the digit 0, or begins with another digit
 abbrev pub IsPlain : List ℕ → Type 0
 IsPlain piece = (piece ≡ 48 ∷ []) ⊎ ((48 < slice_index piece 0) × (slice_index piece 0 ≤ 57))

@@ -1,26 +1,26 @@
--- For private functions and proofs alone: rows of bits for the blocks of a partition, one after another.
+-- For private functions and proofs only: rows of bits for the blocks of a partition, one after another.
 use Rattle.std.specs.Prelude.{◌≡◌, ◌≢◌, ℕ, ◌+◌, ◌*◌, ◌/◌, ◌<◌, ◌≤◌, ◌↔◌, ◌⊎◌, List, [], ◌∷◌, length, slice_index}
 use Rattle.partition.specs.Partition.{IsPartition, Together}
 use Rattle.partition.specs.Bits.{bit_of}
 
--- the bit is set: a set of states, kept so, has this member
+-- the bit is set: the state is a member of the set that these words keep
 abbrev pub Has : List ℕ → ℕ → Type 0
 Has words t = bit_of words t ≡ 1
 
--- up to four words as four of them
+-- up to four words, filled up with zeros to four
 abbrev pub four_of : List ℕ → List ℕ
 four_of words = slice_index words 0 ∷ slice_index words 1 ∷ slice_index words 2 ∷ slice_index words 3 ∷ []
 
--- so many words have the bits of n states
+-- the number of words that the bits of n states need
 abbrev pub words_for : ℕ → ℕ
 words_for n = (n + 63) / 64
 
--- where bit t of row i stands, in rows of so many words one after another
+-- the place of bit t of row i, in rows of `width` words one after another
 abbrev pub place_in : (width i t : ℕ) → ℕ
 place_in width i t = i * width * 64 + t
 
--- So many rows, one for each block of p of two states or more and no other. Each has two states at least, and
--- all states of one block; a state that is together with another has a row, and no state has two.
+-- There are `count` rows, exactly one for each block of p with two states or more. Each row has all states of its
+-- block and no others. A state that is together with another has a row, and no state has two.
 pub record AreRows (p words : List ℕ) (width count : ℕ) : Type 0 where
   pub size : length words ≡ count * width
   pub block : (i s t : ℕ) → i < count → s < 64 * width → t < 64 * width → Has words (place_in width i s) → Has words (place_in width i t) ↔ Together p s t
@@ -40,8 +40,8 @@ pub record AreTwo (p : List ℕ) (s label : ℕ) : Type 0 where
   pub first : slice_index p one ≡ label
   pub second : slice_index p other ≡ label
 
--- Numbers of the labels of the first s states: 0 where none of them has the label, 1 where one has it, and else
--- the number of a row plus 2, another one for each label. So many rows have a label.
+-- Numbers of the labels of the first s states: 0 for a label that none of them has, 1 for a label that one of them
+-- has, and otherwise the number of a row plus 2, different for each label. There are `count` labels with a row.
 pub record AreRowNumbers (p numbers : List ℕ) (count s : ℕ) : Type 0 where
   pub few : count ≤ s
   pub small : (label : ℕ) → slice_index numbers label < count + 2
@@ -52,11 +52,11 @@ pub record AreRowNumbers (p numbers : List ℕ) (count s : ℕ) : Type 0 where
   pub once : (a b : ℕ) → slice_index numbers a ≡ slice_index numbers b → 2 ≤ slice_index numbers a → a ≡ b
   pub used : (i : ℕ) → i < count → (label : ℕ) × (slice_index numbers label ≡ i + 2)
 
--- the state is together with one of these states
+-- the state is together with a state of the set
 abbrev pub Touches : List ℕ → List ℕ → ℕ → Type 0
 Touches p states u = (t : ℕ) × Has states t × Together p t u
 
--- r has the blocks of these states in one, and each other block as p has it
+-- in r the blocks of the states of the set are one block, and each other block of p stays
 pub record JoinsStates (p states r : List ℕ) : Type 0 where
   pub lawful : IsPartition (length p) r
   pub together : (u v : ℕ) → Together r u v ↔ (Together p u v ⊎ (Touches p states u × Touches p states v))

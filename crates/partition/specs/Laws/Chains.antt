@@ -1,4 +1,4 @@
--- Chains of states go both ways and one after another, and what a link keeps a chain keeps.
+-- Chains of states can be reversed and put one after another, and what each link keeps a chain keeps.
 use Rattle.std.proofs.Common.{◌≡◌, ℕ, ◌<◌, ◌⊎◌, List, [], ◌∷◌, ◌++◌, length, get_or, refl, sym, ap, ◌∙◌, subst, inl, inr, arith}
 use Rattle.partition.specs.Partition.{Together}
 use Rattle.partition.specs.MeetAndJoin.{IsMeet, IsJoin, IsGreatestBelow, IsLeastAbove, Leads, Chain}
@@ -52,7 +52,7 @@ leads_keeps p q f left right s t [] here = ap f here
 leads_keeps p q f left right s t (w ∷ us) first =
     elim first.0 [ inl held ↦ left s w held | inr held ↦ right s w held ] ∙ leads_keeps p q f left right w t us first.1
 
--- what has one value at both ends of each link has one at both ends of a chain
+-- what has the same value at both ends of each link has the same value at both ends of a chain
 pub chain_keeps : (p q : List ℕ) (f : ℕ → ℕ) → ((s t : ℕ) → Together p s t → f s ≡ f t) → ((s t : ℕ) → Together q s t → f s ≡ f t) → (s t : ℕ) → Chain p q s t → f s ≡ f t
 chain_keeps p q f left right s t chain = leads_keeps p q f left right s t chain.1.0 chain.1.1
 

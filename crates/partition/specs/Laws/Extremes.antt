@@ -6,7 +6,7 @@ use Rattle.std.proofs.lemmas.Bool.{cases_eq}
 use Rattle.partition.specs.Partition.{blocks_of, IsNumbered, IsPartition, IsStateCount, SameTogether, IsZero, IsOne, IsHold, zero_of}
 use Rattle.partition.specs.Laws.Labels.{same_labels, blocks_of-push, label-lt-blocks_of, IsNumbered-none, IsNumbered-push}
 
--- the numbers below s in order
+-- the labels are the numbers below s, in order
 pub record IsCount (labels : List ℕ) (s : ℕ) : Type 0 where
   pub size : length labels ≡ s
   pub numbered : IsNumbered labels
@@ -47,7 +47,7 @@ pub replicate_is_one : (n : ℕ) → IsOne (replicate n 0)
 replicate_is_one n s t in_s in_t =
     (in_s, in_t, get_or-replicate {A = ℕ} n s 0 0 (omega (arith, length-replicate {A = ℕ} n 0)) ∙ sym (get_or-replicate {A = ℕ} n t 0 0 (omega (arith, length-replicate {A = ℕ} n 0))))
 
--- there is one partition that has no states together
+-- there is only one partition that has no states together
 pub zero_once : (n : ℕ) (p q : List ℕ) → IsPartition n p → IsPartition n q → IsZero p → IsZero q → p ≡ q
 zero_once n p q left right p_zero q_zero =
     same_labels p q left.numbered right.numbered (omega (arith, left.length, right.length)) (λ s t. (
@@ -55,7 +55,7 @@ zero_once n p q left right p_zero q_zero =
       (λ held. (omega (arith, held.0, left.length, right.length), omega (arith, held.1, left.length, right.length), ap (λ (u : ℕ). get_or p u 0) (q_zero s t held))),
     ))
 
--- each state has its own number for a value, but t has s
+-- the value of each state is its own number, except that the value of t is s
 pub record IsHolding (s t : ℕ) (values : List ℕ) : Type 0 where
   pub merged : t < length values → get_or values t 0 ≡ s
   pub own : (u : ℕ) → u < length values → (u ≡ t → ⊥) → get_or values u 0 ≡ u
@@ -93,7 +93,7 @@ zero_of_is_zero n = count_is_zero (zero_of n) n (zero_count n)
 pub zero_of_is_partition : (n : ℕ) → IsStateCount n → IsPartition n (zero_of n)
 zero_of_is_partition n states = record { count = states; length = (zero_count n).size; numbered = (zero_count n).numbered }
 
--- there is one such list
+-- there is only one such list
 pub count_once : (xs ys : List ℕ) (n : ℕ) → IsCount xs n → IsCount ys n → xs ≡ ys
 count_once xs ys n one two =
     ext_get_or 0 xs ys (omega (arith, one.size, two.size)) (λ k within. one.own k (omega (arith, one.size)) ∙ sym (two.own k (omega (arith, one.size))))

@@ -5,7 +5,7 @@ use Rattle.partition.specs.MeetAndJoin.{IsJoin, Leads, Chain}
 use Rattle.partition.specs.Laws.Labels.{same_labels, IsPartition-of}
 use Rattle.partition.specs.Laws.Chains.{Link, chain_none, chain_link, chain_on, chain_keeps, chain_within}
 
--- a chain is also one of another kind where each of its links is
+-- a chain by p and q gives a chain by a and b, if each of its links gives one
 leads_map : (p q a b : List ℕ) → length q ≡ length p → length a ≡ length p → ((s t : ℕ) → Link p q s t → Chain a b s t) → (s t : ℕ) (us : List ℕ) → s < length p → Leads p q s us t → Chain a b s t
 leads_map p q a b lengths size each s t [] within here = subst (λ (u : ℕ). Chain a b s u) here (chain_none a b s (omega arith))
 leads_map p q a b lengths size each s t (u ∷ us) within first =
@@ -14,7 +14,7 @@ leads_map p q a b lengths size each s t (u ∷ us) within first =
 pub chain_map : (p q a b : List ℕ) → length q ≡ length p → length a ≡ length p → ((s t : ℕ) → Link p q s t → Chain a b s t) → (s t : ℕ) → Chain p q s t → Chain a b s t
 chain_map p q a b lengths size each s t chain = leads_map p q a b lengths size each s t chain.1.0 chain.0 chain.1.1
 
--- states are together where a chain of states that are together leads
+-- if states that are together in p or in q are together in r, so are the ends of a chain
 chain_together : (p q r : List ℕ) → length q ≡ length p → length r ≡ length p → Le p r → Le q r → (s t : ℕ) → Chain p q s t → Together r s t
 chain_together p q r lengths size left right s t chain =
     (omega (arith, chain.0), omega (arith, chain_within p q s t lengths chain), chain_keeps p q (λ u. get_or r u 0) (λ u v held. (left u v held).2) (λ u v held. (right u v held).2) s t chain)

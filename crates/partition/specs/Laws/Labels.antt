@@ -1,5 +1,5 @@
--- Labels by first appearance: each number below the number of blocks stands, and two such lists with the
--- same states together are one.
+-- Labels by first appearance: each number below the number of blocks is a label, and two such lists with the same
+-- states together are equal.
 use Rattle.std.proofs.Common.{◌≡◌, ℕ, suc, zero, ◌+◌, ◌<◌, ◌≤◌, ◌⊎◌, inl, inr, max, List, [], ◌∷◌, ◌++◌, length, take, get_or, refl, sym, ap, ◌∙◌, subst, arith, add-one}
 use Rattle.std.proofs.lemmas.List.{take_more, length-take-le, get_or-take, take_all, take_more_same, length_push, get_or_append_left, take-append-le, get_or_push, take_at}
 use Rattle.std.proofs.lemmas.List.Recursion.{max_bounds, max_push}
@@ -50,11 +50,11 @@ block_stands xs numbered (suc s) within block below =
       | inr new ↦ (s, omega arith, omega (arith, numbered s (omega arith), blocks_of-take-suc xs s (omega arith)))
     ]
 
--- what `together` says of two states of lists of one length
+-- two states of lists of one length have equal labels in the one list exactly where they have in the other
 abbrev Agree : List ℕ → List ℕ → Type 0
 Agree p q = (s t : ℕ) → s < length p → t < length p → (get_or p s 0 ≡ get_or p t 0 → get_or q s 0 ≡ get_or q t 0) × (get_or q s 0 ≡ get_or q t 0 → get_or p s 0 ≡ get_or p t 0)
 
--- a label that is no earlier one is the number of blocks so far
+-- a label that no earlier state has is the number of blocks so far
 pub new_label : (p : List ℕ) → IsNumbered p → (s : ℕ) → s < length p → ((t : ℕ) → t < s → get_or p t 0 ≡ get_or p s 0 → ⊥) → get_or p s 0 ≡ blocks_of (take s p)
 new_label p numbered s within new =
     elim (cases_lt (get_or p s 0) (blocks_of (take s p))) [
@@ -62,7 +62,7 @@ new_label p numbered s within new =
       | inr high ↦ omega (arith, numbered s within)
     ]
 
--- a state before s with the label of s, or none
+-- a state before s with this label, or none
 seen_before : (p : List ℕ) (label s : ℕ) → ((t : ℕ) × (t < s) × (get_or p t 0 ≡ label)) ⊎ ((t : ℕ) → t < s → get_or p t 0 ≡ label → ⊥)
 seen_before p label zero = inr (λ t below same. absurd (omega arith))
 seen_before p label (suc s) =
@@ -77,7 +77,7 @@ seen_before p label (suc s) =
       ]
     ]
 
--- the first s labels are the same
+-- the first s labels are the same in both
 same_front : (p q : List ℕ) → IsNumbered p → IsNumbered q → length p ≡ length q → Agree p q → (s : ℕ) → s ≤ length p → take s p ≡ take s q
 same_front p q lawful_p lawful_q lengths agree zero within = refl
 same_front p q lawful_p lawful_q lengths agree (suc s) within =
@@ -89,20 +89,20 @@ same_front p q lawful_p lawful_q lengths agree (suc s) within =
     ] in
     subst (λ (k : ℕ). take k p ≡ take k q) (add-one s) (take_more_same p q s 0 (omega arith) (omega arith) front here)
 
--- Labels are canonical: two partitions with the same states together are one list.
+-- Labels are canonical: two partitions with the same states together are the same list.
 pub same_labels : (p q : List ℕ) → IsNumbered p → IsNumbered q → length p ≡ length q → SameTogether p q → p ≡ q
 same_labels p q lawful_p lawful_q lengths same =
     let agree : Agree p q = λ s t in_s in_t. ((λ e. ((same s t).0 (in_s, in_t, e)).2), (λ e. ((same s t).1 (omega arith, omega arith, e)).2)) in
     sym (take_all (length p) p (omega arith)) ∙ same_front p q lawful_p lawful_q lengths agree (length p) (omega arith) ∙ take_all (length p) q (omega arith)
 
--- a partition of n states has n states
+-- the number of states of a partition may be written in another way
 pub IsPartition-of : {m n : ℕ} {p : List ℕ} → m ≡ n → IsPartition m p → IsPartition n p
 IsPartition-of {m} {n} {p} e lawful = subst (λ (k : ℕ). IsPartition k p) e lawful
 
 pub IsNumbered-none : IsNumbered []
 IsNumbered-none s within = absurd (omega arith)
 
--- one more label, at most the number of blocks so far
+-- one more label that is at most the number of blocks so far keeps the numbering
 pub IsNumbered-push : (p : List ℕ) (label : ℕ) → IsNumbered p → label ≤ blocks_of p → IsNumbered (p ++ label ∷ [])
 IsNumbered-push p label numbered small s within =
     let shorter : s < length p + 1 = omega (arith, length_push p label) in

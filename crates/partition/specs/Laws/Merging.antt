@@ -1,4 +1,4 @@
--- Two blocks put together are the least partition above that holds the two states.
+-- Two blocks put together give the least partition above that holds the two states together.
 use Rattle.std.proofs.Common.{ℕ, ◌<◌, List, length, sym, ◌∙◌, refl, inl, inr}
 use Rattle.partition.specs.Partition.{Together, Le}
 use Rattle.partition.specs.Merging.{IsMerged}

@@ -5,7 +5,7 @@ use Rattle.std.proofs.lemmas.Bool.{cases_eq, cases_order}
 use Rattle.partition.specs.Partition.{blocks_of}
 use Rattle.partition.specs.Before.{Before, IsSmaller}
 
--- the first states have the same labels, up to a state with different ones if there is one
+-- s is the first state at which the labels differ
 record IsDifference (p q : List ℕ) (s : ℕ) : Type 0 where
   within : s < length p
   same : (t : ℕ) → t < s → get_or p t 0 ≡ get_or q t 0
@@ -80,7 +80,7 @@ before_total p q lengths =
       ]
     ]
 
--- what the first difference decides
+-- the labels at the first difference decide which is smaller
 pub smaller_at : (p q : List ℕ) (s : ℕ) → s < length p → ((t : ℕ) → t < s → get_or p t 0 ≡ get_or q t 0) → get_or p s 0 ≢ get_or q s 0 → IsSmaller p q → get_or p s 0 < get_or q s 0
 smaller_at p q s within same differs less =
     elim (cases_order s less.first) [

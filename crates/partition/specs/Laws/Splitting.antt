@@ -8,7 +8,7 @@ use Rattle.partition.specs.Laws.Labels.{IsPartition-of, block_stands, blocks_of-
 use Rattle.partition.specs.Laws.Chains.{together_turned}
 use Rattle.partition.specs.Laws.Merging.{merged_above, merged_held}
 
--- no state yet
+-- the split up to no state
 pub split_none : (R : ℕ → ℕ → Type 0) (n : ℕ) (zero : List ℕ) → IsPartition n zero → IsZero zero → IsSplitUpTo R n 0 zero
 split_none R n zero lawful is = record {
   lawful = lawful;
@@ -16,7 +16,7 @@ split_none R n zero lawful is = record {
   kept = λ s t in_s in_t related. absurd (omega arith);
 }
 
--- all states
+-- the split up to all states
 pub split_all : (R : ℕ → ℕ → Type 0) (n count : ℕ) (p : List ℕ) → n ≡ count → IsSplitUpTo R n count p → IsSplitBy R n p
 split_all R n count p size so_far = subst (λ (k : ℕ). IsSplitUpTo R n k p) (sym size) so_far
 
@@ -42,7 +42,7 @@ module _ (R : ℕ → ℕ → Type 0) (turned : (s t : ℕ) → R s t → R t s)
     joined : Together r first s
     joined = merged_held p r first s (omega (arith, so_far.lawful.length)) (omega (arith, so_far.lawful.length)) is
 
-    -- an earlier state that is related to this one
+    -- an earlier state that is related to s is together with s
     with_this : (t : ℕ) → t < s → R t s → Together r t s
     with_this t earlier both =
         let held = merged_above p r first s is t first (so_far.kept t first earlier below (on t s first both (turned first s like))) in
@@ -65,7 +65,7 @@ module _ (R : ℕ → ℕ → Type 0) (turned : (s t : ℕ) → R s t → R t s)
               ]
         ]
 
-    -- a state that is related to an earlier one
+    -- the split up to s, where s is related to an earlier state
     pub split_joined : IsSplitUpTo R n (s + 1) r
     split_joined = record { lawful = IsPartition-of so_far.lawful.length is.lawful; related = related; kept = put }
 
@@ -88,7 +88,7 @@ module _ (R : ℕ → ℕ → Type 0) (turned : (s t : ℕ) → R s t → R t s)
               ]
         ]
 
-    -- a state that is related to no earlier one
+    -- the split up to s, where s is not related to an earlier state
     pub split_alone : IsSplitUpTo R n (s + 1) p
     split_alone = record { lawful = so_far.lawful; related = so_far.related; kept = put_alone }
 
@@ -102,14 +102,14 @@ none_more R s t before here u within related =
       | inr other ↦ before u (omega arith) related
     ]
 
--- the least state of a block is not related to s
+-- the search goes past the least state of a block, which is not related to s
 pub searched_first : (R : ℕ → ℕ → Type 0) (p : List ℕ) (s t blocks : ℕ) → t < length p → get_or p t 0 ≡ blocks → (R t s → ⊥) → IsSearched R p s t blocks → IsSearched R p s (t + 1) (blocks + 1)
 searched_first R p s t blocks within new apart so_far = record {
   count = omega (arith, so_far.count, blocks_of-take-more p t within);
   none = none_more R s t so_far.none apart;
 }
 
--- another state of a block is related to s only if an earlier one is
+-- the search goes past another state of a block, which is related to s only if an earlier one is
 pub searched_later : (R : ℕ → ℕ → Type 0) (on : (s t u : ℕ) → R s t → R t u → R s u) (n : ℕ) (p : List ℕ) (s t blocks : ℕ) → IsPartition n p → AreRelated R p → t < length p → (get_or p t 0 ≡ blocks → ⊥) → IsSearched R p s t blocks → IsSearched R p s (t + 1) blocks
 searched_later R on n p s t blocks lawful related within old so_far =
     let low : get_or p t 0 ≤ blocks_of (take t p) = lawful.numbered t within in

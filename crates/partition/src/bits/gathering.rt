@@ -1,8 +1,8 @@
 //! Rows of a join, gathered from the rows of its two sides.
 //!
-//! The join is above both sides, so each of their rows lies within one block of the join. A state that is alone
-//! on both sides is alone in the join, since no chain leaves it. So the rows of the two sides that lie in one
-//! block of the join have together all of its states, and each block of two states or more has such rows.
+//! The join is above both sides, so each row of a side lies within one block of the join. A state that is alone
+//! on both sides is alone in the join, since no chain leaves it. So a block of the join with two states or more
+//! contains rows of the two sides, and these rows together have all of its states.
 
 ghost use Rattle.std.specs.Prelude.{◌≡◌, ◌≢◌, ℕ, ◌+◌, ◌*◌, ◌/◌, ◌<◌, ◌≤◌, ◌↔◌, ◌⊎◌, bit_or, length, slice_index, IfOk};
 ghost use Rattle.partition.specs.Partition.{IsPartition, Together};
@@ -14,8 +14,8 @@ use crate::MOST_STATES;
 use crate::states::first_bit;
 use std::alloc::{AllocError, Global};
 
-/// The rows of the blocks of two states or more, from two lists of rows that lie within blocks, where each state
-/// of these blocks is in a row.
+/// The rows of the blocks of two states or more, from two lists of rows that lie within blocks. Each state of
+/// these blocks is in a row of the lists.
 pub fn gathered_rows(
     alloc: Global,
     labels: &[u16],
@@ -40,8 +40,8 @@ pub fn gathered_rows(
     Ok(rows)
 }
 
-/// Numbers the labels of rows that have no number, where so many labels have one before. Answers how many have
-/// one then.
+/// Gives numbers to the labels of these rows that have none yet; `before` labels have one already. Returns the
+/// number of labels that have one then.
 fn number_labels(
     labels: &[u16],
     rows: &[u64],
@@ -71,7 +71,7 @@ fn number_labels(
     count
 }
 
-/// Puts each row into the row that has the number of its label.
+/// Adds each row to the row that has the number of its label.
 fn gather(into: &mut [u64], width: usize, labels: &[u16], numbers: &[u16], rows: &[u64])
     requires some { 1 ≤ width }
     requires few { width ≤ 4 }

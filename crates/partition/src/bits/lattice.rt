@@ -15,7 +15,8 @@ use crate::states::StateSet;
 use std::alloc::{AllocError, Global};
 
 impl BitPart {
-    /// States are together where they are together here and in q.
+    /// The partition in which two states are together exactly where they are together in both this partition
+    /// and q.
     pub fn meet(&self, alloc: Global, q: &BitPart) -> Result<BitPart, AllocError>
         requires { length q.now ≡ length self.now }
         ensures meet { IfOk result (λ r. IsMeet self.now q.now r) }
@@ -24,7 +25,8 @@ impl BitPart {
         BitPart::with_rows(alloc, self.partition.meet(alloc, &q.partition)?)
     }
 
-    /// States are together where a chain of states leads from the one to the other.
+    /// The partition in which two states are together exactly where a chain of states leads from the one to the
+    /// other.
     pub fn join(&self, alloc: Global, q: &BitPart) -> Result<BitPart, AllocError>
         requires { length q.now ≡ length self.now }
         ensures join { IfOk result (λ r. IsJoin self.now q.now r) }
@@ -53,7 +55,7 @@ impl BitPart {
         Ok(BitPart { partition, rows })
     }
 
-    /// Puts the states of each row together in a partition, and answers whether that changed it.
+    /// Puts the states of each row together in a partition. Returns whether that changed the partition.
     fn join_into(&self, partition: &mut Partition) -> bool
         requires lawful { IsPartition (length partition.old) partition.old }
         requires length { length partition.old ≡ length self.now }
@@ -72,7 +74,7 @@ impl BitPart {
     }
 }
 
-/// Puts the blocks of these states together, and answers whether that changed the partition.
+/// Puts the blocks of these states together. Returns whether that changed the partition.
 fn join_states(states: &StateSet, partition: &mut Partition) -> bool
     requires lawful { IsPartition (length partition.old) partition.old }
     requires states { (t : ℕ) → Has states.now t → t < length partition.old }
@@ -91,7 +93,7 @@ fn join_states(states: &StateSet, partition: &mut Partition) -> bool
     changed
 }
 
-/// Puts the blocks of two states together, and answers whether they were two.
+/// Puts the blocks of two states together. Returns whether they were two blocks.
 fn join_two(partition: &mut Partition, s: usize, t: usize) -> bool
     requires lawful { IsPartition (length partition.old) partition.old }
     requires s { s < length partition.old }

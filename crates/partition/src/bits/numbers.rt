@@ -3,8 +3,8 @@
 ghost use Rattle.std.specs.Prelude.{◌≡◌, ℕ, ◌<◌, ◌≤◌, length, slice_index};
 ghost use Rattle.partition.specs.Inner.Rows.{AreRowNumbers};
 
-/// Gives each label a number: 0 where no state has it, 1 where one state has it, and else the number of the
-/// row of its block plus 2. Answers the number of rows.
+/// Gives each label a number: 0 if no state has it, 1 if one state has it, and otherwise the number of the row
+/// of its block plus 2. Returns the number of rows.
 pub fn number_rows(labels: &[u16], numbers: &mut [u16]) -> usize
     requires labels { (s : ℕ) → s < length labels.now → slice_index labels.now s < length numbers.old }
     requires few { length labels.now ≤ 256 }

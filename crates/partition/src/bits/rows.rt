@@ -9,7 +9,7 @@ use super::numbers::number_rows;
 use crate::MOST_STATES;
 use std::alloc::{AllocError, Global};
 
-/// The number of words that so many bits need.
+/// The number of words that the bits of this number of states need.
 pub fn word_count(states: usize) -> usize
     requires { states ≤ 256 }
     ensures count { result ≡ words_for states }
@@ -18,7 +18,7 @@ pub fn word_count(states: usize) -> usize
     states.div_ceil(64)
 }
 
-/// The number of rows that so many words are.
+/// The number of rows that are in this number of words.
 pub fn row_count(words: usize, width: usize) -> usize
     requires some { 1 ≤ width }
     requires few { width ≤ 4 }
@@ -65,7 +65,7 @@ fn put_states(rows: &mut [u64], width: usize, labels: &[u16], numbers: &[u16])
     }
 }
 
-/// Where the row begins that has the state, or the number of words where none has it.
+/// The place at which the row with this state begins, or the number of words if no row has it.
 pub fn row_with(rows: &[u64], width: usize, count: usize, s: usize) -> usize
     requires size { length rows.now ≡ count * width }
     requires s { s / 64 < width }

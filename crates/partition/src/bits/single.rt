@@ -3,7 +3,8 @@
 ghost use Rattle.std.specs.Prelude.{◌≡◌, ℕ, ◌/◌, ◌<◌, ◌≤◌, ◌↔◌, length};
 ghost use Rattle.partition.specs.Inner.Rows.{Has};
 
-/// Each power of two between words of zeros: four words of a line, or fewer, have one bit if they reach its middle.
+/// Each power of two below 2^64 between words of zeros. Up to four neighbouring words of a line that include
+/// its middle have exactly one bit that is 1.
 static POWERS: [[u64; 7]; 64] = [
     [0, 0, 0, 1 << 0, 0, 0, 0],
     [0, 0, 0, 1 << 1, 0, 0, 0],
@@ -71,7 +72,7 @@ static POWERS: [[u64; 7]; 64] = [
     [0, 0, 0, 1 << 63, 0, 0, 0],
 ];
 
-/// A row of so many words in which one bit is 1.
+/// A row of `width` words in which only bit s is 1.
 pub fn single_row(s: usize, width: usize) -> &'static [u64]
     requires few { width ≤ 4 }
     requires s { s / 64 < width }
