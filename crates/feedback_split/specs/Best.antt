@@ -7,16 +7,16 @@ use Rattle.mm_lattice.specs.Top.{IsBelowOne, IsRightSide}
 use Rattle.state_codes.specs.declared.split.Part.{Part}
 use Rattle.feedback_split.specs.Carrier.{Suffices}
 
--- no right side of an Mm pair stands strictly between p and one
+-- no right side of an Mm pair is strictly between p and one
 abbrev pub NoRightAbove : KissFile → List ℕ → Type 0
 NoRightAbove F p = (q : List ℕ) → IsRightSide F q → Le p q → (Le q p → ⊥) → IsBelowOne q → ⊥
 
--- with any two blocks of c put together, it does not suffice for own
+-- c with any two of its blocks put together does not suffice for own
 abbrev pub BreaksWhenJoined : KissFile → List ℕ → List ℕ → Type 0
 BreaksWhenJoined F own c =
     (s t : ℕ) (joined : List ℕ) → s < length c → t < length c → (Together c s t → ⊥) → IsMerged c s t joined → Suffices F own joined → ⊥
 
--- no right side stands strictly between the first part and one, and no carrier can be joined further
+-- no right side is strictly between the first part and one, and no two blocks of a carrier can be put together
 pub record IsBestFeedback (F : KissFile) (parts : List Part) : Type 0 where
   pub first : Part
   pub second : Part

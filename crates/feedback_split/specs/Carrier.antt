@@ -1,12 +1,12 @@
--- What a part of a feedback split has to be told of the other one (source: Hartmanis and Stearns; this project).
+-- What a part of a feedback split has to know of the other part (source: Hartmanis and Stearns; this project).
 use Rattle.std.specs.Prelude.{◌≡◌, ℕ, Bool, List, length}
 use Rattle.kiss2.specs.declared.kiss_file.KissFile.{KissFile}
 use Rattle.kiss2.specs.Machine.{next}
 use Rattle.partition.specs.Partition.{IsHold, IsPartition, Le, Together}
 use Rattle.pair_operators.specs.Growth.{IsGrowth}
 
--- (own . c, own) is a pair: states that are together in own and in c go, for each symbol, to states that are together in
--- own. So the block of own and the block of c tell the next block of own.
+-- (own . c, own) is a pair: states that are together in own and in c go, for each symbol, to states that are
+-- together in own. So the block of own and the block of c determine the next block of own.
 abbrev pub Suffices : KissFile → List ℕ → List ℕ → Type 0
 Suffices F own c =
     (s t : ℕ) (x : List Bool) → Together own s t → Together c s t → length x ≡ F.inputs → Together own (next F s x) (next F t x)

@@ -1,4 +1,5 @@
--- Which feedback split: told as steps, since that decides which of several right ones is given (source: this project).
+-- Which feedback split is given. It is defined by steps, which choose one of several right splits (source: this
+-- project).
 use Rattle.std.specs.Prelude.{◌≡◌, ℕ, List, [], ◌∷◌, length, map}
 use Rattle.kiss2.specs.declared.kiss_file.KissFile.{KissFile}
 use Rattle.partition.specs.Partition.{zero_of}
@@ -13,8 +14,8 @@ use Rattle.feedback_split.specs.Carrier.{IsCarrierGrowth}
 abbrev pub IsRightGrowth : KissFile → List ℕ → Type 0
 IsRightGrowth F p = IsGrowth (IsRightOf F) IsBelowOne (length F.states) (zero_of (length F.states)) p
 
--- What grows strictly below one, and its complement. The carrier of each part is the growth of that part, as far as it
--- suffices for the other one.
+-- The partition that grows strictly below one, and its complement. The carrier of each part is the growth of
+-- that part, as far as it suffices for the other part.
 pub record IsFeedbackChoice (F : KissFile) (parts : List Part) : Type 0 where
   pub first : List ℕ
   pub grown : IsRightGrowth F first

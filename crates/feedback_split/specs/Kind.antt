@@ -8,8 +8,8 @@ use Rattle.state_codes.specs.declared.split.Part.{Part}
 use Rattle.state_codes.specs.Kinds.{PartsMeetInZero}
 use Rattle.feedback_split.specs.Carrier.{Suffices}
 
--- A right side of an Mm pair, and a partition that tells apart the states of each of its blocks, with no more blocks than
--- that needs. Each part reads the carrier of the other one, which suffices for it.
+-- The first part is a right side of an Mm pair. The second separates the states of each block of the first,
+-- with no more blocks than that needs. Each part reads the carrier of the other part, which suffices for it.
 pub record IsFeedback (F : KissFile) (parts : List Part) : Type 0 where
   pub first : Part
   pub second : Part

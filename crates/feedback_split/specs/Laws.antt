@@ -1,11 +1,11 @@
--- What follows of the definitions alone.
+-- What follows from the definitions alone.
 use Rattle.std.specs.Prelude.{◌≡◌, List}
 use Rattle.kiss2.specs.declared.kiss_file.KissFile.{KissFile}
 use Rattle.state_codes.specs.declared.split.Part.{Part}
 use Rattle.feedback_split.specs.Choice.{IsFeedbackChoice}
 use Rattle.feedback_split.specs.Kind.{IsFeedback}
 
--- there is at most one list of parts that is chosen for a feedback split
+-- at most one list of parts is chosen for a feedback split
 abbrev pub FeedbackChoiceIsOne : Type 0
 FeedbackChoiceIsOne =
     (F : KissFile) (one other : List Part) → IsFeedback F one → IsFeedback F other → IsFeedbackChoice F one → IsFeedbackChoice F other → one ≡ other

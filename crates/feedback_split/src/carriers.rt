@@ -1,8 +1,9 @@
-//! Carriers, as great as they can be.
+//! Carriers that are as great as possible.
 //!
-//! A carrier c suffices for a part where the meet of both makes a pair with the part, which is where the meet is
-//! below M of the part. A smaller carrier suffices then too. So two blocks that could not be put together once
-//! cannot be put together later, and one pass over the pairs of states is enough.
+//! A carrier c suffices for a part exactly where the meet of the two makes a pair with the part, that is, where
+//! the meet is below M of the part. Where a carrier suffices, each smaller one does too. So two blocks that
+//! could not be put together once cannot be put together later, and one pass over the pairs of states is
+//! enough.
 
 ghost use Rattle.std.specs.Prelude.{ℕ, ◌≡◌, ◌<◌, IfOk, length};
 ghost use Rattle.feedback_split.specs.Carrier.{IsCarrierGrowth, IsGreatestCarrier, Suffices};
@@ -45,7 +46,7 @@ fn grow_from(
     Ok(grown)
 }
 
-/// The growth of a part, as far as it suffices for another part that meets it in zero.
+/// The growth of the part `other`, as far as it suffices for the part `own`. The two parts meet in zero.
 pub fn carrier(
     alloc: Global,
     m: &Machine,

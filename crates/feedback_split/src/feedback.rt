@@ -16,7 +16,7 @@ use partition::Partition;
 use state_codes::{Kind, Part, PartNumbers, Parts, Split};
 use std::alloc::{AllocError, Global};
 
-/// The part that reads the part of that number.
+/// The part that has this partition and this carrier, and reads the part with the number `other`.
 fn part_reading(
     alloc: Global,
     partition: Partition,
@@ -48,8 +48,8 @@ fn two_parts(alloc: Global, m: &Machine, first: Partition) -> Result<Parts, Allo
     Ok(parts)
 }
 
-/// A right side of an Mm pair, greatest strictly below one, and its complement. Each reads the carrier of the
-/// other. None where no right side of an Mm pair is nontrivial.
+/// The split into a right side of an Mm pair, greatest strictly below one, and its complement. Each reads the
+/// carrier of the other. None where no right side of an Mm pair is nontrivial.
 pub fn split(alloc: Global, m: &Machine) -> Result<Option<Split>, AllocError>
     ensures none { IfOk result (λ found. IsNone found ↔ RightsAreTrivial m.now) }
 

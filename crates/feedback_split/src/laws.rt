@@ -1,4 +1,4 @@
-//! What follows of the definitions, for the crates above. Each law is the contract of a function that does
+//! What follows from the definitions, for the crates above. Each law is the contract of a function that does
 //! nothing.
 
 ghost use Rattle.std.specs.Prelude.{ℕ, ◌↔◌, List};
@@ -8,7 +8,7 @@ ghost use Rattle.kiss2.specs.declared.kiss_file.KissFile.{KissFile};
 ghost use Rattle.pair_operators.specs.Pair.{Pair};
 ghost use Rattle.partition.specs.MeetAndJoin.{IsMeet};
 
-/// A carrier suffices for a part exactly where the meet of both makes a pair with the part.
+/// A carrier suffices for a part exactly where the meet of the two makes a pair with the part.
 pub fn suffices_by_meet()
     ensures { (F : KissFile) (own c meet : List ℕ) → IsMeet own c meet → Suffices F own c ↔ Pair F meet own }
 {}

@@ -24,7 +24,7 @@ IsInHigh F q p = IsGreatestWith (2 ^ F.inputs) (λ left. InPair F left q) p
 abbrev pub IsInMmPair : KissFile → Sides → Type 0
 IsInMmPair F x = IsMmPairOf (2 ^ F.inputs) (length F.states) (InPair F) x
 
--- the least of these, and the join of two
+-- the least of these pairs, and the join of two of them
 abbrev pub IsLeastInPair : KissFile → Sides → Type 0
 IsLeastInPair F x = IsLeastPairOf (2 ^ F.inputs) (length F.states) (InPair F) x
 

@@ -1,6 +1,6 @@
--- The laws of Mm pairs as a world of values that can be joined, for any relation of a left and a right partition that a
--- smaller left side and a greater right side keep. An Mm pair is decided by its right side, and the join of two right
--- sides is one.
+-- The laws of Mm pairs as a world of values that can be joined. They are for any relation of a left and a right
+-- partition that a smaller left side and a greater right side keep. An Mm pair is decided by its right side,
+-- and the join of two right sides is a right side.
 use Rattle.std.proofs.Common.{◌≡◌, ℕ, ◌<◌, ◌⊎◌, inl, inr, List, length, refl, sym, ap, ◌∙◌, subst, arith}
 use Rattle.kiss2.specs.declared.kiss_file.KissFile.{KissFile}
 use Rattle.partition.specs.Partition.{IsPartition, Together, Le, zero_of}
@@ -37,7 +37,7 @@ module _ (left right : ℕ) (Pairs : List ℕ → List ℕ → Type 0) (grow : G
       same_labels p other one.lawful.numbered two.lawful.numbered (one.lawful.length ∙ sym two.lawful.length)
       (λ s t. (two.greatest p one.lawful one.has s t, one.greatest other two.lawful two.has s t))
 
-  -- equal right sides with their greatest partners are one pair
+  -- pairs with equal right sides, whose left sides are their greatest partners, are equal
   pub same_right_of : (x y : Sides) → IsGreatestWith left (λ l. Pairs l x.1) x.0 → IsGreatestWith left (λ l. Pairs l y.1) y.0 → x.1 ≡ y.1 → x ≡ y
   same_right_of (p, q) (a, b) one two same =
       let moved : IsGreatestWith left (λ l. Pairs l q) a = subst (λ (r : List ℕ). IsGreatestWith left (λ l. Pairs l r) a) (sym same) two in

@@ -8,12 +8,12 @@ use Rattle.partition.specs.Partition.{Together}
 use Rattle.io_pairs.specs.Partners.{IsGreatestWith, IsLeastPairOf, IsLeastWith, IsMmPairOf, IsPairJoinOf}
 use Rattle.io_pairs.specs.Sides.{Sides}
 
--- the number that is written by the bits below a place, bit b at 2 ^ b
+-- the number whose bits below a place are given, bit b at 2 ^ b
 abbrev pub word_of : (ℕ → Bool) → ℕ → ℕ
 word_of bits zero = 0
 word_of bits (suc b) = word_of bits b + (if bits b then 2 ^ b else 0)
 
--- the output of a state at the symbol of that number, as a number
+-- the output of a state at the symbol with the number x, as a number
 abbrev pub output_word : KissFile → ℕ → ℕ → ℕ
 output_word F s x = word_of (output_bit F s (symbol_of F.inputs x)) F.outputs
 
@@ -60,7 +60,7 @@ IsOutHigh F q p = IsGreatestWith (length F.states) (λ left. OutPair F left q) p
 abbrev pub IsOutMmPair : KissFile → Sides → Type 0
 IsOutMmPair F x = IsMmPairOf (length F.states) (length (occurring F)) (OutPair F) x
 
--- the least of these, and the join of two
+-- the least of these pairs, and the join of two of them
 abbrev pub IsLeastOutPair : KissFile → Sides → Type 0
 IsLeastOutPair F x = IsLeastPairOf (length F.states) (length (occurring F)) (OutPair F) x
 

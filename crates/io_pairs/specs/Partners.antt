@@ -1,23 +1,24 @@
--- Least and greatest partners, and Mm pairs, for any relation of partitions on the left and on the right (source: Hartmanis
--- and Stearns, the operators m and M). The sides may have different numbers of members.
+-- Least and greatest partners, and Mm pairs, for any relation of partitions on the left and on the right
+-- (source: Hartmanis and Stearns, the operators m and M). The sides may have different numbers of members.
 use Rattle.std.specs.Prelude.{◌≡◌, ℕ, List}
 use Rattle.partition.specs.Partition.{IsPartition, Le, zero_of}
 use Rattle.partition.specs.MeetAndJoin.{IsJoin}
 use Rattle.io_pairs.specs.Sides.{Sides}
 
--- q is the least partition of that number of members of which P holds
+-- q is the least partition of the given number of members for which P holds
 pub record IsLeastWith (members : ℕ) (P : List ℕ → Type 0) (q : List ℕ) : Type 0 where
   pub lawful : IsPartition members q
   pub has : P q
   pub least : (other : List ℕ) → IsPartition members other → P other → Le q other
 
--- p is the greatest partition of that number of members of which P holds
+-- p is the greatest partition of the given number of members for which P holds
 pub record IsGreatestWith (members : ℕ) (P : List ℕ → Type 0) (p : List ℕ) : Type 0 where
   pub lawful : IsPartition members p
   pub has : P p
   pub greatest : (other : List ℕ) → IsPartition members other → P other → Le other p
 
--- the right side is the least that the left one makes a pair with, and the left side the greatest that the right one does
+-- the right side is the least that the left side makes a pair with, and the left side the greatest that makes a
+-- pair with the right side
 pub record IsMmPairOf (left right : ℕ) (Pairs : List ℕ → List ℕ → Type 0) (x : Sides) : Type 0 where
   pub low : IsLeastWith right (Pairs x.0) x.1
   pub high : IsGreatestWith left (λ p. Pairs p x.1) x.0

@@ -1,4 +1,4 @@
-//! The right sides of two members, of all pairs of members.
+//! The right sides of all pairs of members.
 
 ghost use Rattle.std.specs.Prelude.{◌+◌, ◌<◌, ◌≤◌, AllPairs, IfOk, OnOk, length};
 ghost use Rattle.hs_lattice.specs.Collection.{IsCollection, items_in};
@@ -25,7 +25,7 @@ fn right_of(alloc: Global, family: &Family, x: usize, y: usize) -> Result<Partit
     Ok(right)
 }
 
-/// Adds the right sides of a member with each one before it.
+/// Adds the right sides of a member with each member before it.
 fn add_rights(
     alloc: Global,
     family: &Family,

@@ -5,8 +5,8 @@ use hs_list::Items;
 /// Functions from members to values, each as the list of its values. Both are numbered from 0, and there are 1 to
 /// 256 of each.
 ///
-/// For pairs on inputs there is a function for each state, from symbols to next states. For pairs on outputs there
-/// is one for each symbol, from states to the numbers of outputs.
+/// For pairs on inputs there is one function for each state, from symbols to next states. For pairs on outputs
+/// there is one function for each symbol, from states to the numbers of outputs.
 #[derive(Drop)]
 pub(crate) struct Family {
     pub(crate) members: usize,

@@ -1,7 +1,7 @@
 //! The greatest partition of members that a partition of values makes a pair with.
 //!
-//! Members are in one class at first. Function after function, classes are split by the labels of the values, and
-//! numbered anew by first appearance.
+//! At first all members are in one class. One function after another, the classes are split by the labels of
+//! the values, and numbered anew by first appearance.
 
 ghost use Rattle.std.specs.Prelude.{◌≡◌, ◌<◌, ◌+◌, ◌*◌, ℕ, IfOk, length, slice_index};
 ghost use Rattle.io_pairs.specs.Inner.Families.{IsFamily, IsParted, functions_of};
@@ -12,7 +12,7 @@ use crate::marks::{Mark, numbered};
 use partition::{PartFail, Partition};
 use std::alloc::{AllocError, Global};
 
-/// For each member a number for its class and the label of its value.
+/// For each member, a number that combines its class with the label of its value.
 fn splits(
     alloc: Global,
     classes: &[u16],

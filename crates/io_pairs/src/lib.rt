@@ -1,24 +1,24 @@
 //! Pairs on the inputs and on the outputs of a machine, after Hartmanis and Stearns.
 //!
-//! (p, q) is an input-state pair where symbols that are together in p lead, from every state, to states that are
-//! together in q: it says which inputs need not be told apart to know that much of the next state. It is a
-//! state-output pair where states that are together in p have, at every symbol, outputs that are together in q:
-//! it says how much of the state an output takes. A machine has at most 8 inputs here, and at most 256 of its
-//! outputs may occur; [`outputs`] lists them.
+//! (p, q) is an input-state pair where symbols that are together in p lead, from every state, to states that
+//! are together in q: it says which inputs need not be distinguished to know that much of the next state. It is
+//! a state-output pair where states that are together in p have, at every symbol, outputs that are together in
+//! q: it says how much of the state an output needs. A machine has at most 8 inputs here, and at most 256 of
+//! its outputs may occur; [`outputs`] lists them.
 //!
-//! [`input_low`] and [`output_low`] give the least q for a p, [`input_high`] and [`output_high`] the greatest p for
-//! a q, and [`input_pairs`] and [`output_pairs`] list the pairs of which each side is what the other gives, the Mm
-//! pairs. These are values of two worlds that can be joined, [`InputWorld`] and [`OutputWorld`].
+//! [`input_low`] and [`output_low`] give the least q for a p, [`input_high`] and [`output_high`] the greatest p
+//! for a q. [`input_pairs`] and [`output_pairs`] list the Mm pairs: those of which each side is what the other
+//! gives. These are values of two worlds that can be joined, [`InputWorld`] and [`OutputWorld`].
 //!
-//! Both kinds are one thing, a family of functions from members to values: from each state the symbols lead to
-//! states, and at each symbol the states have outputs. So the work is done for any family, over a table of at most
-//! 65,536 numbers that is made once a call. Members that are together go together into q by each function; the
-//! least q is tied together value by value, and the greatest p is parted function by function.
+//! Both kinds are families of functions from members to values: from each state the symbols lead to states, and
+//! at each symbol the states have outputs. So the work is done for any family, over a table of at most 65,536
+//! numbers that each call makes once. Two members go together into q where each function gives them values that
+//! are together in q. The least q is merged value by value, and the greatest p is split function by function.
 //!
 //! `specs/Inputs` has input-state pairs, `specs/Outputs` the outputs that occur and state-output pairs,
 //! `specs/Partners` the least and the greatest side and the Mm pairs of both kinds, `specs/Sides` how contracts
-//! see an [`IoPair`], and `specs/Laws` the laws of the worlds. What is in `specs/Inner` is for
-//! private functions alone.
+//! see an [`IoPair`], and `specs/Laws` the laws of the worlds. What is in `specs/Inner` is for private
+//! functions alone.
 #![tactic(auto)]
 
 mod collecting;

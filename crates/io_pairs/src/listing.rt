@@ -1,8 +1,8 @@
 //! All Mm pairs of a family, in order.
 //!
-//! An Mm pair is decided by its right side, and each right side is the join of the least partitions in which two
-//! members go together that are together in its left side. So the right sides are listed as joins, and then the
-//! left side of each is made, once.
+//! An Mm pair is decided by its right side. For each two members that are together in its left side, take the
+//! least partition in which they go together: the right side is the join of these. So the right sides are
+//! listed as joins, and then the left side of each is made, once.
 
 ghost use Rattle.std.specs.Prelude.{◌≤◌, All, IfOk, List, ℕ, length, map};
 ghost use Rattle.hs_lattice.specs.Listing.{Evidence, IfMore, IfWhole, Lists, items_of};
@@ -21,7 +21,7 @@ use hs_list::Items;
 use partition::{PartWorld, Partition};
 use std::alloc::{AllocError, Global};
 
-/// The right sides in ascending order, or where there are more than the limit, limit + 1 of them.
+/// The right sides in ascending order, or limit + 1 of them if there are more than the limit.
 fn right_sides(
     alloc: Global,
     family: &Family,
@@ -48,7 +48,7 @@ fn right_sides(
     join_closure(alloc, &world, found.as_slice(), limit)
 }
 
-/// The partitions in their order as right sides, each with its greatest partner as its left side.
+/// The partitions, in their order, as right sides, each with its greatest partner as its left side.
 fn with_lefts(
     alloc: Global,
     family: &Family,
@@ -66,7 +66,7 @@ fn with_lefts(
     Ok(Items::from(pairs))
 }
 
-/// The Mm pairs in ascending order of their right sides, or where there are more than the limit, limit + 1 of them.
+/// The Mm pairs in ascending order of their right sides, or limit + 1 of them if there are more than the limit.
 pub(crate) fn listed(
     alloc: Global,
     family: &Family,

@@ -1,4 +1,4 @@
-//! Classes numbered by first appearance, again and again over one table.
+//! Classes numbered by first appearance, with one table for all turns.
 
 ghost use Rattle.std.specs.Prelude.{◌≡◌, ◌<◌, ◌+◌, ◌≢◌, ℕ, IfOk, OnOk, length, slice_index, slice_index_or, slice_set};
 ghost use Rattle.partition.specs.Partition.{IsPartition, IsStateCount, SameTogether};
@@ -6,7 +6,7 @@ ghost use Rattle.io_pairs.specs.Inner.Marks.{AreMarksBefore};
 
 use std::alloc::{AllocError, Global};
 
-/// The class that a value was given, and the turn in which it was. A new turn makes earlier marks void.
+/// The class that a value was given, and the turn in which it was given. A new turn makes earlier marks void.
 #[derive(Clone, Copy, Drop)]
 pub(crate) struct Mark {
     pub(crate) turn: u16,
@@ -36,7 +36,7 @@ pub(crate) fn numbered(
     Ok(classes)
 }
 
-/// The class that a value has in this turn, or the next one for a value that was not seen in it.
+/// The class that a value has in this turn, or the next class if the value was not seen in this turn.
 fn class_for(marks: &mut [Mark], turn: u16, count: &mut u16, value: usize) -> u16
     requires value { value < length marks.old }
     requires room { count.old < 256 }

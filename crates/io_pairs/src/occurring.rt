@@ -21,7 +21,7 @@ const MOST_OUTS: usize = 256;
 pub enum OutsFail {
     /// More than 256 outputs occur.
     TooMany,
-    /// Memory was wanting.
+    /// Memory ran out.
     NoMemory,
 }
 
@@ -47,7 +47,7 @@ impl<T: Drop> From<AllocFailed<T>> for OutsFail {
     }
 }
 
-/// The output at a symbol, of the first piece that holds it.
+/// The output of the first piece that holds the symbol.
 fn word_at(m: &Machine, s: usize, pieces: &[Piece], x: u32) -> u64
     requires s { s < length m.now.states }
     requires x { x < 2 ^ m.now.inputs }
@@ -78,7 +78,7 @@ pub(crate) fn words_of(alloc: Global, m: &Machine, s: usize) -> Result<Vec<u64>,
     Ok(words)
 }
 
-/// The place of the word in the list, or its length where it is not there.
+/// The place of the word in the list, or the list's length if the word is not in it.
 pub(crate) fn place_of(outs: &[u64], word: u64) -> usize
     ensures { IsPlaceOf outs.now word result }
 {
@@ -90,7 +90,7 @@ pub(crate) fn place_of(outs: &[u64], word: u64) -> usize
     outs.len()
 }
 
-/// Adds the words that are not there, as long as there are no more than can be listed.
+/// Appends the words that are not in the list yet. Refuses where the list would then have more than 256 words.
 fn add_words(outs: &mut Vec<u64>, words: &[u64]) -> Result<(), OutsFail>
     requires few { length outs.old.items ≤ 256 }
     ensures ok { OnOk result (outs.new.items ≡ with_words outs.old.items words.now) }

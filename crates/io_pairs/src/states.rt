@@ -51,7 +51,7 @@ fn all_numbers(alloc: Global, m: &Machine, outs: &Outs) -> Result<Vec<Items<u16>
     Ok(states)
 }
 
-/// The numbers at one place of all lists.
+/// The numbers at the given place of each list.
 fn at_place(alloc: Global, lists: &[Items<u16>], place: usize) -> Result<Vec<u16>, AllocError>
     requires { (k : ℕ) → k < length lists.now → place < length (slice_index_or lists.now k []) }
     ensures { IfOk result (λ v. AreAtPlace lists.now place v.items) }
@@ -63,7 +63,7 @@ fn at_place(alloc: Global, lists: &[Items<u16>], place: usize) -> Result<Vec<u16
     Ok(numbers)
 }
 
-/// At each symbol, what the states put out.
+/// The family of state-output pairs: for each symbol, what the states put out.
 fn of_outputs(alloc: Global, m: &Machine, outs: &Outs) -> Result<Family, AllocError>
     requires inputs { m.now.inputs ≤ 8 }
     requires outs { AreOutputs m.now outs.now }
@@ -120,10 +120,10 @@ pub fn output_high(
     greatest_partner(alloc, &family, q)
 }
 
-/// The Mm pairs of partitions of the states and of the outputs, in ascending order of their right sides, or where
-/// there are more than the limit, limit + 1 of them.
+/// The Mm pairs of partitions of the states and of the outputs, in ascending order of their right sides, or
+/// limit + 1 of them if there are more than the limit.
 ///
-/// Which ones are the evidence is left open.
+/// Which pairs are the evidence is left open.
 pub fn output_pairs(
     alloc: Global,
     m: &Machine,

@@ -29,7 +29,7 @@ pub(crate) fn symbol_count(m: &Machine) -> u32
     1 << m.inputs()
 }
 
-/// Where each symbol leads from a state.
+/// The next states of a state, by symbol.
 fn next_states(alloc: Global, m: &Machine, s: usize) -> Result<Vec<u16>, AllocError>
     requires inputs { m.now.inputs ≤ 8 }
     requires s { s < length m.now.states }
@@ -44,7 +44,7 @@ fn next_states(alloc: Global, m: &Machine, s: usize) -> Result<Vec<u16>, AllocEr
     Ok(states)
 }
 
-/// From each state, where the symbols lead.
+/// The family of input-state pairs: for each state, where the symbols lead.
 fn of_inputs(alloc: Global, m: &Machine) -> Result<Family, AllocError>
     requires { m.now.inputs ≤ 8 }
     ensures family { IfOk result IsFamily }
@@ -86,10 +86,10 @@ pub fn input_high(alloc: Global, m: &Machine, q: &Partition) -> Result<Partition
     greatest_partner(alloc, &family, q)
 }
 
-/// The Mm pairs of partitions of the symbols and of the states, in ascending order of their right sides, or where
-/// there are more than the limit, limit + 1 of them.
+/// The Mm pairs of partitions of the symbols and of the states, in ascending order of their right sides, or
+/// limit + 1 of them if there are more than the limit.
 ///
-/// Which ones are the evidence is left open.
+/// Which pairs are the evidence is left open.
 pub fn input_pairs(alloc: Global, m: &Machine, limit: usize) -> Result<Listing<IoPair>, AllocError>
     requires inputs { m.now.inputs ≤ 8 }
     requires positive { 1 ≤ limit }

@@ -14,8 +14,8 @@ use machine_table::Machine;
 use partition::Partition;
 use std::alloc::{AllocError, Global};
 
-/// A partition on the left and one on the right, each of which is to be what the other gives: the right side the
-/// least partner of the left one, and the left side the greatest partner of the right one.
+/// A left and a right partition, meant to be an Mm pair: the right side is the least partner of the left one,
+/// and the left side is the greatest partner of the right one.
 #[derive(Debug, Drop)]
 pub struct IoPair {
     pub left: Partition,
@@ -25,8 +25,8 @@ pub struct IoPair {
 /// The Mm pairs of partitions of the symbols and of the states, in the order of their right sides. The machine has
 /// at most 8 inputs.
 ///
-/// The least one has zero as its right side. The join of two has the join of their right sides as its right side,
-/// and the greatest partner of that as its left side.
+/// The least pair has zero as its right side. The join of two pairs has the join of their right sides as its
+/// right side, and the greatest partner of that as its left side.
 #[derive(Clone, Copy)]
 pub struct InputWorld<'a> {
     pub machine: &'a Machine,
@@ -35,14 +35,14 @@ pub struct InputWorld<'a> {
 /// The Mm pairs of partitions of the states and of the outputs that occur, in the order of their right sides. The
 /// machine has at most 8 inputs.
 ///
-/// The least one and the joins are as in [`InputWorld`].
+/// The least pair and the joins are as in [`InputWorld`].
 #[derive(Clone, Copy)]
 pub struct OutputWorld<'a> {
     pub machine: &'a Machine,
     pub outs: &'a Outs,
 }
 
-/// The same two sides again.
+/// A copy of the pair.
 fn copy_of(alloc: Global, pair: &IoPair) -> Result<IoPair, AllocError>
     ensures { IfOk result (λ copy. sides_of copy ≡ sides_of pair.now) }
 {

@@ -1,5 +1,5 @@
--- The machine of words and three numbers (source: this project). State i * b + j has the parts i and j, and each part goes
--- by itself where words say.
+-- The machine of words and three numbers (source: this project). State i * b + j has the parts i and j. The
+-- words say where each part goes, by that part and the symbol alone.
 use Rattle.std.specs.Prelude.{◌≡◌, ℕ, ◌+◌, ◌*◌, ◌/◌, ◌%◌, ◌^◌, ◌<◌, ◌≤◌, ◌==◌, if◌then◌else◌, List, Some, None, ◌++◌, codes, length, map, slice_get}
 use Rattle.std.specs.Fmt.{decimal}
 use Rattle.std.specs.List.{range_with_len}
@@ -18,15 +18,15 @@ pub record AreSizes (a b k : ℕ) : Type 0 where
   pub k_low : 1 ≤ k
   pub k_high : k ≤ 8
 
--- the word that is drawn for a part and a symbol number, of 2 ^ k symbols
+-- the word that is drawn for a part and the symbol with the number x, of 2 ^ k symbols
 abbrev pub drawn : (ℕ → ℕ) → ℕ → ℕ → ℕ → ℕ
 drawn word k part x = word (part * 2 ^ k + x)
 
--- where a first part goes, of a first parts: the low half of the word decides
+-- where the first part i goes, among a first parts: the low half of the word decides
 abbrev pub next_first : (ℕ → ℕ) → ℕ → ℕ → ℕ → ℕ → ℕ
 next_first word a k i x = drawn word k i x % 65536 % a
 
--- where a second part goes, of b second parts: the high half of the word decides
+-- where the second part j goes, among b second parts: the high half of the word decides
 abbrev pub next_second : (ℕ → ℕ) → ℕ → ℕ → ℕ → ℕ → ℕ
 next_second word b k j x = drawn word k j x / 65536 % b
 
@@ -34,8 +34,9 @@ next_second word b k j x = drawn word k j x / 65536 % b
 abbrev pub state_name : ℕ → List ℕ
 state_name state = codes "s" ++ decimal state
 
--- The row of the state with the parts i and j at the symbol of a number, that goes to a state: no dash in the cube, and
--- both outputs given. Output 0 stands at 1 and is 1 exactly where i is 0, output 1 at 2 and is 1 exactly where j is 0.
+-- The row of the state with the parts i and j at the symbol with the number x, which goes to the given state.
+-- Its cube has no dash, and it gives both outputs. Output 0 is at 1 and is 1 exactly where i is 0; output 1 is
+-- at 2 and is 1 exactly where j is 0.
 pub record IsDrawnRow (b k i j x state : ℕ) (row : KissRow) : Type 0 where
   pub symbol : field_of row.cube ≡ map Some (symbol_of k x)
   pub from : row.from ≡ i * b + j
@@ -60,6 +61,6 @@ pub record IsMachineOf (word : ℕ → ℕ) (a b k : ℕ) (F : KissFile) : Type 
   pub input_names : F.input_names ≡ None
   pub output_names : F.output_names ≡ None
 
--- words and sizes have one machine
+-- the words and the sizes determine the machine
 abbrev pub HaveOneMachine : Type 0
 HaveOneMachine = (word : ℕ → ℕ) (a b k : ℕ) (F G : KissFile) → AreSizes a b k → IsMachineOf word a b k F → IsMachineOf word a b k G → F ≡ G

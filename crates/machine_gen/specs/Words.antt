@@ -7,6 +7,6 @@ use Rattle.rand_pcg.specs.Pcg.{multiplier_64, pcg32}
 abbrev pub generator_of : ℕ → Lcg
 generator_of seed = started 64 multiplier_64 seed (increment_of 64 54)
 
--- the word of a number, counted from 0: what the generator gives after as many steps
+-- the word with the given number, counted from 0: what the generator gives after that number of steps
 unfoldable pub word : ℕ → ℕ → ℕ
 word seed number = (pcg32 (advance 64 multiplier_64 number (generator_of seed))).0

@@ -1,4 +1,4 @@
-//! What the words of a seed say of parts.
+//! What the words of a seed say about parts.
 
 ghost use Rattle.std.specs.Prelude.{◌≡◌, ◌<◌, ◌^◌, IfOk};
 ghost use Rattle.machine_gen.specs.Inner.Drawing.{draw_of, draws_of};
@@ -8,7 +8,7 @@ use rand_pcg::Lcg64Xsh32;
 use rand_pcg::rand_core::Rng;
 use std::alloc::{AllocError, Global};
 
-/// The stream of the generator, on which its reference words are.
+/// The stream of the generator: the one that the generator's reference words are on.
 const STREAM: u64 = 54;
 
 /// What one word says.
@@ -20,7 +20,7 @@ pub(crate) struct Draw {
     pub(crate) second: u16,
 }
 
-/// What a word says, of a first parts and b second parts.
+/// What a word says where there are `a` first parts and `b` second parts.
 fn draw_from(word: u32, a: u16, b: u16) -> Draw
     requires some_a { 0 < a }
     requires some_b { 0 < b }
@@ -34,7 +34,7 @@ fn draw_from(word: u32, a: u16, b: u16) -> Draw
     }
 }
 
-/// What the first words of a seed say, in order.
+/// What the first `count` words of a seed say, in order.
 pub(crate) fn draws(
     alloc: Global,
     seed: u64,

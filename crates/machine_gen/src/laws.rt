@@ -6,19 +6,19 @@ ghost use Rattle.machine_gen.specs.MachineOf.{HaveOneMachine, next_first, next_s
 ghost use Rattle.machine_gen.specs.Parallel.{PartsAreParallel};
 ghost use Rattle.machine_gen.specs.Words.{word};
 
-/// The same words and numbers are those of one file.
+/// The words and the sizes determine the machine.
 pub fn one_machine()
     ensures { HaveOneMachine }
 {}
 
-/// The parts of a state go by themselves, and output 0 tells whether the first is 0, output 1 whether the
-/// second is.
+/// Each part of a state goes where it does by that part and the symbol alone. Output 0 says whether the first
+/// part is 0, and output 1 whether the second part is 0.
 pub fn parts_go()
     ensures { GoByParts }
 {}
 
-/// The partitions by the first and by the second part are closed, neither zero nor one, and meet in zero, so
-/// a machine that is made has a parallel decomposition.
+/// The partitions by the first and by the second part are closed, are neither zero nor one, and meet in zero.
+/// So a generated machine has a parallel decomposition.
 pub fn parallel_exists()
     ensures { PartsAreParallel }
 {}
@@ -31,7 +31,7 @@ pub fn words_of_42()
     ensures fourth { word 42 3 ≡ 0x83d2f293 }
 {}
 
-/// Where each of two first and of two second parts goes at each of two symbols, by the words of seed 42.
+/// The next parts of two first and of two second parts at each of two symbols, by the words of seed 42.
 pub fn parts_of_42()
     ensures first_0 { (next_first (word 42) 2 1 0 0 ≡ 1) × (next_first (word 42) 2 1 0 1 ≡ 1) }
     ensures first_1 { (next_first (word 42) 2 1 1 0 ≡ 0) × (next_first (word 42) 2 1 1 1 ≡ 1) }

@@ -1,11 +1,11 @@
 //! Machines made from a seed, with a known decomposition.
 //!
-//! [`make`] gives the file of a machine whose states have two parts, each of which goes where the words of
-//! a seed say and looks at its own part and the symbol alone. So such a machine of any size comes apart in two
-//! (`parallel_exists`), and the same numbers give the same file everywhere.
+//! [`make`] gives the file of a machine whose states have two parts. The words of a seed say where each part
+//! goes, which depends on that part and the symbol alone. So such a machine has a parallel decomposition into
+//! two, whatever its size (`parallel_exists`), and the same numbers give the same file everywhere.
 //!
 //! `specs/Words` says what the words of a seed are, `specs/MachineOf` what the machine of words is,
-//! `specs/Going` what it does, and `specs/Parallel` how it comes apart. What stands in `specs/Inner` serves
+//! `specs/Going` what it does, and `specs/Parallel` how it is decomposed. What is in `specs/Inner` serves
 //! private functions alone.
 #![tactic(auto)]
 

@@ -17,7 +17,7 @@ fn name(alloc: Global, state: u16) -> Result<Vec<u8>, AllocError>
     Ok(name)
 }
 
-/// The names of as many states, in the order of their numbers.
+/// The names of `count` states, in the order of their numbers.
 pub(crate) fn names(alloc: Global, count: u16) -> Result<StateNames, AllocError>
     requires { count ≤ 256 }
     ensures { IfOk result (λ names. names ≡ map state_name (range_with_len 0 count)) }

@@ -18,7 +18,7 @@ struct Place {
     symbol: u16,
 }
 
-/// How many symbols there are with so many inputs.
+/// The number of symbols of k inputs.
 fn symbols(k: u8) -> usize
     requires { k ≤ 8 }
     ensures { result ≡ 2 ^ k }
@@ -26,7 +26,7 @@ fn symbols(k: u8) -> usize
     1 << k
 }
 
-/// The care of a cube with so many characters and no dash.
+/// The care of a cube of k characters with no dash.
 fn full_care(k: u8) -> u32
     requires { k ≤ 8 }
     ensures { result ≡ 2 ^ k - 1 }
@@ -34,7 +34,7 @@ fn full_care(k: u8) -> u32
     (1 << k) - 1
 }
 
-/// The place of the row of a number, counted by state and then by symbol.
+/// The place of the row with the given number, counted by state and then by symbol.
 fn place_at(b: u16, k: u8, number: usize) -> Place
     requires some_b { 0 < b }
     requires inputs { k ≤ 8 }
@@ -50,7 +50,7 @@ fn place_at(b: u16, k: u8, number: usize) -> Place
     }
 }
 
-/// The row of a place, that goes to a state.
+/// The row of a place, which goes to the given state.
 fn row(b: u16, k: u8, place: Place, state: u16) -> KissRow
     requires some_inputs { 0 < k }
     requires inputs { k ≤ 8 }

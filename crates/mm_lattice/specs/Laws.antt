@@ -1,5 +1,5 @@
--- The laws of the Mm pairs of a machine as a world of values that can be joined. An Mm pair is decided by its right side, and
--- the join of two right sides is one.
+-- The laws of the Mm pairs of a machine as a world of values that can be joined. An Mm pair is decided by its
+-- right side, and the join of two right sides is a right side.
 use Rattle.std.proofs.Common.{◌≡◌, ℕ, ◌<◌, ◌⊎◌, inl, inr, List, length, refl, sym, ap, ◌∙◌, subst, arith}
 use Rattle.kiss2.specs.declared.kiss_file.KissFile.{KissFile}
 use Rattle.partition.specs.Partition.{IsPartition, Together, Le, zero_of}
@@ -14,7 +14,7 @@ use Rattle.pair_operators.specs.Laws.Extremes.{high_once, high_monotone}
 use Rattle.mm_lattice.specs.Sides.{Sides}
 use Rattle.mm_lattice.specs.MmPairs.{IsMmPair, RightBefore, IsLeastMmPair, IsMmJoin}
 
--- equal right sides with M of them are one pair
+-- pairs with equal right sides, whose left sides are M of them, are equal
 pub same_right : (F : KissFile) (x y : Sides) → IsHigh F x.1 x.0 → IsHigh F y.1 y.0 → x.1 ≡ y.1 → x ≡ y
 same_right F (p, q) (a, b) one two same =
     let moved : IsHigh F q a = subst (λ (r : List ℕ). IsHigh F r a) (sym same) two in

@@ -1,4 +1,4 @@
--- What a pair of partitions stands for: its two lists of labels.
+-- What contracts see of a pair of partitions: its two lists of labels.
 use Rattle.std.specs.Prelude.{ℕ, List}
 use Rattle.mm_lattice.specs.declared.worlds.MmPair.{MmPair}
 

@@ -12,7 +12,7 @@ IsRightSide F q = (p : List ℕ) × MmPair F p q
 abbrev pub IsBelowOne : List ℕ → Type 0
 IsBelowOne q = IsOne q → ⊥
 
--- a right side strictly below one, or zero, and no right side stands strictly between it and one
+-- a right side that is strictly below one, or zero, such that no right side is strictly between it and one
 pub record IsGreatestRight (F : KissFile) (q : List ℕ) : Type 0 where
   pub right : IsRightSide F q
   pub below : IsBelowOne q ⊎ IsZero q

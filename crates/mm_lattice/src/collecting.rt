@@ -1,4 +1,4 @@
-//! The right sides of two states, of all pairs of states.
+//! The right sides of all pairs of states.
 
 ghost use Rattle.std.specs.Prelude.{◌+◌, ◌<◌, ◌≤◌, AllPairs, IfOk, OnOk, length};
 ghost use Rattle.hs_lattice.specs.Collection.{IsCollection, items_in};
@@ -12,7 +12,7 @@ use machine_table::Machine;
 use partition::{PartWorld, Partition};
 use std::alloc::{AllocError, Global};
 
-/// The least right side that two states make with each other: m of the partition that holds them together.
+/// m of the partition that holds the two states together and nothing else: their right side.
 ///
 /// It holds together what the two states go to, and nothing else.
 pub(crate) fn right_of(
@@ -32,7 +32,7 @@ pub(crate) fn right_of(
     Ok(right)
 }
 
-/// Adds the right sides of a state with each one before it.
+/// Adds the right sides of a state with each state before it.
 fn add_rights(
     alloc: Global,
     m: &Machine,

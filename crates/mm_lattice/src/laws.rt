@@ -1,4 +1,4 @@
-//! What follows of the definitions, for the crates above. Each law is the contract of a function that does
+//! What follows from the definitions, for the crates above. Each law is the contract of a function that does
 //! nothing.
 
 ghost use Rattle.std.specs.Prelude.{ℕ, ◌≡◌, ◌<◌, All, Contains, List, length};
@@ -8,9 +8,9 @@ ghost use Rattle.mm_lattice.specs.Generators.{IsRightOf};
 ghost use Rattle.mm_lattice.specs.MmPairs.{IsLeastMmPair, IsMmJoin, IsMmPair};
 ghost use Rattle.mm_lattice.specs.Sides.{Sides};
 
-/// An Mm pair is decided by its right side. Joins of Mm pairs are Mm pairs. And where an Mm pair with the right
-/// side m(hold(s, t)) is among the generators for each two states s and t, and these have joins, each Mm pair is
-/// a join of generators.
+/// An Mm pair is decided by its right side, and joins of Mm pairs are Mm pairs. Suppose that the generators are
+/// Mm pairs that have joins, and that for each two states s and t one of them has the right side m(hold(s, t)).
+/// Then each Mm pair is a join of generators.
 pub fn mm_pairs_are_joins()
     ensures decided { (F : KissFile) (x y : Sides) → IsMmPair F x → IsMmPair F y → x.1 ≡ y.1 → x ≡ y }
     ensures pairs { (F : KissFile) (generators : List Sides) (x : Sides) → All (IsMmPair F) generators

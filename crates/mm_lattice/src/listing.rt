@@ -1,8 +1,8 @@
 //! All Mm pairs, in order.
 //!
-//! An Mm pair is decided by its right side, and each right side m(p) is the join of the right sides
-//! m(hold(s, t)) of the states s and t that are together in p. So the right sides are listed as joins of
-//! partitions, and then the left side of each is made, once.
+//! An Mm pair is decided by its right side, and each right side m(p) is the join of the right sides m(hold(s,
+//! t)) of the states s and t that are together in p. So the right sides are listed as joins of partitions, and
+//! then the left side of each is made, once.
 
 ghost use Rattle.std.specs.Prelude.{◌≤◌, All, IfOk, List, ℕ, length, map};
 ghost use Rattle.hs_lattice.specs.Listing.{Evidence, IfMore, IfWhole, Lists, items_of};
@@ -22,7 +22,7 @@ use machine_table::Machine;
 use partition::{PartWorld, Partition};
 use std::alloc::{AllocError, Global};
 
-/// The right sides in ascending order, or where there are more than the limit, limit + 1 of them.
+/// The right sides in ascending order, or limit + 1 of them if there are more than the limit.
 fn right_sides(alloc: Global, m: &Machine, limit: usize) -> Result<Listing<Partition>, AllocError>
     requires positive { 1 ≤ limit }
     requires bounded { limit ≤ 10000 }
@@ -42,7 +42,7 @@ fn right_sides(alloc: Global, m: &Machine, limit: usize) -> Result<Listing<Parti
     join_closure(alloc, &world, found.as_slice(), limit)
 }
 
-/// The partitions in their order as right sides, each with M of it as its left side.
+/// The partitions, in their order, as right sides, each with M of it as its left side.
 fn with_lefts(
     alloc: Global,
     m: &Machine,
@@ -58,10 +58,9 @@ fn with_lefts(
     Ok(Items::from(pairs))
 }
 
-/// The Mm pairs in ascending order of their right sides, or where there are more than the limit, limit + 1
-/// of them.
+/// The Mm pairs in ascending order of their right sides, or limit + 1 of them if there are more than the limit.
 ///
-/// Which ones stand as evidence is left open.
+/// Which pairs are the evidence is left open.
 pub fn all(alloc: Global, m: &Machine, limit: usize) -> Result<Listing<MmPair>, AllocError>
     requires positive { 1 ≤ limit }
     requires bounded { limit ≤ 10000 }

@@ -1,8 +1,8 @@
-//! A greatest right side of an Mm pair strictly below one.
+//! A right side of an Mm pair that is greatest strictly below one.
 //!
-//! The right sides of two states are joined, one pair after another, as long as some states stay apart. A
-//! right side that could not be joined once cannot be joined later, so one pass is enough, and each right side
-//! above what has grown is one.
+//! The right sides of two states are joined, one after another, as long as the join is strictly below one. A
+//! right side that could not be joined once cannot be joined later, so one pass is enough. Each right side that
+//! is strictly above the grown partition is one.
 
 ghost use Rattle.std.specs.Prelude.{◌<◌, ◌↔◌, IfOk, length};
 ghost use Rattle.mm_lattice.specs.Generators.{IsRightOf};
@@ -56,7 +56,7 @@ fn grown_rights(alloc: Global, m: &Machine) -> Result<Partition, AllocError>
 /// The growth of zero over the right sides m(hold(s, t)) strictly below one: the first part of a feedback
 /// decomposition.
 ///
-/// With one state alone it is zero, which is one there.
+/// With one state alone it is zero, which is also one there.
 pub fn top_right(alloc: Global, m: &Machine) -> Result<Partition, AllocError>
     ensures growth { IfOk result (IsGrowth (IsRightOf m.now) IsBelowOne (length m.now.states)
         (zero_of (length m.now.states))) }

@@ -12,8 +12,8 @@ use pair_operators::high;
 use partition::Partition;
 use std::alloc::{AllocError, Global};
 
-/// Two partitions of a machine's states, each of which is to be what the other gives: the right side m of
-/// the left one, and the left side M of the right one.
+/// Two partitions of a machine's states, meant to be an Mm pair: the right side is m of the left one, and the
+/// left side is M of the right one.
 #[derive(Debug, Drop)]
 pub struct MmPair {
     pub left: Partition,
@@ -22,14 +22,14 @@ pub struct MmPair {
 
 /// The Mm pairs of a machine, in the order of their right sides.
 ///
-/// The least one has zero as its right side. The join of two has the join of their right sides as its right
-/// side, and M of that as its left side.
+/// The least pair has zero as its right side. The join of two pairs has the join of their right sides as its
+/// right side, and M of that as its left side.
 #[derive(Clone, Copy)]
 pub struct MmWorld<'a> {
     pub machine: &'a Machine,
 }
 
-/// The pair of M of a partition and of that partition.
+/// The pair whose right side is the given partition and whose left side is M of it.
 pub(crate) fn with_right(alloc: Global, m: &Machine, right: Partition) -> Result<MmPair, AllocError>
     requires { length right ≡ length m.now.states }
     ensures right { IfOk result (λ pair. pair.right ≡ right) }

@@ -10,7 +10,7 @@ use Rattle.partition.specs.Partition.{IsPartition, Together}
 abbrev pub IsClosedAndConsistent : KissFile → List ℕ → Type 0
 IsClosedAndConsistent F p = IsClosedPartition F p × Consistent F p
 
--- the output of that number is equal for each symbol
+-- the output with the given number is equal for each symbol
 abbrev pub GiveEqualBits : KissFile → (bit s t : ℕ) → Type 0
 GiveEqualBits F bit s t = (x : List Bool) → length x ≡ F.inputs → output_bit F s x bit ≡ output_bit F t x bit
 

@@ -8,7 +8,8 @@ use machine_table::Machine;
 use partition::Partition;
 use std::alloc::{AllocError, Global};
 
-/// The partition in which states are together exactly where the output of that number is equal for each symbol.
+/// The partition in which states are together exactly where their output with the given number is equal for
+/// each symbol.
 ///
 /// Each state joins the block of the first state that it agrees with.
 pub fn bit_partition(alloc: Global, m: &Machine, bit: u8) -> Result<Partition, AllocError>
@@ -24,7 +25,7 @@ pub fn bit_partition(alloc: Global, m: &Machine, bit: u8) -> Result<Partition, A
     Ok(p)
 }
 
-/// The first state below s that gives the same bit for each symbol.
+/// The first state below s that has the same bit as s for each symbol.
 fn first_agreeing(m: &Machine, s: usize, bit: u8) -> Option<usize>
     requires s { s < length m.now.states }
     requires bit { bit < m.now.outputs }

@@ -2,12 +2,12 @@
 //!
 //! A partition is consistent where states that are together have equal outputs for each symbol;
 //! [`is_consistent`] decides it, and [`bit_partition`] gives the partition of the states by one output alone.
-//! [`all`] lists the partitions that are closed and consistent, in order. Of each of them there is a machine of
-//! its blocks, and a block answers every word as its members do.
+//! [`all`] lists the partitions that are closed and consistent, in order. Each of them has a machine of its
+//! blocks, in which a block answers every word as its members do.
 //!
-//! The definition of consistent partitions stands in `pair_operators`, beside pairs; `specs/Outputs` says
-//! which partitions are listed and what the partition by one output is. What stands in `specs/Inner` serves
-//! private functions alone.
+//! The definition of consistent partitions is in `pair_operators`, beside pairs; `specs/Outputs` says which
+//! partitions are listed and what the partition by one output is. What is in `specs/Inner` serves private
+//! functions alone.
 #![tactic(auto)]
 
 mod bits;

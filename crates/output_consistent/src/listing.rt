@@ -1,9 +1,10 @@
 //! All partitions that are closed and consistent, in order.
 //!
 //! States that are together in such a partition are alike, and the partition of alike states is closed and
-//! consistent itself. So a closed partition is consistent exactly where it is below that one. Joins of such
-//! partitions are such partitions, and each is the join of the least closed partitions of the pairs of states
-//! that it holds together. So the joins of the least closed partitions of pairs of alike states are all of them.
+//! consistent itself. So a closed partition is consistent exactly where it is below that partition. Joins of
+//! closed and consistent partitions are closed and consistent. Each such partition is the join of the least
+//! closed partitions of the pairs of states that it holds together. So the joins of the least closed partitions
+//! of pairs of alike states are all of them.
 
 ghost use Rattle.std.specs.Prelude.{ℕ, ◌≤◌, IfOk, List, length};
 ghost use Rattle.hs_lattice.specs.Listing.{Evidence, IfMore, IfWhole, Lists};
@@ -18,10 +19,10 @@ use partition::{PartWorld, Partition};
 use state_reduce::equivalence;
 use std::alloc::{AllocError, Global};
 
-/// The partitions that are closed and consistent, in ascending order, or where there are more than the limit,
-/// limit + 1 of them.
+/// The partitions that are closed and consistent, in ascending order, or limit + 1 of them if there are more
+/// than the limit.
 ///
-/// Which ones stand as evidence is left open.
+/// Which partitions are the evidence is left open.
 pub fn all(alloc: Global, m: &Machine, limit: usize) -> Result<Listing<Partition>, AllocError>
     requires positive { 1 ≤ limit }
     requires bounded { limit ≤ 10000 }

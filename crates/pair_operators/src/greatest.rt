@@ -12,8 +12,9 @@ use std::alloc::{AllocError, Global};
 
 /// M(q): the greatest partition p for which (p, q) is a pair.
 ///
-/// Two states are together in it exactly where they go together. A state is compared with the least states
-/// of the blocks so far, and joins the first that it goes with.
+/// Two states are together in it exactly where they go together: at each symbol, to states that are together in
+/// q. A state is compared with the least states of the blocks so far, and joins the block of the first that it
+/// goes with.
 pub fn high(alloc: Global, m: &Machine, q: &Partition) -> Result<Partition, AllocError>
     requires { length q.now ≡ length m.now.states }
     ensures { IfOk result (IsHigh m.now q.now) }
@@ -28,8 +29,8 @@ pub fn high(alloc: Global, m: &Machine, q: &Partition) -> Result<Partition, Allo
     Ok(p)
 }
 
-/// Whether the two states go, at each symbol, to states that are together in q. Where their labels differ at a symbol
-/// that is asked first, the other symbols are not asked.
+/// Whether the two states go, at each symbol, to states that are together in q. If their labels differ at a
+/// symbol of `asked`, the other symbols are not tried.
 fn go_together(m: &Machine, q: &Partition, asked: &[NextLabels], s: usize, t: usize) -> bool
     requires s { s < length m.now.states }
     requires t { t < length m.now.states }
@@ -45,7 +46,7 @@ fn go_together(m: &Machine, q: &Partition, asked: &[NextLabels], s: usize, t: us
     m.pair_goes(s, t, q)
 }
 
-/// The first state below s that is the least of its block in p and goes, for each symbol, where s goes.
+/// The first state below s that is the least of its block in p and goes together with s at each symbol.
 fn goes_with(
     m: &Machine,
     p: &Partition,
@@ -62,7 +63,7 @@ fn goes_with(
     ensures goes { IfSome result (λ first. Goes m.now q.now first s) }
     ensures none { IfNone result ((t : ℕ) → t < s → ¬ Goes m.now q.now t s) }
 {
-    // Of the states so far: a state with this number for a label is the first with it.
+    // The number of blocks of the states so far. A state whose label is this number is the first of its block.
     let mut blocks = 0;
     for t in 0..s {
         if usize::from(p.label(t)) == blocks {

@@ -1,4 +1,4 @@
-//! What follows of the definitions, for the crates above. Each law is the contract of a function that does
+//! What follows from the definitions, for the crates above. Each law is the contract of a function that does
 //! nothing.
 ghost use Rattle.std.specs.Prelude.{ℕ, ◌≡◌, ◌↔◌, List, length};
 ghost use Rattle.kiss2.specs.declared.kiss_file.KissFile.{KissFile};
@@ -8,8 +8,8 @@ ghost use Rattle.partition.specs.Partition.{IsOne, IsPartition, IsZero, Le};
 ghost use Rattle.pair_operators.specs.Extremes.{IsHigh, IsLow, MmPair};
 ghost use Rattle.pair_operators.specs.Pair.{Closed, Pair};
 
-/// A pair stays one with a smaller left side and a greater right side. Zero is a left side of each partition,
-/// and one is a right side; so both are closed.
+/// A pair remains a pair with a smaller left side and a greater right side. Zero makes a pair with each
+/// partition, and each partition makes a pair with one; so zero and one are closed.
 pub fn pairs_of_sides()
     ensures monotone { (F : KissFile) (p q smaller greater : List ℕ) → Le smaller p → Le q greater → Pair F p q → Pair F smaller greater }
     ensures zero { (F : KissFile) (p q : List ℕ) → NeverLeaves F → IsPartition (length F.states) p → IsPartition (length F.states) q → IsZero p → Pair F p q }
@@ -35,8 +35,7 @@ pub fn least_and_greatest()
     ensures each_decides { (F : KissFile) (p q low high : List ℕ) → IsPartition (length F.states) p → IsPartition (length F.states) q → IsLow F p low → IsHigh F q high → Le p high ↔ Le low q }
 {}
 
-/// m and M grow with what they are taken of. m of a join is the join of both m, and M of a meet the meet of
-/// both M.
+/// m and M are monotone. m of a join is the join of both m's, and M of a meet is the meet of both M's.
 pub fn operators_grow()
     ensures low { (F : KissFile) (p a q b : List ℕ) → Le p a → IsLow F p q → IsLow F a b → Le q b }
     ensures high { (F : KissFile) (q b p a : List ℕ) → Le q b → IsHigh F q p → IsHigh F b a → Le p a }

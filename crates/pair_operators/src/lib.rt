@@ -1,13 +1,13 @@
 //! Partition pairs of a machine, and the operators m and M of Hartmanis and Stearns.
 //!
-//! (p, q) is a pair where states that are together in p go, for each symbol, to states that are together in
-//! q. [`is_pair`] decides it, [`low`] gives the least q for a p, and [`high`] the greatest p for a q, each
-//! among all partitions of the machine's states. None of them goes over all symbols: they ask the machine about
-//! two states at a time, and [`high`] looks at eight symbols before, at most.
+//! (p, q) is a pair where states that are together in p go, for each symbol, to states that are together in q.
+//! [`is_pair`] decides it, [`low`] gives the least q for a p, and [`high`] the greatest p for a q, each among
+//! all partitions of the machine's states. None of them goes through all symbols: they ask the machine about
+//! two states at a time. Before that, [`high`] tries at most eight symbols.
 //!
-//! The definitions stand in `specs/`: `Pair` has pairs and closed partitions, `Extremes` the least and the
-//! greatest, and `Consistent` what the outputs of a machine ask of a partition. What follows of them, for the
-//! crates above, stands in `specs/Laws` and is promised by the functions of `laws`.
+//! The definitions are in `specs/`: `Pair` has pairs and closed partitions, `Extremes` the least and the
+//! greatest, and `Consistent` what the outputs of a machine demand of a partition. What follows from them, for
+//! the crates above, is in `specs/Laws` and is promised by the functions of `laws`.
 #![tactic(auto)]
 
 mod greatest;

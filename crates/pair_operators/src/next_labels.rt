@@ -1,4 +1,4 @@
-//! Where the states go at a few symbols, which tells most states apart.
+//! The next states at a few symbols, which are enough to distinguish most states.
 ghost use Rattle.std.specs.Prelude.{◌≡◌, ◌<◌, ◌^◌, All, IfOk, length};
 ghost use Rattle.pair_operators.specs.Inner.Going.{AreLabelsAt, AreNextLabels};
 
@@ -6,7 +6,7 @@ use machine_table::Machine;
 use partition::Partition;
 use std::alloc::{AllocError, Global};
 
-/// How many inputs are asked alone, at most.
+/// The greatest number of inputs that are tried alone.
 const INPUTS_ALONE: u8 = 7;
 
 /// For each state the label of its next state, at one symbol.
@@ -32,7 +32,7 @@ pub(crate) fn at_few_symbols(
     Ok(asked)
 }
 
-/// The labels in q of the next states at the symbol of that number.
+/// The labels in q of the next states at the symbol with the given number.
 fn labels_at(alloc: Global, m: &Machine, q: &Partition, x: u32) -> Result<NextLabels, AllocError>
     requires states { length q.now ≡ length m.now.states }
     requires x { x < 2 ^ m.now.inputs }

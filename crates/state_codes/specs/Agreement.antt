@@ -1,4 +1,4 @@
--- Where the codes of two states agree, and what that says of the states.
+-- Where the codes of two states agree, and what that says about the states.
 use Rattle.std.specs.Prelude.{◌≡◌, ℕ, ◌<◌, ◌≤◌, ◌↔◌, true, List, All, Some, slice_get, slice_index}
 use Rattle.std.specs.Int.{bit_at}
 use Rattle.partition.specs.Partition.{IsPartition, Together, blocks_of}
@@ -19,11 +19,11 @@ AgreeOnPart codes j s t = (i : ℕ) → i < codes.bits → slice_index codes.own
 abbrev pub AgreeOnCarrier : Codes → ℕ → ℕ → ℕ → Type 0
 AgreeOnCarrier codes j s t = (i : ℕ) → i < codes.bits → slice_index codes.owner i ≡ j → slice_get codes.carried i ≡ Some true → CodesAgreeAt codes.words i s t
 
--- states with one code are one state
+-- states with the same code are the same state
 abbrev pub AreDistinct : ℕ → List ℕ → Type 0
 AreDistinct n words = (s t : ℕ) → s < n → t < n → slice_index words s ≡ slice_index words t → s ≡ t
 
--- states are together in p where their codes agree at bit i
+-- states are together in p exactly where their codes agree at bit i
 pub record IsBitPartition (n : ℕ) (words : List ℕ) (i : ℕ) (p : List ℕ) : Type 0 where
   pub lawful : IsPartition n p
   pub together : (s t : ℕ) → s < n → t < n → Together p s t ↔ CodesAgreeAt words i s t

@@ -7,7 +7,7 @@ use Rattle.partition.specs.Inside.{IsInside}
 use Rattle.state_codes.specs.declared.split.Part.{Part}
 use Rattle.state_codes.specs.declared.Codes.{Codes}
 
--- the least number of bits that tell so many blocks apart
+-- the least number of bits that distinguish the given number of blocks
 pub record IsNeed (blocks bits : ℕ) : Type 0 where
   pub enough : blocks ≤ 2 ^ bits
   pub least : (fewer : ℕ) → blocks ≤ 2 ^ fewer → bits ≤ fewer
@@ -20,15 +20,15 @@ need blocks = position_or_len (λ bits. nat_le blocks (2 ^ bits)) (range_with_le
 abbrev pub NeedIsLeast : Type 0
 NeedIsLeast = (blocks : ℕ) → IsNeed blocks (need blocks)
 
--- One bit of a code: the part that it belongs to, whether it codes the carrier, the labels of which it is
--- a bit, and which bit of them, bit w standing at 2 ^ w.
+-- One bit of a code: the part that it belongs to, whether it codes the carrier, the labels that it is a bit of,
+-- and which bit of them it is. Bit w is at 2 ^ w.
 pub record Place : Type 0 where
   pub part : ℕ
   pub carried : Bool
   pub labels : List ℕ
   pub weight : ℕ
 
--- so many bits of the labels, the most significant first
+-- the given number of lowest bits of the labels, the most significant first
 abbrev pub label_places : ℕ → Bool → List ℕ → ℕ → List Place
 label_places part carried labels zero = []
 label_places part carried labels (suc weight) = record { part = part; carried = carried; labels = labels; weight = weight } ∷ label_places part carried labels weight
@@ -37,7 +37,7 @@ label_places part carried labels (suc weight) = record { part = part; carried = 
 abbrev pub part_places : ℕ → List ℕ → List ℕ → List Place
 part_places part carrier inner = label_places part true carrier (need (blocks_of carrier)) ++ label_places part false inner (need (blocks_of inner))
 
--- the bits of the parts from number j on, whose labels inside their carriers are given
+-- the bits of parts that are numbered from j on, where the labels inside their carriers are given
 abbrev pub places_of : ℕ → List Part → List (List ℕ) → List Place
 places_of j [] inners = []
 places_of j (part ∷ parts) [] = []
@@ -47,7 +47,7 @@ places_of j (part ∷ parts) (inner ∷ inners) = part_places j part.carrier inn
 abbrev pub AreInside : List Part → List (List ℕ) → Type 0
 AreInside parts inners = AllZip (λ (part : Part) (inner : List ℕ). IsInside part.carrier part.partition inner) parts inners
 
--- the bit of a state that stands at this place of its code
+-- the bit of a state at this place of its code
 abbrev pub bit_of : ℕ → Place → ℕ
 bit_of s place = bit_at (slice_index place.labels s) place.weight
 
@@ -55,7 +55,7 @@ bit_of s place = bit_at (slice_index place.labels s) place.weight
 abbrev pub state_code : List Place → ℕ → List ℕ
 state_code places s = map (bit_of s) places
 
--- bit i stands at 2 ^ i of the word, and the word has no others
+-- bit i is at 2 ^ i in the word, and the word has no other bits
 abbrev pub Spells : ℕ → List ℕ → Type 0
 Spells word bits = (i : ℕ) → bit_at word i ≡ slice_index bits i
 
@@ -73,7 +73,7 @@ pub record IsCode (n : ℕ) (parts : List Part) (codes : Codes) : Type 0 where
   pub inside : AreInside parts inners
   pub written : IsLaidOut n (places_of 0 parts inners) codes.bits codes.words codes.owner codes.carried
 
--- so many bits has a code that the parts give
+-- a code that the parts give has this number of bits
 pub record IsLength (parts : List Part) (bits : ℕ) : Type 0 where
   pub inners : List (List ℕ)
   pub inside : AreInside parts inners

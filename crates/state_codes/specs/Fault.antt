@@ -22,7 +22,7 @@ pub record FirstTogether (n : ℕ) (parts : List Part) (s t : ℕ) : Type 0 wher
   pub partner : FirstPartner n parts s t
   pub first : (u v : ℕ) → u < s → u < v → v < n → TogetherInAll parts u v → ⊥
 
--- the causes of the refusals, in their order
+-- the causes of the refusals, in the order in which they are checked
 abbrev pub CodeFault : ℕ → List Part → CodeFail → Type 0
 CodeFault n parts (NotApart s t) = FirstTogether n parts s t
 CodeFault n parts (CodeTooLong bits) = AreApart n parts × IsLength parts bits × (64 < bits)

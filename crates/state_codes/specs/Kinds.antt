@@ -1,4 +1,4 @@
--- Words of which the kinds of splits are told, after Hartmanis and Stearns.
+-- Words that define the kinds of splits, after Hartmanis and Stearns.
 use Rattle.std.specs.Prelude.{◌≡◌, ℕ, List}
 use Rattle.state_codes.specs.declared.split.Part.{Part}
 use Rattle.state_codes.specs.Split.{TogetherInAll}

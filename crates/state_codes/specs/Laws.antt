@@ -1,4 +1,4 @@
--- What follows of the definitions alone.
+-- What follows from the definitions alone.
 pub mod Need
 pub mod InnerLabels
 pub mod Places

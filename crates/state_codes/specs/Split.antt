@@ -14,16 +14,16 @@ pub record IsPart (n : ℕ) (part : Part) : Type 0 where
 abbrev pub TogetherInAll : List Part → ℕ → ℕ → Type 0
 TogetherInAll parts s t = All (λ part. Together part.partition s t) parts
 
--- the part that has this partition, is its own carrier and reads the parts of these numbers
+-- the part that has this partition, is its own carrier and reads the parts with these numbers
 abbrev pub own_part : List ℕ → List ℕ → Part
 own_part partition reads = record { partition = partition; carrier = partition; reads = reads }
 
--- the numbers of all parts but j, ascending, where there are so many parts
+-- the numbers of all parts but j, ascending, where there are count parts
 abbrev pub others : ℕ → ℕ → List ℕ
 others count j = filter (λ part. not (part == j)) (range_with_len 0 count)
 
--- the parts from number j on, of so many parts in all, that have these partitions: each is its own
--- carrier and may read all others
+-- the parts that have these partitions, numbered from j on, of count parts in all: each is its own carrier and
+-- may read all others
 abbrev pub given_parts : ℕ → ℕ → List (List ℕ) → List Part
 given_parts count j [] = []
 given_parts count j (partition ∷ partitions) = own_part partition (others count j) ∷ given_parts count (suc j) partitions

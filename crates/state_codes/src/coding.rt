@@ -13,11 +13,11 @@ use crate::{CodeFail, Codes, Part, Split};
 use partition::Partition;
 use std::alloc::{AllocError, Global};
 
-/// A code fits into one word.
+/// The number of bits of a word: a code fits into one word.
 const MOST_BITS: usize = 64;
 
-/// The codes that a split gives to n states. A split of which two states are together in all parts is
-/// refused before one whose codes are too long.
+/// The codes that a split gives to n states. It first refuses a split of which two states are together in all
+/// parts, and then one whose codes are too long.
 pub fn encode(alloc: Global, split: &Split, n: usize) -> Result<Codes, CodeFail>
     requires states { IsStateCount n }
     requires count { length split.now.parts ≤ 256 }
@@ -98,7 +98,7 @@ fn inner_labels(alloc: Global, parts: &[Part]) -> Result<Vec<Partition>, AllocEr
     Ok(inners)
 }
 
-/// How many bits a code has.
+/// The number of bits of a code.
 fn length_of(parts: &[Part], inners: &[Partition]) -> usize
     requires count { length parts.now ≤ 256 }
     requires inners { length inners.now ≡ length parts.now }
@@ -111,7 +111,7 @@ fn length_of(parts: &[Part], inners: &[Partition]) -> usize
     bits
 }
 
-/// The least number of bits that tell so many blocks apart.
+/// The least number of bits that distinguish this number of blocks.
 pub(crate) fn needed_bits(blocks: usize) -> usize
     ensures need { result ≡ need blocks }
     ensures few { result ≤ 64 }

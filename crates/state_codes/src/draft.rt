@@ -1,4 +1,4 @@
-//! Codes in the making: bit after bit for all states at once.
+//! Codes as they are made: bit after bit, for all states at once.
 
 ghost use Rattle.std.specs.Prelude.{◌≡◌, ℕ, ◌+◌, ◌<◌, ◌≤◌, ◌∷◌, [], ◌==◌, if◌then◌else◌, All, length, slice_index, IfOk};
 ghost use Rattle.std.specs.Int.{bit_at};
@@ -94,7 +94,7 @@ fn put_bit(
     Ok(())
 }
 
-/// Sets the bit `at` of each word where the label of its state has the bit of that weight.
+/// Sets the bit `at` of each word where the label of its state has the bit of the given weight.
 fn set_bits(words: &mut [u64], at: usize, labels: &Partition, weight: usize)
     requires at { at < 64 }
     requires weight { weight < 64 }

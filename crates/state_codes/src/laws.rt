@@ -1,9 +1,9 @@
-//! What agreement on bits says of states: laws of all codes that a split gives.
+//! What agreement on bits says about states: laws of all codes that a split gives.
 
 ghost use Rattle.state_codes.specs.Code.{NeedIsLeast, CodesAreOne};
 ghost use Rattle.state_codes.specs.Agreement.{PartBitsTell, CarrierBitsTell, BitsHalve};
 
-/// The number of bits that the blocks of a label take is the least that tells them apart.
+/// The number of bits that a label takes is the least that distinguishes its blocks.
 pub fn need_is_least()
     ensures { NeedIsLeast }
 {}

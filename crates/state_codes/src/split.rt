@@ -11,7 +11,7 @@ use std::alloc::{AllocError, Global};
 /// How the parts of a split came to be, which says what each may read.
 #[derive(Clone, Copy, Debug, PartialEq, Eq)]
 pub enum Kind {
-    /// One part, which tells all states apart.
+    /// One part, which distinguishes all states.
     Code,
     /// Partitions that were given; each part may read all others.
     Assign,
@@ -27,7 +27,7 @@ pub enum Kind {
     Least,
 }
 
-/// Numbers of parts, ascending.
+/// Numbers of parts, in ascending order.
 pub type PartNumbers = Items<u16>;
 
 /// The parts of a split in order.
@@ -46,7 +46,7 @@ impl Part {
     ghost use Rattle.std.specs.Prelude.{◌≡◌, IfOk};
     ghost use Rattle.state_codes.specs.Split.{own_part};
 
-    /// The part that is its own carrier.
+    /// The part with this partition, which is also its carrier.
     pub fn new(alloc: Global, partition: Partition, reads: PartNumbers) -> Result<Part, AllocError>
         ensures { IfOk result (λ part. part ≡ own_part partition reads) }
     {

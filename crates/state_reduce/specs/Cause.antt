@@ -10,20 +10,21 @@ use Rattle.state_reduce.specs.Alike.{IsEquivalence}
 use Rattle.state_reduce.specs.declared.judging.QuotientFail.{QuotientFail}
 use Rattle.state_reduce.specs.declared.judging.QuotientFail.TheVariants.{NotClosed, NotConsistent, NoMemory}
 
--- s < t are the first two states of a block for which it is not so at some symbol, the least s and then the least t, and
--- x is the least such symbol
+-- s < t are the first two states of a block for which P fails at some symbol, by the least s and then the least
+-- t, and x is the least symbol at which it fails
 pub record IsFirstAgainst (P : KissFile → (s t x : ℕ) → Type 0) (F : KissFile) (p : List ℕ) (s t x : ℕ) : Type 0 where
   pub order : s < t
   pub together : Together p s t
   pub symbol : IsFirstWithout F.inputs (P F s t) x
   pub before : (u v : ℕ) → u < v → Together p u v → (u < s) ⊎ ((u ≡ s) × (v < t)) → AtEachSymbol F.inputs (P F u v)
 
--- the refusal has its cause: the partition is not closed; or it is, and not consistent; or it is both, and memory was wanting
+-- the refusal has its cause: the partition is not closed; or it is closed but not consistent; or it is both,
+-- and memory ran out
 abbrev pub Caused : KissFile → List ℕ → QuotientFail → Type 0
 Caused F p (NotClosed s t x) = IsFirstAgainst (GoInto (Together p)) F p s t x
 Caused F p (NotConsistent s t x) = Closed F p × IsFirstAgainst AgreeAt F p s t x
 Caused F p NoMemory = Closed F p × Consistent F p
 
--- the partition of alike states is refused for want of memory alone
+-- the partition of alike states is refused only if memory runs out
 abbrev pub AlikeHasQuotient : Type 0
 AlikeHasQuotient = (F : KissFile) (p : List ℕ) (fail : QuotientFail) → NeverLeaves F → IsEquivalence F p → Caused F p fail → fail ≡ NoMemory

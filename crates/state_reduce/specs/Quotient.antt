@@ -19,21 +19,22 @@ kept_rows F p = filter (λ row. least_of p row.from == row.from) F.rows
 abbrev pub block_name : KissFile → List ℕ → ℕ → List ℕ
 block_name F p s = name_of F.states (least_of p s)
 
--- the names of blocks in the order of their numbers: those of the current states of the kept rows, by first appearance
--- there, and then those of next states alone, by first appearance there
+-- the names of blocks in the order of their numbers: first those of the current states of the kept rows, by
+-- first appearance there, and then those of next states alone, by first appearance there
 abbrev pub block_names : KissFile → List ℕ → List (List ℕ)
 block_names F p =
     each_once (map (λ row. block_name F p row.from) (kept_rows F p) ++ map (block_name F p) (filter_map (λ row. row.to) (kept_rows F p)))
 
--- the number of the block of a state: the place of its name
+-- the number of the block of a state: the place of the block's name
 abbrev pub block_number : KissFile → List ℕ → ℕ → ℕ
 block_number F p s = position_or_len (bytes_eq (block_name F p s)) (block_names F p)
 
--- a row with the blocks of its states in their place
+-- the row with its states replaced by their blocks
 abbrev pub row_of_blocks : KissFile → List ℕ → KissRow → KissRow
 row_of_blocks F p row = record row { from = block_number F p row.from; to = option_map (block_number F p) row.to }
 
--- Q is the file of the blocks: its rows are the kept ones, in order, and the counts and the given names stay
+-- Q is the file of the blocks: its rows are the kept rows, in order, and the counts and the given names are
+-- those of F
 pub record IsQuotient (F : KissFile) (p : List ℕ) (Q : KissFile) : Type 0 where
   pub inputs : Q.inputs ≡ F.inputs
   pub outputs : Q.outputs ≡ F.outputs
@@ -48,7 +49,7 @@ abbrev pub AnswersAsMembers : KissFile → List ℕ → KissFile → Type 0
 AnswersAsMembers F p Q =
     (s : ℕ) (word : List (List Bool)) → s < length F.states → IsWord F.inputs word → answers Q (block_number F p s) word ≡ answers F s word
 
--- at the number of each block stands its name
+-- the name of each block is at the block's number
 abbrev pub AreNamed : KissFile → List ℕ → KissFile → Type 0
 AreNamed F p Q = (s : ℕ) → s < length F.states → slice_get Q.states (block_number F p s) ≡ Some (block_name F p s)
 

@@ -1,5 +1,5 @@
--- The machine that a job works on: that of its file, or of the classes of alike states (source: Hartmanis and Stearns, the
--- reduced machine).
+-- The machine that a job works on: the machine of its file, or of the classes of alike states (source:
+-- Hartmanis and Stearns, the reduced machine).
 use Rattle.std.specs.Prelude.{◌≡◌, ◌<◌, ℕ, Bool, true, false, List, length}
 use Rattle.kiss2.specs.declared.kiss_file.KissFile.{KissFile}
 use Rattle.kiss2.specs.Lawful.{IsLawful}
@@ -26,7 +26,8 @@ abbrev pub IsWorkMachine : (reduce : Bool) → KissFile → KissFile → (ℕ �
 IsWorkMachine true F W class = IsMachineOfClasses F W class
 IsWorkMachine false F W class = IsFileItself F W class
 
--- from the class of a state it answers every word as the file's machine does from the state
+-- from the class of a state, the machine that a job works on answers every word as the file's machine does from
+-- the state
 abbrev pub ClassesAnswerAlike : Type 0
 ClassesAnswerAlike =
     (reduce : Bool) (F W : KissFile) (class : ℕ → ℕ) → IsLawful F → (Conflicting F → ⊥) → IsWorkMachine reduce F W class

@@ -1,10 +1,10 @@
-//! Given names again.
+//! Copies of given names.
 ghost use Rattle.std.specs.Prelude.{◌≡◌, IfOk};
 
 use hs_io::{Name, Names};
 use std::alloc::{AllocError, Global};
 
-/// The names of inputs or outputs again, where there are names.
+/// A copy of the names of inputs or outputs, if there are any.
 pub(crate) fn copied_given(
     alloc: Global,
     given: &Option<Names>,
@@ -17,7 +17,7 @@ pub(crate) fn copied_given(
     }
 }
 
-/// Names again.
+/// A copy of the names.
 fn copied_names(alloc: Global, names: &[Name]) -> Result<Names, AllocError>
     ensures { IfOk result (λ copy. copy ≡ names.now) }
 {

@@ -11,13 +11,13 @@ use std::alloc::AllocError;
 /// Why a partition has no quotient. States and symbols are given by their numbers.
 #[derive(Clone, Copy, Debug, PartialEq, Eq)]
 pub enum QuotientFail {
-    /// The states s < t are together and at the symbol x go to states that are not. They are the first such
-    /// states, and it is the first such symbol.
+    /// The states s < t are together, but at the symbol x they go to states that are not. s and t are the first
+    /// such states, and x is the first such symbol.
     NotClosed { s: u16, t: u16, x: u32 },
-    /// The states s < t are together and at the symbol x their outputs differ, where the partition is closed.
-    /// They are the first such states, and it is the first such symbol.
+    /// The partition is closed. The states s < t are together, but at the symbol x their outputs differ. s and
+    /// t are the first such states, and x is the first such symbol.
     NotConsistent { s: u16, t: u16, x: u32 },
-    /// There is no memory left.
+    /// Memory ran out.
     NoMemory,
 }
 
@@ -41,8 +41,8 @@ pub(crate) enum Demand {
     Outputs,
 }
 
-/// The first two states that are together and do not meet the demand, and the first symbol at which they do
-/// not. If a state of a block fails with another one, the least of the block fails with one of the two.
+/// The first two states that are together and do not meet the demand, and the first symbol at which they do not
+/// meet it. If two states of a block fail with each other, the least state of the block fails with one of them.
 pub(crate) fn first_against(m: &Machine, p: &Partition, demand: Demand) -> Option<(u16, u16, u32)>
     requires { length p.now ≡ length m.now.states }
     ensures some { IfSome result (λ it. IsFirstUnmet demand m.now p.now it.0 it.1 it.2) }
@@ -60,7 +60,8 @@ pub(crate) fn first_against(m: &Machine, p: &Partition, demand: Demand) -> Optio
     None
 }
 
-/// The first state behind s that is together with it and does not meet the demand with it.
+/// The first state after s that is together with it and does not meet the demand with it, and the first symbol
+/// at which they do not meet it.
 fn first_behind(m: &Machine, p: &Partition, demand: Demand, s: usize) -> Option<(u16, u32)>
     requires p { length p.now ≡ length m.now.states }
     requires s { s < length m.now.states }

@@ -112,7 +112,7 @@ fn add_nexts(states: &mut StateNames, file: &KissFile, p: &Partition) -> Result<
     Ok(())
 }
 
-/// The rows of the blocks, each of which has its name among the states.
+/// The rows of the blocks, where the name of each block is among the states.
 fn rows_of_blocks(
     alloc: Global,
     states: &mut StateNames,
@@ -135,7 +135,7 @@ fn rows_of_blocks(
     Ok(rows)
 }
 
-/// The row with the blocks of its states in their place.
+/// The row with its states replaced by their blocks.
 fn row_of(
     states: &mut StateNames,
     file: &KissFile,
@@ -174,7 +174,7 @@ fn is_kept(p: &Partition, row: &KissRow) -> bool
     p.least_of(from) == from
 }
 
-/// The number of the block of a state among the names. A new name goes last.
+/// The number of the block of a state: the place of its name among the names. A new name is added at the end.
 fn number_of(
     states: &mut StateNames,
     file: &KissFile,

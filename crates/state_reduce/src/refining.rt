@@ -1,4 +1,4 @@
-//! The partition of alike states, by rounds in which states are told apart.
+//! The partition of alike states, by rounds that separate states.
 ghost use Rattle.std.specs.Prelude.{◌≡◌, ◌<◌, ◌↔◌, ℕ, IfNone, IfOk, IfSome, IsTrue, length};
 ghost use Rattle.partition.specs.Inner.Splitting.{AreRelated, IsSplitBy};
 ghost use Rattle.partition.specs.Partition.{IsPartition};
@@ -9,7 +9,7 @@ use machine_table::Machine;
 use partition::Partition;
 use std::alloc::{AllocError, Global};
 
-/// The partition of the states in which two are together exactly where they are alike.
+/// The partition of the states in which two states are together exactly where they are alike.
 pub fn equivalence(alloc: Global, m: &Machine) -> Result<Partition, AllocError>
     ensures { IfOk result (IsEquivalence m.now) }
 {
@@ -94,7 +94,7 @@ fn first_staying(m: &Machine, p: &Partition, so_far: &Partition, s: usize) -> Op
     None
 }
 
-/// Whether the states are together and at each symbol go to states that are.
+/// Whether the states are together and, at each symbol, go to states that are together.
 fn stay_together(m: &Machine, p: &Partition, s: usize, t: usize) -> bool
     requires p { length p.now ≡ length m.now.states }
     requires s { s < length m.now.states }

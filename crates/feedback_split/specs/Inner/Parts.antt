@@ -1,4 +1,4 @@
--- The two parts of a feedback split in the making.
+-- The two parts of a feedback split, as they are made.
 use Rattle.std.specs.Prelude.{◌≡◌, ℕ, List, [], ◌∷◌}
 use Rattle.kiss2.specs.declared.kiss_file.KissFile.{KissFile}
 use Rattle.partition.specs.Partition.{blocks_of}
@@ -6,11 +6,11 @@ use Rattle.partition.specs.Inside.{IsComplement, IsLargestSize}
 use Rattle.state_codes.specs.declared.split.Part.{Part}
 use Rattle.feedback_split.specs.Carrier.{IsCarrierGrowth, IsGreatestCarrier}
 
--- the part that has this partition and this carrier, and reads the part of that number
+-- the part that has this partition and this carrier, and reads the part with the number other
 abbrev pub part_reading : List ℕ → List ℕ → ℕ → Part
 part_reading partition carrier other = record { partition = partition; carrier = carrier; reads = other ∷ [] }
 
--- a partition and its complement, with their carriers, each of which reads the other one
+-- a partition and its complement, with their carriers, each of which reads the other part
 pub record AreHalves (F : KissFile) (first : List ℕ) (parts : List Part) : Type 0 where
   pub second : List ℕ
   pub complement : IsComplement first second

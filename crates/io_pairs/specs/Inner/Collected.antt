@@ -1,4 +1,5 @@
--- Least partitions in which two members go together, their joins, and lists of right sides without and with their left sides.
+-- Least partitions in which two members go together, their joins, and lists of right sides without and with
+-- their left sides.
 use Rattle.std.specs.Prelude.{◌≡◌, ℕ, ◌<◌, All, AllPairs, Contains, List, map}
 use Rattle.partition.specs.Before.{Before}
 use Rattle.partition.specs.Partition.{IsPartition, Le}
@@ -10,7 +11,7 @@ use Rattle.io_pairs.specs.Sides.{Sides}
 abbrev pub IsRightOf : ℕ → List (List ℕ) → (x y : ℕ) → List ℕ → Type 0
 IsRightOf values functions x y q = IsLeastWith values (λ r. Go functions r x y) q
 
--- it is that of two members
+-- q is the right side of some two members
 pub record IsRight (members values : ℕ) (functions : List (List ℕ)) (q : List ℕ) : Type 0 where
   pub x : ℕ
   pub y : ℕ
@@ -18,19 +19,19 @@ pub record IsRight (members values : ℕ) (functions : List (List ℕ)) (q : Lis
   pub in_y : y < members
   pub right : IsRightOf values functions x y q
 
--- each is that of two members
+-- each partition of the list is the right side of some two members
 abbrev pub AreRights : (members values : ℕ) → List (List ℕ) → List (List ℕ) → Type 0
 AreRights members values functions found = All (IsRight members values functions) found
 
--- that of the two members is in the list
+-- the right side of the two members is in the list
 abbrev pub HasRight : ℕ → List (List ℕ) → List (List ℕ) → (x y : ℕ) → Type 0
 HasRight values functions found x y = (q : List ℕ) × Contains found q × IsRightOf values functions x y q
 
--- so it is for each two of the first members
+-- the list has the right side of each two of the first members
 abbrev pub HaveRights : ℕ → List (List ℕ) → ℕ → List (List ℕ) → Type 0
 HaveRights values functions count found = (x y : ℕ) → x < y → y < count → HasRight values functions found x y
 
--- a partition in which members go together that go together in q is above q
+-- each partition in which all members go together that go together in q is above q
 pub record IsReached (members values : ℕ) (functions : List (List ℕ)) (q : List ℕ) : Type 0 where
   pub lawful : IsPartition values q
   pub least : (other : List ℕ) → IsPartition values other

@@ -3,7 +3,7 @@ use Rattle.std.specs.Prelude.{◌≡◌, ℕ, ◌<◌, ◌≤◌, ◌↔◌, Lis
 use Rattle.partition.specs.Partition.{IsPartition, IsStateCount, Le, Together}
 use Rattle.io_pairs.specs.declared.family.Family.{Family}
 
--- the value of a member under the function of that number
+-- the value of a member under the function with the number k
 abbrev pub value_at : List (List ℕ) → ℕ → ℕ → ℕ
 value_at functions k x = slice_index (slice_index_or functions k []) x
 
@@ -21,11 +21,11 @@ functions_of family = family.functions.items
 abbrev pub IsFamily : Family → Type 0
 IsFamily family = AreFunctions family.members family.values (functions_of family)
 
--- the functions below a number put the two members into values that are together
+-- each function with a number below the count puts the two members into values that are together
 abbrev pub GoBelow : List (List ℕ) → ℕ → List ℕ → ℕ → ℕ → Type 0
 GoBelow functions count q x y = (k : ℕ) → k < count → Together q (value_at functions k x) (value_at functions k y)
 
--- and so does each function
+-- each function puts the two members into values that are together
 abbrev pub Go : List (List ℕ) → List ℕ → ℕ → ℕ → Type 0
 Go functions q x y = GoBelow functions (length functions) q x y
 
@@ -33,8 +33,8 @@ Go functions q x y = GoBelow functions (length functions) q x y
 abbrev pub FamilyPair : List (List ℕ) → List ℕ → List ℕ → Type 0
 FamilyPair functions p q = (x y : ℕ) → Together p x y → Go functions q x y
 
--- r is above q, the functions below a number put the two members together in it, and it is below each partition of which
--- this holds for all functions
+-- r is above q, each function with a number below the count puts the two members together in r, and r is below
+-- each partition above q in which all functions do so
 pub record TiesBelow (functions : List (List ℕ)) (count x y : ℕ) (q r : List ℕ) : Type 0 where
   pub lawful : IsPartition (length q) r
   pub above : Le q r
@@ -44,7 +44,8 @@ pub record TiesBelow (functions : List (List ℕ)) (count x y : ℕ) (q r : List
 abbrev pub Ties : List (List ℕ) → ℕ → ℕ → List ℕ → List ℕ → Type 0
 Ties functions x y q r = TiesBelow functions (length functions) x y q r
 
--- two members are together in p exactly where the functions below a number put them together
+-- two members are together in p exactly where each function with a number below the count puts them together in
+-- q
 pub record IsPartedBelow (members : ℕ) (functions : List (List ℕ)) (count : ℕ) (q p : List ℕ) : Type 0 where
   pub lawful : IsPartition members p
   pub together : (x y : ℕ) → x < members → y < members → Together p x y ↔ GoBelow functions count q x y
@@ -52,6 +53,6 @@ pub record IsPartedBelow (members : ℕ) (functions : List (List ℕ)) (count : 
 abbrev pub IsParted : ℕ → List (List ℕ) → List ℕ → List ℕ → Type 0
 IsParted members functions q p = IsPartedBelow members functions (length functions) q p
 
--- one partition for each member and function: the functions are those of the relation
+-- for each partition and each two members, the two relations say the same
 abbrev pub SameGoing : ℕ → (List ℕ → ℕ → ℕ → Type 0) → (List ℕ → ℕ → ℕ → Type 0) → Type 0
 SameGoing members One Other = (q : List ℕ) (x y : ℕ) → x < members → y < members → One q x y ↔ Other q x y

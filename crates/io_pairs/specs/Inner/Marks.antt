@@ -10,6 +10,6 @@ class_in turn mark = if mark.turn == turn then Some mark.class else None
 abbrev pub seen_in : ℕ → List Mark → List (Option ℕ)
 seen_in turn marks = map (class_in turn) marks
 
--- all marks are of turns before this one
+-- the marks of all values are of turns before this one
 abbrev pub AreMarksBefore : ℕ → List Mark → Type 0
 AreMarksBefore turn marks = (value : ℕ) (d : Mark) → value < length marks → (slice_index_or marks value d).turn < turn

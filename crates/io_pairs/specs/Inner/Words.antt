@@ -3,7 +3,7 @@ use Rattle.std.specs.Prelude.{◌≡◌, ◌≢◌, ℕ, ◌<◌, ◌≤◌, ◌
 use Rattle.kiss2.specs.declared.kiss_file.KissFile.{KissFile}
 use Rattle.io_pairs.specs.Outputs.{occurring, output_number}
 
--- the word comes first at that place, or nowhere, and then the place is the length
+-- place is where the word comes first, or the length of the list if the word is not in it
 pub record IsPlaceOf (outs : List ℕ) (word place : ℕ) : Type 0 where
   pub within : place ≤ length outs
   pub before : (k : ℕ) → k < place → slice_index outs k ≢ word
@@ -14,11 +14,11 @@ abbrev pub has_word : List ℕ → ℕ → Bool
 has_word [] word = false
 has_word (x ∷ xs) word = (x == word) || has_word xs word
 
--- the list with the word at its end, unless it is there
+-- the list with the word at its end, unless the list already has it
 abbrev pub with_word : List ℕ → ℕ → List ℕ
 with_word outs word = if has_word outs word then outs else outs ++ word ∷ []
 
--- the list with all of the words, one after another
+-- the list after all of the words are added, one after another
 abbrev pub with_words : List ℕ → List ℕ → List ℕ
 with_words outs [] = outs
 with_words outs (word ∷ words) = with_words (with_word outs word) words

@@ -1,4 +1,4 @@
--- What words say of parts, and what stands at the number of a row.
+-- What words say about parts, and what is at the number of a row.
 use Rattle.std.specs.Prelude.{ℕ, ◌+◌, ◌*◌, ◌/◌, ◌%◌, ◌^◌, List, map}
 use Rattle.std.specs.List.{range_with_len}
 use Rattle.kiss2.specs.declared.kiss_file.KissRow.{KissRow}
@@ -6,11 +6,11 @@ use Rattle.machine_gen.specs.declared.drawing.Draw.{Draw}
 use Rattle.machine_gen.specs.declared.rows.Place.{Place}
 use Rattle.machine_gen.specs.MachineOf.{IsDrawnRow, next_first, next_second}
 
--- what a word says, of a first parts and b second parts
+-- what a word says where there are a first parts and b second parts
 abbrev pub draw_of : ℕ → ℕ → ℕ → Draw
 draw_of a b word = record { first = word % 65536 % a; second = word / 65536 % b }
 
--- what the first words say, in order
+-- what the first count words say, in order
 abbrev pub draws_of : (ℕ → ℕ) → ℕ → ℕ → ℕ → List Draw
 draws_of word a b count = map (λ n. draw_of a b (word n)) (range_with_len 0 count)
 
@@ -18,7 +18,7 @@ draws_of word a b count = map (λ n. draw_of a b (word n)) (range_with_len 0 cou
 abbrev pub place_of : ℕ → ℕ → ℕ → Place
 place_of b k number = record { first = number / 2 ^ k / b; second = number / 2 ^ k % b; symbol = number % 2 ^ k }
 
--- the row of a place, that goes to a state
+-- the row of a place, which goes to the given state
 abbrev pub IsRowAt : ℕ → ℕ → Place → ℕ → KissRow → Type 0
 IsRowAt b k place state row = IsDrawnRow b k place.first place.second place.symbol state row
 

@@ -12,20 +12,21 @@ use Rattle.mm_lattice.specs.Top.{IsRightSide}
 abbrev pub AreRights : KissFile → List (List ℕ) → Type 0
 AreRights F found = All (λ q. (s : ℕ) × (t : ℕ) × IsRightOf F s t q) found
 
--- m of the partition that holds the two states together stands in the list
+-- m of the partition that holds the two states together and nothing else is in the list
 abbrev pub HasRight : KissFile → List (List ℕ) → (s t : ℕ) → Type 0
 HasRight F found s t = (q : List ℕ) × Contains found q × IsRightOf F s t q
 
--- so it is for each two of the first states
+-- the list has that for each two of the first states
 abbrev pub HaveRights : KissFile → ℕ → List (List ℕ) → Type 0
 HaveRights F count found = (s t : ℕ) → s < t → t < count → HasRight F found s t
 
--- a partition above each right side of two states that is below q is above q: q is the join of these
+-- q is the join of the right sides of two states that are below it: a partition above all of these is above q
 pub record IsReached (F : KissFile) (q : List ℕ) : Type 0 where
   pub lawful : IsPartition (length F.states) q
   pub least : (other : List ℕ) → IsPartition (length F.states) other → ((s t : ℕ) (g : List ℕ) → IsRightOf F s t g → Le g q → Le g other) → Le q other
 
--- joins of right sides of two states in ascending order, and each right side of an Mm pair is among them
+-- the list is ascending, each element is a join of right sides of two states, and it has each right side of an
+-- Mm pair
 pub record ListsRights (F : KissFile) (rights : List (List ℕ)) : Type 0 where
   pub ascending : AllPairs Before rights
   pub reached : All (IsReached F) rights

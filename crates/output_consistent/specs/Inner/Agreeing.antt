@@ -3,6 +3,6 @@ use Rattle.std.specs.Prelude.{ℕ}
 use Rattle.kiss2.specs.declared.kiss_file.KissFile.{KissFile}
 use Rattle.machine_table.specs.Pairs.{AgreeInBit, AtEachSymbol}
 
--- the output of that number is equal at each symbol
+-- the output with the given number is equal at each symbol
 abbrev pub AgreeInEach : KissFile → (bit s t : ℕ) → Type 0
 AgreeInEach F bit s t = AtEachSymbol F.inputs (AgreeInBit bit F s t)

@@ -11,7 +11,7 @@ use Rattle.partition.specs.Partition.{IsPartition, Together, Le}
 abbrev pub Goes : KissFile → List ℕ → (s t : ℕ) → Type 0
 Goes F q s t = AtEachSymbol F.inputs (GoInto (Together q) F s t)
 
--- for each state the label in q of its next state at the symbol of that number
+-- for each state, the label in q of its next state at the symbol with the number x
 pub record AreLabelsAt (F : KissFile) (q : List ℕ) (x : ℕ) (labels : List ℕ) : Type 0 where
   pub each : length labels ≡ length F.states
   pub label : (s : ℕ) → s < length F.states → slice_index labels s ≡ slice_index q (next F s (symbol_of F.inputs x))
@@ -22,7 +22,7 @@ pub record AreNextLabels (F : KissFile) (q : List ℕ) (next : NextLabels) : Typ
   pub within : symbol < 2 ^ F.inputs
   pub labels : AreLabelsAt F q symbol next.labels.items
 
--- r is above q, the two states go together in it, and it is below each partition of which this holds
+-- r is the least partition above q in which the two states go together
 pub record HoldsNext (F : KissFile) (s t : ℕ) (q r : List ℕ) : Type 0 where
   pub lawful : IsPartition (length q) r
   pub above : Le q r

@@ -1,5 +1,4 @@
--- There is one least and one greatest partition of a pair; both grow with the partition that they are taken of, and each
--- decides the other.
+-- There is one least and one greatest partition of a pair; both are monotone, and each decides the other.
 use Rattle.std.proofs.Common.{◌≡◌, ℕ, ◌↔◌, List, length, sym, ◌∙◌}
 use Rattle.kiss2.specs.declared.kiss_file.KissFile.{KissFile}
 use Rattle.partition.specs.Partition.{IsPartition, Le}
@@ -10,7 +9,7 @@ use Rattle.pair_operators.specs.Pair.{Pair}
 use Rattle.pair_operators.specs.Extremes.{IsLow, IsHigh, MmPair}
 use Rattle.pair_operators.specs.Laws.Pairs.{pair_monotone, joins_pair, meets_pair}
 
--- partitions that are below each other are one
+-- partitions that are below each other are equal
 same_from_both : (n : ℕ) (p q : List ℕ) → IsPartition n p → IsPartition n q → Le p q → Le q p → p ≡ q
 same_from_both n p q left right up down = same_labels p q left.numbered right.numbered (left.length ∙ sym right.length) (λ s t. (up s t, down s t))
 
@@ -43,7 +42,7 @@ each_decides F p q low high left right is_low is_high = (
   (λ above. (below_high F p q high left is_high).1 ((above_low F p q low right is_low).0 above)),
 )
 
--- M(q) with m(M(q)) is an Mm pair, and M(m(p)) with m(p) is one
+-- M(q) with m(M(q)) is an Mm pair, and so is M(m(p)) with m(p)
 pub mm_from_high : (F : KissFile) (q p low : List ℕ) → IsPartition (length F.states) q → IsHigh F q p → IsLow F p low → MmPair F p low
 mm_from_high F q p low lawful high is = record {
   low = is;
@@ -71,7 +70,7 @@ high_again F q p low again lawful high is is_again = high_once F low again p is_
 pub low_again : (F : KissFile) (p q high again : List ℕ) → IsPartition (length F.states) p → IsLow F p q → IsHigh F q high → IsLow F high again → again ≡ q
 low_again F p q high again lawful low is is_again = low_once F high again q is_again (mm_from_low F p q high lawful low is).low
 
--- m of a join is the join of both m, and M of a meet the meet of both M
+-- m of a join is the join of both m's, and M of a meet is the meet of both M's
 pub low_of_join : (F : KissFile) (p a q b r o : List ℕ) → length a ≡ length p → IsLow F p q → IsLow F a b → IsJoin p a r → IsJoin q b o → IsLow F r o
 low_of_join F p a q b r o sizes one two lower upper = record {
   lawful = IsPartition-of one.lawful.length upper.lawful;

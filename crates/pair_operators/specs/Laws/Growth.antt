@@ -1,4 +1,5 @@
--- What one pass of growth gives, for any partitions of two states, and any condition that smaller partitions meet too.
+-- What one pass of growth gives, for any generators of two states, and any condition that smaller partitions
+-- meet too.
 use Rattle.std.proofs.Common.{◌≡◌, ℕ, ◌+◌, ◌-◌, ◌<◌, ◌≤◌, ◌⊎◌, inl, inr, Contains, List, [], ◌∷◌, ◌++◌, map, refl, sym, ap, ◌∙◌, subst, arith}
 use Rattle.std.specs.List.{flat_map, range_with_len}
 use Rattle.std.proofs.lemmas.List.{append-nil, map-id}
@@ -12,7 +13,7 @@ use Rattle.partition.specs.Laws.Joins.{joins_are_one}
 use Rattle.partition.specs.Laws.World.{join_fits}
 use Rattle.pair_operators.specs.Growth.{GrowsOver, IsGrowth, NoneFits, TakesPair, pairs_from, pairs_of}
 
--- one list of pairs after another
+-- growth over one list of pairs and then over another is growth over both lists
 pub grows_on : (G : ℕ → ℕ → List ℕ → Type 0) (Meets : List ℕ → Type 0) (p q r : List ℕ) (pairs more : List (ℕ × ℕ)) → GrowsOver G Meets p pairs q → GrowsOver G Meets q more r → GrowsOver G Meets p (pairs ++ more) r
 grows_on G Meets p q r [] more here on = subst (λ (x : List ℕ). GrowsOver G Meets x more r) (sym here) on
 grows_on G Meets p q r ((s, t) ∷ pairs) more (next, takes, rest) on = (next, takes, grows_on G Meets next q r pairs more rest on)
@@ -56,7 +57,7 @@ first_pairs_more s t order =
     let f : ℕ → ℕ × ℕ = λ u. (s, u) in
     ap (λ (n : ℕ). map f (range_with_len (s + 1) n)) more ∙ map-range_with_len_more f (s + 1) (t - (s + 1)) t (omega arith)
 
--- one pair more
+-- growth over one more pair
 pub pair_taken : (n : ℕ) (G : ℕ → ℕ → List ℕ → Type 0) (Meets : List ℕ → Type 0) (start p : List ℕ) (s t : ℕ) (generator joined next : List ℕ) → IsPartition n p →
     GrowsOver G Meets start (first_pairs s t) p → G s t generator → IsJoin p generator joined →
     (Meets joined × (next ≡ joined)) ⊎ ((Meets joined → ⊥) × (next ≡ p)) → s + 1 ≤ t →
@@ -76,7 +77,7 @@ rows_more n s =
     sym (map-id (range_with_len 0 (s + 1))) ∙ map-range_with_len_more (λ (u : ℕ). u) 0 s s (omega arith) ∙ ap (λ (xs : List ℕ). xs ++ s ∷ []) (map-id (range_with_len 0 s)) in
     ap (flat_map (pairs_from n)) one ∙ flat_map-append (pairs_from n) (range_with_len 0 s) (s ∷ []) ∙ ap (λ (xs : List (ℕ × ℕ)). flat_map (pairs_from n) (range_with_len 0 s) ++ xs) (append-nil (pairs_from n s))
 
--- the pairs of one state more
+-- growth over the pairs of one more state
 pub row_taken : (n : ℕ) (G : ℕ → ℕ → List ℕ → Type 0) (Meets : List ℕ → Type 0) (start p q : List ℕ) (s : ℕ) → GrowsOver G Meets start (flat_map (pairs_from n) (range_with_len 0 s)) p →
     GrowsOver G Meets p (pairs_from n s) q → GrowsOver G Meets start (flat_map (pairs_from n) (range_with_len 0 (s + 1))) q
 row_taken n G Meets start p q s so_far row =
@@ -84,7 +85,7 @@ row_taken n G Meets start p q s so_far row =
     (grows_on G Meets start p q (flat_map (pairs_from n) (range_with_len 0 s)) (pairs_from n s) so_far row)
 
 module _ (n : ℕ) (G : ℕ → ℕ → List ℕ → Type 0) (Meets : List ℕ → Type 0) where
-  -- what joins with partitions of two states keep, growth keeps
+  -- growth keeps what joins with generators keep
   pub grown_keeps : (P : List ℕ → Type 0) → ((p : List ℕ) (s t : ℕ) (g joined : List ℕ) → P p → G s t g → IsJoin p g joined → P joined) →
       (start last : List ℕ) (pairs : List (ℕ × ℕ)) → P start → GrowsOver G Meets start pairs last → P last
   grown_keeps P keeps start last [] has here = subst P here has
@@ -104,7 +105,7 @@ module _ (n : ℕ) (G : ℕ → ℕ → List ℕ → Type 0) (Meets : List ℕ �
       ] in
       grown_meets next last pairs next_met rest
 
-  -- where no partition meets the condition, the first one stays
+  -- where no partition meets the condition, growth changes nothing
   pub grown_nothing : ((p : List ℕ) → IsPartition n p → Meets p → ⊥) → (start last : List ℕ) (pairs : List (ℕ × ℕ)) → IsPartition n start → GrowsOver G Meets start pairs last → last ≡ start
   grown_nothing never start last [] lawful here = sym here
   grown_nothing never start last ((s, t) ∷ pairs) lawful (next, takes, rest) =
@@ -130,7 +131,7 @@ module _ (n : ℕ) (G : ℕ → ℕ → List ℕ → Type 0) (Meets : List ℕ �
       | inr (refused, same) ↦ subst (Le p) (sym same) (λ u v held. held)
     ]
 
-    -- growth goes up
+    -- the grown partition is above the start
     pub grown_above : (start last : List ℕ) (pairs : List (ℕ × ℕ)) → IsPartition n start → GrowsOver G Meets start pairs last → Le start last
     grown_above start last [] lawful here = subst (Le start) here (λ u v held. held)
     grown_above start last ((s, t) ∷ pairs) lawful (next, takes, rest) =
@@ -139,7 +140,8 @@ module _ (n : ℕ) (G : ℕ → ℕ → List ℕ → Type 0) (Meets : List ℕ �
         λ u v held. on u v (one u v held)
 
     module _ (down : (p q : List ℕ) → IsPartition n p → IsPartition n q → Le q p → Meets p → Meets q) where
-      -- the partition of the two states is below the last one, where a partition above both meets the condition
+      -- the generator of the two states is below the last partition, if a partition above both meets the
+      -- condition
       abbrev IsCovered : List ℕ → (s t : ℕ) → Type 0
       IsCovered last s t = (g : List ℕ) × G s t g × ((q : List ℕ) → IsPartition n q → Le last q → Le g q → Meets q → Le g last)
 
@@ -169,12 +171,12 @@ module _ (n : ℕ) (G : ℕ → ℕ → List ℕ → Type 0) (Meets : List ℕ �
             | inr tail ↦ covered next last pairs next_fits rest s t tail
           ]
 
-      -- no partition of two states fits under the condition any more
+      -- no other generator can be joined to the grown partition under the condition
       pub growth_is_full : (start last : List ℕ) → IsPartition n start → IsGrowth G Meets n start last → NoneFits n G Meets last
       growth_is_full start last lawful growth s t order within =
           covered start last (pairs_of n) lawful growth s t (contains_pair n s t order within)
 
--- where each two states have one partition, growth over these has one value
+-- where each two states have only one generator, growth has only one result
 module _ (G : ℕ → ℕ → List ℕ → Type 0) (Meets : List ℕ → Type 0) (once : (s t : ℕ) (g h : List ℕ) → G s t g → G s t h → g ≡ h) where
   taken_once : (p : List ℕ) (s t : ℕ) (next other : List ℕ) → TakesPair G Meets p s t next → TakesPair G Meets p s t other → next ≡ other
   taken_once p s t next other one two =

@@ -12,7 +12,7 @@ pub pair_monotone : (F : KissFile) (p q smaller greater : List ℕ) → Le small
 pair_monotone F p q smaller greater below above pair s t x held size = above (next F s x) (next F t x) (pair s t x (below s t held) size)
 
 module _ (F : KissFile) (p q a b : List ℕ) (left : length a ≡ length p) (right : length b ≡ length q) (first : Pair F p q) (second : Pair F a b) (x : List Bool) (size : length x ≡ F.inputs) where
-  -- for a symbol, a chain of states leads to a chain
+  -- at a symbol, a chain of states leads to a chain of next states
   chain_goes : (s t : ℕ) (us : List ℕ) → s < length p → Leads p a s us t → Chain q b (next F s x) (next F t x)
   chain_goes s t [] within here =
       subst (λ (u : ℕ). Chain q b (next F s x) (next F u x)) here (chain_none q b (next F s x) (first s s x (within, within, refl) size).0)

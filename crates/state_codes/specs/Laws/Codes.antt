@@ -1,4 +1,4 @@
--- What agreement of codes says of states.
+-- What agreement of codes says about states.
 use Rattle.std.proofs.Common.{◌≡◌, ◌≢◌, ℕ, ◌<◌, ◌↔◌, ◌⊎◌, Bool, true, false, inl, inr, List, [], length, get_or, map, Some, refl, sym, ap, ◌∙◌, subst, arith}
 use Rattle.std.proofs.lemmas.Bool.{cases_eq, cases_lt, cases_order}
 use Rattle.std.proofs.lemmas.List.{get_or-map, length-map, take_all, ext_get_or}
@@ -32,7 +32,7 @@ SameInPart j s t place = place.part ≡ j → SameBit s t place
 abbrev SameInCarrier : ℕ → ℕ → ℕ → Place → Type 0
 SameInCarrier j s t place = place.part ≡ j → place.carried ≡ true → SameBit s t place
 
--- all bits of a label tell it
+-- all bits of a label determine it
 label_told : (labels : List ℕ) (s t : ℕ) → s < length labels → t < length labels → ((weight : ℕ) → weight < need (blocks_of labels) → bit_at (get_or labels s 0) weight ≡ bit_at (get_or labels t 0) weight) → get_or labels s 0 ≡ get_or labels t 0
 label_told labels s t in_s in_t same =
     same_from_bits_below (need (blocks_of labels)) (get_or labels s 0) (get_or labels t 0)
@@ -45,7 +45,7 @@ spelled_at : (n : ℕ) (places : List Place) (bits : ℕ) (words owner : List �
 spelled_at n places bits words owner carried written s in_s i d within =
     written.spelled s in_s i ∙ get_or-map (bit_of s) places i d 0 within
 
--- agreement at place i is agreement of the two bits that stand there
+-- agreement at place i is agreement of the two bits at that place
 agree_at : (n : ℕ) (places : List Place) (bits : ℕ) (words owner : List ℕ) (carried : List Bool) → IsLaidOut n places bits words owner carried → (s t : ℕ) → s < n → t < n → (i : ℕ) (d : Place) → i < length places → CodesAgreeAt words i s t ↔ SameBit s t (get_or places i d)
 agree_at n places bits words owner carried written s t in_s in_t i d within =
     let at_s = spelled_at n places bits words owner carried written s in_s i d within in
@@ -94,7 +94,7 @@ part_of : (n : ℕ) (parts : List Part) → All (IsPart n) parts → (k : ℕ) (
 part_of n parts all k part stands =
     subst (IsPart n) (get_or_from_slice_get parts k part part stands) (all k part (slice_get_within parts k part stands))
 
--- the bits of a part tell in which blocks a state is
+-- states with the same bits of a part are together in its partition
 part_told : (n j s t : ℕ) (part : Part) (inner : List ℕ) → s < n → t < n → IsPart n part → IsInside part.carrier part.partition inner → All (SameInPart j s t) (part_places j part.carrier inner) → Together part.partition s t
 part_told n j s t part inner in_s in_t lawful inside all =
     let size : length part.partition ≡ length part.carrier = lawful.partition.length ∙ sym lawful.carrier.length in
@@ -106,7 +106,7 @@ part_told n j s t part inner in_s in_t lawful inside all =
     let within : get_or inner s 0 ≡ get_or inner t 0 = label_told inner s t inner_s inner_t (λ weight below. label_places-at (SameInPart j s t) j false inner (need (blocks_of inner)) (All-right (SameInPart j s t) (label_places j true part.carrier (need (blocks_of part.carrier))) (label_places j false inner (need (blocks_of inner))) all) weight below refl) in
     (omega (arith, lawful.partition.length), omega (arith, lawful.partition.length), inside_tells part.carrier part.partition inner lawful.above size inside s t (carrier_s, carrier_t, outer) within)
 
--- the carrier bits of a part tell in which block of the carrier a state is
+-- states with the same carrier bits of a part are together in its carrier
 carrier_told : (n j s t : ℕ) (part : Part) (inner : List ℕ) → s < n → t < n → IsPart n part → All (SameInCarrier j s t) (part_places j part.carrier inner) → Together part.carrier s t
 carrier_told n j s t part inner in_s in_t lawful all =
     let carrier_s : s < length part.carrier = omega (arith, lawful.carrier.length) in
@@ -132,7 +132,7 @@ carrier_shared i j s t part inner held =
     (label_places-all (SameInCarrier j s t) i true part.carrier (need (blocks_of part.carrier)) (λ weight below here marked. same_bits s t (record { part = i; carried = true; labels = part.carrier; weight = weight }) (held here).2))
     (label_places-all (SameInCarrier j s t) i false inner (need (blocks_of inner)) (λ weight below here marked. cc))
 
--- the parts at one number are one
+-- the parts at the same number are the same
 one_part_at : (parts : List Part) (k j : ℕ) (one two : Part) → slice_get parts k ≡ Some one → slice_get parts j ≡ Some two → k ≡ j → two ≡ one
 one_part_at parts k j one two at_k at_j same =
     let e : slice_get parts k ≡ slice_get parts j = ap (λ (i : ℕ). slice_get parts i) same in
@@ -156,7 +156,7 @@ carrier_bits_tell n parts codes lawful code j part stands s t in_s in_t =
           carrier_shared i j s t other inner (λ same. subst (λ (one : Part). Together one.carrier s t) (one_part_at parts k j other part here stands (omega arith)) held)))),
     )
 
--- states that no two parts hold together have different codes
+-- where no two states are together in all parts, different states have different codes
 pub codes_differ : (n : ℕ) (parts : List Part) (codes : Codes) → All (IsPart n) parts → IsCode n parts codes → AreApart n parts → AreDistinct n codes.words
 codes_differ n parts codes lawful code apart s t in_s in_t same =
     let all : (u v : ℕ) → u < n → v < n → get_or codes.words u 0 ≡ get_or codes.words v 0 → TogetherInAll parts u v = λ u v in_u in_v one k d within.

@@ -1,4 +1,4 @@
--- The labels inside a carrier tell apart the states of one of its blocks.
+-- The labels inside a carrier distinguish the blocks of the partition within each block of the carrier.
 use Rattle.std.proofs.Common.{◌≡◌, ℕ, zero, suc, ◌+◌, ◌<◌, ◌≤◌, ◌==◌, ◌&&◌, Bool, cond, inl, inr, List, length, get_or, refl, sym, ap, ◌∙◌, subst, arith}
 use Rattle.std.proofs.lemmas.Bool.{cases_eq, cases_order, eq-eqb, eqb-true}
 use Rattle.std.proofs.lemmas.List.{ext_get_or}
@@ -34,7 +34,7 @@ counted_before p q s t le within before =
     let outer : get_or p first 0 ≡ get_or p s 0 = (le first s (omega arith, within, label)).2 in
     omega (arith, blocks_below-mono p q (get_or p s 0) (suc first) (least_of q t) (omega arith), blocks_below-counts p q (get_or p s 0) first (least_of-same q first s label) outer)
 
--- in one block of p, states with one label inside it are in one block of q
+-- states in one block of p that have the same label inside it are in the same block of q
 pub inside_tells : (p q r : List ℕ) → Le q p → length q ≡ length p → IsInside p q r → (s t : ℕ) → Together p s t → get_or r s 0 ≡ get_or r t 0 → get_or q s 0 ≡ get_or q t 0
 inside_tells p q r le size inside s t held same =
     let in_s : s < length q = omega (arith, held.0) in
@@ -49,12 +49,12 @@ inside_tells p q r le size inside s t held same =
       ]
     ]
 
--- states of one block of q have one label inside p
+-- states in one block of q have the same label inside p
 pub inside_same : (p q r : List ℕ) → Le q p → length q ≡ length p → IsInside p q r → (s t : ℕ) → Together q s t → get_or r s 0 ≡ get_or r t 0
 inside_same p q r le size inside s t held =
     inside.numbers s (omega (arith, held.0)) ∙ ap (λ (block : ℕ). blocks_below p q block (least_of q s)) (le s t held).2 ∙ ap (blocks_below p q (get_or p t 0)) (least_of-same q s t held.2) ∙ sym (inside.numbers t (omega (arith, held.1)))
 
--- there is one list of labels inside a carrier
+-- there is only one list of labels inside a carrier
 pub inside_once : (p q r other : List ℕ) → IsInside p q r → IsInside p q other → r ≡ other
 inside_once p q r other one two =
     ext_get_or 0 r other (one.lawful.length ∙ sym two.lawful.length) (λ s within. let in_p : s < length p = omega (arith, one.lawful.length) in one.numbers s in_p ∙ sym (two.numbers s in_p))

@@ -1,4 +1,4 @@
--- How many bits a number of blocks needs.
+-- The number of bits that a number of blocks needs.
 use Rattle.std.proofs.Common.{◌≡◌, ℕ, zero, suc, ◌^◌, ◌<◌, ◌≤◌, inl, inr, leb, get_or, sym, ap, ◌∙◌, arith}
 use Rattle.std.proofs.lemmas.Bool.{cases_lt, leb-true, le-leb, lt-leb, false≢true}
 use Rattle.std.proofs.lemmas.List.{get_or_past}
@@ -52,7 +52,7 @@ need-least blocks fewer enough =
       | inr above ↦ above
     ]
 
--- a number of bits that is enough where no smaller one is
+-- a number of bits that is enough, where no smaller number is, is the need
 pub first_enough : (blocks bits : ℕ) → blocks ≤ 2 ^ bits → ((fewer : ℕ) → fewer < bits → 2 ^ fewer < blocks) → bits ≡ need blocks
 first_enough blocks bits enough too_few =
     sym (need_is blocks bits (record {

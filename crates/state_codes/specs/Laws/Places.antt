@@ -35,7 +35,7 @@ label_places-at P part carried labels (suc bits) all weight below =
       | inr other ↦ label_places-at P part carried labels bits (All-tail P (record { part = part; carried = carried; labels = labels; weight = bits }) (label_places part carried labels bits) all) weight (omega arith)
     ]
 
--- the bits of a part are among those of all
+-- what holds of the bits of all parts holds of the bits of each part
 pub part_places-at : (P : Place → Type 0) (j i k : ℕ) (parts : List Part) (inners : List (List ℕ)) (part : Part) → AreInside parts inners → All P (places_of j parts inners) → slice_get parts k ≡ Some part → i ≡ j + k
     → (inner : List ℕ) × IsInside part.carrier part.partition inner × All P (part_places i part.carrier inner)
 part_places-at P j i k [] inners part inside all stands at = cc
@@ -48,7 +48,7 @@ part_places-at P j i zero (first ∷ parts) (inner ∷ inners) part inside all s
 part_places-at P j i (suc k) (first ∷ parts) (inner ∷ inners) part inside all stands at =
     part_places-at P (suc j) i k parts inners part inside.1 (All-right P (part_places j first.carrier inner) (places_of (suc j) parts inners) all) stands (omega arith)
 
--- what holds of the bits of each part holds of all
+-- what holds of the bits of each part holds of the bits of all parts
 pub places_of-all : (P : Place → Type 0) (j : ℕ) (parts : List Part) (inners : List (List ℕ)) → AreInside parts inners
     → ((i k : ℕ) (part : Part) (inner : List ℕ) → i ≡ j + k → slice_get parts k ≡ Some part → IsInside part.carrier part.partition inner → All P (part_places i part.carrier inner))
     → All P (places_of j parts inners)
@@ -104,7 +104,7 @@ pub length-part_places : (part : ℕ) (carrier inner : List ℕ) → length (par
 length-part_places part carrier inner =
     omega (arith, length-append (label_places part true carrier (need (blocks_of carrier))) (label_places part false inner (need (blocks_of inner))), length-label_places part true carrier (need (blocks_of carrier)), length-label_places part false inner (need (blocks_of inner)))
 
--- the bits of one part more
+-- one more part adds the bits of that part
 pub places_of-take-more : (parts : List Part) (inners : List (List ℕ)) (j : ℕ) (part : Part) → j < length parts → length inners ≡ length parts → part ≡ get_or parts j part
     → places_of 0 (take (j + 1) parts) (take (j + 1) inners) ≡ places_of 0 (take j parts) (take j inners) ++ part_places j part.carrier (get_or inners j [])
 places_of-take-more parts inners j part within size read =
@@ -117,7 +117,7 @@ places_of-take-more parts inners j part within size read =
     ∙ places_of-append 0 j (take j parts) (part ∷ []) (take j inners) (inner ∷ []) sizes (omega (arith, length-take-le j parts (omega arith)))
     ∙ ap (λ (end : List Place). places_of 0 (take j parts) (take j inners) ++ end) (append-nil (part_places j part.carrier inner))
 
--- the first parts have no more bits than all
+-- the first parts have no more bits than all parts
 pub places_of-take-le : (parts : List Part) (inners : List (List ℕ)) (k : ℕ) → k ≤ length parts → length inners ≡ length parts
     → length (places_of 0 (take k parts) (take k inners)) ≤ length (places_of 0 parts inners)
 places_of-take-le parts inners k within size =
@@ -128,7 +128,7 @@ places_of-take-le parts inners k within size =
     ∙ places_of-append 0 k (take k parts) (drop k parts) (take k inners) (drop k inners) sizes (omega (arith, length-take-le k parts within)) in
     omega (arith, ap length whole, length-append (places_of 0 (take k parts) (take k inners)) (places_of k (drop k parts) (drop k inners)))
 
--- the first parts and one more have no more bits than all
+-- the first parts and one more have no more bits than all parts
 pub places_of-take-room : (parts : List Part) (inners : List (List ℕ)) (j : ℕ) (part : Part) → j < length parts → length inners ≡ length parts → part ≡ get_or parts j part
     → length (places_of 0 (take j parts) (take j inners)) + (need (blocks_of part.carrier) + need (blocks_of (get_or inners j []))) ≤ length (places_of 0 parts inners)
 places_of-take-room parts inners j part within size read =

@@ -14,7 +14,7 @@ given_parts-lawful n count j (partition ∷ partitions) all =
     (record { partition = lawful; carrier = lawful; above = λ s t held. held })
     (given_parts-lawful n count (suc j) partitions (All-tail (IsPartition n) partition partitions all))
 
--- the parts of one partition more
+-- one more partition adds one part
 pub given_parts-push : (count j i : ℕ) (partitions : List (List ℕ)) (partition : List ℕ) → i ≡ j + length partitions
     → given_parts count j (partitions ++ partition ∷ []) ≡ given_parts count j partitions ++ record { partition = partition; carrier = partition; reads = others count i } ∷ []
 given_parts-push count j i [] partition at = ap (λ (k : ℕ). record { partition = partition; carrier = partition; reads = others count k } ∷ []) (omega arith)

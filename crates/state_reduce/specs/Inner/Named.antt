@@ -1,4 +1,5 @@
--- The names of blocks on the first rows. Private functions need it; no public contract cites it.
+-- The names of blocks on the first rows. Private functions need these definitions; no public contract cites
+-- them.
 use Rattle.std.specs.Prelude.{◌<◌, ◌==◌, ℕ, Contains, List, filter, length, map}
 use Rattle.std.specs.List.{filter_map}
 use Rattle.kiss2.specs.declared.kiss_file.KissFile.{KissFile}
@@ -6,7 +7,7 @@ use Rattle.kiss2.specs.declared.kiss_file.KissRow.{KissRow}
 use Rattle.partition.specs.Inside.{least_of}
 use Rattle.state_reduce.specs.Quotient.{block_name, block_names}
 
--- those of the rows that are kept
+-- the rows that are kept
 abbrev pub kept_of : List ℕ → List KissRow → List KissRow
 kept_of p rows = filter (λ row. least_of p row.from == row.from) rows
 

@@ -1,4 +1,4 @@
--- The rounds in which states are told apart. Private functions need it; no public contract cites it.
+-- The rounds that separate states. Private functions need these definitions; no public contract cites them.
 use Rattle.std.specs.Prelude.{◌<◌, ℕ, List, length}
 use Rattle.kiss2.specs.declared.kiss_file.KissFile.{KissFile}
 use Rattle.machine_table.specs.Pairs.{AgreeAt, AtEachSymbol, GoInto}
@@ -9,7 +9,7 @@ use Rattle.state_reduce.specs.Alike.{Alike}
 abbrev pub AgreeAlways : KissFile → ℕ → ℕ → Type 0
 AgreeAlways F s t = AtEachSymbol F.inputs (AgreeAt F s t)
 
--- the states are together and at each symbol go to states that are
+-- the states are together and, at each symbol, go to states that are together
 abbrev pub StayTogether : KissFile → List ℕ → ℕ → ℕ → Type 0
 StayTogether F p s t = Together p s t × AtEachSymbol F.inputs (GoInto (Together p) F s t)
 
