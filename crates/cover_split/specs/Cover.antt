@@ -3,7 +3,7 @@
 use Rattle.std.specs.Prelude.{◌≡◌, ◌≢◌, ℕ, ◌<◌, ◌≤◌, ◌⊎◌, All, AllPairs, Contains, List, [], length, slice_index_or, sum_by}
 use Rattle.partition.specs.Partition.{IsStateCount}
 
--- the block of that number, and no states past the last
+-- the block with the number j, or no states if there is no such block
 abbrev pub block_at : List (List ℕ) → ℕ → List ℕ
 block_at blocks j = slice_index_or blocks j []
 
@@ -11,13 +11,13 @@ block_at blocks j = slice_index_or blocks j []
 abbrev pub Has : List (List ℕ) → ℕ → ℕ → Type 0
 Has blocks j s = Contains (block_at blocks j) s
 
--- some of n states, ascending
+-- some of n states, in ascending order
 pub record IsBlock (n : ℕ) (block : List ℕ) : Type 0 where
   pub some : 0 < length block
   pub states : All (λ s. s < n) block
   pub ascending : AllPairs (λ s t. s < t) block
 
--- they are two blocks, and each state of the first is in the second
+-- a and b are two blocks, and each state of a is in b
 pub record IsWithin (blocks : List (List ℕ)) (a b : ℕ) : Type 0 where
   pub first : a < length blocks
   pub second : b < length blocks
@@ -32,11 +32,11 @@ NoneIsWithin blocks = (a b : ℕ) → IsWithin blocks a b → ⊥
 abbrev pub IsCovered : List (List ℕ) → ℕ → Type 0
 IsCovered blocks s = (j : ℕ) × (j < length blocks) × Has blocks j s
 
--- the places of all blocks together
+-- the number of places of all blocks together
 abbrev pub places_of : List (List ℕ) → ℕ
 places_of blocks = sum_by length blocks
 
--- there is one block, or none has two states
+-- there is only one block, or no block has two states
 abbrev pub IsTrivial : List (List ℕ) → Type 0
 IsTrivial blocks = (length blocks ≡ 1) ⊎ All (λ block. length block < 2) blocks
 

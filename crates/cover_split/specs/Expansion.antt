@@ -14,7 +14,7 @@ use Rattle.cover_split.specs.declared.expansion.ExpandFail.TheVariants.{NotClose
 abbrev pub pairs_with : ℕ → List ℕ → List (ℕ × ℕ)
 pairs_with j block = map (λ s. (j, s)) block
 
--- pairs of a block and a state in it, from block j on, by block and then by state
+-- the pairs of a block and a state in it, with blocks numbered from j on, by block and then by state
 abbrev pub pairs_from : ℕ → List (List ℕ) → List (ℕ × ℕ)
 pairs_from j [] = []
 pairs_from j (block ∷ blocks) = pairs_with j block ++ pairs_from (suc j) blocks
@@ -23,33 +23,33 @@ pairs_from j (block ∷ blocks) = pairs_with j block ++ pairs_from (suc j) block
 unfoldable pub pairs_of : List (List ℕ) → List (ℕ × ℕ)
 pairs_of blocks = pairs_from 0 blocks
 
--- there is a pair for each place
+-- there is a pair for each place of the blocks
 abbrev pub PairsFillPlaces : Type 0
 PairsFillPlaces = (blocks : List (List ℕ)) → length (pairs_of blocks) ≡ places_of blocks
 
--- the pair of that number is that of block j and state s
+-- the pair with the number i is that of block j and state s
 abbrev pub IsPair : List (List ℕ) → (i j s : ℕ) → Type 0
 IsPair blocks i j s = slice_get (pairs_of blocks) i ≡ Some (j, s)
 
--- the block has the next states of all states of block j
+-- the target block has the next states of all states of block j
 pub record HasNexts (F : KissFile) (blocks : List (List ℕ)) (j : ℕ) (x : List Bool) (target : ℕ) : Type 0 where
   pub block : target < length blocks
   pub each : (s : ℕ) → Has blocks j s → Has blocks target (next F s x)
 
--- it is the first that does
+-- target is the first block that has the next states of all states of block j
 pub record IsTarget (F : KissFile) (blocks : List (List ℕ)) (j : ℕ) (x : List Bool) (target : ℕ) : Type 0 where
   pub has : HasNexts F blocks j x target
   pub first : (earlier : ℕ) → earlier < target → HasNexts F blocks j x earlier → ⊥
 
--- some block does, at the symbol of that number
+-- some block has the next states of all states of block j, at the symbol with the number x
 abbrev pub StaysWithin : KissFile → List (List ℕ) → (j x : ℕ) → Type 0
 StaysWithin F blocks j x = (target : ℕ) × HasNexts F blocks j (symbol_of F.inputs x) target
 
--- so it is for each block at each symbol: the cover is closed
+-- the cover is closed: this holds for each block at each symbol
 abbrev pub IsClosedCover : KissFile → List (List ℕ) → Type 0
 IsClosedCover F blocks = (j : ℕ) → j < length blocks → AtEachSymbol F.inputs (StaysWithin F blocks j)
 
--- the least block for which it is not so, and the least symbol
+-- j is the least block for which it does not hold, and x is its least such symbol
 pub record IsFirstLeaving (F : KissFile) (blocks : List (List ℕ)) (j x : ℕ) : Type 0 where
   pub block : j < length blocks
   pub symbol : IsFirstWithout F.inputs (StaysWithin F blocks j) x
@@ -66,8 +66,8 @@ pub record IsFirstWith (blocks : List (List ℕ)) (s j : ℕ) : Type 0 where
   pub has : Has blocks j s
   pub first : (earlier : ℕ) → earlier < j → Has blocks earlier s → ⊥
 
--- where the pair of that number goes: to the copy of the next state in the first block that has the next states of all
--- states of its block
+-- the pair with the number i goes to k: the copy of the next state in the first block that has the next states
+-- of all states of its block
 abbrev pub IsNextPair : KissFile → List (List ℕ) → ℕ → List Bool → ℕ → Type 0
 IsNextPair F blocks i x k =
     (j s : ℕ) → IsPair blocks i j s → (target : ℕ) × IsTarget F blocks j x target × IsPair blocks k target (next F s x)

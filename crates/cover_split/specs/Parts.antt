@@ -9,22 +9,22 @@ use Rattle.state_codes.specs.Kinds.{IsOwnCarrier}
 use Rattle.cover_split.specs.Cover.{block_at}
 use Rattle.cover_split.specs.Expansion.{IsExpansion, IsPair, pairs_of}
 
--- pairs are together where they are of one block
+-- pairs are together exactly where their blocks are the same
 pub record IsByBlock (blocks : List (List ℕ)) (p : List ℕ) : Type 0 where
   pub lawful : IsPartition (length (pairs_of blocks)) p
   pub together : (i j s k l t : ℕ) → IsPair blocks i j s → IsPair blocks k l t → Together p i k ↔ (j ≡ l)
 
--- the longest block has that many states
+-- the longest block has the given number of states
 pub record IsLongest (blocks : List (List ℕ)) (size : ℕ) : Type 0 where
   pub block : ℕ
   pub reached : length (block_at blocks block) ≡ size
   pub longest : (other : ℕ) → length (block_at blocks other) ≤ size
 
--- the part that is its own carrier and reads these
+-- the part that has this partition, is its own carrier and reads the parts with these numbers
 abbrev pub own_part : List ℕ → List ℕ → Part
 own_part partition reads = record { partition = partition; carrier = partition; reads = reads }
 
--- the first part tells the block, and the second, which reads it, the pairs of one block apart
+-- the first part is the partition by blocks; the second, which reads it, separates the pairs of each block
 pub record IsSplitByBlock (blocks : List (List ℕ)) (parts : List Part) : Type 0 where
   pub first : Part
   pub second : Part

@@ -1,4 +1,4 @@
--- Why a text is no cover of n states, by the first of its causes.
+-- Why a text is not a cover of n states: the first of its faults.
 use Rattle.std.specs.Prelude.{◌≡◌, ℕ, ◌+◌, ◌<◌, ◌≤◌, All, List, Some, length, slice_get}
 use Rattle.std.specs.Fmt.{decimal}
 use Rattle.cover_split.specs.declared.cover.CoverFail.{CoverFail}
@@ -6,18 +6,19 @@ use Rattle.cover_split.specs.declared.cover.CoverFail.TheVariants.{BadText, Cont
 use Rattle.cover_split.specs.Text.{pieces_of, Spells}
 use Rattle.cover_split.specs.Cover.{IsBlock, IsCovered, IsTrivial, IsWithin, NoneIsWithin, places_of}
 
--- the piece at that place of a block is the number of a state, and greater than one that the piece before it is
+-- the piece at the given place of a block is the number of a state, and greater than the number of a state
+-- before it
 pub record IsStatePiece (n : ℕ) (pieces : List (List ℕ)) (place : ℕ) : Type 0 where
   pub state : ℕ
   pub among : state < n
   pub spelled : slice_get pieces place ≡ Some (decimal state)
   pub greater : (before other : ℕ) → before + 1 ≡ place → other < n → slice_get pieces before ≡ Some (decimal other) → other < state
 
--- each piece of a block is
+-- each piece of a block is the number of a state, greater than the number before it
 abbrev pub AreStatePieces : ℕ → List (List ℕ) → Type 0
 AreStatePieces n pieces = (place : ℕ) → place < length pieces → IsStatePiece n pieces place
 
--- the piece at that place of that block is the first of the text that is not
+-- the piece at this place of this block is the first of the text that is not such a number
 pub record IsFirstBad (n : ℕ) (text : List ℕ) (block place : ℕ) : Type 0 where
   pub pieces : List (List ℕ)
   pub at_block : slice_get (pieces_of text) block ≡ Some pieces
@@ -32,18 +33,18 @@ pub record IsFirstWithin (blocks : List (List ℕ)) (a b : ℕ) : Type 0 where
   pub least : (c : ℕ) → c < b → IsWithin blocks a c → ⊥
   pub before : (c d : ℕ) → c < a → IsWithin blocks c d → ⊥
 
--- the least state in no block
+-- the least state that is in no block
 pub record IsFirstMissing (n : ℕ) (blocks : List (List ℕ)) (s : ℕ) : Type 0 where
   pub state : s < n
   pub missing : IsCovered blocks s → ⊥
   pub before : (t : ℕ) → t < s → IsCovered blocks t
 
--- no block is within another, and each state is in some
+-- no block is within another, and each state is in some block
 pub record AreApartAndWhole (n : ℕ) (blocks : List (List ℕ)) : Type 0 where
   pub apart : NoneIsWithin blocks
   pub whole : (s : ℕ) → s < n → IsCovered blocks s
 
--- why blocks of states are no cover
+-- why blocks of states are not a cover
 abbrev pub BlocksFault : ℕ → List (List ℕ) → CoverFail → Type 0
 BlocksFault n blocks (BadText block place) = ⊥
 BlocksFault n blocks (Contained a b) = IsFirstWithin blocks a b
@@ -57,7 +58,7 @@ pub record IsTextOf (n : ℕ) (text : List ℕ) (blocks : List (List ℕ)) : Typ
   pub lawful : All (IsBlock n) blocks
   pub spelled : Spells text blocks
 
--- it is that of blocks which are no cover
+-- the text is that of blocks which are not a cover, for this reason
 abbrev pub IsTextOfFault : ℕ → List ℕ → CoverFail → Type 0
 IsTextOfFault n text fail = (blocks : List (List ℕ)) × IsTextOf n text blocks × BlocksFault n blocks fail
 

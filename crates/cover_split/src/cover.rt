@@ -1,4 +1,4 @@
-//! Covers, and why a text is none.
+//! Covers, and why a text is not a cover.
 ghost use Rattle.std.specs.Prelude.{◌≡◌, ◌<◌, ◌↔◌, Contains, IsTrue, length};
 ghost use Rattle.cover_split.specs.Cover.{block_at};
 
@@ -17,21 +17,22 @@ pub struct Cover {
     pub blocks: Blocks,
 }
 
-/// Why a text is no cover of n states. Blocks, and the places in a block, are counted from 0.
+/// Why a text is not a cover of n states. Blocks, and the places in a block, are counted from 0.
 #[derive(Clone, Copy, Debug, PartialEq, Eq)]
 pub enum CoverFail {
-    /// The first place of the text that has no decimal number without leading zeros, below n and greater than
-    /// the one before it in its block.
+    /// The first place of the text that does not have a decimal number without leading zeros, below n and
+    /// greater than the number before it in its block.
     BadText { block: usize, place: usize },
-    /// Each state of block a is in block b. It is the least such block a, and then the least such b.
+    /// Each state of block a is in block b. a is the least block within another, and b is the least block that
+    /// has all of a.
     Contained { a: usize, b: usize },
     /// The least state that is in no block.
     Missing { state: u16 },
-    /// The blocks have this number of places, which is above 256.
+    /// The blocks have this number of places in all, which is above 256.
     TooMany { found: usize },
-    /// There is one block alone, or no block has two states.
+    /// There is only one block, or no block has two states.
     Trivial,
-    /// There is no memory left.
+    /// Memory ran out.
     NoMemory,
 }
 

@@ -21,10 +21,10 @@ use std::alloc::{AllocError, AllocFailed, Global};
 /// Why a cover gives no machine.
 #[derive(Clone, Copy, Debug, PartialEq, Eq)]
 pub enum ExpandFail {
-    /// No block has the next states of all states of this block at the symbol of that number. It is the
-    /// least such block, and then the least such symbol.
+    /// No block has the next states of all states of this block at the symbol with the number x. It is the
+    /// least such block, and x is its least such symbol.
     NotClosed { block: u16, x: u32 },
-    /// There is no memory left.
+    /// Memory ran out.
     NoMemory,
 }
 
@@ -63,7 +63,7 @@ pub fn expand(alloc: Global, m: &Machine, cover: &Cover) -> Result<KissFile, Exp
     ensures specified { IfOk result Specified }
     ensures numbered { IfOk result AreNumbered }
 
-    // But for the number of its rows it is lawful.
+    // The file is lawful unless it has too many rows.
     ensures lawful { IfOk result (λ file. length file.rows ≤ 65536 → IsLawful file) }
 
     ensures answers { IfOk result (AnswersAsStates m.now cover.now.blocks) }
@@ -130,7 +130,7 @@ fn first_leaving(joints: &[Joint]) -> Option<u32>
     least
 }
 
-/// The lesser of a number that was found and another one.
+/// The lesser of x and the number that was found, if there is one.
 fn lesser(found: Option<u32>, x: u32) -> u32
     ensures { result ≡ option_map_or (min x) found x }
 {

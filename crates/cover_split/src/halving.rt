@@ -34,7 +34,7 @@ pub(crate) fn whole(width: u8) -> Cube
     }
 }
 
-/// The lowest place at which the other cube looks and the cube does not.
+/// The lowest place at which the other cube has a bit and the cube has a dash.
 pub(crate) fn free_place(cube: &Cube, other: &Cube) -> Option<u32>
     requires width { cube.now.width ≡ other.now.width }
     requires meets { Meets cube.now other.now }

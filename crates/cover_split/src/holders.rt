@@ -1,4 +1,4 @@
-//! The blocks that have a state, by which a block within another is found.
+//! The blocks that have each state, by which a block within another block is found.
 ghost use Rattle.std.specs.Prelude.{◌≡◌, ℕ, ◌<◌, ◌≤◌, ◌↔◌, All, AllPairs, IfNone, IfOk, IfSome, IsTrue, [], length};
 ghost use Rattle.cover_split.specs.Cover.{IsBlock, IsWithin, NoneIsWithin, block_at};
 ghost use Rattle.cover_split.specs.Refusal.{IsFirstWithin};
@@ -37,7 +37,7 @@ fn holders_of(alloc: Global, blocks: &[Block], s: u16) -> Result<Items<usize>, A
     Ok(holders)
 }
 
-/// The first two blocks of which the first is within the second.
+/// The first two blocks such that the first is within the second.
 pub(crate) fn first_contained(blocks: &[Block], lists: &[Items<usize>]) -> Option<(usize, usize)>
     requires lawful { All (IsBlock (length lists.now)) blocks.now }
     requires lists { AreHoldersOf blocks.now (length lists.now) lists.now }
@@ -52,7 +52,7 @@ pub(crate) fn first_contained(blocks: &[Block], lists: &[Items<usize>]) -> Optio
     None
 }
 
-/// The least block that has all of block a. Such a block has the first state of block a.
+/// The least other block that has all of block a. Such a block has the first state of block a.
 fn least_around(blocks: &[Block], a: usize, lists: &[Items<usize>]) -> Option<usize>
     requires a { a < length blocks.now }
     requires lawful { All (IsBlock (length lists.now)) blocks.now }

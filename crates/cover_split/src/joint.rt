@@ -1,7 +1,7 @@
-//! Joint pieces of a block: cubes at whose symbols each of its states does one thing.
+//! Joint pieces of a block: cubes on which each state of the block has one next state and one list of outputs.
 //!
-//! The cube of all symbols is halved until, for each state of the block, one of its pieces holds the whole
-//! cube. A half is given only the pieces that meet it. Each symbol is in exactly one of the cubes.
+//! The cube of all symbols is halved until, for each state of the block, one of the state's pieces holds the
+//! whole cube. A half is given only the pieces that meet it. Each symbol is in exactly one of the cubes.
 ghost use Rattle.std.specs.Prelude.{◌≡◌, ◌<◌, ◌≤◌, ◌↔◌, All, IfOk, IsTrue, MatchResult, OnOk, Some, length, slice_get};
 ghost use Rattle.cubes.specs.declared.cube.Cube.{Cube};
 ghost use Rattle.machine_table.specs.declared.covering.Piece.{Piece};
@@ -17,14 +17,14 @@ use std::alloc::{AllocError, AllocFailed, Global};
 /// Pieces in order.
 pub(crate) type Pieces = Items<Piece>;
 
-/// Symbols at which each state of a block does one thing.
+/// Symbols at which each state of a block has one next state and one list of outputs.
 #[derive(Drop)]
 pub(crate) struct Joint {
     /// The symbols.
     pub(crate) cube: Cube,
-    /// For each state of the block, in order, a piece that holds them all.
+    /// For each state of the block, in order, a piece that holds all of these symbols.
     pub(crate) pieces: Pieces,
-    /// The first block that has the next states of all these states, if one has.
+    /// The first block that has the next states of all states of the block, if there is one.
     pub(crate) target: Option<u16>,
 }
 
@@ -39,9 +39,9 @@ pub(crate) fn joints_at(lists: &[Joints], j: usize) -> &[Joint]
     lists[j].as_slice()
 }
 
-/// What is done with a cube.
+/// What is to be done with a cube.
 enum Division {
-    /// For each state one of its pieces holds the whole cube.
+    /// For each state, one of its pieces holds the whole cube.
     Whole(Pieces),
     /// The cube is halved at this place.
     Halve(u32),
@@ -160,8 +160,8 @@ fn settled(alloc: Global, cube: &Cube, lists: &[Pieces]) -> Result<Division, All
     Ok(Division::Whole(found))
 }
 
-/// A piece that holds the whole cube, or a place at which the first piece that meets it looks and the cube
-/// does not.
+/// A piece that holds the whole cube, or a place at which the first piece that meets the cube has a bit and the
+/// cube has a dash.
 fn whole_piece(cube: &Cube, pieces: &[Piece]) -> Result<Piece, u32>
     requires { AreSpread cube.now pieces.now }
     ensures { MatchResult result (IsWholePiece cube.now pieces.now) (IsDash cube.now) }

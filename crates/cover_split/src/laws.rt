@@ -1,4 +1,4 @@
-//! What follows of the definitions, and small texts.
+//! What follows from the definitions, and small texts.
 ghost use Rattle.std.specs.Prelude.{ℕ, List, [], ◌∷◌, codes};
 ghost use Rattle.cover_split.specs.Expansion.{PairsFillPlaces};
 ghost use Rattle.cover_split.specs.Refusal.{IsFirstBad};
@@ -9,7 +9,7 @@ pub fn pairs_fill_places()
     ensures { PairsFillPlaces }
 {}
 
-/// Small texts, and the blocks that they tell. Blocks and places are counted from 0.
+/// Small texts, and the blocks that they spell. Blocks and places are counted from 0.
 pub fn worked_texts()
     ensures three { Spells (codes "0,1/0,2/1,2") ((0 ∷ 1 ∷ []) ∷ (0 ∷ 2 ∷ []) ∷ (1 ∷ 2 ∷ []) ∷ []) }
     ensures one { Spells (codes "0,10") ((0 ∷ 10 ∷ []) ∷ []) }

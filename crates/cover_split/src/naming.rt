@@ -16,7 +16,7 @@ fn name(alloc: Global, number: u16) -> Result<Vec<u8>, AllocError>
     Ok(name)
 }
 
-/// The names of that many pairs, in the order of their numbers.
+/// The names of `count` pairs, in the order of their numbers.
 pub(crate) fn names(alloc: Global, count: u16) -> Result<StateNames, AllocError>
     requires { count ≤ 256 }
     ensures { IfOk result (λ names. names ≡ map pair_name (range_with_len 0 count)) }

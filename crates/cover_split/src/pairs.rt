@@ -6,7 +6,7 @@ ghost use Rattle.cover_split.specs.Expansion.{IsFirstWith, pairs_of};
 use crate::cover::{Block, has_state, states_at};
 use std::alloc::{AllocError, Global};
 
-/// All pairs by block and then by state.
+/// All pairs, by block and then by state.
 pub fn pairs_of(alloc: Global, blocks: &[Block]) -> Result<Vec<(u16, u16)>, AllocError>
     requires { length blocks.now ≤ 256 }
     ensures { IfOk result (λ pairs. pairs.items ≡ pairs_of blocks.now) }
@@ -28,7 +28,7 @@ fn add_pairs(pairs: &mut Vec<(u16, u16)>, j: u16, states: &[u16]) -> Result<(), 
     Ok(())
 }
 
-/// The pair of that number.
+/// The pair with the number i.
 pub(crate) fn pair_at(pairs: &[(u16, u16)], i: usize) -> (u16, u16)
     requires { i < length pairs.now }
     ensures { slice_get pairs.now i ≡ Some result }

@@ -12,8 +12,8 @@ use partition::{PartFail, Partition};
 use state_codes::{Kind, Part, PartNumbers, Parts, Split};
 use std::alloc::{AllocError, Global};
 
-/// The split of the machine of the pairs, which `expand` makes: the block, and the place in the block. The
-/// next block of a pair depends on its block and the symbol alone.
+/// The split of the machine of the pairs that `expand` makes: the block, and the place in the block. The next
+/// block of a pair depends on its block and the symbol alone.
 pub fn split(alloc: Global, cover: &Cover) -> Result<Split, AllocError>
     requires { (n : ℕ) × IsCover n cover.now.blocks }
     ensures kind { IfOk result (λ split. split.kind ≡ Kind.Serial) }
@@ -37,7 +37,7 @@ pub fn split(alloc: Global, cover: &Cover) -> Result<Split, AllocError>
     })
 }
 
-/// The part that is its own carrier and reads those.
+/// The part that is its own carrier and reads the parts with these numbers.
 fn own_part(alloc: Global, partition: Partition, reads: PartNumbers) -> Result<Part, AllocError>
     ensures { IfOk result (λ part. part ≡ own_part partition reads) }
 {

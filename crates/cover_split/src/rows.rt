@@ -12,7 +12,7 @@ use kiss2::{KissRow, Rows};
 use machine_table::Machine;
 use std::alloc::{AllocError, Global};
 
-/// A pair by its number, its block and the place of its state in the block.
+/// A pair: its number, its block, and the place of its state in the block.
 #[derive(Clone, Copy)]
 pub(crate) struct PairPlace {
     pub(crate) number: u16,
@@ -20,7 +20,7 @@ pub(crate) struct PairPlace {
     pub(crate) place: usize,
 }
 
-/// The rows of all pairs, pair after pair. For each block there are its joint pieces.
+/// The rows of all pairs, pair after pair. `lists` has the joint pieces of each block.
 pub(crate) fn rows_of_pairs(
     alloc: Global,
     m: &Machine,
@@ -113,7 +113,7 @@ fn row_of(
     }
 }
 
-/// The care of a row that gives each of that many outputs.
+/// The care of a row that gives all outputs.
 fn full_care(outputs: u8) -> u64
     requires some { 0 < outputs }
     requires bound { outputs ≤ 64 }

@@ -15,8 +15,8 @@ use std::alloc::{AllocError, AllocFailed, Global};
 /// The greatest number of places.
 const MOST_PLACES: usize = 256;
 
-/// The cover of n states with this text: blocks joined by slashes, a block being numbers of states joined by
-/// commas. What is wrong is looked for in the order of `CoverFail`, each time in the whole text.
+/// The cover of n states with this text: blocks joined by slashes, where a block is numbers of states joined by
+/// commas. Faults are looked for in the order of `CoverFail`, each of them in the whole text.
 pub fn parse(alloc: Global, text: &[u8], n: usize) -> Result<Cover, CoverFail>
     requires { IsStateCount n }
     ensures text { IfOk result (λ cover. IsTextOf n text.now cover.blocks) }
@@ -43,7 +43,7 @@ fn read_cover(alloc: Global, text: &[u8], n: usize) -> Result<Cover, CoverFail>
     Ok(Cover { blocks })
 }
 
-/// Looks for what is wrong with blocks of states.
+/// Looks for faults of blocks of states.
 fn judge(alloc: Global, blocks: &[Block], n: usize) -> Result<(), CoverFail>
     requires count { IsStateCount n }
     requires lawful { All (IsBlock n) blocks.now }
@@ -70,7 +70,7 @@ fn judge(alloc: Global, blocks: &[Block], n: usize) -> Result<(), CoverFail>
     Ok(())
 }
 
-/// The places of all blocks together.
+/// The number of places of all blocks together.
 fn places(blocks: &[Block]) -> usize
     requires { places_of blocks.now < 2 ^ 64 }
     ensures { result ≡ places_of blocks.now }
@@ -82,7 +82,7 @@ fn places(blocks: &[Block]) -> usize
     found
 }
 
-/// Whether there is one block, or none has two states.
+/// Whether there is only one block, or no block has two states.
 fn is_trivial(blocks: &[Block]) -> bool
     ensures { IsTrue result ↔ IsTrivial blocks.now }
 {
@@ -116,7 +116,7 @@ fn read_blocks(alloc: Global, text: &[u8], n: usize) -> Result<Blocks, CoverFail
     Ok(found)
 }
 
-/// The block of that number, which the text has between commas.
+/// The block with this text: what the text has between commas. The block's number is given.
 fn read_block(alloc: Global, text: &[u8], n: usize, number: usize) -> Result<Block, CoverFail>
     requires { IsStateCount n }
     ensures { MatchResult result (IsBlockText n text.now) (IsBlockFault n text.now number) }

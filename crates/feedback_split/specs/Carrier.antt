@@ -15,7 +15,7 @@ Suffices F own c =
 abbrev pub IsCarrierGrowth : KissFile → List ℕ → List ℕ → List ℕ → Type 0
 IsCarrierGrowth F own other c = IsGrowth (IsHold (length F.states)) (Suffices F own) (length F.states) other c
 
--- a partition above other that suffices for own, and no partition strictly above it does
+-- a partition above other that suffices for own, such that no partition strictly above it suffices
 pub record IsGreatestCarrier (F : KissFile) (own other c : List ℕ) : Type 0 where
   pub lawful : IsPartition (length F.states) c
   pub above : Le other c

@@ -5,7 +5,7 @@ use Rattle.dependence.specs.Permits.{next_value, output_value}
 use Rattle.least_codes.specs.declared.bit.Bit.{Bit}
 use Rattle.least_codes.specs.declared.bit.Bit.TheVariants.{Latch, Output}
 
--- the latch has a bit in a word, and the output is one of the machine
+-- the latch has a bit in a word, or the output is an output of the machine
 abbrev pub IsBit : KissFile → Bit → Type 0
 IsBit F (Latch i) = i < 64
 IsBit F (Output b) = b < F.outputs

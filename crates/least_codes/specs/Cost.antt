@@ -1,16 +1,16 @@
--- How many bits the latches of a code read at least (source: this project).
+-- The least numbers of bits that the latches of a code can read (source: this project).
 use Rattle.std.specs.Prelude.{◌≡◌, ℕ, ◌<◌, List, length, slice_index, sum}
 use Rattle.kiss2.specs.declared.kiss_file.KissFile.{KissFile}
 use Rattle.dependence.specs.Permits.{next_value}
 use Rattle.least_codes.specs.LeastReads.{AreFewest}
 
--- the gate of latch i can do with so many of the bits, and not with fewer
+-- cost is the least number of the bits that the gate of latch i can read
 pub record IsLatchCost (F : KissFile) (words : List ℕ) (bits i cost : ℕ) : Type 0 where
   pub reads : List ℕ
   pub fewest : AreFewest F words (λ c. c < bits) (next_value F words i) reads
   pub size : length reads ≡ cost
 
--- the cost of a code of so many bits: the sum over its latches
+-- the cost of a code of the given number of bits: the sum over its latches
 pub record IsCost (F : KissFile) (words : List ℕ) (bits cost : ℕ) : Type 0 where
   pub costs : List ℕ
   pub count : length costs ≡ bits

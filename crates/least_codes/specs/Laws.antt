@@ -1,4 +1,4 @@
--- What follows of the definitions alone.
+-- What follows from the definitions alone.
 use Rattle.std.specs.Prelude.{◌≡◌, ◌↔◌, ℕ, ◌^◌, ◌<◌, ◌≤◌, Bool, Contains, List, Some, length, slice_get, slice_index}
 use Rattle.std.specs.List.Sorted.{IsStrictlyIncreasing}
 use Rattle.kiss2.specs.declared.kiss_file.KissFile.{KissFile}
@@ -29,18 +29,18 @@ LeastSplitIsOne =
 abbrev pub LeastCodeExists : Type 0
 LeastCodeExists = (F : KissFile) → (words : List ℕ) × IsLeastCode F words
 
--- state 0 has zeros in it
+-- the bits of state 0 are 0 in the least code
 abbrev pub LeastCodeHasZeros : Type 0
 LeastCodeHasZeros =
     (F : KissFile) (words : List ℕ) → NeverLeaves F → 0 < length F.states → IsLeastCode F words → slice_index words 0 ≡ 0
 
--- a machine of 3 to 8 states has a split that gives it
+-- a machine of 3 to 8 states has a split that gives its least code
 abbrev pub LeastSplitExists : Type 0
 LeastSplitExists =
     (F : KissFile) → NeverLeaves F → 3 ≤ length F.states → length F.states ≤ 8
     → (parts : List Part) × IsLeastSplit parts × GiveLeastCode F parts
 
--- any codes that its parts give are the least code
+-- any codes that the parts of such a split give are the least code
 abbrev pub GivenCodesAreLeast : Type 0
 GivenCodesAreLeast =
     (F : KissFile) (parts : List Part) (codes : Codes) → GiveLeastCode F parts → IsCode (length F.states) parts codes → IsLeastCode F codes.words
@@ -70,8 +70,9 @@ AllBitsPermit =
     (F : KissFile) (words : List ℕ) (bits : ℕ) (value : ℕ → List Bool → Bool) → AreCodes (length F.states) bits words
     → PermitsValue F words (λ c. c < bits) value
 
--- Where 3 to 8 states have different codes of as few bits as they need, the rule of reads gives the least reads of all
--- bits, for any value. Bit 2 alone could be fewer than bits 0 and 1, but where it permits too, no bit is needed.
+-- Suppose that 3 to 8 states have different codes of as few bits as they need. Then the rule of reads gives the
+-- least reads of all bits, for any value. Bit 2 alone could be fewer than bits 0 and 1; but if bit 2 alone
+-- permits the value too, no bit is needed.
 abbrev pub RuleGivesLeast : Type 0
 RuleGivesLeast =
     (F : KissFile) (words : List ℕ) (value : ℕ → List Bool → Bool) (reads : List ℕ) → 3 ≤ length F.states → length F.states ≤ 8
@@ -79,7 +80,7 @@ RuleGivesLeast =
     → IsReadRule F words (λ c. c < need (length F.states)) (Contains reads) value
     → AreLeastReads F words (λ c. c < need (length F.states)) value reads
 
--- so what is read by that rule is the least set of all bits
+-- so the set of what is read by that rule is the least set of all bits
 abbrev pub RuleGivesLeastSet : Type 0
 RuleGivesLeastSet =
     (F : KissFile) (words : List ℕ) (value : ℕ → List Bool → Bool) (reads : List ℕ) (candidates set : ℕ) → 3 ≤ length F.states → length F.states ≤ 8

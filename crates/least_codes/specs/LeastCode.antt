@@ -6,14 +6,14 @@ use Rattle.state_codes.specs.Agreement.{AreDistinct}
 use Rattle.state_codes.specs.Code.{need}
 use Rattle.least_codes.specs.Cost.{IsCost}
 
--- codes of n states of so many bits, different for different states
+-- codes of n states of the given number of bits, different for different states
 pub record AreCodes (n bits : ℕ) (words : List ℕ) : Type 0 where
   pub count : length words ≡ n
   pub short : (s : ℕ) → s < n → slice_index words s < 2 ^ bits
   pub distinct : AreDistinct n words
 
--- The texts of the codes, in the order of the states and bit 0 of each first, have a 0 at the first place where they
--- differ from those of the others, which have a 1 there.
+-- The texts of `words` come before those of `others`. They are compared state by state, bit 0 of each code
+-- first. At the first place where they differ, `words` has a 0 and `others` has a 1.
 pub record TextsBefore (words others : List ℕ) : Type 0 where
   pub state : ℕ
   pub bit : ℕ
@@ -22,7 +22,8 @@ pub record TextsBefore (words others : List ℕ) : Type 0 where
   pub zero : bit_at (slice_index words state) bit ≡ 0
   pub one : bit_at (slice_index others state) bit ≡ 1
 
--- no codes of so few bits cost less, and of those that cost as much these have the first texts
+-- no codes of as few bits as the states need cost less, and of those that cost the same these have the first
+-- texts
 pub record IsLeastCode (F : KissFile) (words : List ℕ) : Type 0 where
   pub codes : AreCodes (length F.states) (need (length F.states)) words
   pub cost : ℕ

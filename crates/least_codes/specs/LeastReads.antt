@@ -1,10 +1,11 @@
--- The least sets of bits that permit what a gate gives. A set is told by its ascending list (source: this project).
+-- The least sets of bits that permit what a gate gives. A set is given by its ascending list (source: this
+-- project).
 use Rattle.std.specs.Prelude.{◌≡◌, ◌⊎◌, ◌↔◌, ℕ, ◌<◌, ◌≤◌, All, Bool, Contains, List, [], ◌∷◌, length}
 use Rattle.std.specs.List.Sorted.{IsStrictlyIncreasing}
 use Rattle.kiss2.specs.declared.kiss_file.KissFile.{KissFile}
 use Rattle.dependence.specs.Permits.{InWord, PermitsValue}
 
--- the list has the smaller number at the first place where two lists of one length differ
+-- at the first place where two lists of equal length differ, the first list has the smaller number
 abbrev pub ListBefore : List ℕ → List ℕ → Type 0
 ListBefore [] other = ⊥
 ListBefore (a ∷ list) [] = ⊥
@@ -21,7 +22,7 @@ pub record AreFewest (F : KissFile) (words : List ℕ) (Candidate : ℕ → Type
   pub enough : AreEnough F words Candidate value reads
   pub fewest : (others : List ℕ) → AreEnough F words Candidate value others → length reads ≤ length others
 
--- of those that are fewest, these have the first list
+-- among the lists of the fewest candidates, this list is the first
 pub record AreLeastReads (F : KissFile) (words : List ℕ) (Candidate : ℕ → Type 0) (value : ℕ → List Bool → Bool) (reads : List ℕ) : Type 0 where
   pub fewest : AreFewest F words Candidate value reads
   pub first : (others : List ℕ) → AreEnough F words Candidate value others → length others ≡ length reads → (others ≡ reads) ⊎ ListBefore reads others

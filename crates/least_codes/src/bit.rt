@@ -6,7 +6,7 @@ ghost use Rattle.least_codes.specs.Bits.{IsBit, value_of};
 
 use machine_table::Machine;
 
-/// What a gate gives: latch i the bit i of the code of the next state, and output b the output of that number.
+/// What a gate gives: for latch i, bit i of the code of the next state; for output b, output b.
 #[derive(Clone, Copy, Debug, PartialEq, Eq)]
 pub enum Bit {
     Latch(usize),

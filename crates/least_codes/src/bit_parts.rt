@@ -43,7 +43,7 @@ fn partition_of(alloc: Global, labels: &[u16]) -> Result<Partition, AllocError>
     }
 }
 
-/// The partition of each bit. As state 0 has zeros, the label of a state is its bit.
+/// The partition of each bit. The bits of state 0 are 0, so the label of a state is its bit.
 pub(crate) fn bit_partitions(
     alloc: Global,
     words: &[u64],

@@ -1,4 +1,4 @@
-//! Sets of bits that tell states apart.
+//! Sets of bits that distinguish states.
 
 ghost use Rattle.std.specs.Prelude.{◌≡◌, ◌↔◌, ◌<◌, ◌≤◌, ◌+◌, ◌⊎◌, ℕ, All, IfNone, IfSome, IsTrue, length};
 ghost use Rattle.dependence.specs.Permits.{AgreeOn, InWord};
@@ -7,7 +7,7 @@ ghost use Rattle.least_codes.specs.Inner.Choice.{HasNone, IsFirstChoice, IsLeast
 
 use crate::two_states::TwoStates;
 
-/// What a set of bits is sought for: candidates, all below a number, that tell the two states of each pair apart.
+/// What a set of bits has to be: candidates, all below `bits`, that distinguish the two states of each pair.
 #[derive(Clone, Copy)]
 pub(crate) struct Question<'a> {
     pub(crate) words: &'a [u64],
@@ -16,7 +16,7 @@ pub(crate) struct Question<'a> {
     pub(crate) bits: u32,
 }
 
-/// A set of bits, and how many they are.
+/// A set of bits, and its size.
 #[derive(Clone, Copy)]
 pub(crate) struct Choice {
     pub(crate) set: u64,
@@ -32,7 +32,7 @@ fn differ_on(words: &[u64], pair: TwoStates, set: u64) -> bool
     words[pair.s] & set != words[pair.t] & set
 }
 
-/// Whether the set tells the two states of each pair apart.
+/// Whether the set distinguishes the two states of each pair.
 fn tells_apart(words: &[u64], apart: &[TwoStates], set: u64) -> bool
     requires { All (IsPair (length words.now)) apart.now }
     ensures { IsTrue result ↔ TellsApart words.now apart.now (InWord set) }
@@ -53,7 +53,7 @@ fn has(set: u64, c: u32) -> bool
     (set >> c) & 1 == 1
 }
 
-/// The set with bit c.
+/// The set together with bit c.
 fn with(set: u64, c: u32) -> u64
     requires { c < 64 }
     ensures { (d : ℕ) → InWord result d ↔ (InWord set d ⊎ (d ≡ c)) }
@@ -61,7 +61,8 @@ fn with(set: u64, c: u32) -> u64
     set | (1 << c)
 }
 
-/// The first set that has the chosen bits and this number of candidates from a bit on, and tells the states apart.
+/// The first set that has the chosen bits and `left` candidates from bit `from` on, and distinguishes the
+/// states.
 fn first_with(question: &Question, chosen: u64, from: u32, left: u32) -> Option<u64>
     requires pairs { All (IsPair (length question.now.words.now)) question.now.apart.now }
     requires bits { question.now.bits ≤ 64 }
@@ -89,7 +90,8 @@ fn first_with(question: &Question, chosen: u64, from: u32, left: u32) -> Option<
     }
 }
 
-/// The least set of candidates that tells the states apart, and of equally many the one with the first list.
+/// The least set of candidates that distinguishes the states, and among those of its size the one with the
+/// first list.
 pub(crate) fn least_choice(question: &Question) -> Choice
     requires pairs { All (IsPair (length question.now.words.now)) question.now.apart.now }
     requires bits { question.now.bits ≤ 64 }

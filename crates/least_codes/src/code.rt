@@ -29,7 +29,7 @@ fn is_less(cost: u32, best: &Option<Best>) -> bool
     }
 }
 
-/// Takes the codes for the best so far where they cost less.
+/// Replaces the best codes so far by these codes if these cost less.
 fn judge(
     alloc: Global,
     table: &[Images],
@@ -100,7 +100,7 @@ fn try_codes(
     Ok(())
 }
 
-/// The number of bits that tell so many states apart.
+/// The number of bits that distinguish n states.
 pub(crate) fn bits_for(n: usize) -> u32
     requires some { 3 ≤ n }
     requires most { n ≤ 8 }

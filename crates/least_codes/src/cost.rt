@@ -1,4 +1,4 @@
-//! How many bits the latches of a code read at least.
+//! The least numbers of bits that the latches of a code can read.
 
 ghost use Rattle.std.specs.Prelude.{◌≡◌, ◌↔◌, ◌<◌, ◌≤◌, ℕ, All, IfOk, length};
 ghost use Rattle.kiss2.specs.declared.kiss_file.KissFile.{KissFile};
@@ -11,7 +11,7 @@ use crate::choice::{Question, least_choice};
 use crate::table::{Images, apart_at};
 use std::alloc::{AllocError, Global};
 
-/// The bits below a number.
+/// The set of the bits below a number.
 fn bits_below(bits: u32) -> u64
     requires { bits ≤ 3 }
     ensures { (c : ℕ) → InWord result c ↔ (c < bits) }
@@ -19,7 +19,7 @@ fn bits_below(bits: u32) -> u64
     (1 << bits) - 1
 }
 
-/// How many bits the gate of a latch reads at least.
+/// The least number of bits that the gate of a latch can read.
 fn latch_cost(
     alloc: Global,
     table: &[Images],
@@ -45,7 +45,7 @@ fn latch_cost(
     Ok(least_choice(&question).size)
 }
 
-/// The sum of what the gates of the latches read at least.
+/// The sum, over the latches, of the least numbers of bits that their gates can read.
 pub(crate) fn code_cost(
     alloc: Global,
     table: &[Images],

@@ -11,8 +11,8 @@ use machine_table::Machine;
 use state_codes::{Kind, Split, given};
 use std::alloc::{AllocError, Global};
 
-/// The split of the least code of a machine: the partition of each of its bits is a part, in order. State 0 has zeros.
-/// For 8 states 5,040 codes are tried.
+/// The split of the least code of a machine: the partition of each bit of the code is a part, in order. The
+/// bits of state 0 are 0. For 8 states 5,040 codes are tried.
 pub fn split(alloc: Global, m: &Machine) -> Result<Split, AllocError>
     requires some { 3 ≤ length m.now.states }
     requires most { length m.now.states ≤ 8 }

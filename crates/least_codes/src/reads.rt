@@ -15,8 +15,8 @@ use std::alloc::{AllocError, Global};
 /// The number of bits of a word.
 const WORD_BITS: u32 = 64;
 
-/// The least set of candidates that permits what a gate gives (source: this project). Bit c of a set is state bit c.
-/// Sets are tried by size, so k candidates may take as many as 2^k tries.
+/// The least set of candidates that permits what a gate gives (source: this project). Bit c of a set is state
+/// bit c. Sets are tried by size, so k candidates may take up to 2^k tries.
 pub fn least_reads(
     alloc: Global,
     m: &Machine,

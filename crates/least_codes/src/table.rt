@@ -15,7 +15,7 @@ pub(crate) struct Images {
     pub(crate) images: Vec<(u16, u16)>,
 }
 
-/// The images of each two states of a machine.
+/// The images of all pairs of states of a machine.
 pub(crate) fn image_table(alloc: Global, m: &Machine) -> Result<Vec<Images>, AllocError>
     ensures { IfOk result (λ table. IsTable m.now table.items) }
 {
@@ -56,7 +56,7 @@ fn keeps_bit(words: &[u64], i: u32, row: &Images) -> bool
     true
 }
 
-/// The two states of each row with an image whose words differ at the bit.
+/// The two states of each row with an image whose two words differ at the bit.
 pub(crate) fn apart_at(
     alloc: Global,
     table: &[Images],

@@ -16,7 +16,7 @@ pub(crate) struct TwoStates {
     pub(crate) t: usize,
 }
 
-/// Each two of n states.
+/// All pairs of n states.
 pub(crate) fn all_pairs(alloc: Global, n: usize) -> Result<Vec<TwoStates>, AllocError>
     ensures { IfOk result (λ pairs. ArePairs pairs.items n) }
 {
@@ -27,7 +27,7 @@ pub(crate) fn all_pairs(alloc: Global, n: usize) -> Result<Vec<TwoStates>, Alloc
     Ok(pairs)
 }
 
-/// Adds t with each state below it.
+/// Appends the pairs of t and each state below it.
 fn add_pairs(pairs: &mut Vec<TwoStates>, t: usize) -> Result<(), AllocError>
     requires { ArePairs pairs.old.items t }
     ensures { OnOk result (ArePairs pairs.new.items (t + 1)) }
@@ -38,7 +38,7 @@ fn add_pairs(pairs: &mut Vec<TwoStates>, t: usize) -> Result<(), AllocError>
     Ok(())
 }
 
-/// Each two states for which a bit is not the same at each symbol.
+/// The pairs of states at which a bit is not the same at each symbol.
 pub(crate) fn states_apart(
     alloc: Global,
     m: &Machine,

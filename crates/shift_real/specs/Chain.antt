@@ -5,20 +5,22 @@ use Rattle.pair_operators.specs.Extremes.{IsHigh}
 use Rattle.partition.specs.Partition.{IsPartition, IsZero, Le, Together}
 use Rattle.shift_real.specs.Words.{MeetAfter}
 
--- states that are together in p are together in q, which is another partition
+-- p and q are different partitions, and states that are together in p are together in q
 abbrev pub IsStrictlyBelow : List ℕ → List ℕ → Type 0
 IsStrictlyBelow p q = Le p q × (p ≢ q)
 
--- The first member is zero, each other one is M of the one before it and strictly above it, and M leaves the last as it is.
+-- The first member is zero. Each other member is M of the member before it and strictly above it. M leaves the
+-- last member as it is.
 pub record IsChain (F : KissFile) (members : List (List ℕ)) : Type 0 where
   pub first : (p : List ℕ) × (slice_get members 0 ≡ Some p) × IsPartition (length F.states) p × IsZero p
   pub each : (j : ℕ) (p q : List ℕ) → slice_get members j ≡ Some p → slice_get members (j + 1) ≡ Some q → IsHigh F p q × IsStrictlyBelow p q
   pub last : (p : List ℕ) × (slice_get members (length members - 1) ≡ Some p) × IsHigh F p p
 
--- states are together in a partition exactly where every word of j symbols brings them to one
+-- states are together in a partition exactly where every word of j symbols brings them to one state
 abbrev pub TellsAfter : KissFile → ℕ → List ℕ → Type 0
 TellsAfter F j p = (s t : ℕ) → s < length F.states → t < length F.states → Together p s t ↔ MeetAfter F j s t
 
--- so it is for each member, by its place
+-- each member is a partition in which states are together exactly where every word of j symbols brings them to
+-- one state, where j is the place of the member
 abbrev pub AreTogetherAfter : KissFile → List (List ℕ) → Type 0
 AreTogetherAfter F members = (j : ℕ) (p : List ℕ) → slice_get members j ≡ Some p → IsPartition (length F.states) p × TellsAfter F j p

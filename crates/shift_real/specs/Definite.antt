@@ -5,7 +5,7 @@ use Rattle.shift_real.specs.declared.orders.OrderFail.{OrderFail}
 use Rattle.shift_real.specs.declared.orders.OrderFail.TheVariants.{NotDefinite, NoMemory}
 use Rattle.shift_real.specs.Words.{MeetAfter}
 
--- every word of k symbols brings all states to one
+-- every word of k symbols brings all states to one state
 abbrev pub Definite : KissFile → ℕ → Type 0
 Definite F k = (s t : ℕ) → s < length F.states → t < length F.states → MeetAfter F k s t
 
@@ -14,11 +14,12 @@ pub record IsOrder (F : KissFile) (k : ℕ) : Type 0 where
   pub definite : Definite F k
   pub least : (fewer : ℕ) → Definite F fewer → k ≤ fewer
 
--- the first two come before the other two, by the first of them and then by the second
+-- u and v come before s and t: u is less than s, or they are equal and v is less than t
 abbrev pub ComeBefore : ℕ → ℕ → ℕ → ℕ → Type 0
 ComeBefore u v s t = (u < s) ⊎ ((u ≡ s) × (v < t))
 
--- two states that words of every length keep apart, and the least two such
+-- s and t are two states that no k has every word of k symbols bring to one state, and they are the least two
+-- such states
 pub record AreFirstApart (F : KissFile) (s t : ℕ) : Type 0 where
   pub first_state : s < length F.states
   pub second_state : t < length F.states

@@ -39,7 +39,7 @@ pub record InputMatters (F : KissFile) (k b input : ℕ) : Type 0 where
   pub differ : DifferAlone input x y
   pub values : output_after F b word x ≢ output_after F b word y
 
--- what the gate of an output reads: the latches and the inputs that matter, and no other, both ascending
+-- what the gate of an output reads: the latches and the inputs that matter, and no others, both ascending
 pub record IsReadAfter (F : KissFile) (k b : ℕ) (set : ReadSet) : Type 0 where
   pub latches : (latch : ℕ) → Contains set.latches latch ↔ LatchMatters F k b latch
   pub latches_within : All (λ latch. latch < k * F.inputs) set.latches
@@ -48,11 +48,11 @@ pub record IsReadAfter (F : KissFile) (k b : ℕ) (set : ReadSet) : Type 0 where
   pub inputs_within : All (λ input. input < F.inputs) set.inputs
   pub inputs_ascend : IsStrictlyIncreasing set.inputs
 
--- the values that are read: those of the read inputs in order, and then those of the read latches
+-- the values that are read: those of the read inputs, in order, and then those of the read latches
 abbrev pub values_read : ReadSet → List (List Bool) → List Bool → List Bool
 values_read set word x = map (input_of x) set.inputs ++ map (λ latch. slice_index_or (latch_values word) latch false) set.latches
 
--- some content and symbol at which these values are read give the output this bit
+-- some content and some symbol, at which these values are read, give the output this bit
 pub record GivesAfter (F : KissFile) (k b : ℕ) (set : ReadSet) (given : Bool) (read : List Bool) : Type 0 where
   pub word : List (List Bool)
   pub x : List Bool
@@ -61,12 +61,12 @@ pub record GivesAfter (F : KissFile) (k b : ℕ) (set : ReadSet) (given : Bool) 
   pub read_there : read ≡ values_read set word x
   pub gives : output_after F b word x ≡ given
 
--- the name of that number
+-- the name with the number i
 abbrev pub name_at : List (List ℕ) → ℕ → List ℕ
 name_at names i = slice_index_or names i []
 
--- The gate of an output lists what is read, the inputs first, and its rows are a good cover of where it gives 1 and where
--- it gives 0, in ascending order of their bytes.
+-- The gate of an output lists what it reads, the inputs first. Its rows are a good cover of where it gives 1
+-- and where it gives 0, in ascending order of their bytes.
 pub record IsOutputGate (F : KissFile) (k : ℕ) (names : SignalNames) (b : ℕ) (set : ReadSet) (gate : Gate) : Type 0 where
   pub reads : IsReadAfter F k b set
   pub inputs : gate.inputs ≡ map (name_at names.inputs) set.inputs ++ map (name_at names.latch_outputs) set.latches
@@ -76,6 +76,6 @@ pub record IsOutputGate (F : KissFile) (k : ℕ) (names : SignalNames) (b : ℕ)
   pub widths : All (λ row. length row ≡ length gate.inputs) gate.rows
   pub in_order : IsSorted (slice_cmp nat_cmp) gate.rows
 
--- the gate of a latch takes one signal as it is: its one row is `1`
+-- the gate of a latch gives one signal unchanged: its one row is `1`
 abbrev pub taking : List ℕ → List ℕ → Gate
 taking signal name = record { inputs = signal ∷ []; output = name; rows = (49 ∷ []) ∷ []; on = true }

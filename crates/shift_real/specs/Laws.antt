@@ -7,12 +7,12 @@ use Rattle.shift_real.specs.Definite.{Definite}
 use Rattle.shift_real.specs.Register.{latch_values, shifted, state_after}
 use Rattle.shift_real.specs.Words.{IsWord, next_along}
 
--- a content tells the state, whatever it was before
+-- a content determines the state, whatever the state was before it
 abbrev pub ContentsTellStates : Type 0
 ContentsTellStates =
     (F : KissFile) (k s : ℕ) (word : List (List Bool)) → Definite F k → F.reset < length F.states → s < length F.states → IsWord F k word → next_along F s word ≡ state_after F word
 
--- the next content tells the next state
+-- the next content determines the next state
 abbrev pub StatesFollow : Type 0
 StatesFollow =
     (F : KissFile) (k : ℕ) (word : List (List Bool)) (x : List Bool) → NeverLeaves F → Definite F k → F.reset < length F.states → IsWord F k word → length x ≡ F.inputs

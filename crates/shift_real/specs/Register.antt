@@ -11,7 +11,8 @@ pub record HasShortOrder (F : KissFile) (k : ℕ) : Type 0 where
   pub order : IsOrder F k
   pub short : k * F.inputs ≤ 12
 
--- the state after a word, from the reset state on; after as many symbols as the order it is so from each state
+-- the state after a word from the reset state; after as many symbols as the order, it is the same from each
+-- state
 abbrev pub state_after : KissFile → List (List Bool) → ℕ
 state_after F word = next_along F F.reset word
 
@@ -29,7 +30,8 @@ abbrev pub latch_values : List (List Bool) → List Bool
 latch_values [] = []
 latch_values (x ∷ word) = latch_values word ++ x
 
--- what a content becomes where x comes in and the oldest symbol leaves; a register of no symbols stays as it is
+-- what a content becomes where x comes in and the oldest symbol leaves; a register of no symbols does not
+-- change
 abbrev pub shifted : List (List Bool) → List Bool → List (List Bool)
 shifted [] x = []
 shifted (oldest ∷ word) x = word ++ x ∷ []

@@ -12,7 +12,8 @@ use Rattle.shift_real.specs.Gates.{IsOutputGate, name_at, taking}
 use Rattle.shift_real.specs.Register.{IsStart, latch_values, shifted, state_after}
 use Rattle.shift_real.specs.Words.{IsWord}
 
--- the names number inputs, outputs and, twice, the bits of a register of k symbols, and no name is given twice
+-- there are names for the inputs, for the outputs and, twice, for the bits of a register of k symbols, and no
+-- two names are the same
 pub record AreNamesFor (F : KissFile) (k : ℕ) (names : SignalNames) : Type 0 where
   pub inputs : length names.inputs ≡ F.inputs
   pub outputs : length names.outputs ≡ F.outputs
@@ -31,20 +32,21 @@ pub record HasNames (names : SignalNames) (N : Network) : Type 0 where
 abbrev pub StartsAtContent : KissFile → ℕ → Network → Type 0
 StartsAtContent F k N = (word : List (List Bool)) × IsStart F k word × AreStarts N.latches (latch_values word)
 
--- gate `at` gives the latch of that number the signal
+-- the gate of the latch with this number gives it the signal
 abbrev pub TakesAt : SignalNames → Network → ℕ → List ℕ → Type 0
 TakesAt names N latch signal = slice_get N.gates latch ≡ Some (taking signal (name_at names.latch_inputs latch))
 
--- A latch of the newest symbol takes an input, and each other one the latch of the same bit of the symbol that came after.
+-- A latch of the newest symbol takes an input. Each other latch takes the latch of the same bit of the next
+-- newer symbol.
 pub record Shifts (F : KissFile) (k : ℕ) (names : SignalNames) (N : Network) : Type 0 where
   pub newest : (i : ℕ) → i < F.inputs → 0 < k → TakesAt names N i (name_at names.inputs i)
   pub older : (j i : ℕ) → i < F.inputs → j + 1 < k → TakesAt names N ((j + 1) * F.inputs + i) (name_at names.latch_outputs (j * F.inputs + i))
 
--- after the gates of the latches comes that of each output
+-- after the gates of the latches come those of the outputs, and here that of output b
 abbrev pub HasOutputGate : KissFile → ℕ → SignalNames → Network → ℕ → Type 0
 HasOutputGate F k names N b = (set : ReadSet) × (gate : Gate) × (slice_get N.gates (k * F.inputs + b) ≡ Some gate) × IsOutputGate F k names b set gate
 
--- the network of the register: its gates are those of the latches and then those of the outputs, and no other
+-- the network of the register: its gates are those of the latches and then those of the outputs, and no others
 pub record IsRegister (F : KissFile) (k : ℕ) (names : SignalNames) (N : Network) : Type 0 where
   pub named : HasNames names N
   pub starts : StartsAtContent F k N

@@ -7,14 +7,14 @@ use Rattle.shift_real.specs.declared.starts.RegisterFail.TheVariants.{NotReached
 use Rattle.shift_real.specs.Definite.{IsOrder}
 use Rattle.shift_real.specs.Register.{IsNotReached, IsStart, latch_values}
 
--- the number writes the latch values of the start content, latch i at 2 ^ i
+-- the bits of the number are the latch values of the start content, latch i at 2 ^ i
 pub record WritesStart (F : KissFile) (k number : ℕ) : Type 0 where
   pub word : List (List Bool)
   pub is_start : IsStart F k word
   pub latches : code_bits (k * F.inputs) number ≡ latch_values word
   pub no_more : number < 2 ^ (k * F.inputs)
 
--- why a definite machine of that order has no register
+-- why a definite machine has no register
 abbrev pub IsRegisterCause : KissFile → RegisterFail → Type 0
 IsRegisterCause F NotReached = (k : ℕ) → IsOrder F k → IsNotReached F k
 IsRegisterCause F NoMemory = ⊤

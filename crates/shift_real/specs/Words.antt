@@ -3,16 +3,16 @@ use Rattle.std.specs.Prelude.{◌≡◌, ℕ, All, Bool, List, [], ◌∷◌, le
 use Rattle.kiss2.specs.declared.kiss_file.KissFile.{KissFile}
 use Rattle.kiss2.specs.Machine.{next}
 
--- so many symbols of the machine
+-- k symbols of the machine
 pub record IsWord (F : KissFile) (k : ℕ) (word : List (List Bool)) : Type 0 where
   pub count : length word ≡ k
   pub symbols : All (λ x. length x ≡ F.inputs) word
 
--- the state after a word, from a state on
+-- the state after a word from the state s
 abbrev pub next_along : KissFile → ℕ → List (List Bool) → ℕ
 next_along F s [] = s
 next_along F s (x ∷ word) = next_along F (next F s x) word
 
--- every word of k symbols brings the two states to one
+-- every word of k symbols brings the two states to one state
 abbrev pub MeetAfter : KissFile → ℕ → ℕ → ℕ → Type 0
 MeetAfter F k s t = (word : List (List Bool)) → IsWord F k word → next_along F s word ≡ next_along F t word

@@ -12,8 +12,8 @@ use std::alloc::{AllocError, Global};
 /// Partitions in order.
 pub type Chain = Items<Partition>;
 
-/// Zero, M(zero), M(M(zero)) and so on, up to and including the first that M leaves as it is. Member j, counted
-/// from 0, tells which states every word of j symbols brings to one state.
+/// Zero, M(zero), M(M(zero)) and so on, up to and including the first that M leaves as it is. States are
+/// together in member j, counted from 0, exactly where every word of j symbols brings them to one state.
 pub fn chain(alloc: Global, m: &Machine) -> Result<Chain, AllocError>
     ensures chain { IfOk result (IsChain m.now) }
     ensures together { IfOk result (AreTogetherAfter m.now) }

@@ -15,7 +15,7 @@ pub struct Content {
     pub state: u16,
 }
 
-/// The contents after all words of so many symbols, in ascending order of the words as binary numbers.
+/// The contents after all words of k symbols, in ascending order of the words as binary numbers.
 pub fn contents(alloc: Global, m: &Machine, k: usize) -> Result<Vec<Content>, AllocError>
     requires { k * m.now.inputs ≤ 12 }
     ensures { IfOk result (λ contents. AreContents m.now k contents.items) }
@@ -46,7 +46,7 @@ fn lengthened(alloc: Global, m: &Machine, shorter: &[Content]) -> Result<Vec<Con
     Ok(longer)
 }
 
-/// Adds the contents one symbol after this one, symbol by symbol.
+/// Appends the contents one symbol after this one, symbol by symbol.
 fn add_next(m: &Machine, content: &Content, longer: &mut Vec<Content>) -> Result<(), AllocError>
     requires inputs { m.now.inputs ≤ 12 }
     requires small { content.now.latches < 4096 }
@@ -76,7 +76,7 @@ fn turned(x: u32, inputs: u8) -> u64
     latches
 }
 
-/// The first content after which the machine is in this state.
+/// The place of the first content after which the machine is in this state.
 pub fn first_reaching(contents: &[Content], state: usize) -> Option<usize>
     ensures within { IfSome result (λ i. i < length contents.now) }
     ensures some { IfSome result (λ i. (content : Content) → slice_get contents.now i ≡ Some content → content.state ≡ state) }

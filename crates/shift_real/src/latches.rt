@@ -12,7 +12,7 @@ use hs_io::{Name, Names};
 use net_core::{Gate, Gates, Latch, Latches, SignalNames, Start};
 use std::alloc::{AllocError, Global};
 
-/// So many latches, which start at the bits of a word.
+/// The given number of latches, which start at the bits of a word.
 pub fn latches(
     alloc: Global,
     names: &SignalNames,
@@ -31,7 +31,7 @@ pub fn latches(
     Ok(latches)
 }
 
-/// The latch of a bit.
+/// The latch of bit i.
 fn latch(alloc: Global, names: &SignalNames, word: u64, i: usize) -> Result<Latch, AllocError>
     requires bit { i < 64 }
     requires input { i < length names.now.latch_inputs }
@@ -52,8 +52,8 @@ fn start_of(bit: bool) -> Start
     if bit { Start::One } else { Start::Zero }
 }
 
-/// Adds the gates of so many latches. The latches of the newest symbol take its bits, and each other one takes
-/// the latch that has the same bit of the symbol after.
+/// Appends the gates of the given number of latches. The latches of the newest symbol take its bits. Each other
+/// latch takes the latch that has the same bit of the next newer symbol.
 pub fn add_latch_gates(
     alloc: Global,
     names: &SignalNames,
@@ -87,7 +87,7 @@ fn taken_name(alloc: Global, names: &SignalNames, i: usize) -> Result<Name, Allo
     }
 }
 
-/// The gate that gives a signal as it is under a name.
+/// The gate that gives a signal, unchanged, under a name.
 fn taking_gate(alloc: Global, signal: Name, name: Name) -> Result<Gate, AllocError>
     ensures { IfOk result (λ gate. gate ≡ taking signal name) }
 {

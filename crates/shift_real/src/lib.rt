@@ -2,26 +2,29 @@
 //!
 //! A machine is definite of order k where every word of k symbols brings any two states to one state. [`chain`]
 //! shows how states come together symbol by symbol: its members are zero, M(zero), M(M(zero)) and so on, up to
-//! the first that M leaves as it is, and states are together in member j exactly where every word of j symbols
-//! brings them to one state. [`order`] answers the least k, or two states that words of every length keep apart.
+//! the first that M leaves as it is. States are together in member j exactly where every word of j symbols
+//! brings them to one state. [`order`] gives the least k, or two states that words of every length can bring to
+//! different states.
 //!
-//! A shift register that keeps the last k symbols keeps the state of such a machine: its content, a word of k
-//! symbols, tells the state, and the next content the next state ([`contents_follow`]). [`start`] answers what the
-//! latches of the register hold before the first symbol, or that no content leads to the reset state.
+//! A shift register that keeps the last k symbols keeps the state of such a machine. Its content, a word of k
+//! symbols, determines the state, and the next content determines the next state ([`contents_follow`]).
+//! [`start`] gives what the latches of the register hold before the first symbol, or refuses where no content
+//! leads to the reset state.
 //!
-//! [`register`] builds the network of the register. The latches of the newest symbol take the inputs, and each other
-//! one takes the latch of the same bit of the symbol after. The gate of an output reads a latch or an input exactly
-//! where it matters: where two contents and symbols that differ there alone give the output two values. Its rows are a
-//! good cover. So the network is sound, steps from content to content, and answers each word as the machine does.
+//! [`register`] builds the network of the register. The latches of the newest symbol take the inputs, and each
+//! other latch takes the latch of the same bit of the next newer symbol. The gate of an output reads a latch or
+//! an input exactly where it matters: where two contents and symbols that differ there alone give the output
+//! two values. The rows of the gate are a good cover. So the network is sound, steps from content to content,
+//! and answers each word as the machine does.
 //!
-//! For an output, states are in one class where they give it the same bit at each symbol. A latch matters where two
-//! contents that differ there alone are of two classes, and the terms of a gate are those of the pieces of each class,
-//! for the contents whose latches that are not read are 0.
+//! For an output, states are in one class where they give it the same bit at each symbol. A latch matters where
+//! two contents that differ there alone are of two classes. The terms of a gate are those of the pieces of each
+//! class, for the contents whose latches that are not read are 0.
 //!
 //! The definitions are in `specs/`: `Words` has words and the states after them, `Definite` definite machines
-//! and their orders, `Chain` the chain, `Register` contents of the register, `Start` what it starts at, `Gates` what
-//! the gates read and give, and `ShiftNetwork` the network and what it does. The laws of `Laws` are the contract of a
-//! function that does nothing. What only private functions and proofs need is in `specs/Inner`.
+//! and their orders, `Chain` the chain, `Register` contents of the register, `Start` what it starts at, `Gates`
+//! what the gates read and give, and `ShiftNetwork` the network and what it does. The laws of `Laws` are the
+//! contract of a function that does nothing. What only private functions and proofs need is in `specs/Inner`.
 #![tactic(auto)]
 
 mod chains;

@@ -1,4 +1,4 @@
-//! Names, once more.
+//! Copies of names.
 
 ghost use Rattle.std.specs.Prelude.{◌≡◌, ◌<◌, ◌++◌, All, IfOk, OnOk, length, map};
 ghost use Rattle.shift_real.specs.Gates.{name_at};
@@ -8,7 +8,7 @@ use hs_io::{Name, Names};
 use net_core::SignalNames;
 use std::alloc::{AllocError, Global};
 
-/// The same names in order.
+/// A copy of the names, in order.
 pub fn copied(alloc: Global, names: &Names) -> Result<Names, AllocError>
     ensures { IfOk result (λ copy. copy ≡ names.now) }
 {
@@ -19,7 +19,7 @@ pub fn copied(alloc: Global, names: &Names) -> Result<Names, AllocError>
     Ok(copy)
 }
 
-/// The name of that number.
+/// A copy of the name with the number i.
 pub fn name_from(alloc: Global, names: &Names, i: usize) -> Result<Name, AllocError>
     requires { i < length names.now }
     ensures { IfOk result (λ name. name ≡ name_at names.now i) }
@@ -44,7 +44,7 @@ pub fn listed_names(alloc: Global, names: &SignalNames, set: &ReadSet) -> Result
     Ok(listed)
 }
 
-/// Adds the names of these numbers.
+/// Appends the names with these numbers.
 fn push_names(
     alloc: Global,
     names: &Names,

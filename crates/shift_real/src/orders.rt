@@ -11,9 +11,10 @@ use std::alloc::{AllocError, Global};
 /// Why a machine has no order.
 #[derive(Debug, Drop, PartialEq)]
 pub enum OrderFail {
-    /// Words of every length keep these two states apart. They are the least two such, by s and then by t.
+    /// For no k does every word of k symbols bring these two states to one state. They are the least two such
+    /// states, by s and then by t.
     NotDefinite { s: u16, t: u16 },
-    /// There is no memory left.
+    /// Memory ran out.
     NoMemory,
 }
 

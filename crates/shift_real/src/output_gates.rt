@@ -15,7 +15,7 @@ use machine_table::Machine;
 use net_core::{Gate, Gates, SignalNames};
 use std::alloc::{AllocError, Global};
 
-/// Adds the gates of the outputs, for the states after the contents of so many symbols.
+/// Appends the gates of the outputs, for the states after the contents of k symbols.
 pub fn add_output_gates(
     alloc: Global,
     m: &Machine,

@@ -18,10 +18,10 @@ use machine_table::Machine;
 use net_core::{Gates, Network, SignalNames};
 use std::alloc::{AllocError, Global};
 
-/// The network of the register of a definite machine. Latch j times the inputs plus i holds bit i of the symbol
-/// that came j + 1 steps ago. Its gate takes input i where j is 0, and else the latch with the same bit of the
-/// symbol after. The gates of the latches come first, and then those of the outputs, each of which reads the
-/// inputs and the latches that matter for it.
+/// The network of the register of a definite machine. The latch with the number j times the inputs plus i holds
+/// bit i of the symbol that came j + 1 steps ago. Its gate takes input i where j is 0, and else the latch with
+/// the same bit of the next newer symbol. The gates of the latches come first, and then those of the outputs.
+/// The gate of an output reads the inputs and the latches that matter for it.
 pub fn register(alloc: Global, m: &Machine, names: &SignalNames) -> Result<Network, RegisterFail>
     requires { (k : ℕ) × HasShortOrder m.now k × AreNamesFor m.now k names.now }
     ensures network { IfOk result (λ net. (k : ℕ) → IsOrder m.now k → IsRegister m.now k names.now net) }

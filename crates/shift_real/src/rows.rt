@@ -41,7 +41,7 @@ fn column_count(set: &ReadSet) -> usize
     set.inputs.as_slice().len() + set.latches.as_slice().len()
 }
 
-/// The terms of what is read at the pieces that give the output this bit.
+/// The terms that hold what is read at the pieces that give the output this bit.
 fn terms(
     alloc: Global,
     pieces: &[ContentPiece],

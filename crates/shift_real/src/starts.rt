@@ -16,7 +16,7 @@ use std::alloc::{AllocError, Global};
 pub enum RegisterFail {
     /// No word of as many symbols as the order leads to the reset state.
     NotReached,
-    /// There is no memory left.
+    /// Memory ran out.
     NoMemory,
 }
 
@@ -65,9 +65,9 @@ pub fn start_among(m: &Machine, held: &RegisterContents) -> Result<u64, Register
     }
 }
 
-/// The values of the latches before the first symbol, latch i at 2^i. Latch j times the inputs plus i holds bit i
-/// of the symbol that came j + 1 steps ago. The content is the least one, read as a binary number with the oldest
-/// symbol first, after which the machine is in its reset state.
+/// The values of the latches before the first symbol, latch i at 2^i. The latch with the number j times the
+/// inputs plus i holds bit i of the symbol that came j + 1 steps ago. Contents are read as binary numbers, the
+/// oldest symbol first: this is the least content after which the machine is in its reset state.
 pub fn start(alloc: Global, m: &Machine) -> Result<u64, RegisterFail>
     requires { (k : ℕ) × HasShortOrder m.now k }
     ensures start { IfOk result (λ number. (k : ℕ) → IsOrder m.now k → WritesStart m.now k number) }

@@ -8,7 +8,7 @@ use crate::contents::Content;
 use machine_table::Machine;
 use std::alloc::{AllocError, Global};
 
-/// The states after the contents of so many symbols, each at the number that its latches write, latch i at 2^i.
+/// The states after the contents of k symbols, each at the number whose bits are the latches, latch i at 2^i.
 pub fn state_table(
     alloc: Global,
     m: &Machine,
@@ -28,7 +28,7 @@ pub fn state_table(
     Ok(table)
 }
 
-/// For each state the first one that gives the same bit of an output at each symbol.
+/// For each state, the first state that gives the same bit of the output at each symbol.
 pub fn first_alike(alloc: Global, m: &Machine, b: u8) -> Result<Vec<u16>, AllocError>
     requires { b < m.now.outputs }
     ensures { IfOk result (λ firsts. AreFirsts m.now b (length m.now.states) firsts.items) }
@@ -41,7 +41,7 @@ pub fn first_alike(alloc: Global, m: &Machine, b: u8) -> Result<Vec<u16>, AllocE
     Ok(firsts)
 }
 
-/// The first state that is alike to s. It is asked against those alone that are the first of their class.
+/// The first state that is alike to s. Only states that are the first of their class are compared with s.
 fn first_for(m: &Machine, firsts: &[u16], b: u8, s: usize) -> usize
     requires output { b < m.now.outputs }
     requires state { s < length m.now.states }
@@ -56,7 +56,7 @@ fn first_for(m: &Machine, firsts: &[u16], b: u8, s: usize) -> usize
     s
 }
 
-/// The first states for the states of a table.
+/// For each state of a table, the first state that is alike to it.
 pub fn classes_of(alloc: Global, firsts: &[u16], table: &[u16]) -> Result<Vec<u16>, AllocError>
     requires { All (λ s. s < length firsts.now) table.now }
     ensures { IfOk result (λ classes. classes.items ≡ map (slice_index firsts.now) table.now) }

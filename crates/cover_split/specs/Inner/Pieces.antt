@@ -7,11 +7,11 @@ use Rattle.cover_split.specs.Refusal.{IsStatePiece}
 use Rattle.cover_split.specs.declared.cover.CoverFail.{CoverFail}
 use Rattle.cover_split.specs.declared.cover.CoverFail.TheVariants.{BadText, Contained, Missing, TooMany, Trivial, NoMemory}
 
--- what is between the commas
+-- the texts between the commas
 abbrev pub pieces_in : List ℕ → List (List ℕ)
 pieces_in text = slice_split (λ byte. byte == 44) text
 
--- it has the numbers of these states
+-- the text has the numbers of the states of the block
 pub record IsBlockText (n : ℕ) (text block : List ℕ) : Type 0 where
   pub lawful : IsBlock n block
   pub spelled : pieces_in text ≡ map decimal block
@@ -22,7 +22,7 @@ pub record IsFirstBadPiece (n : ℕ) (pieces : List (List ℕ)) (place : ℕ) : 
   pub bad : IsStatePiece n pieces place → ⊥
   pub before : (earlier : ℕ) → earlier < place → IsStatePiece n pieces earlier
 
--- why it is not that of the block of that number, or memory was wanting
+-- why a text is not that of the block with the given number, or memory ran out
 abbrev pub IsBlockFault : ℕ → List ℕ → ℕ → CoverFail → Type 0
 IsBlockFault n text number (BadText block place) = (block ≡ number) × IsFirstBadPiece n (pieces_in text) place
 IsBlockFault n text number (Contained a b) = ⊥

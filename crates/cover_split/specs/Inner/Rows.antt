@@ -10,7 +10,7 @@ use Rattle.machine_table.specs.Walk.{outputs_of}
 use Rattle.cover_split.specs.Cover.{block_at}
 use Rattle.cover_split.specs.Expansion.{IsFirstCopy, IsNextPair, IsPair, pair_name, pairs_of}
 
--- a row of the pair of that number
+-- a row of the pair with the number i
 pub record IsPairRow (F : KissFile) (blocks : List (List ℕ)) (i : ℕ) (row : KissRow) : Type 0 where
   pub from : row.from ≡ i
   pub width : row.cube.width ≡ F.inputs
@@ -22,7 +22,7 @@ pub record IsPairRow (F : KissFile) (blocks : List (List ℕ)) (i : ℕ) (row : 
   pub value : row.value < 2 ^ F.outputs
   pub gives : (j s x : ℕ) → IsPair blocks i j s → x < 2 ^ F.inputs → HoldsNumber row.cube x → out F s (symbol_of F.inputs x) ≡ outputs_of F.outputs row.value
 
--- some row of the state holds the symbol of that number
+-- some row of the pair with the number i holds the symbol with the number x
 abbrev pub HasRowAt : List KissRow → (i x : ℕ) → Type 0
 HasRowAt rows i x = (row : KissRow) × Contains rows row × (row.from ≡ i) × HoldsNumber row.cube x
 
@@ -31,7 +31,7 @@ pub record AreRowsOf (F : KissFile) (blocks : List (List ℕ)) (i : ℕ) (rows :
   pub right : All (IsPairRow F blocks i) rows
   pub each : (x : ℕ) → x < 2 ^ F.inputs → HasRowAt rows i x
 
--- a list with the rows of a pair after its own
+-- the old list with the rows of a pair after it
 abbrev pub AddsRows : KissFile → List (List ℕ) → ℕ → (old new : List KissRow) → Type 0
 AddsRows F blocks i old new = (more : List KissRow) × (new ≡ old ++ more) × AreRowsOf F blocks i more
 
@@ -41,7 +41,7 @@ pub record AreRowsBelow (F : KissFile) (blocks : List (List ℕ)) (count : ℕ) 
   pub each : (i x : ℕ) → i < count → x < 2 ^ F.inputs → HasRowAt rows i x
   pub in_order : AllPairs (λ row other. row.from ≤ other.from) rows
 
--- the pair of that number is that of the state at that place of the block
+-- the pair with the number i is that of block j and the state at the given place of the block
 pub record IsPlaceOf (blocks : List (List ℕ)) (i j place : ℕ) : Type 0 where
   pub within : place < length (block_at blocks j)
   pub pair : IsPair blocks i j (slice_index (block_at blocks j) place)

@@ -1,4 +1,4 @@
--- Two states, and those that a set of bits has to tell apart.
+-- Pairs of states, and those that a set of bits has to distinguish.
 use Rattle.std.specs.Prelude.{◌⊎◌, ℕ, ◌+◌, ◌<◌, All, Bool, Contains, List, length}
 use Rattle.kiss2.specs.declared.kiss_file.KissFile.{KissFile}
 use Rattle.dependence.specs.Inner.Asking.{GiveTheSame}
@@ -9,7 +9,7 @@ use Rattle.least_codes.specs.declared.two_states.TwoStates.{TwoStates}
 abbrev pub IsPair : ℕ → TwoStates → Type 0
 IsPair n pair = (pair.s < pair.t) × (pair.t < n)
 
--- each two of n states
+-- all pairs of n states
 pub record ArePairs (pairs : List TwoStates) (n : ℕ) : Type 0 where
   pub lawful : All (IsPair n) pairs
   pub each : (s t : ℕ) → s < t → t < n → Contains pairs (record { s = s; t = t })
@@ -18,23 +18,23 @@ pub record ArePairs (pairs : List TwoStates) (n : ℕ) : Type 0 where
 abbrev pub Differ : KissFile → (ℕ → List Bool → Bool) → TwoStates → Type 0
 Differ F value pair = GiveTheSame F value pair.s pair.t → ⊥
 
--- each two states whose values differ
+-- all pairs of states whose values differ
 pub record AreApart (F : KissFile) (value : ℕ → List Bool → Bool) (apart : List TwoStates) : Type 0 where
   pub lawful : All (IsPair (length F.states)) apart
   pub differ : All (Differ F value) apart
   pub each : (s t : ℕ) → s < t → t < length F.states → Contains apart (record { s = s; t = t }) ⊎ GiveTheSame F value s t
 
--- no two of these states have codes that agree on the set
+-- for no two of these states do the codes agree on the set
 abbrev pub TellsApart : List ℕ → List TwoStates → (ℕ → Type 0) → Type 0
 TellsApart words apart R = All (λ pair. AgreeOn words R pair.s pair.t → ⊥) apart
 
--- each two states below t, and t with those below s
+-- all pairs of states below t, and the pairs of t and the states below s
 pub record ArePairsUpTo (pairs : List TwoStates) (t s : ℕ) : Type 0 where
   pub lawful : All (IsPair (t + 1)) pairs
   pub each : (u v : ℕ) → u < v → v < t → Contains pairs (record { s = u; t = v })
   pub last : (u : ℕ) → u < s → Contains pairs (record { s = u; t = t })
 
--- those of the first pairs whose values differ
+-- those of the given pairs whose values differ
 pub record AreApartOf (F : KissFile) (value : ℕ → List Bool → Bool) (pairs apart : List TwoStates) : Type 0 where
   pub lawful : All (IsPair (length F.states)) apart
   pub differ : All (Differ F value) apart

@@ -1,4 +1,4 @@
--- Candidates that are chosen one after another, told by their ascending list.
+-- Candidates that are chosen one after another, given by their ascending list.
 use Rattle.std.specs.Prelude.{◌≡◌, ◌⊎◌, ◌↔◌, ℕ, ◌+◌, ◌≤◌, Contains, List, [], ◌∷◌, length}
 use Rattle.dependence.specs.Permits.{InWord}
 use Rattle.least_codes.specs.declared.choice.Question.{Question}
@@ -11,21 +11,21 @@ abbrev pub Ascend : ℕ → List ℕ → Type 0
 Ascend from [] = Unit {0}
 Ascend from (c ∷ rest) = (from ≤ c) × Ascend (c + 1) rest
 
--- this number of candidates from a bit on, ascending
+-- left candidates from bit `from` on, ascending
 pub record AreChosen (candidates from left : ℕ) (rest : List ℕ) : Type 0 where
   pub size : length rest ≡ left
   pub ascend : Ascend from rest
   pub each : (c : ℕ) → Contains rest c → InWord candidates c
 
--- the bits of a word and those of a list
+-- the bits of a word together with those of a list
 abbrev pub And : ℕ → List ℕ → ℕ → Type 0
 And chosen rest c = InWord chosen c ⊎ Contains rest c
 
--- with the chosen bits, these tell the states apart
+-- together with the chosen bits, these distinguish the states
 abbrev pub Tell : Question → ℕ → List ℕ → Type 0
 Tell question chosen rest = TellsApart question.words.now question.apart.now (And chosen rest)
 
--- the set has the chosen bits and the first list of candidates that tells the states apart with them
+-- the set has the chosen bits and the first list of candidates that distinguishes the states together with them
 pub record IsFirstChoice (question : Question) (chosen from left set : ℕ) : Type 0 where
   pub rest : List ℕ
   pub of : AreChosen question.candidates from left rest
@@ -33,11 +33,11 @@ pub record IsFirstChoice (question : Question) (chosen from left set : ℕ) : Ty
   pub tell : Tell question chosen rest
   pub first : (others : List ℕ) → AreChosen question.candidates from left others → Tell question chosen others → (others ≡ rest) ⊎ ListBefore rest others
 
--- no list of candidates does
+-- no list of candidates distinguishes the states together with the chosen bits
 abbrev pub HasNone : Question → (chosen from left : ℕ) → Type 0
 HasNone question chosen from left = (others : List ℕ) → AreChosen question.candidates from left others → Tell question chosen others → ⊥
 
--- the fewest candidates that tell the states apart, and of those the first list
+-- the fewest candidates that distinguish the states, and of those the first list
 pub record IsLeastChoice (question : Question) (choice : Choice) : Type 0 where
   pub reads : List ℕ
   pub of : AreChosen question.candidates 0 choice.size reads

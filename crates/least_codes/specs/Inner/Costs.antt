@@ -3,7 +3,7 @@ use Rattle.std.specs.Prelude.{◌≡◌, ℕ, ◌<◌, List, length, slice_index
 use Rattle.kiss2.specs.declared.kiss_file.KissFile.{KissFile}
 use Rattle.least_codes.specs.Cost.{IsLatchCost}
 
--- those of the latches before i, and their sum
+-- the costs of the latches before i, and their sum
 pub record AreCosts (F : KissFile) (words : List ℕ) (bits i cost : ℕ) : Type 0 where
   pub costs : List ℕ
   pub count : length costs ≡ i

@@ -12,7 +12,8 @@ use Rattle.least_codes.specs.declared.table.Images.{Images}
 abbrev pub IsUsed : List ℕ → ℕ → Type 0
 IsUsed words s = (u : ℕ) × (u < s) × (slice_index words u ≡ slice_index words s)
 
--- codes of the states before s, all different, the first i bits of that of s, and no other bits
+-- a draft of codes: those of the states before s, all different, and the first i bits of the code of s; all
+-- other bits are 0
 pub record IsDraft (bits : ℕ) (words : List ℕ) (s i : ℕ) : Type 0 where
   pub state : s ≤ length words
   pub bit : i ≤ bits
@@ -21,12 +22,13 @@ pub record IsDraft (bits : ℕ) (words : List ℕ) (s i : ℕ) : Type 0 where
   pub begun : (c : ℕ) → i ≤ c → bit_at (slice_index words s) c ≡ 0
   pub later : (u : ℕ) → s < u → slice_index words u ≡ 0
 
--- these codes have a 0 at a place before bit i of s, where the words have a 1, and before it they are the same
+-- these codes have a 0 at a place before bit i of s where the words have a 1, and are the same as the words
+-- before that place
 pub record AreBefore (words : List ℕ) (s i : ℕ) (others : List ℕ) : Type 0 where
   pub order : TextsBefore others words
   pub early : (order.state < s) ⊎ ((order.state ≡ s) × (order.bit < i))
 
--- these codes are the same up to bit i of s
+-- these codes are the same as the words before bit i of s
 pub record BeginSame (words : List ℕ) (s i : ℕ) (others : List ℕ) : Type 0 where
   pub states : (u : ℕ) → u < s → slice_index others u ≡ slice_index words u
   pub bits : (c : ℕ) → c < i → bit_at (slice_index others s) c ≡ bit_at (slice_index words s) c
@@ -34,7 +36,7 @@ pub record BeginSame (words : List ℕ) (s i : ℕ) (others : List ℕ) : Type 0
 abbrev pub AreSeen : List ℕ → (s i : ℕ) → List ℕ → Type 0
 AreSeen words s i others = AreBefore words s i others ⊎ BeginSame words s i others
 
--- of the codes that were seen these cost least, and of those that cost as much they have the first texts
+-- of the codes that were seen these cost the least, and of those that cost the same they have the first texts
 pub record IsBest (F : KissFile) (bits : ℕ) (Seen : List ℕ → Type 0) (best : Best) : Type 0 where
   pub codes : AreCodes (length F.states) bits best.words.items
   pub seen : Seen best.words.items
@@ -42,7 +44,7 @@ pub record IsBest (F : KissFile) (bits : ℕ) (Seen : List ℕ → Type 0) (best
   pub least : (others : List ℕ) (other : ℕ) → AreCodes (length F.states) bits others → Seen others → IsCost F others bits other → best.cost ≤ other
   pub first : (others : List ℕ) → AreCodes (length F.states) bits others → Seen others → IsCost F others bits best.cost → (others ≡ best.words.items) ⊎ TextsBefore best.words.items others
 
--- the best of those that were seen, if any were
+-- the best of the codes that were seen, or None if none were seen
 abbrev pub IsKept : KissFile → ℕ → (List ℕ → Type 0) → Option Best → Type 0
 IsKept F bits Seen None = (others : List ℕ) → AreCodes (length F.states) bits others → Seen others → ⊥
 IsKept F bits Seen (Some best) = IsBest F bits Seen best
@@ -52,7 +54,7 @@ abbrev pub IsLessThan : ℕ → Option Best → Type 0
 IsLessThan cost None = ⊤
 IsLessThan cost (Some best) = cost < best.cost
 
--- codes that cost less take the place of the best
+-- codes that cost less replace the best
 pub record Takes (words : List ℕ) (cost : ℕ) (old new : Option Best) : Type 0 where
   pub less : IsLessThan cost old
   pub best : Best
@@ -60,7 +62,7 @@ pub record Takes (words : List ℕ) (cost : ℕ) (old new : Option Best) : Type 
   pub words_are : best.words.items ≡ words
   pub cost_is : best.cost ≡ cost
 
--- or the best stays
+-- the best stays, where the codes do not cost less
 pub record Stays (cost : ℕ) (old new : Option Best) : Type 0 where
   pub not_less : IsLessThan cost old → ⊥
   pub same : new ≡ old

@@ -6,7 +6,7 @@ use Rattle.std.specs.Int.{bit_at}
 abbrev pub bit_labels : ℕ → List ℕ → List ℕ
 bit_labels i words = map (λ word. bit_at word i) words
 
--- those of each bit
+-- the labels of the states by each bit
 pub record AreBitLabels (bits : ℕ) (words : List ℕ) (partitions : List (List ℕ)) : Type 0 where
   pub count : length partitions ≡ bits
   pub each : (i : ℕ) → i < bits → slice_get partitions i ≡ Some (bit_labels i words)

@@ -18,7 +18,7 @@ pub record IsClassPiece (F : KissFile) (classes : List ℕ) (at : ContentPiece) 
   pub number : at.number < length classes
   pub piece : IsPiece F (slice_index classes at.number) at.piece
 
--- a piece of the list holds the symbol of that number after the content
+-- a piece of the list holds the symbol with the number x after the content
 abbrev pub IsHeldAfter : List ContentPiece → ℕ → ℕ → Type 0
 IsHeldAfter pieces number x = (at : ContentPiece) × Contains pieces at × (at.number ≡ number) × HoldsNumber at.piece.cube x
 
@@ -31,26 +31,26 @@ pub record AreClassPieces (F : KissFile) (classes : List ℕ) (Some : ℕ → Ty
 abbrev pub IsWithinMask : ℕ → ℕ → Type 0
 IsWithinMask mask number = bit_and number mask ≡ number
 
--- those of a class below a number
+-- those of a class that is less than the given class
 pub record IsOfClassBelow (classes : List ℕ) (mask class number : ℕ) : Type 0 where
   pub masked : IsWithinMask mask number
   pub of_class : slice_index classes number < class
 
--- those of one class, as far as a number
+-- those of the given class whose number is below far
 pub record IsOfClassAsFar (classes : List ℕ) (mask class far number : ℕ) : Type 0 where
   pub masked : IsWithinMask mask number
   pub of_class : slice_index classes number ≡ class
   pub before : number < far
 
--- a content, with a piece
+-- the content with this number, with a piece
 abbrev pub with_number : ℕ → Piece → ContentPiece
 with_number number piece = record { number = number; piece = piece }
 
--- how many columns a gate has
+-- the number of columns of a gate
 abbrev pub width_of : ReadSet → ℕ
 width_of set = column_count set.inputs set.latches
 
--- at some piece that gives the output this bit these values are read
+-- these values are read at some piece that gives the output this bit
 pub record IsReadAfterPiece (set : ReadSet) (b : ℕ) (given : Bool) (pieces : List ContentPiece) (read : List Bool) : Type 0 where
   pub at : ContentPiece
   pub among : Contains pieces at
@@ -69,6 +69,6 @@ pub record CanBeRead (set : ReadSet) (pieces : List ContentPiece) : Type 0 where
   pub latches : All (λ c. c < 64) set.latches
   pub width : width_of set ≤ 128
 
--- where the pieces give 1 and where they give 0, not the same values are read
+-- no values are read both at a piece that gives 1 and at a piece that gives 0
 abbrev pub AreApart : ReadSet → ℕ → List ContentPiece → Type 0
 AreApart set b pieces = (read : List Bool) → IsReadAfterPiece set b true pieces read → IsReadAfterPiece set b false pieces read → ⊥

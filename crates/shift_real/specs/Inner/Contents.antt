@@ -14,7 +14,7 @@ abbrev pub turned_bits : ℕ → ℕ → ℕ
 turned_bits zero x = 0
 turned_bits (suc places) x = 2 * turned_bits places x + (if bit x places then 1 else 0)
 
--- the content after another one, where a symbol comes in
+-- the content after a content at which a symbol comes in
 abbrev pub content_after : KissFile → Content → ℕ → Content
 content_after F content x =
     record {
@@ -32,14 +32,15 @@ pub record IsContentOf (F : KissFile) (k : ℕ) (word : List (List Bool)) (conte
   pub state : content.state ≡ state_after F word
   pub within : content.state < length F.states
 
--- some content in its place, and the word of a content
+-- the content of a word is at the number of the word; and a content at a place is that of a word whose number
+-- is the place
 abbrev pub IsAtItsNumber : KissFile → ℕ → List Content → List (List Bool) → Type 0
 IsAtItsNumber F k contents word = (content : Content) × (slice_get contents (word_number word) ≡ Some content) × IsContentOf F k word content
 
 abbrev pub IsOfSomeWord : KissFile → ℕ → ℕ → Content → Type 0
 IsOfSomeWord F k at content = (word : List (List Bool)) × IsWord F k word × (word_number word ≡ at) × IsContentOf F k word content
 
--- the contents of all words of so many symbols, each at the number of its word
+-- the contents of all words of k symbols, each at the number of its word
 pub record AreContents (F : KissFile) (k : ℕ) (contents : List Content) : Type 0 where
   pub each : (word : List (List Bool)) → IsWord F k word → IsAtItsNumber F k contents word
   pub right : (at : ℕ) (content : Content) → slice_get contents at ≡ Some content → IsOfSomeWord F k at content

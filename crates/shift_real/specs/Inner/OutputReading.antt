@@ -7,7 +7,8 @@ use Rattle.shift_real.specs.declared.reading.OutputReading.{OutputReading}
 use Rattle.shift_real.specs.Inner.Reading.{FlipMatters, MattersAmong}
 use Rattle.shift_real.specs.Inner.Tables.{AreFirsts}
 
--- the classes are those of the states of the table, and the set lists the latches and inputs that are told by them
+-- the classes are those of the states of the table, and the set lists the latches and the inputs that matter by
+-- these classes and at these states
 pub record IsOutputReading (F : KissFile) (k b : ℕ) (table : List ℕ) (reading : OutputReading) : Type 0 where
   pub firsts : List ℕ
   pub are : AreFirsts F b (length F.states) firsts

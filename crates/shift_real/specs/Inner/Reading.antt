@@ -11,29 +11,29 @@ use Rattle.machine_table.specs.declared.covering.Piece.{Piece}
 abbrev pub SomeOf : {X : Type 0} → (X → Type 0) → List X → Type 0
 SomeOf {X} P xs = (x : X) × Contains xs x × P x
 
--- two numbers that differ in one bit are of different classes
+-- some two numbers that differ at the latch alone have different classes
 pub record FlipMatters (classes : List ℕ) (latch : ℕ) : Type 0 where
   pub number : ℕ
   pub within : number < length classes
   pub apart : slice_index classes number ≢ slice_index classes (bit_xor number (2 ^ latch))
 
--- these were added to a set of bits, and no other
+-- new is the set old with the bits that were added, and no others
 abbrev pub AddsBits : ℕ → ℕ → (ℕ → Type 0) → Type 0
 AddsBits old new Added = (a : ℕ) → InWord new a ↔ (InWord old a ⊎ Added a)
 
--- At the place of input a, and at no other, the cubes have a bit each, and not the same one; and the pieces give different
--- bits of output b.
+-- At the place of input a, and at no other place, the cubes both have a bit and the bits differ. The pieces
+-- give different bits of output b.
 pub record ShowInput (inputs b : ℕ) (piece other : Piece) (a : ℕ) : Type 0 where
   pub place : ℕ
   pub of_input : place + a + 1 ≡ inputs
   pub clash : clash_of other.cube piece.cube ≡ 2 ^ place
   pub values : bit other.outputs b ≢ bit piece.outputs b
 
--- the piece shows it beside one of the others
+-- the piece and one of the others show that input a matters
 abbrev pub ShowInputBeside : ℕ → ℕ → List Piece → Piece → ℕ → Type 0
 ShowInputBeside inputs b others piece a = SomeOf (λ (other : Piece). ShowInput inputs b piece other a) others
 
--- one of the pieces does
+-- one of the pieces and one of the others show that input a matters
 abbrev pub ShowInputAmong : ℕ → ℕ → List Piece → List Piece → ℕ → Type 0
 ShowInputAmong inputs b others pieces a = SomeOf (λ (piece : Piece). ShowInputBeside inputs b others piece a) pieces
 
@@ -45,7 +45,7 @@ pub record MattersAtState (F : KissFile) (b s a : ℕ) : Type 0 where
   pub differ : DifferAlone a x y
   pub values : output_value F b s x ≢ output_value F b s y
 
--- so it does at a state of the list, below a number
+-- input a matters at some state of the list that is below the given number
 pub record MattersAmong (F : KissFile) (b : ℕ) (states : List ℕ) (below a : ℕ) : Type 0 where
   pub state : ℕ
   pub within : state < below

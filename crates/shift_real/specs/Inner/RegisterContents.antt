@@ -5,7 +5,7 @@ use Rattle.shift_real.specs.declared.starts.RegisterContents.{RegisterContents}
 use Rattle.shift_real.specs.Definite.{IsOrder}
 use Rattle.shift_real.specs.Inner.Contents.{AreContents}
 
--- the contents of as many symbols as the order, which are few
+-- the contents of as many symbols as the order, which have few bits
 pub record AreRegisterContents (F : KissFile) (held : RegisterContents) : Type 0 where
   pub order : IsOrder F held.order
   pub short : held.order * F.inputs ≤ 12

@@ -5,7 +5,7 @@ use Rattle.net_core.specs.declared.Gate.{Gate}
 use Rattle.net_core.specs.declared.SignalNames.{SignalNames}
 use Rattle.shift_real.specs.Inner.Latches.{IsOutputGateAt, latch_gate}
 
--- those of the latches, then those of the outputs, and no other
+-- the gates of the latches, then those of the outputs, and no others
 pub record AreShiftGates (F : KissFile) (k : ℕ) (names : SignalNames) (gates : List Gate) : Type 0 where
   pub count : length gates ≡ k * F.inputs + F.outputs
   pub latches : (i : ℕ) → i < k * F.inputs → slice_get gates i ≡ Some (latch_gate names i)

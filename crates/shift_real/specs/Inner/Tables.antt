@@ -5,12 +5,12 @@ use Rattle.kiss2.specs.declared.kiss_file.KissFile.{KissFile}
 use Rattle.machine_table.specs.Pairs.{AgreeInBit, AtEachSymbol}
 use Rattle.shift_real.specs.Register.{state_after}
 
--- the word of so many symbols whose latch values are these bits
+-- the word of k symbols whose latch values are these bits
 abbrev pub word_of : ℕ → ℕ → List Bool → List (List Bool)
 word_of zero inputs bits = []
 word_of (suc k) inputs bits = drop (k * inputs) bits ∷ word_of k inputs (take (k * inputs) bits)
 
--- the content of that number, latch i at 2 ^ i
+-- the content with the given number, latch i at 2 ^ i
 abbrev pub content_of : KissFile → ℕ → ℕ → List (List Bool)
 content_of F k number = word_of k F.inputs (code_bits (k * F.inputs) number)
 
@@ -27,13 +27,13 @@ pub record IsTable (F : KissFile) (k : ℕ) (table : List ℕ) : Type 0 where
 abbrev pub AreAlike : KissFile → ℕ → ℕ → ℕ → Type 0
 AreAlike F b s t = AtEachSymbol F.inputs (AgreeInBit b F s t)
 
--- the first state that is alike
+-- the first state that is alike to s
 pub record IsFirstAlike (F : KissFile) (b s first : ℕ) : Type 0 where
   pub within : first ≤ s
   pub alike : AreAlike F b first s
   pub least : (t : ℕ) → t < first → AreAlike F b t s → ⊥
 
--- so for each state below a number
+-- for each state below the count, the first state that is alike to it
 pub record AreFirsts (F : KissFile) (b count : ℕ) (firsts : List ℕ) : Type 0 where
   pub size : length firsts ≡ count
   pub each : (s : ℕ) → s < count → IsFirstAlike F b s (slice_index firsts s)
