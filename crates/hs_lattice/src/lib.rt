@@ -39,7 +39,7 @@ mod closure;
 mod collection;
 mod world;
 
-pub use closure::join_closure;
+pub use closure::{generated_fit, join_closure};
 pub use collection::Collection;
 use hs_list::Items;
 pub use world::JoinWorld;
