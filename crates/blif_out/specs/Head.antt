@@ -1,4 +1,5 @@
--- The comments at the head of a network. Each line has a mark and then fields with one space between each two.
+-- The comments at the head of a network. Each line has a mark and then fields, with one space between each and the
+-- next.
 use Rattle.std.specs.Prelude.{◌≡◌, ℕ, ◌+◌, List, [], ◌∷◌, ◌++◌, Option, None, Some, length, map, codes}
 use Rattle.std.specs.List.{flat_map, range_with_len, enumerate_from, zip}
 use Rattle.std.specs.Fmt.{decimal}
@@ -23,11 +24,11 @@ kind_word Cascade = codes "cascade"
 kind_word Feedback = codes "feedback"
 kind_word Least = codes "least"
 
--- how the parts came to be
+-- how the parts were made
 abbrev pub kind_fields : Kind → List (List ℕ)
 kind_fields kind = codes "hsdec" ∷ kind_word kind ∷ []
 
--- the partition into alike states, where there is one
+-- the partition into alike states, if there is one
 abbrev pub classes_fields : Option (List ℕ) → List (List (List ℕ))
 classes_fields None = []
 classes_fields (Some classes) = (codes "classes" ∷ labels_text classes ∷ []) ∷ []
@@ -42,7 +43,7 @@ abbrev pub part_fields : ℕ × Part → List (List ℕ)
 part_fields (number, part) =
     codes "part" ∷ decimal number ∷ labels_text part.partition ∷ codes "carrier" ∷ labels_text part.carrier ∷ codes "reads" ∷ numbers_text part.reads ∷ []
 
--- so many bits of a word, bit 0 first, as digits
+-- this many bits of a word, bit 0 first, as digits
 abbrev pub bits_of : ℕ → ℕ → List ℕ
 bits_of bits word = map (λ i. 48 + bit_at word i) (range_with_len 0 bits)
 
@@ -60,7 +61,7 @@ abbrev pub note_fields : ℕ × LatchNote → List (List ℕ)
 note_fields (number, latch) =
     codes "latch" ∷ decimal number ∷ codes "part" ∷ decimal latch.part ∷ codes "from" ∷ labels_text latch.from ∷ codes "to" ∷ labels_text latch.to ∷ []
 
--- the fields of each line, behind the mark; a code has a bit for each latch
+-- the fields of each line, after the mark; a code has a bit for each latch
 abbrev pub head_fields : Header → List (List (List ℕ))
 head_fields H =
     kind_fields H.kind
@@ -69,7 +70,7 @@ head_fields H =
     ++ map (state_fields (length H.latches)) (zip H.states H.words)
     ++ map note_fields (enumerate_from 0 H.latches))
 
--- a comment of these fields
+-- a comment with these fields
 abbrev pub comment_text : List (List ℕ) → List ℕ
 comment_text fields = line_text (codes "#" ∷ fields)
 
@@ -81,6 +82,6 @@ head_lines H = map comment_text (head_fields H)
 abbrev pub Head : List ℕ → Header → Type 0
 Head bytes H = (rest : List ℕ) × (bytes ≡ flat_map ended (head_lines H) ++ (model_word ++ rest))
 
--- the whole text of a network behind its header
+-- the whole text of a network after its header
 abbrev pub net_text_of : Header → Network → List ℕ
 net_text_of H N = flat_map ended (head_lines H) ++ net_text N

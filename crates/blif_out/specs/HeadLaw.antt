@@ -1,4 +1,4 @@
--- A text has one header, and its lines are comments.
+-- A text has only one header, and the lines of a header are comments.
 use Rattle.std.specs.Prelude.{◌≡◌, ℕ, ◌^◌, ◌<◌, List, length, IfSome}
 use Rattle.std.specs.List.{AllByRecursion}
 use Rattle.hs_io.specs.Spelling.{ArePlainFields, IsComment}
@@ -8,7 +8,7 @@ use Rattle.blif_out.specs.declared.header.Header.{Header}
 use Rattle.blif_out.specs.declared.header.LatchNote.{LatchNote}
 use Rattle.blif_out.specs.Head.{Head, head_lines}
 
--- labels of some number of states
+-- labels that are a partition of some number of states
 abbrev pub IsLawfulPartition : List ℕ → Type 0
 IsLawfulPartition labels = IsPartition (length labels) labels
 
@@ -22,7 +22,7 @@ pub record IsLawfulNote (latch : LatchNote) : Type 0 where
   pub from : IsLawfulPartition latch.from
   pub to : IsLawfulPartition latch.to
 
--- the partitions are lawful, each state has a name that can stand as a field, and its code has a bit for each latch
+-- the partitions are lawful, each state has a name that can be a field, and its code has a bit for each latch
 pub record IsLawfulHeader (H : Header) : Type 0 where
   pub classes : IfSome H.classes IsLawfulPartition
   pub parts : AllByRecursion IsLawfulPart H.parts
@@ -31,7 +31,7 @@ pub record IsLawfulHeader (H : Header) : Type 0 where
   pub words : AllByRecursion (λ word. word < 2 ^ length H.latches) H.words
   pub latches : AllByRecursion IsLawfulNote H.latches
 
--- no other header can be read out of the bytes
+-- the bytes begin with only one lawful header
 abbrev pub HeadOnce : Type 0
 HeadOnce =
     (bytes : List ℕ) (H H' : Header) → IsLawfulHeader H → IsLawfulHeader H' → Head bytes H → Head bytes H' → H ≡ H'

@@ -1,4 +1,4 @@
--- What the writer's text denotes.
+-- What the text that is written denotes.
 use Rattle.std.specs.Prelude.{ℕ, List, ◌++◌}
 use Rattle.std.specs.List.{flat_map, AllByRecursion}
 use Rattle.hs_io.specs.Spelling.{ended, IsComment}
@@ -7,7 +7,7 @@ use Rattle.net_core.specs.Denotes.{Denotes}
 use Rattle.blif_out.specs.NetText.{net_text}
 use Rattle.blif_out.specs.Writable.{IsWritable}
 
--- the text of a network, behind lines that are comments, denotes it
+-- the text of a network, after lines that are comments, denotes it
 abbrev pub NetTextDenotes : Type 0
 NetTextDenotes =
     (N : Network) (comments : List (List ℕ)) → IsWritable N → AllByRecursion IsComment comments → Denotes (flat_map ended comments ++ net_text N) N

@@ -1,5 +1,5 @@
--- The BLIF text of a network, from `.model` on (source: the SIS manual). Each line ends with a line feed, and none is
--- continued.
+-- The BLIF text of a network, from `.model` on (source: the SIS manual). Each line ends with a line feed, and no
+-- line is continued.
 use Rattle.std.specs.Prelude.{ℕ, List, [], ◌∷◌, ◌++◌, map, codes}
 use Rattle.std.specs.List.{flat_map}
 use Rattle.hs_io.specs.Spelling.{spelled}
@@ -13,7 +13,7 @@ use Rattle.net_core.specs.Words.{model_word, inputs_word, outputs_word, latch_wo
 abbrev pub one_digit : List ℕ
 one_digit = 49 ∷ []
 
--- a row: its plane and the bit, or the bit alone where the gate has no inputs
+-- a row: its plane and the bit, or only the bit where the gate has no inputs
 abbrev pub row_fields : List ℕ → List (List ℕ)
 row_fields [] = one_digit ∷ []
 row_fields (c ∷ cs) = (c ∷ cs) ∷ one_digit ∷ []

@@ -1,4 +1,4 @@
--- What is asked of a network that is written, besides that its text denotes it.
+-- What is asked of a network that is written, besides what its text needs to denote it.
 use Rattle.std.specs.Prelude.{◌≡◌, ◌⊎◌}
 use Rattle.std.specs.Ordering.{nat_cmp}
 use Rattle.std.specs.Cmp.Lexicographic.{slice_cmp}
@@ -11,6 +11,6 @@ use Rattle.net_core.specs.declared.Start.TheVariants.{Zero, One}
 abbrev pub HasKnownStarts : Network → Type 0
 HasKnownStarts N = AllByRecursion (λ latch. (latch.start ≡ Zero) ⊎ (latch.start ≡ One)) N.latches
 
--- the rows of each gate stand in ascending order of their bytes
+-- the rows of each gate are in ascending order of their bytes
 abbrev pub HasRowsInOrder : Network → Type 0
 HasRowsInOrder N = AllByRecursion (λ gate. IsSorted (slice_cmp nat_cmp) gate.rows) N.gates

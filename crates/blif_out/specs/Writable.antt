@@ -7,12 +7,12 @@ use Rattle.net_core.specs.declared.Latch.{Latch}
 use Rattle.net_core.specs.declared.Network.{Network}
 use Rattle.net_core.specs.Statements.{is_plane_character}
 
--- a name that stands as a field and joins no line
+-- a name that can be a field and does not join lines
 pub record IsSignalName (name : List ℕ) : Type 0 where
   pub field : IsPlainField name
   pub no_backslash : AllByRecursion (λ b. b ≢ 92) name
 
--- a row over the characters 0, 1 and a dash, one for each input
+-- a row of the characters 0, 1 and dash, one for each input
 pub record IsPlane (inputs : ℕ) (row : List ℕ) : Type 0 where
   pub characters : AllByRecursion (λ c. IsTrue (is_plane_character c)) row
   pub width : length row ≡ inputs
@@ -27,7 +27,7 @@ pub record IsWritableLatch (latch : Latch) : Type 0 where
   pub input : IsSignalName latch.input
   pub output : IsSignalName latch.output
 
--- its names can stand in a text, and its gates list their on-sets
+-- its names can be in a text, and its gates list their on-sets
 pub record IsWritable (N : Network) : Type 0 where
   pub inputs : AllByRecursion IsSignalName N.inputs
   pub outputs : AllByRecursion IsSignalName N.outputs

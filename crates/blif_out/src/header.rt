@@ -1,12 +1,12 @@
-//! What the comments at the head of a network say of it.
+//! What the comments at the head of a network say about it.
 
 use hs_list::Items;
 use kiss2::StateNames;
 use partition::Partition;
 use state_codes::{CodeWords, Kind, Parts};
 
-/// What is said of a latch: the number of its part, the partition of the states that its gate reads, and
-/// the partition of the states that it tells apart.
+/// The note of a latch: the number of its part, the partition of the states by the bits that its gate reads,
+/// and the partition of the states by the latch's own bit.
 #[derive(Debug, Drop)]
 pub struct LatchNote {
     pub part: u16,
@@ -17,9 +17,9 @@ pub struct LatchNote {
 /// The notes of the latches in order.
 pub type LatchNotes = Items<LatchNote>;
 
-/// What the comments at the head of a network say: how its parts came to be, the partition of the states
-/// into alike ones where these were made one, the parts, and the name and the code of each state, with
-/// bit i of a code at 2^i, and a note for each latch.
+/// What the comments at the head of a network say: how its parts were made, the partition of the states into
+/// alike ones if these were made one, the parts, the name and the code of each state, and a note for each
+/// latch. Bit i of a code is its bit of value 2^i.
 #[derive(Drop)]
 pub struct Header {
     pub kind: Kind,

@@ -1,13 +1,12 @@
 //! Writes networks as BLIF.
 //!
-//! [`text`] gives the text of a network behind comments that say how the network came to be, its header.
-//! It promises that the text is the one that `specs/Head.antt` and `specs/NetText.antt` lay out line by
-//! line, that the text denotes the network, and that its head is that of the header. [`append`] gives the
-//! network alone. `specs/Writable.antt` and `specs/Order.antt` say which networks can be written.
+//! [`text`] gives the text of a network after its header, which is comments that say how the network was made.
+//! It promises that the text is the one that `specs/Head.antt` and `specs/NetText.antt` lay out line by line,
+//! that the text denotes the network, and that its head is that of the header. [`append`] gives only the
+//! network. `specs/Writable.antt` and `specs/Order.antt` say which networks can be written.
 //!
-//! Why the text denotes the network: each line of the header begins with the mark of a comment and has
-//! visible bytes and spaces alone, so a reader skips it, and each statement is read as the fields that
-//! spell it.
+//! Why the text denotes the network: each line of the header begins with the mark of a comment and otherwise
+//! has only visible bytes and spaces, so a reader skips it. Each statement is read as the fields that spell it.
 #![tactic(auto)]
 
 ghost use Rattle.blif_out.specs.HeadLaw.{HeadIsComments, HeadOnce};
@@ -23,12 +22,12 @@ pub use header::{Header, LatchNote, LatchNotes};
 pub use header_text::{append_notes, word_of_kind};
 pub use writing::{append, text};
 
-/// The text of a network denotes it, whatever comments stand before it.
+/// The text of a network denotes it, whatever comments are before it.
 pub fn net_text_denotes()
     ensures { NetTextDenotes }
 {}
 
-/// No other header can be read out of a text: one that stands at its head is the only one.
+/// A text begins with only one lawful header: no other header can be read from it.
 pub fn head_once()
     ensures { HeadOnce }
 {}

@@ -1,4 +1,4 @@
-//! The whole text, and that of the network alone.
+//! The whole text, and the text of the network alone.
 
 ghost use Rattle.std.specs.Prelude.{◌≡◌, ◌≤◌, ◌++◌, IfOk, OnErr, OnOk, length};
 ghost use Rattle.hs_io.specs.Spelling.{ArePlainFields};
@@ -14,7 +14,7 @@ use crate::network_text::append_network;
 use net_core::Network;
 use std::alloc::{AllocError, Global};
 
-/// The text of a network behind the comments of its header.
+/// The text of a network after the comments of its header.
 pub fn text(alloc: Global, net: &Network, header: &Header) -> Result<Vec<u8>, AllocError>
     requires writable { IsWritable net.now }
     requires starts { HasKnownStarts net.now }
@@ -46,7 +46,7 @@ pub(crate) fn whole_text(
     Ok(text)
 }
 
-/// Appends the text of a network without a header. Where memory is wanting, nothing is appended.
+/// Appends the text of a network without a header. If memory runs out, nothing is appended.
 pub fn append(alloc: Global, net: &Network, into: &mut Vec<u8>) -> Result<(), AllocError>
     requires writable { IsWritable net.now }
     requires starts { HasKnownStarts net.now }

@@ -6,7 +6,8 @@ use Rattle.cover_logic.specs.Term.{IsCovered}
 use Rattle.net_core.specs.Step.{row_holds}
 use Rattle.gate_rows.specs.Bits.{code_bits}
 
--- some term holds the values of so many columns: they are the bits of a number that it holds, column c at 2 ^ c
+-- some term holds the values of this number of columns: they are the bits of a number that the term holds, column c
+-- the bit of value 2 ^ c
 abbrev pub HoldValues : ℕ → List Term → List Bool → Type 0
 HoldValues width terms read = (v : ℕ) × (v < 2 ^ width) × (code_bits width v ≡ read) × IsCovered terms v
 
@@ -14,14 +15,14 @@ HoldValues width terms read = (v : ℕ) × (v < 2 ^ width) × (code_bits width v
 abbrev pub AreHeld : List (List ℕ) → List Bool → Type 0
 AreHeld rows read = list_any (λ row. row_holds row read) rows ≡ true
 
--- the row with a dash at one place
+-- the row with a dash at this place
 pub record IsWithDash (row : List ℕ) (place : ℕ) (raised : List ℕ) : Type 0 where
   pub lengths : length raised ≡ length row
   pub dash : slice_get raised place ≡ Some 45
   pub elsewhere : (other : ℕ) → other ≢ place → slice_get raised other ≡ slice_get row other
 
--- each on value is held and no off value is, no literal can become a dash without an off value being held, and no row can
--- be left out without an on value being lost; values of neither set are free
+-- Each on value is held, and no off value is. No literal can become a dash without an off value being held, and no
+-- row can be left out without an on value being lost. Values of neither set are free.
 pub record IsGoodCover (On Off : List Bool → Type 0) (rows : List (List ℕ)) : Type 0 where
   pub on_held : (read : List Bool) → On read → AreHeld rows read
   pub off_free : (read : List Bool) → Off read → AreHeld rows read → ⊥

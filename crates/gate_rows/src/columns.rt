@@ -10,9 +10,9 @@ ghost use Rattle.gate_rows.specs.Inner.Literals.{AllowsFrom, HasCharacters, code
 use cover_logic::Term;
 use cubes::Cube;
 
-/// The term of what a gate reads at the symbols of a cube and at a word: the characters of the cube for the
-/// read inputs, and then the bits of the word at the read places. Column c stands at 2^c. Input 0 is the first
-/// character of the cube.
+/// The term of what a gate reads for the symbols of a cube and for a word: the characters of the cube for the
+/// read inputs, and then the bits of the word at the read places. Column c is the bit of value 2^c. Input 0 is
+/// the first character of the cube.
 pub fn term_of(cube: &Cube, inputs: &[u8], word: u64, places: &[u8]) -> Term
     requires inputs { All (λ a. a < cube.now.width) inputs.now }
     requires ascending { IsStrictlyIncreasing inputs.now }
@@ -49,7 +49,7 @@ fn input_term(cube: &Cube, inputs: &[u8]) -> Term
     }
 }
 
-/// The term with the read bits of a word after so many columns.
+/// The term with the read bits of a word after its first `count` columns.
 fn with_code(start: Term, count: usize, word: u64, places: &[u8]) -> Term
     requires fits { start.care < 2 ^ count }
     requires places { All (λ c. c < 64) places.now }
@@ -77,7 +77,7 @@ fn character(cube: &Cube, input: u8) -> Option<bool>
     }
 }
 
-/// The term with a literal at a column after all its literals.
+/// The term with a literal at a column after those of all its literals.
 fn with_literal(term: Term, column: usize, one: bool) -> Term
     requires column { column < 128 }
     requires fits { term.care < 2 ^ column }

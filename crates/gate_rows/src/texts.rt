@@ -12,7 +12,7 @@ use cover_logic::{Term, cover};
 use hs_io::{Name, Names};
 use std::alloc::{AllocError, Global};
 
-/// The rows of a gate of so many columns that gives 1 at the values of on and 0 at those of off, in ascending
+/// The rows of a gate with `width` columns that gives 1 at the values of on and 0 at those of off, in ascending
 /// order of their bytes. A row has a character for each column, column 0 first.
 pub fn rows(alloc: Global, on: &[Term], off: &[Term], width: u8) -> Result<Names, AllocError>
     requires { CanCover width on.now off.now }

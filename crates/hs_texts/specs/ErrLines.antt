@@ -8,7 +8,7 @@ use Rattle.hs_io.specs.Spelling.{spaced}
 abbrev pub as_line : List ℕ → List ℕ
 as_line text = text ++ 10 ∷ []
 
--- the line of refused words, with the number of the first that is refused
+-- the line of refused words, with the number of the first refused word
 abbrev pub usage_line : ℕ → List ℕ
 usage_line word = as_line (codes "hsdec: usage word " ++ decimal word)
 
@@ -40,7 +40,7 @@ undriven_line name = as_line (codes "hsdec: net undriven " ++ name)
 abbrev pub cycle_line : List (List ℕ) → List ℕ
 cycle_line names = as_line (codes "hsdec: net cycle" ++ flat_map spaced names)
 
--- the line of first values that are no bits, or not one for each latch
+-- the line of a start that is not a text of a bit for each latch
 abbrev pub bad_start_line : List ℕ
 bad_start_line = as_line (codes "hsdec: bad start")
 
@@ -61,15 +61,16 @@ abbrev pub unspecified_line : List ℕ → List ℕ → List ℕ → List ℕ
 unspecified_line state symbol part =
     as_line (codes "hsdec: unspecified state " ++ state ++ codes " symbol " ++ symbol ++ codes " " ++ part)
 
--- the line of a listing that passes its limit
+-- the line of a listing that exceeds its limit
 abbrev pub more_line : ℕ → List ℕ
 more_line limit = as_line (codes "hsdec: more than " ++ decimal limit)
 
--- the line of a text of a part that is no partition: the number of the part, and the place of its first bad label
+-- the line of a text of a part that is not a partition: the number of the part, and the place of its first bad
+-- label
 abbrev pub part_place_line : ℕ → ℕ → List ℕ
 part_place_line part place = as_line (codes "hsdec: part " ++ decimal part ++ codes " place " ++ decimal place)
 
--- the line of a text of a part that has another number of labels than there are states
+-- the line of a text of a part that does not have as many labels as there are states
 abbrev pub part_length_line : ℕ → ℕ → ℕ → List ℕ
 part_length_line part found states =
     as_line (codes "hsdec: part " ++ decimal part ++ codes " has " ++ decimal found ++ codes " labels, not " ++ decimal states)
@@ -86,32 +87,34 @@ code_bits_line bits = as_line (codes "hsdec: code has " ++ decimal bits ++ codes
 abbrev pub no_split_line : List ℕ → List ℕ
 no_split_line kind = as_line (codes "hsdec: no " ++ kind ++ codes " decomposition")
 
--- the line of a machine that is not definite, with the names of two states that words of every length keep apart
+-- the line of a machine that is not definite, with the names of two states that, for every length, some word of
+-- that length keeps apart
 abbrev pub not_definite_line : List ℕ → List ℕ → List ℕ
 not_definite_line state other = as_line (codes "hsdec: not definite, states " ++ state ++ codes " and " ++ other)
 
--- the line of a definite machine whose reset state no word of as many symbols as its order ends in
+-- the line of a definite machine in whose reset state no word of as many symbols as its order ends
 abbrev pub not_reached_line : List ℕ → List ℕ
 not_reached_line reset = as_line (codes "hsdec: reset " ++ reset ++ codes " not reached")
 
--- the line of a machine of which no least code is sought
+-- the line of a machine for which no least code is sought
 abbrev pub state_count_line : ℕ → List ℕ
 state_count_line states = as_line (codes "hsdec: least needs 3 to 8 states, not " ++ decimal states)
 
--- the line of a machine whose symbols are too many to be compared
+-- the line of a machine that has too many symbols to compare them
 abbrev pub inputs_line : ℕ → List ℕ
 inputs_line inputs = as_line (codes "hsdec: inputs " ++ decimal inputs ++ codes " above 8")
 
--- the line of a machine of which too many outputs occur
+-- the line of a machine with too many outputs that occur
 abbrev pub outputs_line : List ℕ
 outputs_line = as_line (codes "hsdec: more than 256 outputs")
 
 -- ---- covers
--- the line of a text of a cover with a place that holds no state, or not the next greater one
+-- the line of a text of a cover with a place whose piece is not the number of a state, or not greater than the one
+-- before
 abbrev pub cover_place_line : ℕ → ℕ → List ℕ
 cover_place_line block place = as_line (codes "hsdec: cover block " ++ decimal block ++ codes " place " ++ decimal place)
 
--- the line of a block all of whose states are in another
+-- the line of a block all of whose states are in another block
 abbrev pub cover_within_line : ℕ → ℕ → List ℕ
 cover_within_line block other = as_line (codes "hsdec: cover block " ++ decimal block ++ codes " within block " ++ decimal other)
 
@@ -127,7 +130,7 @@ cover_places_line found = as_line (codes "hsdec: cover has " ++ decimal found ++
 abbrev pub cover_trivial_line : List ℕ
 cover_trivial_line = as_line (codes "hsdec: cover is trivial")
 
--- the line of a block that no block holds the next states of, with the digits of the symbol
+-- the line of a block whose next states are in no one block, with the digits of the symbol
 abbrev pub cover_leaves_line : ℕ → List ℕ → List ℕ
 cover_leaves_line block symbol = as_line (codes "hsdec: cover block " ++ decimal block ++ codes " leaves at symbol " ++ symbol)
 
@@ -135,6 +138,6 @@ cover_leaves_line block symbol = as_line (codes "hsdec: cover block " ++ decimal
 abbrev pub cannot_write_line : List ℕ
 cannot_write_line = as_line (codes "hsdec: cannot write")
 
--- the line of want of memory
+-- the line for a lack of memory
 abbrev pub no_memory_line : List ℕ
 no_memory_line = as_line (codes "hsdec: no memory")

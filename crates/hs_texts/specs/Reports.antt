@@ -1,4 +1,4 @@
--- The texts of reports that are no lists.
+-- The texts of reports that are not lists.
 use Rattle.std.specs.Prelude.{ℕ, List, [], ◌∷◌, ◌++◌, Option, None, Some, codes, map}
 use Rattle.std.specs.Fmt.{decimal}
 use Rattle.std.specs.List.{AllByRecursion, flat_map}
@@ -20,7 +20,7 @@ counts_text states inputs outputs rows reset =
 abbrev pub spaced_numbers : List ℕ → List ℕ
 spaced_numbers numbers = flat_map spaced (map decimal numbers)
 
--- a count that was taken up to 1000, where it is not above
+-- a count that was taken up to 1000, or that it is more than 1000
 abbrev pub count_within : Option ℕ → List ℕ
 count_within None = codes "more than 1000"
 count_within (Some count) = decimal count

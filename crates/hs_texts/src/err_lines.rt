@@ -9,7 +9,7 @@ ghost use Rattle.hs_texts.specs.ErrLines.{as_line, usage_line, cannot_read_line,
 use hs_io::Name;
 use std::alloc::{AllocError, Global};
 
-/// The line of an answer that wants memory.
+/// The line for a lack of memory.
 pub const NO_MEMORY: &[u8] = b"hsdec: no memory\n";
 
 /// The line of a failed put.
@@ -74,7 +74,7 @@ pub fn cycle(alloc: Global, names: &[Name]) -> Result<Vec<u8>, AllocError>
     line_of(alloc, b"hsdec: net cycle", spaced_names.as_slice())
 }
 
-/// The line of first values that are no bits, or not one for each latch.
+/// The line of a start that is not a text of a bit for each latch.
 pub fn bad_start(alloc: Global) -> Result<Vec<u8>, AllocError>
     ensures { IfOk result (λ line. line.items ≡ bad_start_line) }
 {
@@ -107,7 +107,7 @@ pub fn conflict(alloc: Global, row: u32, other: u32) -> Result<Vec<u8>, AllocErr
     Ok(line)
 }
 
-/// The line of what a machine leaves open: a part at a symbol of a state.
+/// The line of what a machine leaves open: a part, for a state and a symbol.
 pub fn unspecified(
     alloc: Global,
     state: &[u8],
@@ -126,7 +126,7 @@ pub fn unspecified(
     Ok(line)
 }
 
-/// The line of a listing that passes its limit.
+/// The line of a listing that exceeds its limit.
 pub fn more(alloc: Global, limit: usize) -> Result<Vec<u8>, AllocError>
     ensures { IfOk result (λ line. line.items ≡ more_line limit) }
 {
@@ -145,7 +145,7 @@ pub fn part_place(alloc: Global, part: usize, place: usize) -> Result<Vec<u8>, A
     Ok(line)
 }
 
-/// The line of a text of a part that has `found` labels, and not one for each of the states.
+/// The line of a text of a part that has `found` labels, and not as many as there are states.
 pub fn part_length(
     alloc: Global,
     part: usize,
@@ -194,7 +194,8 @@ pub fn no_split(alloc: Global, kind: &[u8]) -> Result<Vec<u8>, AllocError>
     Ok(line)
 }
 
-/// The line of a machine that is not definite, by the names of two states that words of every length keep apart.
+/// The line of a machine that is not definite, by the names of two states that, for every length, some word of
+/// that length keeps apart.
 pub fn not_definite(alloc: Global, state: &[u8], other: &[u8]) -> Result<Vec<u8>, AllocError>
     ensures { IfOk result (λ line. line.items ≡ not_definite_line state.now other.now) }
 {
@@ -206,7 +207,7 @@ pub fn not_definite(alloc: Global, state: &[u8], other: &[u8]) -> Result<Vec<u8>
     Ok(line)
 }
 
-/// The line of a definite machine whose reset state no word of as many symbols as its order ends in.
+/// The line of a definite machine in whose reset state no word of as many symbols as its order ends.
 pub fn not_reached(alloc: Global, reset: &[u8]) -> Result<Vec<u8>, AllocError>
     ensures { IfOk result (λ line. line.items ≡ not_reached_line reset.now) }
 {
@@ -216,7 +217,7 @@ pub fn not_reached(alloc: Global, reset: &[u8]) -> Result<Vec<u8>, AllocError>
     Ok(line)
 }
 
-/// The line of a machine of which no least code is sought, by the number of its states.
+/// The line of a machine for which no least code is sought, by the number of its states.
 pub fn state_count(alloc: Global, states: usize) -> Result<Vec<u8>, AllocError>
     ensures { IfOk result (λ line. line.items ≡ state_count_line states) }
 {
@@ -228,7 +229,7 @@ pub fn state_count(alloc: Global, states: usize) -> Result<Vec<u8>, AllocError>
     )
 }
 
-/// The line of a machine whose symbols are too many to be compared, by the number of its inputs.
+/// The line of a machine that has too many symbols to compare them, by the number of its inputs.
 pub fn inputs(alloc: Global, inputs: u8) -> Result<Vec<u8>, AllocError>
     ensures { IfOk result (λ line. line.items ≡ inputs_line inputs) }
 {
@@ -238,14 +239,14 @@ pub fn inputs(alloc: Global, inputs: u8) -> Result<Vec<u8>, AllocError>
     Ok(line)
 }
 
-/// The line of a machine of which too many outputs occur.
+/// The line of a machine with too many outputs that occur.
 pub fn outputs(alloc: Global) -> Result<Vec<u8>, AllocError>
     ensures { IfOk result (λ line. line.items ≡ outputs_line) }
 {
     line_of(alloc, b"hsdec: more than 256 outputs", b"")
 }
 
-/// The line of a text of a cover, by the block and the place of the first number that is none.
+/// The line of a refused text of a cover, by the block and the place of its first bad number.
 pub fn cover_place(alloc: Global, block: usize, place: usize) -> Result<Vec<u8>, AllocError>
     ensures { IfOk result (λ line. line.items ≡ cover_place_line block place) }
 {
@@ -256,7 +257,7 @@ pub fn cover_place(alloc: Global, block: usize, place: usize) -> Result<Vec<u8>,
     Ok(line)
 }
 
-/// The line of a block all of whose states are in another.
+/// The line of a block all of whose states are in another block.
 pub fn cover_within(alloc: Global, block: usize, other: usize) -> Result<Vec<u8>, AllocError>
     ensures { IfOk result (λ line. line.items ≡ cover_within_line block other) }
 {
@@ -291,7 +292,7 @@ pub fn cover_trivial(alloc: Global) -> Result<Vec<u8>, AllocError>
     line_of(alloc, b"hsdec: cover is trivial", b"")
 }
 
-/// The line of a block that no block holds the next states of, with the digits of the symbol.
+/// The line of a block whose next states are in no one block, with the digits of the symbol.
 pub fn cover_leaves(alloc: Global, block: usize, symbol: &[u8]) -> Result<Vec<u8>, AllocError>
     ensures { IfOk result (λ line. line.items ≡ cover_leaves_line block symbol.now) }
 {

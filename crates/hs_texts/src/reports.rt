@@ -1,4 +1,4 @@
-//! Reports that are no lists.
+//! Reports that are not lists.
 
 ghost use Rattle.std.specs.Prelude.{◌≡◌, ◌∷◌, [], ◌++◌, IfOk, OnOk, codes};
 ghost use Rattle.std.specs.Fmt.{decimal};
@@ -13,21 +13,21 @@ use std::alloc::{AllocError, Global};
 pub struct TrialFigures {
     /// The number that the machine was made from.
     pub seed: u64,
-    /// How many states its first factor has.
+    /// The number of states of its first factor.
     pub a: u16,
-    /// How many states its second factor has.
+    /// The number of states of its second factor.
     pub b: u16,
-    /// How many inputs it has.
+    /// The number of its inputs.
     pub k: u8,
-    /// How many states it has.
+    /// The number of its states.
     pub states: usize,
-    /// How many closed partitions it has, if not more than 1,000.
+    /// The number of its closed partitions, if there are no more than 1,000.
     pub closed: Option<usize>,
-    /// How many blocks each part of its parallel decomposition has.
+    /// The number of blocks of each part of its parallel decomposition.
     pub parts: Items<usize>,
-    /// How many latches the network of the decomposition has.
+    /// The number of latches of the network of the decomposition.
     pub latches: usize,
-    /// How many bits of its answers in the run are 1.
+    /// The number of bits that are 1 in its answers in the run.
     pub ones: usize,
 }
 

@@ -1,5 +1,5 @@
--- What the definitions of a job say of small cases: a table with every kind of operand and every option, lines of words, and
--- what they are to give.
+-- The results of the definitions of a job in small cases: a table with every kind of operand and every option,
+-- lines of words, and what they are to give.
 use Rattle.std.specs.Prelude.{◌≡◌, ℕ, ◌==◌, true, List, [], ◌∷◌, Some, Result, Ok, Err, codes, replicate}
 use Prim.Native.String.{String}
 use Rattle.std.specs.List.{slice_split}
@@ -24,19 +24,19 @@ example_rows =
 abbrev pub words_of : String → List (List ℕ)
 words_of line = slice_split (λ byte. byte == 32) (codes line)
 
--- what they give by these rows
+-- the result of a line by these rows
 abbrev pub judged_line : String → Result Job ℕ
 judged_line line = judgement example_rows (words_of line)
 
--- what they give by the commands that are built
+-- the result of a line by the commands that are built
 abbrev pub job_of_line : String → Result Job ℕ
 job_of_line line = JobOf (words_of line)
 
--- a number of slashes
+-- a text of this number of slashes
 abbrev pub slashes : ℕ → List ℕ
 slashes count = replicate count 47
 
--- the command decides what may follow, and the first word that cannot stand is refused
+-- the command decides what may follow, and the first word that is not allowed is refused
 pub record RefusesWords : Type 0 where
   pub no_words : judgement example_rows [] ≡ Err 1
   pub no_command : judged_line "draw f" ≡ Err 1
@@ -50,7 +50,7 @@ pub record RefusesWords : Type 0 where
   pub of_another : judged_line "closed f --reduce" ≡ Err 3
   pub of_another_first : judged_line "closed f --start --limit 0" ≡ Err 3
 
--- an option stands once, anywhere, and takes the next word whatever it is
+-- an option may occur once, anywhere, and takes the next word whatever it is
 pub record TakesOptions : Type 0 where
   pub last : judged_line "closed f --limit 10" ≡ Ok (record (empty_job commands.Closed) { file = codes "f"; limit = 10 })
   pub first : judged_line "closed --limit 10 f" ≡ Ok (record (empty_job commands.Closed) { file = codes "f"; limit = 10 })
@@ -64,7 +64,7 @@ pub record TakesOptions : Type 0 where
   pub start : judged_line "sim n s --start --start" ≡ Ok (record (empty_job commands.Sim) { file = codes "n"; second = codes "s"; start = Some (codes "--start") })
   pub empty_start : judged_line "sim n s --start " ≡ Ok (record (empty_job commands.Sim) { file = codes "n"; second = codes "s"; start = Some [] })
 
--- numbers have one to nine digits, and their ranges
+-- numbers have one to nine digits, and lie in their ranges
 pub record ReadsNumbers : Type 0 where
   pub least : judged_line "closed f --limit 0" ≡ Err 4
   pub most : judged_line "closed f --limit 10000" ≡ Ok (record (empty_job commands.Closed) { file = codes "f"; limit = 10000 })
@@ -92,7 +92,7 @@ pub record ReadsSymbols : Type 0 where
   pub no_start : job_of_line "sim f g --start" ≡ Err 5
   pub sim_fill : job_of_line "sim f g --fill hold" ≡ Err 4
 
--- a generator takes the numbers of a machine of at most 256 states
+-- `gen` and `trial` take the numbers of a machine of at most 256 states
 pub record TakesSizes : Type 0 where
   pub gen : job_of_line "gen 1 2 2 1" ≡ Ok (record (empty_job commands.Gen) { seed = 1; a = 2; b = 2; k = 1 })
   pub trial : job_of_line "trial 1 128 2 8" ≡ Ok (record (empty_job commands.Trial) { seed = 1; a = 128; b = 2; k = 8 })

@@ -5,8 +5,8 @@ use Rattle.std.specs.Str.{bytes_eq}
 use Rattle.job_words.specs.declared.table.CommandOption.{CommandOption}
 use Rattle.job_words.specs.declared.table.CommandOption.TheVariants.{Limit, Reduce, Start, Fill}
 
--- an operand, an option with the word that it takes (none where it takes none), an option whose word is missing, or a word
--- that begins as an option and is none
+-- an operand; an option with the word that it takes (empty if it takes none); an option whose word is missing; or a
+-- word that begins as an option and is not one
 pub data Item : Type 0 where
   Operand : List ℕ → Item
   Chosen : CommandOption → List ℕ → Item
@@ -24,7 +24,7 @@ option_named word =
     else (if bytes_eq word (codes "--start") then Some Start
     else (if bytes_eq word (codes "--fill") then Some Fill else None)))
 
--- an option that takes the next word, whatever that is
+-- whether an option takes the next word, whatever that is
 abbrev pub takes_word : CommandOption → Bool
 takes_word Limit = true
 takes_word Reduce = false
@@ -35,7 +35,7 @@ abbrev pub option_takes : Option CommandOption → Bool
 option_takes None = false
 option_takes (Some option) = takes_word option
 
--- the item of a word that takes no other
+-- the item of a word on its own, by the option that it names, if it names one
 abbrev pub named_alone : Option CommandOption → List ℕ → Item
 named_alone None word = if begins_option word then Unknown else Operand word
 named_alone (Some option) word = if takes_word option then Lacking option else Chosen option []
@@ -55,7 +55,7 @@ items_of (word ∷ []) = alone word ∷ []
 items_of (word ∷ next ∷ words) =
     if option_takes (option_named word) then option_with (option_named word) next ∷ items_of words else alone word ∷ items_of (next ∷ words)
 
--- how many words an item has
+-- the number of words of an item
 abbrev pub width_of : Item → ℕ
 width_of (Operand word) = 1
 width_of (Chosen option word) = if takes_word option then 2 else 1

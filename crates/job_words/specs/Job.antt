@@ -14,12 +14,12 @@ use Rattle.job_words.specs.Item.{Item, Operand, Chosen, Lacking, Unknown, items_
 use Rattle.job_words.specs.Number.{is_number, is_within, value_of}
 use Rattle.job_words.specs.Table.{Row, built}
 
--- a job of a command before any operand or option stands
+-- a job of a command before any operand or option
 abbrev pub empty_job : Command → Job
 empty_job command =
     record { command = command; file = []; second = []; limit = 1000; reduce = false; start = None; seed = 0; a = 0; b = 0; k = 0; hold = false }
 
--- a word can stand as an operand of a kind, in a job that has the operands before it
+-- a word is allowed as an operand of a kind, in a job that has the operands before it
 abbrev pub fits_kind : OperandKind → Job → List ℕ → Bool
 fits_kind File job word = true
 fits_kind Net job word = true
@@ -32,7 +32,7 @@ fits_kind A job word = is_within 2 128 word
 fits_kind B job word = is_within 2 128 word && nat_le (job.a * value_of word) 256
 fits_kind K job word = is_within 1 8 word
 
--- a job with one operand more
+-- a job with one more operand
 abbrev pub with_operand : OperandKind → List ℕ → Job → Job
 with_operand File word job = record job { file = word }
 with_operand Net word job = record job { file = word }
@@ -45,14 +45,14 @@ with_operand A word job = record job { a = value_of word }
 with_operand B word job = record job { b = value_of word }
 with_operand K word job = record job { k = value_of word }
 
--- a word can stand behind an option
+-- a word is allowed after an option
 abbrev pub fits_option : CommandOption → List ℕ → Bool
 fits_option Limit word = is_within 1 10000 word
 fits_option Reduce word = true
 fits_option Start word = true
 fits_option Fill word = bytes_eq word (codes "hold")
 
--- a job with one option more
+-- a job with one more option
 abbrev pub with_option : CommandOption → List ℕ → Job → Job
 with_option Limit word job = record job { limit = value_of word }
 with_option Reduce word job = record job { reduce = true }
@@ -66,9 +66,9 @@ same_option Start Start = true
 same_option Fill Fill = true
 same_option option other = false
 
--- In what follows `before` are the items that stand before an item, the last one first.
+-- In what follows `before` are the items before an item, the last one first.
 
--- how many operands stand
+-- the number of operands
 abbrev pub operands_in : List Item → ℕ
 operands_in [] = 0
 operands_in (Operand word ∷ before) = operands_in before + 1
@@ -76,7 +76,7 @@ operands_in (Chosen option word ∷ before) = operands_in before
 operands_in (Lacking option ∷ before) = operands_in before
 operands_in (Unknown ∷ before) = operands_in before
 
--- an option stands
+-- an option occurs
 abbrev pub stands : CommandOption → List Item → Bool
 stands option [] = false
 stands option (Operand word ∷ before) = stands option before
@@ -84,7 +84,8 @@ stands option (Chosen other word ∷ before) = same_option option other || stand
 stands option (Lacking other ∷ before) = stands option before
 stands option (Unknown ∷ before) = stands option before
 
--- the operand is of the kind that the command has at its place, or the command has none there
+-- the job with this operand, by the kind that the command has at its place; the same job, if the command has none
+-- there
 abbrev pub with_kind : Option OperandKind → List ℕ → Job → Job
 with_kind None word job = job
 with_kind (Some kind) word job = with_operand kind word job
@@ -97,16 +98,17 @@ job_of row (Chosen option word ∷ before) = with_option option word (job_of row
 job_of row (Lacking option ∷ before) = job_of row before
 job_of row (Unknown ∷ before) = job_of row before
 
--- a word can stand as the next operand: it is not empty, the command has an operand there, and the word is of its kind
+-- a word is allowed as the next operand: it is not empty, the command has an operand there, and the word is of its
+-- kind
 abbrev pub fits_place : Option OperandKind → Job → List ℕ → Bool
 fits_place None job word = false
 fits_place (Some kind) job word = not (length word == 0) && fits_kind kind job word
 
--- an option can stand: the command has it, and it does not stand yet
+-- an option is allowed: the command has it, and it does not occur yet
 abbrev pub may_stand : Row → List Item → CommandOption → Bool
 may_stand row before option = list_any (same_option option) row.options && not (stands option before)
 
--- the place of the word that is refused in an item, counted from 0, if one is
+-- the place of the refused word in an item, counted from 0, if a word is refused
 abbrev pub refusal : Row → List Item → Item → Option ℕ
 refusal row before (Operand word) = if fits_place (slice_get row.operands (operands_in before)) (job_of row before) word then None else Some 0
 refusal row before (Chosen option word) = if may_stand row before option then (if fits_option option word then None else Some 1) else Some 0
@@ -118,8 +120,8 @@ abbrev pub refused_or : ℕ → Option ℕ → Result Job ℕ → Result Job ℕ
 refused_or number None rest = rest
 refused_or number (Some place) rest = Err (number + place)
 
--- what further items give, the first of which begins at the word of this number: where none is refused and an operand is
--- missing, the number of the word after the last is refused
+-- What further items give, the first of which begins at the word of this number. If none is refused and an operand
+-- is missing, the number after that of the last word is refused.
 abbrev pub judged : Row → List Item → ℕ → List Item → Result Job ℕ
 judged row before number [] = if nat_lt (operands_in before) (length row.operands) then Err number else Ok (job_of row before)
 judged row before number (item ∷ items) =
@@ -142,7 +144,7 @@ judgement rows (word ∷ words) = judged_as (row_named rows word) words
 abbrev pub JobOf : List (List ℕ) → Result Job ℕ
 JobOf words = judgement built words
 
--- a limit that `--limit` takes
+-- a limit that `--limit` allows
 abbrev pub IsLimit : ℕ → Type 0
 IsLimit limit = (1 ≤ limit) × (limit ≤ 10000)
 
@@ -150,7 +152,7 @@ IsLimit limit = (1 ≤ limit) × (limit ≤ 10000)
 abbrev pub LimitsAreLimits : Type 0
 LimitsAreLimits = (words : List (List ℕ)) (job : Job) → JobOf words ≡ Ok job → IsLimit job.limit
 
--- the text of PARTS has no more than so many slashes
+-- the text of PARTS has at most 255 slashes
 abbrev pub HasFewSlashes : List ℕ → Type 0
 HasFewSlashes text = count_by (λ c. c == 47) text ≤ 255
 

@@ -1,4 +1,4 @@
--- The table of commands: a row says the operands of a command, in order, and its options.
+-- The table of commands: a row gives the operands of a command, in order, and its options.
 use Rattle.std.specs.Prelude.{Contains, List, [], ◌∷◌, map}
 use Rattle.job_words.specs.declared.command.Command.{Command}
 use Rattle.job_words.specs.declared.command.Command.TheVariants as commands

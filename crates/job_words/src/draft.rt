@@ -19,9 +19,9 @@ use std::alloc::{AllocError, Global};
 pub enum Refusal {
     /// For its first word.
     Word,
-    /// For the word that its option takes, or has not.
+    /// For the word that its option takes, or for a missing one.
     Taken,
-    /// Memory was wanting.
+    /// Memory ran out.
     NoMemory,
 }
 
@@ -33,7 +33,7 @@ impl From<AllocError> for Refusal {
     }
 }
 
-/// The options that stand.
+/// The options that occur.
 #[derive(Clone, Copy, Debug)]
 pub struct Stood {
     pub limit: bool,
@@ -43,7 +43,7 @@ pub struct Stood {
 }
 
 impl Stood {
-    /// Whether an option stands.
+    /// Whether an option occurs.
     fn has(&self, option: CommandOption) -> bool
         ensures { result ≡ stood self.now option }
     {
@@ -55,7 +55,7 @@ impl Stood {
         }
     }
 
-    /// Takes an option in.
+    /// Adds an option.
     fn add(&mut self, option: CommandOption)
         ensures { self.new ≡ stood_with option self.old }
     {
@@ -68,7 +68,7 @@ impl Stood {
     }
 }
 
-/// A job of which some items have come: how many of them were operands, and which options.
+/// A job after some of its items: the number of operands among them, and the options.
 #[derive(Debug, Drop)]
 pub struct Draft {
     pub operands: usize,
@@ -106,7 +106,7 @@ impl Draft {
         })
     }
 
-    /// Takes the next item in, where it can stand.
+    /// Adds the next item, if it is allowed.
     pub fn accept(&mut self, alloc: Global, form: &Form, item: &Entry) -> Result<(), Refusal>
         ensures ok { (before : List Item) → IsDraft (row_of form.now) before self.old → OnOk result
             (IsDraft (row_of form.now) (item_of item.now ∷ before) self.new × (refusal (row_of form.now) before (item_of item.now) ≡ None)) }
@@ -128,14 +128,14 @@ impl Draft {
         }
     }
 
-    /// Whether an option can stand.
+    /// Whether an option is allowed.
     fn may_stand(&self, form: &Form, option: CommandOption) -> bool
         ensures { result ≡ (list_any (same_option option) form.now.options.now && not (stood self.now.stood option)) }
     {
         has_option(form.options, option) && !self.stood.has(option)
     }
 
-    /// Takes the next operand in.
+    /// Adds the next operand, if it is allowed.
     fn accept_operand(&mut self, alloc: Global, form: &Form, word: &[u8]) -> Result<(), Refusal>
         ensures ok { (before : List Item) → IsDraft (row_of form.now) before self.old → OnOk result
             (IsDraft (row_of form.now) (Operand word.now ∷ before) self.new × (refusal (row_of form.now) before (Operand word.now) ≡ None)) }
@@ -158,7 +158,7 @@ fn has_option(options: &[CommandOption], option: CommandOption) -> bool
     options.iter().any(|other| same(option, *other))
 }
 
-/// Whether two options are one.
+/// Whether two options are the same.
 fn same(option: CommandOption, other: CommandOption) -> bool
     ensures { result ≡ same_option option other }
 {

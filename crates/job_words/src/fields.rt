@@ -66,7 +66,7 @@ pub fn put_option(
     Ok(())
 }
 
-/// How many slashes a word has.
+/// The number of slashes of a word.
 fn slashes(word: &[u8]) -> usize
     ensures { result ≡ count_by (λ c. c == 47) word.now }
 {

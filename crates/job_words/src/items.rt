@@ -15,12 +15,12 @@ pub enum Entry<'a> {
     Chosen(CommandOption, &'a [u8]),
     /// An option whose word is missing.
     Lacking(CommandOption),
-    /// A word that begins as an option and is none.
+    /// A word that begins as an option and is not one.
     Unknown,
 }
 
 impl<'a> Entry<'a> {
-    /// How many words it has.
+    /// The number of its words.
     pub fn width(&self) -> usize
         ensures { result ≡ width_of (item_of self.now) }
     {

@@ -7,7 +7,8 @@ use crate::Command;
 use hs_io::Name;
 use std::alloc::AllocError;
 
-/// What the words ask for. What the command does not have is empty, 1,000 for `limit`, `None`, false or 0.
+/// What the words ask for. A field that the command does not have is empty, `None`, false or 0; `limit` is then
+/// 1,000.
 #[derive(Debug, Drop)]
 pub struct Job {
     /// The command.
@@ -16,7 +17,7 @@ pub struct Job {
     pub file: Name,
     /// The operand PART, PARTS, SYMBOLS or COVER.
     pub second: Name,
-    /// The most members of a listing.
+    /// The greatest number of members of a listing.
     pub limit: usize,
     /// Whether to work on the quotient by alike states.
     pub reduce: bool,
@@ -37,10 +38,10 @@ pub struct Job {
 /// Why words give no job.
 #[derive(Clone, Copy, Debug, PartialEq, Eq)]
 pub enum JobFail {
-    /// The words are no job: the number of the refused word, counted from 1. Where a word is missing it is one
-    /// more than there are words.
+    /// The words are not a job: the number of the refused word, counted from 1. If a word is missing, it is one
+    /// more than the number of words.
     Usage { word: u32 },
-    /// Memory was wanting.
+    /// Memory ran out.
     NoMemory,
 }
 

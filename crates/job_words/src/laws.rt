@@ -1,9 +1,9 @@
-//! Worked examples of the definitions and laws of jobs, each the contract of a function that does nothing.
+//! Worked examples of the definitions, and laws of jobs. Each is the contract of a function that does nothing.
 
 ghost use Rattle.job_words.specs.Examples.{ReadsNumbers, ReadsSymbols, RefusesWords, TakesOptions, TakesSizes};
 ghost use Rattle.job_words.specs.Job.{LimitsAreLimits, PartsAreFew, SizesAreSizes};
 
-/// What the judgement over a table, and over the commands that are built, says of some lines.
+/// The results of some lines by a table, and by the commands that are built.
 pub fn judged_lines()
     ensures words { RefusesWords }
     ensures options { TakesOptions }

@@ -1,16 +1,20 @@
 //! The words of a command line, and the job that they ask for.
 //!
 //! [`job`] gives the job of a list of words, or the number of the refused word, exactly as the definition
-//! *JobOf* says: `specs/Table` has the rows of the commands that are built, each with its operands and its
-//! options, `specs/Item` tells options with the words that they take from operands, and `specs/Job` says
-//! which item is refused behind which others, and what job the items give. `specs/Examples` has small cases
-//! of all this, which [`judged_lines`] states. [`judge`] does the same by a table that is handed in.
+//! *JobOf* says:
 //!
-//! A command or an option that is not built has no row or stands in none, so the words do not know it. To add
-//! one is to change the table, in `specs/Table` and in [`built_forms`], and nothing else.
+//! - `specs/Table` has the rows of the commands that are built, each with its operands and its options.
+//! - `specs/Item` separates operands from options with the words that they take.
+//! - `specs/Job` says which item is refused after which others, and what job the items give.
+//! - `specs/Examples` has small cases of all this, which [`judged_lines`] states.
 //!
-//! The words are judged item by item in a draft of the job, which knows how many operands and which options
-//! stand (`specs/Inner/Draft`).
+//! [`judge`] does the same by a table that is handed in.
+//!
+//! A command that is not built has no row, and an option that is not built is in no row, so the words do not
+//! know it. To add one is to change the table, in `specs/Table` and in [`built_forms`], and nothing else.
+//!
+//! The words are judged item by item in a draft of the job, which knows the number of operands and the options
+//! so far (`specs/Inner/Draft`).
 #![tactic(auto)]
 
 mod command;

@@ -22,24 +22,24 @@ pub enum OperandKind {
     Cover,
     /// The number that a generator starts from.
     Seed,
-    /// How many states the first factor of a generated machine has.
+    /// The number of states of the first factor of a generated machine.
     A,
-    /// How many states the second factor has.
+    /// The number of states of the second factor.
     B,
-    /// How many inputs a generated machine has.
+    /// The number of inputs of a generated machine.
     K,
 }
 
 /// An option of a command.
 #[derive(Clone, Copy, Debug, PartialEq, Eq)]
 pub enum CommandOption {
-    /// `--limit N`, the most members of a listing.
+    /// `--limit N`, the greatest number of members of a listing.
     Limit,
     /// `--reduce`, to work on the quotient by alike states.
     Reduce,
     /// `--start BITS`, the first values of the latches.
     Start,
-    /// `--fill hold`, to stay in the state where no next state is said.
+    /// `--fill hold`, to stay in the state where no next state is given.
     Fill,
 }
 

@@ -39,14 +39,14 @@ impl Words {
         self.words.push(word)
     }
 
-    /// How many words there are.
+    /// The number of words.
     pub fn count(&self) -> usize
         ensures { result ≡ length self.now }
     {
         self.words.as_slice().len()
     }
 
-    /// Lends the word of a number, counted from 0.
+    /// Lends the word of this number, counted from 0.
     pub fn word(&self, i: usize) -> &[u8]
         requires { i < length self.now }
         ensures { slice_get self.now i ≡ Some result.now }

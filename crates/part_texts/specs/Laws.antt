@@ -1,2 +1,2 @@
--- What follows of the operands PART and PARTS.
+-- What follows from the definitions of the operands PART and PARTS.
 pub mod Parts

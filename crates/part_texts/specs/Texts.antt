@@ -8,7 +8,7 @@ use Rattle.partition.specs.Text.{labels_text}
 abbrev pub IsTextOfPartition : ℕ → List ℕ → List ℕ → Type 0
 IsTextOfPartition states text p = IsPartition states p × (text ≡ labels_text p)
 
--- what is between the slashes of PARTS
+-- the pieces of PARTS between its slashes
 abbrev pub texts_of_parts : List ℕ → List (List ℕ)
 texts_of_parts text = slice_split (λ byte. byte == 47) text
 

@@ -17,8 +17,8 @@ pub fn read_part(alloc: Global, text: &[u8], states: usize) -> Result<Partition,
     read_piece(alloc, 0, text, states)
 }
 
-/// Reads texts of partitions of n states that are joined by slashes. Where several of them tell no partition, the
-/// first is refused.
+/// Reads texts of partitions of n states that are joined by slashes. The first that does not give a partition
+/// is refused.
 pub fn read_parts(alloc: Global, text: &[u8], states: usize) -> Result<Vec<Partition>, Refusal>
     requires { IsStateCount states }
     ensures { IsJudged (BadParts states text.now) (λ parts. ArePartTexts states text.now parts.items) result }
@@ -33,7 +33,7 @@ pub fn read_parts(alloc: Global, text: &[u8], states: usize) -> Result<Vec<Parti
     Ok(parts)
 }
 
-/// Reads the text of the part of a number, counted from 0.
+/// Reads the text of the part of this number, counted from 0.
 fn read_piece(alloc: Global, part: usize, text: &[u8], states: usize) -> Result<Partition, Refusal>
     requires { IsStateCount states }
     ensures { IsJudged (BadPartAt part states text.now) (IsTextOfPartition states text.now) result }

@@ -1,4 +1,4 @@
--- For private functions and proofs alone: pieces of the text, as they are appended.
+-- For private functions and proofs only: pieces of the text, as they are appended.
 use Rattle.std.specs.Prelude.{ℕ, List, ◌∷◌}
 use Rattle.std.specs.Fmt.{decimal}
 use Rattle.hs_io.specs.Spelling.{ended, line_text, spelled}

@@ -18,7 +18,8 @@ code_character word c = Some (bit word c)
 abbrev pub columns_of : List ℕ → List ℕ → Cube → ℕ → List (Option Bool)
 columns_of inputs places cube word = map (input_character cube) inputs ++ map (code_character word) places
 
--- the number has each bit that a character wants, where the first of them is column n, which counts 2 ^ n
+-- the number has each bit that a character gives, where the first character is that of column n, the bit of value 2
+-- ^ n
 abbrev pub AllowsFrom : ℕ → List (Option Bool) → ℕ → Type 0
 AllowsFrom n columns v = (c : ℕ) (wanted : Bool) → slice_get columns c ≡ Some (Some wanted) → bit v (n + c) ≡ wanted
 

@@ -10,11 +10,11 @@ use Rattle.gate_rows.specs.Bits.{code_bits}
 abbrev pub byte_at : Term → ℕ → ℕ
 byte_at t c = byte_of (character t.care t.value c)
 
--- the text of a term of so many columns
+-- the text of a term of this number of columns
 abbrev pub row_text : ℕ → Term → List ℕ
 row_text width t = map (byte_at t) (range_with_len 0 width)
 
--- an irredundant cover, over numbers that write what is read, bit c the value of column c
+-- an irredundant cover, over the numbers whose bits are what is read, bit c the value of column c
 pub record IsTermCover (On Off : List Bool → Type 0) (width : ℕ) (rows : List Term) : Type 0 where
   pub fits : All (FitsWidth width) rows
   pub on_held : (v : ℕ) → v < 2 ^ width → On (code_bits width v) → IsCovered rows v

@@ -1,4 +1,4 @@
--- What a draft of a job has to be. Only private functions cite this.
+-- What holds of a draft of a job. Only private functions cite this.
 use Rattle.std.specs.Prelude.{◌≡◌, ℕ, Bool, true, List, Option, Some}
 use Rattle.job_words.specs.declared.draft.Draft.{Draft}
 use Rattle.job_words.specs.declared.draft.Refusal.{Refusal}
@@ -19,7 +19,7 @@ item_of (entries.Chosen option word) = Chosen option word.now
 item_of (entries.Lacking option) = Lacking option
 item_of entries.Unknown = Unknown
 
--- an option stands
+-- an option occurs
 abbrev pub stood : Stood → CommandOption → Bool
 stood options Limit = options.limit
 stood options Reduce = options.reduce
@@ -32,13 +32,13 @@ stood_with Reduce options = record options { reduce = true }
 stood_with Start options = record options { start = true }
 stood_with Fill options = record options { fill = true }
 
--- a draft is what the items give, the last one first
+-- a draft is what the items before give, the last one first
 pub record IsDraft (row : Row) (before : List Item) (draft : Draft) : Type 0 where
   pub operands : draft.operands ≡ operands_in before
   pub options : (option : CommandOption) → stood draft.stood option ≡ stands option before
   pub job : draft.job ≡ job_of row before
 
--- an item is refused at this place, counted from 0 in its words
+-- the place of the word, counted from 0 in its item, for which the item is refused
 abbrev pub IsRefusal : Option ℕ → Refusal → Type 0
 IsRefusal place Word = place ≡ Some 0
 IsRefusal place Taken = place ≡ Some 1

@@ -1,4 +1,4 @@
--- Laws of the operands PART and PARTS: they tell partitions in one way, and where they do they are not refused.
+-- Laws of the operands PART and PARTS: they give partitions in only one way, and if they do they are not refused.
 use Rattle.std.proofs.Common.{◌≡◌, ℕ, zero, suc, ◌+◌, ◌<◌, ◌≤◌, ◌==◌, inl, inr, All, List, [], ◌∷◌, Some, length, slice_get, count_by, refl, sym, ap, ◌∙◌, subst, arith}
 use Rattle.std.specs.List.{AllZip}
 use Rattle.std.proofs.lemmas.List.Elements.{All-nil, All-cons}
@@ -34,7 +34,7 @@ text_is_not_bad part states text p (lawful, is) refusal (inr (found, same, other
 pub part_is_not_bad : (states : ℕ) (text p : List ℕ) → IsTextOfPartition states text p → CallsForNone (BadPart states text)
 part_is_not_bad states text p is = text_is_not_bad 0 states text p is
 
--- each piece of PARTS tells a partition
+-- each piece of PARTS gives a partition
 pub piece_tells : (states : ℕ) (pieces ps : List (List ℕ)) → AllZip (IsTextOfPartition states) pieces ps → (number : ℕ) (piece : List ℕ) → slice_get pieces number ≡ Some piece → (p : List ℕ) × IsTextOfPartition states piece p
 piece_tells states [] ps all number piece at = cc
 piece_tells states (first ∷ pieces) [] all number piece at = absurd all
@@ -48,7 +48,7 @@ parts_are_not_bad states text ps all refusal (part, first) =
     let told = piece_tells states (texts_of_parts text) ps all part first.piece first.at in
     text_is_not_bad part states first.piece told.0 told.1 refusal first.bad
 
--- ---- what they tell is one
+-- ---- they give only one partition, or one list of them
 pub one_part : (states : ℕ) (text p q : List ℕ) → IsTextOfPartition states text p → IsTextOfPartition states text q → p ≡ q
 one_part states text p q (lawful, is) (other_lawful, other_is) =
     partition_once p q (IsPartition-of (sym lawful.length) lawful) (IsPartition-of (sym other_lawful.length) other_lawful) (sym is ∙ other_is)
@@ -65,7 +65,7 @@ pieces_once states (piece ∷ pieces) (p ∷ ps) (q ∷ qs) one other =
 pub one_list_of_parts : (states : ℕ) (text : List ℕ) (ps qs : List (List ℕ)) → ArePartTexts states text ps → ArePartTexts states text qs → ps ≡ qs
 one_list_of_parts states text ps qs one other = pieces_once states (texts_of_parts text) ps qs one other
 
--- ---- what is told is lawful
+-- ---- the partitions that they give are lawful
 lawful_of : (states : ℕ) (pieces ps : List (List ℕ)) → AllZip (IsTextOfPartition states) pieces ps → All (IsPartition states) ps
 lawful_of states [] [] all = All-nil (IsPartition states)
 lawful_of states [] (p ∷ ps) all = absurd all
@@ -75,7 +75,7 @@ lawful_of states (piece ∷ pieces) (p ∷ ps) all = All-cons (IsPartition state
 pub parts_are_lawful : (states : ℕ) (text : List ℕ) (ps : List (List ℕ)) → ArePartTexts states text ps → All (IsPartition states) ps
 parts_are_lawful states text ps all = lawful_of states (texts_of_parts text) ps all
 
--- ---- one partition more than there are slashes
+-- ---- the number of partitions is one more than that of slashes
 counted : (states : ℕ) (pieces ps : List (List ℕ)) → AllZip (IsTextOfPartition states) pieces ps → length ps ≡ length pieces
 counted states [] [] all = refl
 counted states [] (p ∷ ps) all = absurd all
@@ -85,7 +85,7 @@ counted states (piece ∷ pieces) (p ∷ ps) all = ap suc (counted states pieces
 pub parts_are_counted : (states : ℕ) (text : List ℕ) (ps : List (List ℕ)) → ArePartTexts states text ps → length ps ≡ count_by (λ byte. byte == 47) text + 1
 parts_are_counted states text ps all = counted states (texts_of_parts text) ps all ∙ length-slice_split (λ byte. byte == 47) text
 
--- so at most 255 slashes make at least one and at most 256
+-- so at most 255 slashes give at least one partition and at most 256
 pub parts_are_few : (states : ℕ) (text : List ℕ) (ps : List (List ℕ)) → count_by (λ byte. byte == 47) text ≤ 255 → ArePartTexts states text ps → (0 < length ps) × (length ps ≤ 256)
 parts_are_few states text ps few all =
     let count = parts_are_counted states text ps all in
