@@ -1,4 +1,5 @@
--- Why no network is written for a cover: which refusal a text calls for, as a closed cover of the states of a file's machine.
+-- Why no network is written for a cover: the refusals that a text calls for, read as a closed cover of the states
+-- of a file's machine.
 use Rattle.std.specs.Prelude.{◌≡◌, ℕ, List, Some, length, map, slice_get}
 use Rattle.answers.specs.declared.refusals.CoverFlaw.{CoverFlaw}
 use Rattle.answers.specs.declared.refusals.CoverFlaw.TheVariants.{Lacks, Leaves, Place, Places, Trivial, Within}
@@ -18,8 +19,8 @@ pub record LacksState (F : KissFile) (text name : List ℕ) : Type 0 where
   pub missing : CoverFault (length F.states) text (fails.Missing state)
   pub named : slice_get F.states state ≡ Some name
 
--- the blocks are those of a cover, of which this block is the least that is led into no block at some symbol, and the
--- digits are those of the least such symbol
+-- The blocks are those of a cover. This block is the least one that leaves the blocks: for some symbol no block has
+-- its next states. The digits are those of the least such symbol.
 pub record LeavesAt (F : KissFile) (text : List ℕ) (block : ℕ) (digits : List ℕ) : Type 0 where
   pub blocks : List (List ℕ)
   pub spelled : IsTextOf (length F.states) text blocks
@@ -37,6 +38,6 @@ IsFlaw F text (Places found) = CoverFault (length F.states) text (fails.TooMany 
 IsFlaw F text Trivial = CoverFault (length F.states) text fails.Trivial
 IsFlaw F text (Leaves block digits) = LeavesAt F text block digits
 
--- the refusal that tells it
+-- the refusal with this flaw
 abbrev pub BadCoverRow : KissFile → List ℕ → Cause
 BadCoverRow F text refusal = (flaw : CoverFlaw) × (refusal ≡ BadCover flaw) × IsFlaw F text flaw

@@ -1,2 +1,2 @@
--- What follows of the definitions.
+-- What follows from the definitions.
 pub mod Causes

@@ -1,4 +1,5 @@
--- The text of the network of a cover: comments of its blocks, of the codes of its pairs and of its latches, and the network.
+-- The text of the network of a cover: comments of its blocks, of the codes of its pairs and of its latches, and
+-- then the network.
 use Rattle.std.specs.Prelude.{ℕ, List, [], ◌∷◌, ◌++◌, codes, map, slice_index_or}
 use Rattle.std.specs.List.{enumerate_from, flat_map, zip}
 use Rattle.std.specs.Fmt.{decimal}

@@ -1,4 +1,5 @@
--- What is said of a text that is written for a cover of a file's machine (source: Hartmanis and Stearns, state splitting).
+-- What holds of a text that is written for a cover of a file's machine (source: Hartmanis and Stearns, state
+-- splitting).
 use Rattle.std.specs.Prelude.{◌≡◌, ℕ, ◌+◌, ◌++◌, Bool, List, Some, length, slice_get, slice_index}
 use Rattle.std.specs.List.{flat_map, AllByRecursion}
 use Rattle.blif_out.specs.declared.header.LatchNote.{LatchNote}
@@ -34,7 +35,9 @@ abbrev pub StartsAtFirstCopy : KissFile → List (List ℕ) → Codes → Networ
 StartsAtFirstCopy F blocks codes N =
     (i : ℕ) × IsFirstCopy blocks F.reset i × AreStarts N.latches (code_of codes.bits codes.words i)
 
--- one step leads from the code of pair i to that of pair k, with the output of the state
+-- One step for symbol x leads from the code of pair i, which is of block j and state s, to the code of a pair of
+-- the next state, with the output of s. The block of that pair is the first one that has the next states of block
+-- j.
 pub record StepsTo (F : KissFile) (blocks : List (List ℕ)) (codes : Codes) (N : Network) (i j s : ℕ) (x : List Bool) : Type 0 where
   pub block : ℕ
   pub pair : ℕ
@@ -42,31 +45,30 @@ pub record StepsTo (F : KissFile) (blocks : List (List ℕ)) (codes : Codes) (N 
   pub copy : IsPair blocks pair block (next F s x)
   pub step : Step N (code_of codes.bits codes.words i) x (out F s x) (code_of codes.bits codes.words pair)
 
--- so it is for each pair and symbol: the next pair is that of the next state, in the first block that has the next states of
--- all states of the pair's block
+-- this holds for each pair and symbol
 abbrev pub StepsAsPairs : KissFile → List (List ℕ) → Codes → Network → Type 0
 StepsAsPairs F blocks codes N =
     (i j s : ℕ) (x : List Bool) → IsPair blocks i j s → length x ≡ F.inputs → StepsTo F blocks codes N i j s x
 
--- a latch of part 0 reads bits of part 0 alone
+-- a latch of part 0 reads only bits of part 0
 abbrev pub FrontReadsFront : Network → List LatchNote → Type 0
 FrontReadsFront N notes =
     (i c : ℕ) (note : LatchNote) (gate : Gate) → slice_get notes i ≡ Some note → note.part ≡ 0 → slice_get N.gates i ≡ Some gate
     → Reads N gate c → IsBitOf notes 0 c
 
--- there are as many latches as tell the blocks apart, and the states of the longest block
+-- there are just as many latches as are needed to distinguish the blocks, and the states of the longest block
 pub record HasLatches (blocks : List (List ℕ)) (N : Network) : Type 0 where
   pub longest : ℕ
   pub is_longest : IsLongest blocks longest
   pub count : length N.latches ≡ need (length blocks) + need longest
 
--- inputs and outputs have the names that the file gives, and the other signals own names
+-- inputs and outputs have the names that the file gives; the other signals have names of their own
 abbrev pub HasNamesOf : KissFile → ℕ → Network → Type 0
 HasNamesOf F latches N = (names : SignalNames) × AreNames F latches names × HasNames N names
 
--- The text is that of a network after its comments, and denotes the network. The network is sound and answers every word
--- as the machine of the file. It goes from code to code of the pairs, that is of the states of the machine E of the cover's
--- pairs. The codes are those of its split: the block, and the place in the block.
+-- The text is that of a network after its comments, and denotes the network. The network is sound and answers every
+-- word as the machine of the file does. It goes from code to code of the pairs, which are the states of the machine
+-- E of the cover's pairs. The codes are those of E's split: by the block, and by the place in the block.
 pub record IsTextOfPairs (F : KissFile) (text : List ℕ) (blocks : List (List ℕ)) (E : KissFile) (parts : List Part) (codes : Codes) (N : Network) (notes : List LatchNote) (written : List ℕ) : Type 0 where
   pub spelled : IsTextOf (length F.states) text blocks
   pub cover : IsCover (length F.states) blocks
@@ -92,7 +94,7 @@ pub record IsTextOfPairs (F : KissFile) (text : List ℕ) (blocks : List (List �
   pub latches : HasLatches blocks N
   pub gates : HasGates F E parts codes N
 
--- the text is that of the cover of which a text tells the blocks
+-- the text is that of the cover whose blocks `text` gives
 unfoldable pub IsCoverText : KissFile → List ℕ → List ℕ → Type 0
 IsCoverText F text written =
     (blocks : List (List ℕ)) × (E : KissFile) × (parts : List Part) × (codes : Codes) × (N : Network) × (notes : List LatchNote)

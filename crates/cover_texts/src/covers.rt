@@ -14,7 +14,7 @@ use kiss2::KissFile;
 use machine_table::Machine;
 use std::alloc::Global;
 
-/// The text of the machine of a file, split by the cover that a text tells.
+/// The text of the network of a file's machine, split by the cover of a text.
 pub fn cover(
     alloc: Global,
     file: &KissFile,

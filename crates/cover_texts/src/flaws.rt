@@ -1,4 +1,4 @@
-//! Covers that are read, and the refusals of their texts.
+//! Reading covers, and the refusals of their texts.
 
 ghost use Rattle.std.specs.Prelude.{◌≡◌, ◌<◌, ℕ, IfOk, MatchResult, length};
 ghost use Rattle.answers.specs.Judged.{IsStop};
@@ -13,7 +13,7 @@ use kiss2::KissFile;
 use machine_table::Machine;
 use std::alloc::{AllocError, Global};
 
-/// The cover that the text tells.
+/// The cover that the text gives.
 pub(crate) fn read(
     alloc: Global,
     file: &KissFile,
@@ -29,7 +29,7 @@ pub(crate) fn read(
     }
 }
 
-/// The refusal that tells why a text is no cover.
+/// The refusal that says why a text is not a cover.
 fn refusal_of(alloc: Global, file: &KissFile, fail: CoverFail) -> Result<Refusal, AllocError>
     requires { (state : ℕ) → fail ≡ fails.Missing state → state < length file.now.states }
     ensures { IfOk result (IsRefusalOf file.now fail) }

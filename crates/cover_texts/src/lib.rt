@@ -1,11 +1,11 @@
 //! The text of a machine that is split by a closed cover of its states.
 //!
-//! [`cover`] reads a cover, makes the machine of the pairs of a block and a state in it, splits that machine in
-//! series (`cover_split`), and writes its network: comments of the blocks, of the code of each pair and of the
-//! latches, and then the network itself.
+//! [`cover`] reads a cover, makes the machine whose states are pairs of a block and a state in it, and splits
+//! that machine in series (`cover_split`). It writes the network of this split: comments of the blocks, of the
+//! code of each pair and of the latches, and then the network itself.
 //!
 //! The definitions are in `specs/`: `Flaws` says which refusal a text calls for, `Lines` lays out the text, and
-//! `Written` says all that is promised of it. `specs/Laws` has what follows of the cause.
+//! `Written` says all that is promised of it. `specs/Laws` has what follows from the cause.
 #![tactic(auto)]
 
 mod blocks;

@@ -61,7 +61,7 @@ pub(crate) fn split_of_pairs(alloc: Global, cover: &Cover) -> Result<Split, Allo
     split(alloc, cover)
 }
 
-/// The codes of n pairs. Pairs differ in the block or in the place in it, and a code has 16 bits at most.
+/// The codes of n pairs. Two pairs differ in the block or in the place in it, and a code has at most 16 bits.
 pub(crate) fn codes_of_pairs(
     alloc: Global,
     cover: &Cover,

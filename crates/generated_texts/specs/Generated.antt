@@ -1,4 +1,4 @@
--- The machine of a seed, of a first parts and b second parts, and of k inputs.
+-- The machine of a seed and of the sizes a, b and k: its factors have a and b states, and it has k inputs.
 use Rattle.std.specs.Prelude.{ℕ}
 use Rattle.kiss2.specs.declared.kiss_file.KissFile.{KissFile}
 use Rattle.machine_gen.specs.MachineOf.{IsMachineOf}

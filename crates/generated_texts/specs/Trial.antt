@@ -1,4 +1,4 @@
--- The text of a trial, and why there is none.
+-- The text of a trial, and why there may be none.
 use Rattle.std.specs.Prelude.{◌≡◌, ℕ, ◌++◌, false, List, []}
 use Rattle.answers.specs.Cause.{Cause}
 use Rattle.decomposition.specs.Decomposition.{IsTextOf}
@@ -14,8 +14,9 @@ use Rattle.state_codes.specs.declared.split.Part.{Part}
 use Rattle.generated_texts.specs.Figures.{AreFigures}
 use Rattle.generated_texts.specs.Generated.{OfGenerated}
 
--- The text is a summary, and behind it that of the parallel decomposition of the machine, right for its kind, as `parallel`
--- writes it; the whole text denotes the network of the decomposition, since the summary is made of comments.
+-- The text is a summary and, after it, the text of the parallel decomposition of the machine, right for its kind,
+-- as `parallel` writes it. The whole text denotes the network of the decomposition, since the summary consists of
+-- comments.
 abbrev pub IsTrialText : ℕ → ℕ → ℕ → ℕ → KissFile → List ℕ → Type 0
 IsTrialText seed a b k F text =
     (parts : List Part) × (figures : TrialFigures) × (rest : List ℕ)

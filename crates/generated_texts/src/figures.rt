@@ -16,10 +16,10 @@ use machine_table::Machine;
 use state_codes::Part;
 use std::alloc::{AllocError, Global};
 
-/// How many symbols the machine is run on.
+/// The number of symbols that the machine is run on.
 const RUN_LENGTH: u32 = 1000;
 
-/// How many closed partitions are counted.
+/// The greatest number of closed partitions that are counted.
 const CLOSED_LIMIT: usize = 1000;
 
 /// A seed and the sizes of a machine.
@@ -57,7 +57,7 @@ pub(crate) fn figures_of(
     })
 }
 
-/// The number of closed partitions, or none where there are more than are counted.
+/// The number of closed partitions, or None if there are more than are counted.
 fn closed_count(alloc: Global, machine: &Machine) -> Result<Option<usize>, AllocError>
     ensures { IfOk result (IsClosedCount machine.now) }
 {
@@ -78,7 +78,7 @@ fn block_counts(alloc: Global, parts: &[Part]) -> Result<Items<usize>, AllocErro
     Ok(counts)
 }
 
-/// How many outputs of the run of a machine with two outputs are 1.
+/// The number of outputs that are 1 in the run of a machine with two outputs.
 fn ones_of_run(alloc: Global, machine: &Machine) -> Result<usize, AllocError>
     requires inputs { machine.now.inputs ≤ 8 }
     requires outputs { machine.now.outputs ≡ 2 }
@@ -90,7 +90,7 @@ fn ones_of_run(alloc: Global, machine: &Machine) -> Result<usize, AllocError>
     Ok(ones_among(&bits))
 }
 
-/// How many of the bits are 1.
+/// The number of bits that are 1.
 fn ones_among(bits: &[bool]) -> usize
     ensures { result ≡ count_by (λ bit. bit) bits.now }
 {
@@ -110,7 +110,7 @@ fn run_symbols(alloc: Global, inputs: u8) -> Result<Vec<u32>, AllocError>
     Ok(numbers)
 }
 
-/// How many symbols there are.
+/// The number of symbols.
 fn symbol_count(inputs: u8) -> u32
     requires { inputs ≤ 8 }
     ensures { result ≡ 2 ^ inputs }
@@ -118,7 +118,7 @@ fn symbol_count(inputs: u8) -> u32
     1 << inputs
 }
 
-/// The outputs, two for each number that writes them.
+/// The outputs, two for each number, which are its bits.
 fn output_bits(alloc: Global, words: &[u64]) -> Result<Vec<bool>, AllocError>
     ensures { IfOk result (λ bits. bits.items ≡ flat_map (outputs_of 2) words.now) }
 {

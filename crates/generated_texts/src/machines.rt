@@ -1,4 +1,4 @@
-//! The machine of numbers, as a file.
+//! The machine of the numbers, as a file.
 
 ghost use Rattle.std.specs.Prelude.{◌≡◌, IfOk};
 ghost use Rattle.kiss2.specs.Written.{kiss_text};

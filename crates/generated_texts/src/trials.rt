@@ -29,7 +29,7 @@ struct CodedSplit {
     codes: Codes,
 }
 
-/// Makes the machine of the numbers, and gives the text of its parallel decomposition behind a summary.
+/// Makes the machine of the numbers, and gives the text of its parallel decomposition after a summary.
 pub fn trial(alloc: Global, seed: u64, a: u16, b: u16, k: u8) -> Result<Vec<u8>, Refusal>
     requires { AreSizes a b k }
     ensures { IsJudged (LongCodeRow seed a b k) (λ text. OfGenerated seed a b k (λ F. IsTrialText seed a b k F text.items)) result }
@@ -55,7 +55,7 @@ fn machine_of(alloc: Global, file: &KissFile) -> Result<WorkMachine, AllocError>
     }
 }
 
-/// The parallel split of a machine that was made, and its codes.
+/// The parallel split of a machine of the numbers, and its codes.
 fn split_of(
     alloc: Global,
     numbers: Numbers,
@@ -72,7 +72,7 @@ fn split_of(
     Ok(CodedSplit { split, codes })
 }
 
-/// The summary, and the text of the split behind it.
+/// The summary, and the text of the split after it.
 fn text_of(
     alloc: Global,
     numbers: Numbers,

@@ -5,12 +5,12 @@ use Rattle.std.specs.Prelude.{◌≡◌, ℕ, Bool, if◌then◌else◌, List, [
 abbrev pub character_of : Bool → ℕ
 character_of bit = if bit then 49 else 48
 
--- the text of bits in order; where there are none it is a dash
+-- the text of bits in order; it is a dash if there are none
 abbrev pub text_of_bits : List Bool → List ℕ
 text_of_bits [] = codes "-"
 text_of_bits (bit ∷ bits) = map character_of (bit ∷ bits)
 
--- the text is that of these bits, which are so many
+-- the text is that of these bits, which are `count` bits
 pub record IsBitText (count : ℕ) (text : List ℕ) (bits : List Bool) : Type 0 where
   pub as_many : length bits ≡ count
   pub is : text ≡ text_of_bits bits

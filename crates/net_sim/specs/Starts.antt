@@ -1,11 +1,11 @@
--- The latch values before the first symbol: those that are given, or else the starts of the latches.
+-- The latch values before the first symbol: the given ones, or else the starts of the latches.
 use Rattle.std.specs.Prelude.{◌≡◌, ℕ, ◌<◌, Bool, List, Option, Some, None, IsSome, length, slice_get}
 use Rattle.net_core.specs.declared.Latch.{Latch}
 use Rattle.net_core.specs.declared.Network.{Network}
 use Rattle.net_core.specs.Step.{AreStarts, bit_of_start}
 use Rattle.net_sim.specs.BitTexts.{IsBitText}
 
--- the network begins with these latch values
+-- the network starts with these latch values
 abbrev pub IsStart : Network → Option (List ℕ) → List Bool → Type 0
 IsStart N None state = AreStarts N.latches state
 IsStart N (Some text) state = IsBitText (length N.latches) text state

@@ -7,22 +7,22 @@ use Rattle.net_sim.specs.declared.symbols.SymbolFail.{SymbolFail}
 use Rattle.net_sim.specs.declared.symbols.SymbolFail.TheVariants.{NoMemory, Refused}
 use Rattle.net_sim.specs.BitTexts.{text_of_bits}
 
--- a line without fields says nothing, where it is not bad
+-- a line without fields is skipped, if it is not bad
 abbrev pub is_skipped : Line → Bool
 is_skipped line = not line.bad && length line.fields == 0
 
--- the line has one field, the text of the symbol, which has so many bits
+-- the only field of the line is the text of the symbol, which has `width` bits
 pub record SaysSymbol (width : ℕ) (line : Line) (symbol : List Bool) : Type 0 where
   pub good : line.bad ≡ false
   pub field : line.fields ≡ text_of_bits symbol ∷ []
   pub as_wide : length symbol ≡ width
 
--- the line says something other than a symbol of so many bits
+-- the line is not skipped, and its text is not a symbol of `width` bits
 pub record IsRefusedLine (width : ℕ) (line : Line) : Type 0 where
   pub said : is_skipped line ≡ false
   pub no_symbol : (symbol : List Bool) → SaysSymbol width line symbol → ⊥
 
--- the lines that say something say the symbols of the word, one each
+-- the lines that are not skipped give the symbols of the word, one each
 abbrev pub SayWord : ℕ → List Line → List (List Bool) → Type 0
 SayWord width lines word = AllZip (SaysSymbol width) (filter (λ line. not (is_skipped line)) lines) word
 
@@ -39,11 +39,11 @@ pub record IsFirstRefused (width : ℕ) (lines : List Line) (number : ℕ) : Typ
 abbrev pub IsSymbolFile : ℕ → List ℕ → List (List Bool) → Type 0
 IsSymbolFile width bytes word = SayWord width (lines_of bytes) word
 
--- the bytes are no file of symbols, and this is the number of the first line that is refused
+-- the bytes are not a file of symbols, and this is the number of the first refused line
 abbrev pub IsSymbolFault : ℕ → List ℕ → ℕ → Type 0
 IsSymbolFault width bytes number = IsFirstRefused width (lines_of bytes) number
 
--- the answer tells the first refused line, where it tells something
+-- the failure names the first refused line, unless memory ran out
 abbrev pub TellsRefused : ℕ → List ℕ → SymbolFail → Type 0
 TellsRefused width bytes (Refused line) = IsSymbolFault width bytes line
 TellsRefused width bytes NoMemory = ⊤

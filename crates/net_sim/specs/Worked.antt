@@ -1,21 +1,21 @@
--- Small networks, whose names are letters, and the one text of a run.
+-- Small networks, whose names are letters, and the only text of a run.
 use Rattle.std.specs.Prelude.{◌≡◌, ℕ, Bool, true, List, [], ◌∷◌, Option, codes}
 use Rattle.net_core.specs.declared.Network.{Network}
 use Rattle.net_core.specs.declared.Start.TheVariants.{Zero}
 use Rattle.net_core.specs.Worked.{gate, latch, network}
 use Rattle.net_sim.specs.Run.{IsRun}
 
--- the text is that of a run, and no other one is
+-- the text is that of a run, and no other text is
 abbrev pub RunsOnlyTo : Network → Option (List ℕ) → List ℕ → List ℕ → Type 0
 RunsOnlyTo N start symbols text = IsRun N start symbols text × ((other : List ℕ) → IsRun N start symbols other → other ≡ text)
 
--- a gate of one input with these rows, which stands before the buffer that it reads
+-- a gate of one input with these rows, listed before the buffer whose output it reads
 abbrev pub behind_buffer : List (List ℕ) → Bool → Network
 behind_buffer rows on =
     network (codes "a") (codes "z") []
     (gate (codes "y") (codes "z") rows on ∷ gate (codes "a") (codes "y") (codes "1" ∷ []) true ∷ [])
 
--- the latch changes where the input is 1, and the output is its value
+-- the latch changes if the input is 1, and the output is the latch's value
 abbrev pub latched : Network
 latched =
     network (codes "x") (codes "z") (latch (codes "d") (codes "q") Zero ∷ [])

@@ -6,7 +6,7 @@ ghost use Rattle.net_sim.specs.BitTexts.{text_of_bits, character_of};
 
 use std::alloc::AllocError;
 
-/// Whether the text is one of as many bits as there are places, which then hold them.
+/// Whether the text is that of as many bits as there are places. If so, the places then hold these bits.
 pub(crate) fn read_bits(text: &[u8], bits: &mut [bool]) -> bool
     ensures read { result ≡ true → text.now ≡ text_of_bits bits.new }
     ensures refused { result ≡ false → (others : List Bool) → length others ≡ length bits.old → text.now ≢ text_of_bits others }
@@ -47,7 +47,7 @@ fn bit_of(character: u8) -> Option<bool>
     }
 }
 
-/// Adds an answer to a text: its bits as a line.
+/// Appends an answer to a text: its bits as a line.
 pub fn append_answer(text: &mut Vec<u8>, bits: &[bool]) -> Result<(), AllocError>
     ensures { OnOk result (text.new.items ≡ text.old.items ++ ended (text_of_bits bits.now)) }
 {
@@ -60,7 +60,7 @@ pub fn append_answer(text: &mut Vec<u8>, bits: &[bool]) -> Result<(), AllocError
     Ok(())
 }
 
-/// Adds a character for each bit.
+/// Appends a character for each bit.
 fn push_characters(text: &mut Vec<u8>, bits: &[bool]) -> Result<(), AllocError>
     ensures { OnOk result (text.new.items ≡ text.old.items ++ map character_of bits.now) }
 {

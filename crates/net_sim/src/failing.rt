@@ -4,13 +4,13 @@ use std::alloc::AllocError;
 /// Why a network was not run. The first cause in this order is answered.
 #[derive(Debug, Drop)]
 pub enum SimFail {
-    /// A start is given, and it is not a bit text with a bit for each latch.
+    /// A start is given, and it is not a text of a bit for each latch.
     BadStart,
-    /// No start is given, and that of a latch is free or not said: the output of the first such latch.
+    /// No start is given, and the start of some latch is free or not given: the output of the first such latch.
     UnknownStart { latch: Name },
-    /// The number of the first line of the symbols that is refused.
+    /// The number of the first refused line of the symbols.
     BadSymbol { line: u32 },
-    /// There is no memory left.
+    /// Memory ran out.
     NoMemory,
 }
 

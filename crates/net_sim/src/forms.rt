@@ -1,4 +1,4 @@
-//! Makes what gates are evaluated by.
+//! Makes the forms by which gates are evaluated.
 
 ghost use Rattle.std.specs.Prelude.{◌≡◌, ◌<◌, ◌≤◌, ◌||◌, true, All, Bool, List, IfOk, OnOk, length};
 ghost use Rattle.std.specs.List.{list_any};
@@ -12,27 +12,27 @@ use hs_list::Items;
 use net_core::NumberedGate;
 use std::alloc::{AllocError, Global};
 
-/// What a gate is evaluated by.
+/// The form by which a gate is evaluated.
 #[derive(Drop)]
 pub(crate) enum GateForm {
-    /// Its values, by the numbers that the bits of its inputs write.
+    /// Its values, by the numbers whose bits are those of its inputs.
     Table(Items<bool>),
     /// Its rows as cubes.
     Cubes(Items<Cube>),
-    /// Its rows as they stand.
+    /// Its rows as they are.
     Rows,
 }
 
-/// A gate with a table has no more inputs.
+/// The greatest number of inputs of a gate with a table.
 const MOST_TABLE: usize = 12;
 
-/// A gate with cubes has no more inputs.
+/// The greatest number of inputs of a gate with cubes.
 const MOST_CUBES: usize = 32;
 
-/// A table is shorter than so many times the text of the gate's rows and one row more.
+/// A table has fewer values than this many times the bytes of the gate's rows and of one more row.
 const MOST_SPREAD: usize = 16;
 
-/// What each gate is evaluated by.
+/// The form of each gate.
 pub(crate) fn forms_of(alloc: Global, gates: &[NumberedGate]) -> Result<Items<GateForm>, AllocError>
     ensures { IfOk result (AreForms gates.now) }
 {
@@ -43,7 +43,7 @@ pub(crate) fn forms_of(alloc: Global, gates: &[NumberedGate]) -> Result<Items<Ga
     Ok(forms)
 }
 
-/// What a gate is evaluated by.
+/// The form of a gate.
 fn form_of(alloc: Global, gate: &NumberedGate) -> Result<GateForm, AllocError>
     ensures { IfOk result (IsForm gate.now) }
 {
@@ -59,7 +59,7 @@ fn form_of(alloc: Global, gate: &NumberedGate) -> Result<GateForm, AllocError>
     }
 }
 
-/// Whether the gate is given a table: it has few inputs, and the table is not much longer than its rows.
+/// Whether the gate gets a table: it has few inputs, and the table is not much longer than its rows.
 fn has_table(gate: &NumberedGate) -> bool
     ensures { result ≡ true → length gate.now.inputs.items ≤ 12 }
 {
@@ -68,7 +68,7 @@ fn has_table(gate: &NumberedGate) -> bool
         && (1 << inputs) / (MOST_SPREAD * (inputs + 1)) <= gate.rows.as_slice().len()
 }
 
-/// The rows of a gate as cubes. One that is no cube of the width holds nothing, and is left out.
+/// The rows of a gate as cubes. A row that is not a cube of the width holds nothing, and is left out.
 fn cubes_of(alloc: Global, gate: &NumberedGate, width: u8) -> Result<Items<Cube>, AllocError>
     requires width { width ≡ length gate.now.inputs.items }
     requires positive { 0 < width }
@@ -82,7 +82,7 @@ fn cubes_of(alloc: Global, gate: &NumberedGate, width: u8) -> Result<Items<Cube>
     Ok(cubes)
 }
 
-/// Adds the cube of a row, if it is one.
+/// Adds the cube of a row, if the row is a cube.
 fn push_row(cubes: &mut Items<Cube>, row: &[u8], width: u8) -> Result<(), AllocError>
     requires positive { 0 < width }
     requires bound { width ≤ 32 }
@@ -95,7 +95,7 @@ fn push_row(cubes: &mut Items<Cube>, row: &[u8], width: u8) -> Result<(), AllocE
     }
 }
 
-/// The values of a gate, by the numbers that the bits of its inputs write.
+/// The values of a gate, by the numbers whose bits are those of its inputs.
 fn table_of(alloc: Global, gate: &NumberedGate, cubes: &[Cube]) -> Result<Items<bool>, AllocError>
     requires few { length gate.now.inputs.items ≤ 12 }
     requires cubes { IsCubes gate.now cubes.now }

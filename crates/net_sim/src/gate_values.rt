@@ -13,7 +13,7 @@ use crate::forms::GateForm;
 use cubes::Cube;
 use net_core::NumberedGate;
 
-/// The value of a gate at the signals, by the form at a place if there is one.
+/// The value of a gate for the signals, by the form at this place if there is one.
 pub(crate) fn value_by_any(
     forms: &[GateForm],
     place: usize,
@@ -30,7 +30,7 @@ pub(crate) fn value_by_any(
     }
 }
 
-/// The value of a gate at the signals, by its form.
+/// The value of a gate for the signals, by its form.
 fn value_by(form: &GateForm, gate: &NumberedGate, signals: &[bool]) -> bool
     requires within { All (λ s. s < length signals.now) gate.now.inputs.items }
     requires form { IsForm gate.now form.now }
@@ -45,7 +45,7 @@ fn value_by(form: &GateForm, gate: &NumberedGate, signals: &[bool]) -> bool
     }
 }
 
-/// The number that the signals of these numbers write, the first bit the most significant.
+/// The number whose bits are the signals of these numbers, the first bit the most significant.
 fn number_at(numbers: &[usize], signals: &[bool]) -> u32
     requires few { length numbers.now ≤ 32 }
     requires within { All (λ s. s < length signals.now) numbers.now }
@@ -58,7 +58,7 @@ fn number_at(numbers: &[usize], signals: &[bool]) -> u32
     bits
 }
 
-/// The value of a gate for the bits that a number writes, by its cubes.
+/// The value of a gate for the bits of a number, by its cubes.
 pub(crate) fn value_of_cubes(gate: &NumberedGate, cubes: &[Cube], number: u32) -> bool
     requires cubes { IsCubes gate.now cubes.now }
     requires number { number < 2 ^ length gate.now.inputs.items }
@@ -68,7 +68,7 @@ pub(crate) fn value_of_cubes(gate: &NumberedGate, cubes: &[Cube], number: u32) -
     if held { gate.on } else { !gate.on }
 }
 
-/// Whether some cube holds the bits that a number writes.
+/// Whether some cube holds the bits of a number.
 fn is_held(cubes: &[Cube], number: u32) -> bool
     requires { All (λ cube. number < 2 ^ cube.width) cubes.now }
     ensures { result ≡ list_any (λ cube. cube_holds cube (symbol_of cube.width number)) cubes.now }
@@ -81,7 +81,7 @@ fn is_held(cubes: &[Cube], number: u32) -> bool
     false
 }
 
-/// Whether the cube holds the bits that a number writes.
+/// Whether the cube holds the bits of a number.
 fn is_held_by(cube: &Cube, number: u32) -> bool
     requires { number < 2 ^ cube.now.width }
     ensures { result ≡ cube_holds cube.now (symbol_of cube.now.width number) }

@@ -1,4 +1,4 @@
-//! Worked texts and worked runs, the contracts of functions that do nothing.
+//! Worked texts and worked runs, as the contracts of functions that do nothing.
 
 ghost use Rattle.std.specs.Prelude.{◌≡◌, [], ◌∷◌, None, Some, codes, false, true};
 ghost use Rattle.net_sim.specs.BitTexts.{text_of_bits};
@@ -14,9 +14,11 @@ pub fn worked_texts()
     ensures symbols { IsSymbolFile 2 (codes "10 # a\n\n01") ((true ∷ false ∷ []) ∷ (false ∷ true ∷ []) ∷ []) }
 {}
 
-/// The text of a run of small networks, and that there is no other one: an inverter that lists its on-set, and
-/// one that lists its off-set; a latch whose value before the step is answered, and which begins by itself
-/// or is given its start; and two latches that are given theirs, the first bit to the first one.
+/// The text of a run of small networks, and that there is no other text:
+///
+/// - an inverter that lists its on-set, and one that lists its off-set;
+/// - a latch whose value before the step is answered, and which starts from its own start or from a given one;
+/// - two latches with a given start, whose first bit is that of the first latch.
 pub fn worked_runs()
     ensures on_set { RunsOnlyTo (behind_buffer (codes "0" ∷ []) true) None (codes "0\n1\n") (codes "1\n0\n") }
     ensures off_set { RunsOnlyTo (behind_buffer (codes "1" ∷ []) false) None (codes "0\n1\n") (codes "1\n0\n") }

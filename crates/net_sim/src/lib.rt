@@ -1,14 +1,14 @@
 //! Runs networks on symbols.
 //!
-//! [`step_into`] is one step of a network, by an order in which its gates are evaluated: what it writes is
-//! what the definition of a step says of each sound network that the order is of. [`run`] takes a whole file
-//! of symbols, and gives the text of the answers, or the first cause why there is none, exactly where it stands.
-//! [`read_symbols`] reads the same files as numbers, and [`append_answer`] is the call that writes each answer
-//! of a run: whoever answers the symbols of a file by other means, as a machine does, writes them by it too.
+//! [`step_into`] is one step of a network, by an order in which its gates are evaluated. What it writes is what
+//! the definition of a step says of each sound network of this order. [`run`] takes a whole file of symbols,
+//! and gives the text of the answers, or the first cause why there is none. [`read_symbols`] reads the same
+//! files as numbers. [`append_answer`] writes each answer of a run; a caller that answers the symbols of a file
+//! by other means, such as a machine, writes its answers by it too.
 //!
-//! Which texts are those of bits is said in `specs/BitTexts.antt`, which words a file of symbols says, and which
-//! of its lines is refused first, in `specs/Symbols.antt`, where a network begins in `specs/Starts.antt`,
-//! and what a run is in `specs/Run.antt`. What stands in `specs/Inner` serves private functions alone.
+//! `specs/BitTexts.antt` says which texts are those of bits, `specs/Symbols.antt` which word a file of symbols
+//! gives and which of its lines is refused first, `specs/Starts.antt` where a network starts, and
+//! `specs/Run.antt` what a run is. `specs/Inner` is for private functions only.
 //!
 //! Before the first symbol a run makes tables of the gates that have few inputs, and cubes of the rows of most
 //! others (`forms`). It reads the file line by line (`said`).

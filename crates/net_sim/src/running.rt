@@ -24,9 +24,9 @@ use hs_list::Items;
 use net_core::{Network, Order};
 use std::alloc::{AllocError, Global};
 
-/// The text of the answers of a network to the symbols of a file, from the start that is given or else from
-/// its own. On an empty file it judges the start alone, without looking at the gates. For a symbol it takes
-/// no memory besides that of the text.
+/// The text of the answers of a network to the symbols of a file, from the given start or else from its own.
+/// For an empty file it judges only the start, and does not look at the gates. For a symbol it takes no memory
+/// besides that of the text.
 pub fn run(
     alloc: Global,
     net: &Network,
@@ -93,11 +93,11 @@ fn answers_from(
 /// A network that runs.
 #[derive(Drop)]
 struct Runner {
-    /// What its gates are evaluated by.
+    /// The forms by which its gates are evaluated.
     forms: Items<GateForm>,
     /// The latch values.
     state: Vec<bool>,
-    /// The symbol in turn, the answer to it, and room for the signals.
+    /// The current symbol, the answer to it, and room for the signals.
     symbol: Vec<bool>,
     answer: Vec<bool>,
     scratch: Vec<bool>,
@@ -122,7 +122,7 @@ impl Runner {
         })
     }
 
-    /// Answers what a line says.
+    /// Reads a line, and answers its symbol if it has one.
     fn take_line(&mut self, order: &Order, number: u32, line: &[u8]) -> Result<(), SimFail>
         requires { Fits order.now self.old }
         ensures fits { OnOk result (Fits order.now self.new) }

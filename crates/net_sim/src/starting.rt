@@ -14,7 +14,7 @@ use hs_list::Items;
 use net_core::{Latch, Network, Start};
 use std::alloc::Global;
 
-/// The start that is given, or else that of the latches.
+/// The given start, or else the starts of the latches.
 pub(crate) fn start_of(
     alloc: Global,
     net: &Network,
@@ -29,7 +29,7 @@ pub(crate) fn start_of(
     }
 }
 
-/// The bits of a text, if it has so many.
+/// The bits of a text, if it has one for each latch.
 fn given_start(alloc: Global, latches: usize, text: &[u8]) -> Result<Vec<bool>, SimFail>
     ensures ok { IfOk result (λ state. IsBitText latches text.now state.items) }
     ensures err { IfErr result (TellsText latches text.now) }
@@ -61,7 +61,7 @@ fn known_start(alloc: Global, latches: &[Latch]) -> Result<Vec<bool>, SimFail>
     Ok(state.into_vec())
 }
 
-/// The bit of a start that is known.
+/// The bit of a start, if it is known.
 fn known(start: Start) -> Option<bool>
     ensures { result ≡ bit_of_start start }
 {

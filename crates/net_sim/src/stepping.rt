@@ -12,8 +12,8 @@ use crate::forms::GateForm;
 use crate::gate_values::value_by_any;
 use net_core::Order;
 
-/// One step of each network that the order is of: `z` becomes the output at the symbol `x`, and `state` the
-/// next latch values. What `scratch` holds before is not read. It takes no memory.
+/// One step of each network of this order: `z` becomes the output for the symbol `x`, and `state` the next
+/// latch values. What `scratch` holds before is not read. It takes no memory.
 pub fn step_into(
     order: &Order,
     state: &mut [bool],
@@ -30,7 +30,7 @@ pub fn step_into(
     step_by(&[], order, state, x, z, scratch);
 }
 
-/// The same step, by the forms of the gates as far as they go.
+/// The same step, by the forms of the gates as far as there are forms.
 pub(crate) fn step_by(
     forms: &[GateForm],
     order: &Order,
@@ -74,7 +74,7 @@ fn evaluate(forms: &[GateForm], order: &Order, signals: &mut [bool])
     }
 }
 
-/// Reads the signals of these numbers, where there is a place for each.
+/// Reads the signals of these numbers, if there is a place for each.
 fn read_signals(numbers: &[usize], signals: &[bool], bits: &mut [bool])
     requires { All (λ s. s < length signals.now) numbers.now }
     ensures { length numbers.now ≡ length bits.old → bits.new ≡ bits_at signals.now numbers.now }

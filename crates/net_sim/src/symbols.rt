@@ -15,9 +15,9 @@ use std::alloc::{AllocError, Global};
 /// Why a file of symbols was not read.
 #[derive(Clone, Copy, Debug, PartialEq, Eq)]
 pub enum SymbolFail {
-    /// The number of the first line that is refused.
+    /// The number of the first refused line.
     Refused { line: u32 },
-    /// There is no memory left.
+    /// Memory ran out.
     NoMemory,
 }
 
@@ -32,7 +32,7 @@ impl From<AllocError> for SymbolFail {
     }
 }
 
-/// The numbers of the symbols of a file, each with so many bits, the first one the most significant.
+/// The numbers of the symbols of a file. Each symbol has `inputs` bits, the first one the most significant.
 pub fn read_symbols(alloc: Global, inputs: u8, bytes: &[u8]) -> Result<Vec<u32>, SymbolFail>
     requires inputs { inputs ≤ 32 }
     requires short { length bytes.now < 2 ^ 32 }
@@ -45,7 +45,7 @@ pub fn read_symbols(alloc: Global, inputs: u8, bytes: &[u8]) -> Result<Vec<u32>,
     read_lines(alloc, inputs, bytes)
 }
 
-/// The numbers of the symbols, or the first line that is refused.
+/// The numbers of the symbols, or the first refused line.
 fn read_lines(alloc: Global, inputs: u8, bytes: &[u8]) -> Result<Vec<u32>, SymbolFail>
     requires inputs { inputs ≤ 32 }
     requires short { length bytes.now < 2 ^ 32 }
@@ -66,7 +66,7 @@ fn read_lines(alloc: Global, inputs: u8, bytes: &[u8]) -> Result<Vec<u32>, Symbo
     Ok(numbers.into_vec())
 }
 
-/// Adds the number of the symbol that a line says, if it says one.
+/// Appends the number of the symbol of a line, if the line is not skipped.
 fn push_line(
     numbers: &mut Items<u32>,
     count: u32,

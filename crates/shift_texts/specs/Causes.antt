@@ -1,4 +1,4 @@
--- Why no shift register of a machine is written: which refusals that calls for.
+-- The refusals that a machine of which no shift register is written calls for.
 use Rattle.std.specs.Prelude.{◌≡◌, ◌*◌, ◌<◌, ℕ, Bool, List, [], ◌∷◌, Some, slice_get}
 use Rattle.answers.specs.Cause.{Cause, FirstOf}
 use Rattle.answers.specs.declared.refusals.Refusal.TheVariants.{CodeTooLong, NotReached}
@@ -16,7 +16,7 @@ HasLongRegister W refusal = (k : ℕ) × (refusal ≡ CodeTooLong (k * W.inputs)
 abbrev pub NeverInReset : KissFile → Cause
 NeverInReset W refusal = (k : ℕ) × (reset : List ℕ) × (refusal ≡ NotReached reset) × IsOrder W k × IsNotReached W k × (slice_get W.states W.reset ≡ Some reset)
 
--- why a machine has no order of few bits, in the order of judgement
+-- why a machine has no order whose register is short enough, in the order of judgement
 abbrev pub HasNoShortOrder : KissFile → Cause
 HasNoShortOrder W = FirstOf (KeepsApart W ∷ HasLongRegister W ∷ [])
 
@@ -24,6 +24,6 @@ HasNoShortOrder W = FirstOf (KeepsApart W ∷ HasLongRegister W ∷ [])
 abbrev pub HasNoRegister : KissFile → Cause
 HasNoRegister W = FirstOf (KeepsApart W ∷ HasLongRegister W ∷ NeverInReset W ∷ [])
 
--- the same of the machine that a command works on
+-- the same for the machine that a command works on
 abbrev pub RefusesShift : Bool → KissFile → Cause
 RefusesShift reduce F refusal = OnWork reduce F (λ W. HasNoRegister W refusal)

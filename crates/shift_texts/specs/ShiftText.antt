@@ -1,5 +1,5 @@
--- The headline: what is said of a text that is written as the shift register of a file's machine (source: Perles, Rabin
--- and Shamir, the theory of definite automata).
+-- The headline: what holds of a text that is written as the shift register of a file's machine (source: Perles,
+-- Rabin and Shamir, the theory of definite automata).
 use Rattle.std.specs.Prelude.{◌≡◌, ◌*◌, ◌++◌, ℕ, Bool, List, [], ◌∷◌, codes, map}
 use Rattle.std.specs.Fmt.{decimal}
 use Rattle.std.specs.List.{flat_map}
@@ -21,14 +21,14 @@ use Rattle.shift_real.specs.ShiftNetwork.{AnswersAs, IsRegister, StepsAlong}
 abbrev pub shift_fields : ℕ → List (List (List ℕ))
 shift_fields k = (codes "hsdec" ∷ codes "shift" ∷ []) ∷ (codes "order" ∷ decimal k ∷ []) ∷ []
 
--- the comments, one a line, and after them the network
+-- the comments, one on each line, and after them the network
 abbrev pub shift_text : ℕ → Network → List ℕ
 shift_text k N = flat_map ended (map comment_text (shift_fields k)) ++ net_text N
 
--- The text is that of the network N behind the comments, and denotes N, which is sound, starts at known values and answers
--- every word as the machine of the file does from its reset state. N is the register of the work machine W, of as many
--- symbols as the order k of W: its latches, its starts and its gates are those, at each content and symbol it gives the
--- output of W and the next content, and its signals have the names of the file.
+-- The text is that of the network N after the comments, and denotes N. N is sound, starts at known values, and
+-- answers every word as the machine of the file does from its reset state. N is the register of the work machine W,
+-- for k symbols, where k is the order of W: it has the latches, the starts and the gates of this register. For each
+-- content and symbol it gives the output of W and the next content. Its signals have the names of the file.
 pub record IsShiftOf (reduce : Bool) (F W : KissFile) (k : ℕ) (N : Network) (names : SignalNames) (text : List ℕ) : Type 0 where
   pub work : IsWorkOf reduce F W
   pub order : IsOrder W k

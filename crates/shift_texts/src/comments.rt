@@ -9,7 +9,7 @@ use blif_out::append;
 use net_core::Network;
 use std::alloc::{AllocError, Global};
 
-/// The comments that tell of the register and of its order, and after them the network.
+/// The comments that name the register and its order, and after them the network.
 pub fn text_of(alloc: Global, order: usize, net: &Network) -> Result<Vec<u8>, AllocError>
     requires writable { IsWritable net.now }
     requires starts { HasKnownStarts net.now }

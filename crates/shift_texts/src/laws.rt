@@ -5,7 +5,7 @@ ghost use Rattle.answers.specs.Laws.Causes.{HasOneAnswer};
 ghost use Rattle.kiss2.specs.declared.kiss_file.KissFile.{KissFile};
 ghost use Rattle.shift_texts.specs.Causes.{RefusesShift};
 
-/// What `shift` calls for has one answer.
+/// All refusals that `shift` calls for have one answer.
 pub fn shift_has_one_answer()
     ensures { (reduce : Bool) (F : KissFile) → HasOneAnswer (RefusesShift reduce F) }
 {}

@@ -1,12 +1,16 @@
 //! The text of the shift register of a definite machine.
 //!
-//! [`shift`] makes the machine that a command works on and judges it: two states that words of every length keep
-//! apart, a register of too many bits, a reset state in which no word of as many symbols as the order ends. Else it
-//! writes the network of the register behind two comments, of which the second tells the order.
+//! [`shift`] makes the machine that a command works on, and refuses it in three cases:
 //!
-//! `specs/Causes` says which refusals a machine calls for, in their order, and `specs/ShiftText` what is said of the
-//! text that is written. The laws of `specs/Laws` say that what `shift` calls for has one answer
-//! ([`shift_has_one_answer`]).
+//! - for every length, some word of that length keeps two states apart;
+//! - the register has too many bits;
+//! - no word of as many symbols as the order ends in the reset state.
+//!
+//! Otherwise it writes the network of the register after two comments, the second of which gives the order.
+//!
+//! `specs/Causes` says which refusals a machine calls for, in their order, and `specs/ShiftText` what holds of
+//! the text that is written. The laws of `specs/Laws` say that all refusals that `shift` calls for have one
+//! answer ([`shift_has_one_answer`]).
 #![tactic(auto)]
 
 mod comments;

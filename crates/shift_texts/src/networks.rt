@@ -19,8 +19,8 @@ use realise::names;
 use shift_real::{RegisterFail, register};
 use std::alloc::{AllocError, Global};
 
-/// The network of the register of the machine that is worked on, which is definite of this order. Its signals have
-/// the names of the file.
+/// The network of the register of the machine that is worked on, which is definite and has this order. The
+/// signals have the names of the file.
 pub fn register_of(
     alloc: Global,
     file: &KissFile,
@@ -42,7 +42,7 @@ pub fn register_of(
     }
 }
 
-/// The refusal of a machine whose reset state no word of as many symbols as its order ends in.
+/// The refusal of a machine in whose reset state no word of as many symbols as its order ends.
 fn not_reached(alloc: Global, file: &KissFile, work: &WorkMachine) -> Result<Refusal, AllocError>
     requires work { (reduce : Bool) × IsWork reduce file.now work.now }
     requires none { (k : ℕ) × IsOrder work.now.machine k × IsNotReached work.now.machine k }

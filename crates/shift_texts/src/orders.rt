@@ -12,10 +12,10 @@ use kiss2::KissFile;
 use machine_reports::order_of;
 use std::alloc::Global;
 
-/// A register has no more bits.
+/// The greatest number of bits of a register.
 const MOST_BITS: usize = 12;
 
-/// The order of the machine that is worked on, where its register has few bits.
+/// The order of the machine that is worked on, if its register has few bits.
 pub fn short_order(alloc: Global, file: &KissFile, work: &WorkMachine) -> Result<usize, Refusal>
     requires work { (reduce : Bool) × IsWork reduce file.now work.now }
     ensures { IsJudged (HasNoShortOrder work.now.machine) (HasShortOrder work.now.machine) result }

@@ -16,8 +16,9 @@ use kiss2::{Fill, KissFile};
 use machine_table::Machine;
 use std::alloc::Global;
 
-/// The network of the shift register of the machine that is worked on, behind comments that tell its order. The
-/// machine is that of the file under the fill; with `reduce` that of the classes of alike states is worked on.
+/// The network of the shift register of the machine that is worked on, after comments that give its order. The
+/// machine is that of the file under the fill; with `reduce` the machine of the classes of alike states is
+/// worked on.
 pub fn shift(
     alloc: Global,
     file: &KissFile,

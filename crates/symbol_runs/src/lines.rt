@@ -10,7 +10,7 @@ ghost use Rattle.net_sim.specs.Run.{answers_text};
 use net_sim::append_answer;
 use std::alloc::{AllocError, Global};
 
-/// A line for each number, of so many outputs.
+/// A line for each number, whose bits are `count` outputs.
 pub(crate) fn answer_lines(alloc: Global, count: u8, words: &[u64]) -> Result<Vec<u8>, AllocError>
     requires { count ≤ 64 }
     ensures { IfOk result (λ text. text.items ≡ answers_text (map (outputs_of count) words.now)) }
@@ -23,7 +23,7 @@ pub(crate) fn answer_lines(alloc: Global, count: u8, words: &[u64]) -> Result<Ve
     Ok(text)
 }
 
-/// Appends the line of the outputs that a number writes, by way of their bits.
+/// Appends the line of the outputs that are the bits of a number. `bits` is room for them.
 fn append_word(
     text: &mut Vec<u8>,
     count: u8,

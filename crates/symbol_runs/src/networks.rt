@@ -15,7 +15,7 @@ use net_core::{Network, Order};
 use net_sim::{SimFail, run};
 use std::alloc::Global;
 
-/// Judges the start of a network: the text that is given, or else the starts of its latches.
+/// Judges the start of a network: the given text, or else the starts of its latches.
 pub fn judge_start(
     alloc: Global,
     net: &Network,
@@ -30,7 +30,7 @@ pub fn judge_start(
     Ok(())
 }
 
-/// The text of the answers of a network, from a start that was judged, to the symbols of a file.
+/// The text of the answers of a network to the symbols of a file, from a start that was judged.
 pub fn sim(
     alloc: Global,
     net: &Network,
@@ -69,7 +69,7 @@ fn ran(
     }
 }
 
-/// A run from the start that is given, or else from the network's own.
+/// A run from the given start, or else from the network's own.
 fn run_from(
     alloc: Global,
     net: &Network,

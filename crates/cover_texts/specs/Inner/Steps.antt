@@ -1,4 +1,4 @@
--- What the steps on the way to a text give.
+-- The results of the steps on the way to a text.
 use Rattle.std.specs.Prelude.{◌≡◌, ℕ, ◌≤◌, All, List, Some, length, map, slice_get}
 use Rattle.answers.specs.declared.refusals.CoverFlaw.TheVariants.{Lacks, Leaves, Place, Places, Trivial, Within}
 use Rattle.answers.specs.declared.refusals.Refusal.{Refusal}
@@ -19,7 +19,7 @@ use Rattle.state_codes.specs.Code.{IsCode}
 use Rattle.state_codes.specs.Kinds.{PartsMeetInZero}
 use Rattle.state_codes.specs.Split.{IsPart}
 
--- the refusal that tells why a text is no cover
+-- the refusal that says why a text is not a cover
 abbrev pub IsRefusalOf : KissFile → CoverFail → Refusal → Type 0
 IsRefusalOf F (fails.BadText block place) refusal = refusal ≡ BadCover (Place block place)
 IsRefusalOf F (fails.Contained a b) refusal = refusal ≡ BadCover (Within a b)
@@ -28,7 +28,7 @@ IsRefusalOf F (fails.TooMany found) refusal = refusal ≡ BadCover (Places found
 IsRefusalOf F fails.Trivial refusal = refusal ≡ BadCover Trivial
 IsRefusalOf F fails.NoMemory refusal = refusal ≡ NoMemory
 
--- the blocks are the cover that the text tells, and the only one
+-- the blocks are the cover that the text gives, and the only one
 pub record IsRead (n : ℕ) (text : List ℕ) (blocks : List (List ℕ)) : Type 0 where
   pub spelled : IsTextOf n text blocks
   pub cover : IsCover n blocks
@@ -41,7 +41,7 @@ pub record IsExpanded (F : KissFile) (blocks : List (List ℕ)) (E : KissFile) :
   pub expansion : IsExpansion F blocks E
   pub answers : AnswersAlike F E
 
--- the refusal tells where the cover is not closed
+-- the refusal says where the cover is not closed
 abbrev pub LeavesWith : KissFile → List (List ℕ) → Refusal → Type 0
 LeavesWith F blocks refusal =
     (block symbol : ℕ) × IsFirstLeaving F blocks block symbol × (refusal ≡ BadCover (Leaves block (map digit (symbol_of F.inputs symbol))))

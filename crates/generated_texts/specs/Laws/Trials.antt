@@ -1,4 +1,5 @@
--- Laws of trials: the machine of numbers is one and has a parallel decomposition, and its refusal is one.
+-- Laws of trials: the numbers have only one machine, it has a parallel decomposition, and its trial has only one
+-- refusal.
 use Rattle.std.specs.Prelude.{◌≡◌, ℕ, List, []}
 use Rattle.std.proofs.Common.{ap, sym, ◌∙◌, subst}
 use Rattle.answers.specs.declared.numbers.Answer.TheVariants as answers
@@ -24,7 +25,7 @@ use Rattle.generated_texts.specs.Generated.{IsGenerated}
 use Rattle.generated_texts.specs.Trial.{LongCodeRow}
 
 -- ---- the machine of the numbers
--- there is one
+-- there is only one
 pub one_generated : (seed a b k : ℕ) (F G : KissFile) → AreSizes a b k → IsGenerated seed a b k F → IsGenerated seed a b k G → F ≡ G
 one_generated seed a b k F G sizes made other = one_machine (word seed) a b k F G sizes made other
 
@@ -42,7 +43,8 @@ long_code_is_of seed a b k refusal (F, made, calls) = of_parts_is_of answers.Cod
 pub long_code_one : (seed a b k : ℕ) → HasOneAnswer (LongCodeRow seed a b k)
 long_code_one seed a b k = one_of answers.CodeTooLong (LongCodeRow seed a b k) (long_code_is_of seed a b k)
 
--- of one machine, whose split has one list of parts, whose codes have one length, so there is one refusal
+-- there is only one machine, its split has only one list of parts, and their codes have only one length; so there
+-- is only one refusal
 pub long_code_once : (seed a b k : ℕ) (one other : Refusal) → AreSizes a b k → LongCodeRow seed a b k one → LongCodeRow seed a b k other → one ≡ other
 long_code_once seed a b k one other sizes (F, made, (parts, of_kind, (bits, is, size, long))) (G, made_too, (others, of_kind_too, (more, is_too, size_too, long_too))) =
     let same : G ≡ F = one_generated seed a b k G F sizes made_too made in

@@ -16,12 +16,13 @@ value_for gate bits = if list_any (λ row. row_holds row bits) gate.rows then ga
 abbrev pub value_at : List Bool → NumberedGate → Bool
 value_at signals gate = value_for gate (bits_at signals gate.inputs.items)
 
--- the signals after a gate got its value at that signal
+-- the signals after this gate gave this signal its value
 abbrev pub with_value : List Bool → ℕ → Option NumberedGate → List Bool
 with_value signals s None = signals
 with_value signals s (Some gate) = slice_set signals s (value_at signals gate)
 
--- the signals after the gates at these places got their values, one after another; the gates drive the signals from `base` on
+-- the signals after the gates at these places were evaluated, one after another; the gates drive the signals from
+-- `base` on
 abbrev pub evaluated : ℕ → List NumberedGate → List ℕ → List Bool → List Bool
 evaluated base gates [] signals = signals
 evaluated base gates (place ∷ places) signals = evaluated base gates places (with_value signals (base + place) (slice_get gates place))

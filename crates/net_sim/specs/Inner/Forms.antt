@@ -1,4 +1,4 @@
--- What gates are evaluated by.
+-- The forms by which gates are evaluated.
 use Rattle.std.specs.Prelude.{◌≡◌, ℕ, ◌^◌, ◌<◌, ◌≤◌, ⊤, All, Bool, false, List, Some, length, slice_get, slice_index_or}
 use Rattle.std.specs.List.{list_any}
 use Rattle.cubes.specs.declared.cube.Cube.{Cube}
@@ -10,7 +10,7 @@ use Rattle.net_sim.specs.declared.forms.GateForm.{GateForm}
 use Rattle.net_sim.specs.declared.forms.GateForm.TheVariants.{Table, Cubes, Rows}
 use Rattle.net_sim.specs.Inner.Evaluated.{value_for}
 
--- at the number of some bits stands the value of the gate for them
+-- the table has at each number the value of the gate for the bits of this number
 pub record IsTable (gate : NumberedGate) (table : List Bool) : Type 0 where
   pub few : length gate.inputs.items ≤ 12
   pub whole : length table ≡ 2 ^ length gate.inputs.items
@@ -22,12 +22,12 @@ pub record IsCubes (gate : NumberedGate) (cubes : List Cube) : Type 0 where
   pub widths : All (λ cube. cube.width ≡ length gate.inputs.items) cubes
   pub held : (symbol : List Bool) → length symbol ≡ length gate.inputs.items → list_any (λ cube. holds cube symbol) cubes ≡ list_any (λ row. row_holds row symbol) gate.rows
 
--- the form tells the values of the gate
+-- the form gives the values of the gate
 abbrev pub IsForm : NumberedGate → GateForm → Type 0
 IsForm gate (Table table) = IsTable gate table
 IsForm gate (Cubes cubes) = IsCubes gate cubes
 IsForm gate Rows = ⊤
 
--- forms of gates, one each as far as they go
+-- forms of gates, one for each gate as far as there are forms
 abbrev pub AreForms : List NumberedGate → List GateForm → Type 0
 AreForms gates forms = (place : ℕ) (gate : NumberedGate) (form : GateForm) → slice_get gates place ≡ Some gate → slice_get forms place ≡ Some form → IsForm gate form

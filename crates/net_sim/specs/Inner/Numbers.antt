@@ -7,7 +7,7 @@ use Rattle.net_sim.specs.declared.symbols.SymbolFail.TheVariants.{NoMemory, Refu
 use Rattle.net_sim.specs.Symbols.{IsRefusedLine, SaysSymbol, SayWord, is_skipped}
 use Rattle.net_sim.specs.Inner.Ran.{HasTaken}
 
--- the list stayed as it was, or has besides the number of the symbol that the line says
+-- the line is skipped and the list stayed as it was, or the number of the line's symbol was appended
 abbrev pub AddedLine : ℕ → Line → List ℕ → List ℕ → Type 0
 AddedLine width line old new =
     ((is_skipped line ≡ true) × (new ≡ old))
@@ -20,7 +20,7 @@ pub record HasReadTo (width : ℕ) (bytes rest : List ℕ) (count : ℕ) (number
   pub reads : SayWord width done (map (symbol_of width) numbers)
   pub below : All (λ x. x < 2 ^ width) numbers
 
--- the line is the refused one, where the answer tells something
+-- the failure names this line, which is refused, unless memory ran out
 abbrev pub TellsRefusedLine : ℕ → Line → SymbolFail → Type 0
 TellsRefusedLine width line (Refused number) = (number ≡ line.number) × IsRefusedLine width line
 TellsRefusedLine width line NoMemory = ⊤

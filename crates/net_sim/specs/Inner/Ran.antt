@@ -22,11 +22,11 @@ pub record Fits (order : Order) (runner : Runner) : Type 0 where
   pub answer : length runner.answer.items ≡ length order.output_signals.items
   pub scratch : length runner.scratch.items ≡ order.signal_count
 
--- each network that the order is of goes from the one state to the other at the symbol, and answers it
+-- each network of this order goes from the one state to the other for the symbol, and gives this answer
 abbrev pub Goes : Order → List Bool → List Bool → List Bool → List Bool → Type 0
 Goes order state symbol answer next = (N : Network) → Sound N → IsOrderOf N order → Step N state symbol answer next
 
--- nothing changed, or a symbol that the line says was answered, and the answer added to the text
+-- the line is skipped and nothing changed, or the line's symbol was answered and the answer added to the text
 abbrev pub TookLine : Order → Line → Runner → Runner → Type 0
 TookLine order line old new =
     ((is_skipped line ≡ true) × (new.state.items ≡ old.state.items) × (new.text.items ≡ old.text.items))
@@ -39,7 +39,7 @@ Leads N state [] answers last = (answers ≡ []) × (last ≡ state)
 Leads N state (symbol ∷ word) answers last =
     (answer : List Bool) × (next : List Bool) × (more : List (List Bool)) × (answers ≡ answer ∷ more) × Step N state symbol answer next × Leads N next word more last
 
--- the lines say a word that leads from the one state to the other, and the text is that of its answers
+-- the lines give a word that leads from the one state to the other, and the text is that of its answers
 pub record HasRun (N : Network) (state : List Bool) (lines : List Line) (text : List ℕ) (last : List Bool) : Type 0 where
   pub word : List (List Bool)
   pub answers : List (List Bool)
@@ -47,19 +47,19 @@ pub record HasRun (N : Network) (state : List Bool) (lines : List Line) (text : 
   pub leads : Leads N state word answers last
   pub is : text ≡ answers_text answers
 
--- these lines stand before the rest, so many as are counted, and none of them is refused
+-- these lines are all lines before the rest, `count` of them, and none of them is refused
 pub record HasTaken (width : ℕ) (symbols rest : List ℕ) (count : ℕ) (done : List Line) : Type 0 where
   pub told : done ++ lines_from (count + 1) (physical_lines rest) ≡ lines_of symbols
   pub counted : length done ≡ count
   pub none_refused : (k : ℕ) (line : Line) → slice_get done k ≡ Some line → IsRefusedLine width line → ⊥
 
--- each network that the order is of has run on the lines before the rest
+-- each network of this order has run on the lines before the rest
 pub record HasRunTo (order : Order) (state : List Bool) (symbols rest : List ℕ) (count : ℕ) (runner : Runner) : Type 0 where
   pub done : List Line
   pub taken : HasTaken order.input_count symbols rest count done
   pub runs : (N : Network) → Sound N → IsOrderOf N order → HasRun N state done runner.text.items runner.state.items
 
--- each network that the order is of has run on all lines of the symbols
+-- each network of this order has run on all lines of the symbols
 abbrev pub HasAnswered : Order → List Bool → List ℕ → List ℕ → Type 0
 HasAnswered order state symbols text =
     (N : Network) → Sound N → IsOrderOf N order → (last : List Bool) × HasRun N state (lines_of symbols) text last

@@ -5,7 +5,7 @@ use Rattle.net_sim.specs.declared.said.Said.{Said}
 use Rattle.net_sim.specs.declared.said.Said.TheVariants.{Nothing, Symbol, Other}
 use Rattle.net_sim.specs.Symbols.{IsRefusedLine, SaysSymbol, is_skipped}
 
--- the line says nothing, or this symbol, or is refused
+-- the line is skipped, gives this symbol, or is refused
 abbrev pub SaysAs : ℕ → Line → List Bool → Said → Type 0
 SaysAs width line symbol Nothing = is_skipped line ≡ true
 SaysAs width line symbol Symbol = SaysSymbol width line symbol

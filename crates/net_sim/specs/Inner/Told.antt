@@ -1,4 +1,4 @@
--- What a part of the work tells where it fails.
+-- What the failures of the parts of the work say.
 use Rattle.std.specs.Prelude.{◌≡◌, ℕ, Bool, ⊤, List, Option, Some, None, length}
 use Rattle.hs_io.specs.declared.lines.Line.{Line}
 use Rattle.net_core.specs.declared.Latch.{Latch}
@@ -9,35 +9,35 @@ use Rattle.net_sim.specs.BitTexts.{IsBitText}
 use Rattle.net_sim.specs.Starts.{IsFirstUnknown}
 use Rattle.net_sim.specs.Symbols.{IsRefusedLine, IsSymbolFault}
 
--- the answer tells the first refused line, where it tells something
+-- the failure names the first refused line, unless memory ran out
 abbrev pub TellsSymbol : ℕ → List ℕ → SimFail → Type 0
 TellsSymbol width symbols BadStart = ⊥
 TellsSymbol width symbols (UnknownStart _) = ⊥
 TellsSymbol width symbols (BadSymbol line) = IsSymbolFault width symbols line
 TellsSymbol width symbols NoMemory = ⊤
 
--- the line is the refused one, where the answer tells something
+-- the failure names this line, which is refused, unless memory ran out
 abbrev pub TellsLine : ℕ → Line → SimFail → Type 0
 TellsLine width line BadStart = ⊥
 TellsLine width line (UnknownStart _) = ⊥
 TellsLine width line (BadSymbol number) = (number ≡ line.number) × IsRefusedLine width line
 TellsLine width line NoMemory = ⊤
 
--- the answer tells why there is no start, where it tells something
+-- the failure says why there is no start, unless memory ran out
 abbrev pub TellsStart : Network → Option (List ℕ) → SimFail → Type 0
 TellsStart N start BadStart = (text : List ℕ) × (start ≡ Some text) × ((state : List Bool) → IsBitText (length N.latches) text state → ⊥)
 TellsStart N start (UnknownStart latch) = (start ≡ None) × IsFirstUnknown N.latches latch
 TellsStart N start (BadSymbol _) = ⊥
 TellsStart N start NoMemory = ⊤
 
--- of a start that is given
+-- the same for a given start
 abbrev pub TellsText : ℕ → List ℕ → SimFail → Type 0
 TellsText count text BadStart = (state : List Bool) → IsBitText count text state → ⊥
 TellsText count text (UnknownStart _) = ⊥
 TellsText count text (BadSymbol _) = ⊥
 TellsText count text NoMemory = ⊤
 
--- of those of the latches
+-- the same for the starts of the latches
 abbrev pub TellsUnknown : List Latch → SimFail → Type 0
 TellsUnknown latches BadStart = ⊥
 TellsUnknown latches (UnknownStart latch) = IsFirstUnknown latches latch

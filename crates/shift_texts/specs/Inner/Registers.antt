@@ -7,7 +7,7 @@ use Rattle.net_core.specs.Sound.{Sound}
 use Rattle.realise.specs.Names.{AreNames}
 use Rattle.shift_real.specs.ShiftNetwork.{AnswersAs, IsRegister, StepsAlong}
 
--- it is the register of W, of k symbols, with the names of the file
+-- N is the register of W for k symbols, with the names of the file
 pub record IsRegisterOf (F W : KissFile) (k : ℕ) (N : Network) : Type 0 where
   pub names : SignalNames
   pub own : AreNames F (k * W.inputs) names

@@ -24,7 +24,7 @@ register_has_one_answer W =
       (one_of answers.CodeTooLong (HasLongRegister W) (has_long_register_is_of W), (one_of answers.NotReached (NeverInReset W) (never_in_reset_is_of W), tt)),
     )
 
--- a command works on one machine
+-- a command works on only one machine
 pub shift_has_one_answer : (reduce : Bool) (F : KissFile) → HasOneAnswer (RefusesShift reduce F)
 shift_has_one_answer reduce F one other (W, work, calls) (V, other_work, other_calls) =
     register_has_one_answer W one other calls

@@ -28,11 +28,11 @@ no_start_is_of N start refusal (inr (none_bad, inl unknown)) = unknown_start_is_
 no_start_is_of N start refusal (inr (none_bad, inr (none_unknown, more))) = absurd more
 
 -- ---- what excludes them
--- a file of symbols has no line that is none
+-- a file of symbols has no line that is refused
 pub symbols_none : (width : ℕ) (symbols : List ℕ) (word : List (List Bool)) → IsSymbolFile width symbols word → CallsForNone (BadSymbolRow width symbols)
 symbols_none width symbols word file refusal (number, is, fault) = exclusive.none_refused width (lines_of symbols) word number file fault
 
--- a network with a start lacks none
+-- a network that has a start is refused for none
 pub bad_start_none : (N : Network) (start : Option (List ℕ)) → HasStart N start → CallsForNone (BadStartRow N start)
 bad_start_none N start (state, begins) refusal (text, given, is, none) = (exclusive.start_none N start state [] begins).0 (text, given, none)
 
