@@ -17,9 +17,13 @@ pub struct LatchNote {
 /// The notes of the latches in order.
 pub type LatchNotes = Items<LatchNote>;
 
-/// What the comments at the head of a network say: how its parts were made, the partition of the states into
-/// alike ones if these were made one, the parts, the name and the code of each state, and a note for each
-/// latch. Bit i of a code is its bit of value 2^i.
+/// What the comments at the head of a network say:
+///
+/// - how its parts were made;
+/// - the partition of the states into alike ones, if these were made one;
+/// - the parts;
+/// - the name and the code of each state, where bit i of a code is its bit of value 2^i;
+/// - a note for each latch.
 #[derive(Drop)]
 pub struct Header {
     pub kind: Kind,

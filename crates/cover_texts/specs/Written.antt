@@ -35,9 +35,9 @@ abbrev pub StartsAtFirstCopy : KissFile → List (List ℕ) → Codes → Networ
 StartsAtFirstCopy F blocks codes N =
     (i : ℕ) × IsFirstCopy blocks F.reset i × AreStarts N.latches (code_of codes.bits codes.words i)
 
--- One step for symbol x leads from the code of pair i, which is of block j and state s, to the code of a pair of
--- the next state, with the output of s. The block of that pair is the first one that has the next states of block
--- j.
+-- One step for symbol x leads from the code of pair i to the code of a pair of the next state. Here pair i is of
+-- block j and state s, and the output is that of s. The block of the next pair is the first one that has the next
+-- states of all states of block j.
 pub record StepsTo (F : KissFile) (blocks : List (List ℕ)) (codes : Codes) (N : Network) (i j s : ℕ) (x : List Bool) : Type 0 where
   pub block : ℕ
   pub pair : ℕ

@@ -2,8 +2,8 @@
 use Rattle.std.specs.Prelude.{◌≡◌, ℕ, ◌+◌, ◌-◌, ◌<◌, List, Option, Some, length, min, ◌⊎◌}
 use Rattle.hs_io.specs.Counts.{next_count}
 
--- the bytes given, the number of bytes that there is room for, the number of puts so far, the put that is to fail
--- with the number of bytes that it takes, and the count of faults
+-- the bytes given, the room in bytes, the number of puts so far, the put that is to fail with the number of bytes
+-- that it takes, and the count of faults
 pub record SinkState : Type 0 where
   pub given : List ℕ
   pub room : ℕ

@@ -10,7 +10,7 @@ items_in c = c.items.items
 abbrev pub order_in : {T : Type 0} → Collection T → List ℕ
 order_in c = c.order.items
 
--- the value is that of some item
+-- the value is the value of some item
 abbrev pub Knows : {X M : Type 0} → (X → M) → List X → M → Type 0
 Knows meaning items z = Any (λ x. meaning x ≡ z) items
 

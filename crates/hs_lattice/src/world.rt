@@ -20,7 +20,7 @@ pub trait JoinWorld {
     /// The value of an item.
     ghost meaning: { Self.Item → Meaning };
 
-    /// The world is one whose values can be joined.
+    /// The condition on a world under which the laws below hold.
     ghost lawful: { Self → Type 0 };
 
     /// The value is one of the world's.

@@ -20,7 +20,7 @@ counts_text states inputs outputs rows reset =
 abbrev pub spaced_numbers : List ℕ → List ℕ
 spaced_numbers numbers = flat_map spaced (map decimal numbers)
 
--- a count that was taken up to 1000, or that it is more than 1000
+-- a count, which was taken up to 1000, or the words for more
 abbrev pub count_within : Option ℕ → List ℕ
 count_within None = codes "more than 1000"
 count_within (Some count) = decimal count

@@ -1,9 +1,12 @@
 //! The program `hsdec`. The contract of [`program::status`] says what it does, over the arguments, a shelf and
-//! two sinks: which answer the words get, whose number is the exit status; which page `--help` and `--version`
-//! put; and that everything else is what `run` of the crate `hsdec_core` promises. The words of the arguments
-//! are in `specs/Words`, the pages in `specs/Pages` and `specs/Phrases`, the answers in `specs/Status`.
+//! two sinks:
 //!
-//! `main` hands over those of the system: [`arguments::SystemArguments`], [`input_shelf::InputShelf`] over
+//! - the exit status is the number of the answer to the words (`specs/Status`);
+//! - the words are those of the arguments (`specs/Words`);
+//! - `--help` and `--version` put a page (`specs/Pages`, `specs/Phrases`);
+//! - everything else is what `run` of the crate `hsdec_core` promises.
+//!
+//! `main` calls it with what the system gives: [`arguments::SystemArguments`], [`input_shelf::InputShelf`] over
 //! files and standard input, and the sinks on standard output and standard error. Contracts know neither the
 //! system's arguments nor the bytes of its files. Nothing is proved about the system beyond this edge.
 #![tactic(auto)]

@@ -14,9 +14,9 @@
 //! answered. The clause `headline` says what a written decomposition is; the definition is in `split_texts` and
 //! in the crate `decomposition`.
 //!
-//! A command consists of a row of `task_of`, an arm of `machine_tasks`, and a row in each of `own_cause`,
-//! `IsReport` and `IsShown`. All clauses of `run` follow from what the command's family promises
-//! (`proofs/Runs`).
+//! A command on the machine of FILE consists of a row of `task_of`, an arm of `machine_tasks`, a row in
+//! `own_cause` and in `IsReport`, and for a listing also one in `IsShown`. All clauses of `run` follow from what
+//! the command's family promises (`proofs/Runs`).
 #![tactic(auto)]
 
 mod laws;

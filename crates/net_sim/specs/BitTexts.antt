@@ -10,7 +10,7 @@ abbrev pub text_of_bits : List Bool → List ℕ
 text_of_bits [] = codes "-"
 text_of_bits (bit ∷ bits) = map character_of (bit ∷ bits)
 
--- the text is that of these bits, which are `count` bits
+-- the text is the text of these `count` bits
 pub record IsBitText (count : ℕ) (text : List ℕ) (bits : List Bool) : Type 0 where
   pub as_many : length bits ≡ count
   pub is : text ≡ text_of_bits bits

@@ -6,9 +6,12 @@
 //! files as numbers. [`append_answer`] writes each answer of a run; a caller that answers the symbols of a file
 //! by other means, such as a machine, writes its answers by it too.
 //!
-//! `specs/BitTexts.antt` says which texts are those of bits, `specs/Symbols.antt` which word a file of symbols
-//! gives and which of its lines is refused first, `specs/Starts.antt` where a network starts, and
-//! `specs/Run.antt` what a run is. `specs/Inner` is for private functions only.
+//! The definitions are in `specs/`:
+//!
+//! - `BitTexts` says which texts are those of bits.
+//! - `Symbols` says which word a file of symbols gives, and which of its lines is refused first.
+//! - `Starts` says where a network starts, and `Run` what a run is.
+//! - `Inner` is for private functions only.
 //!
 //! Before the first symbol a run makes tables of the gates that have few inputs, and cubes of the rows of most
 //! others (`forms`). It reads the file line by line (`said`).

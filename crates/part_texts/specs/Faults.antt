@@ -6,8 +6,8 @@ use Rattle.answers.specs.declared.refusals.Refusal.TheVariants.{PartLabel, PartL
 use Rattle.partition.specs.Text.{FirstBadPiece, OtherLength}
 use Rattle.part_texts.specs.Texts.{IsTextOfPartition, texts_of_parts}
 
--- the text of the part of this number is not that of a partition of n states: its first label that is not allowed
--- at its place, or the number of its labels
+-- the text of the part of this number is not the text of a partition of n states: the refusal has its first label
+-- that is not allowed at its place, or the number of its labels
 abbrev pub BadPartAt : ℕ → ℕ → List ℕ → Cause
 BadPartAt part states text refusal =
     ((place : ℕ) × (refusal ≡ PartLabel part place) × FirstBadPiece text place)

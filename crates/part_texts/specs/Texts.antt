@@ -4,7 +4,7 @@ use Rattle.std.specs.List.{AllZip, slice_split}
 use Rattle.partition.specs.Partition.{IsPartition}
 use Rattle.partition.specs.Text.{labels_text}
 
--- a text is that of a partition of n states
+-- the text is the text of this partition of n states
 abbrev pub IsTextOfPartition : ℕ → List ℕ → List ℕ → Type 0
 IsTextOfPartition states text p = IsPartition states p × (text ≡ labels_text p)
 

@@ -1,4 +1,4 @@
--- The refusals that a machine of which no shift register is written calls for.
+-- The refusals of a machine for which no shift register is written.
 use Rattle.std.specs.Prelude.{◌≡◌, ◌*◌, ◌<◌, ℕ, Bool, List, [], ◌∷◌, Some, slice_get}
 use Rattle.answers.specs.Cause.{Cause, FirstOf}
 use Rattle.answers.specs.declared.refusals.Refusal.TheVariants.{CodeTooLong, NotReached}

@@ -41,6 +41,6 @@ pub record IsShiftOf (reduce : Bool) (F W : KissFile) (k : ℕ) (N : Network) (n
   pub register : IsRegister W k names N
   pub steps : StepsAlong W k N
 
--- the text is that of the shift register of the file's machine
+-- the text is the text of the shift register of the file's machine
 abbrev pub IsShiftText : Bool → KissFile → List ℕ → Type 0
 IsShiftText reduce F text = (W : KissFile) × (k : ℕ) × (N : Network) × (names : SignalNames) × IsShiftOf reduce F W k N names text

@@ -1,6 +1,5 @@
--- The kinds of decomposition in one table: what each asks of its parts, that no step of it can be taken in smaller
--- ones, which of several right lists of parts it takes, and what it promises of codes and gates (source: Hartmanis
--- and Stearns; for least codes this project).
+-- The kinds of decomposition in one table (source: Hartmanis and Stearns; for least codes this project). Parts are
+-- best of their kind if no step of the decomposition can be taken in smaller steps.
 use Rattle.std.specs.Prelude.{◌≡◌, ⊤, ℕ, List, length}
 use Rattle.answers.specs.Cause.{Cause}
 use Rattle.feedback_split.specs.Best.{IsBestFeedback}

@@ -1,4 +1,4 @@
--- The refusals that a machine of which no decomposition is written calls for.
+-- The refusals of a machine for which no decomposition is written.
 use Rattle.std.specs.Prelude.{◌≡◌, ◌<◌, ℕ, Bool, List, [], ◌∷◌, Some, length, slice_get}
 use Rattle.answers.specs.declared.refusals.Refusal.TheVariants.{CodeTooLong, NotApart}
 use Rattle.answers.specs.Cause.{Cause, FirstOf}

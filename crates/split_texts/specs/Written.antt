@@ -22,9 +22,9 @@ KeepsPromises kind reduce F W parts written =
     (class : ℕ → ℕ) (codes : Codes) (N : Network) (H : Header) → H.parts ≡ parts → IsDecomposition reduce F W class codes written N H → (row_of kind).promises W codes N
 
 -- The text is a decomposition of the machine of a file, of this kind: it is the text of a split of the work machine
--- into parts that the kind asks for. `IsTextOf` says that the text denotes a network that answers as the machine of
--- the file does, that its codes carry every step, and that each gate reads what its pair and its part permit, with
--- nothing to spare. These codes and this network also keep what the kind promises.
+-- into parts that the kind asks for. By `IsTextOf` the text denotes a network that answers as the machine of the
+-- file does. Its codes carry every step, and each gate reads what its pair and its part permit, with nothing to
+-- spare. These codes and this network also keep what the kind promises.
 abbrev pub IsWritten : Kind → List ℕ → Bool → KissFile → List ℕ → Type 0
 IsWritten kind text reduce F written =
     (W : KissFile) × (parts : List Part) × IsSplitOf kind text W parts × IsTextOf reduce F W kind parts written × KeepsPromises kind reduce F W parts written

@@ -5,7 +5,7 @@ use Rattle.kiss2.specs.Machine.{answers}
 use Rattle.net_sim.specs.Run.{answers_text}
 use Rattle.net_sim.specs.Symbols.{IsSymbolFile}
 
--- the text is that of the answers of a file's machine, from its reset state on, to the symbols of a file
+-- the text is the text of the answers of a file's machine, from its reset state on, to the symbols of a file
 abbrev pub IsWalkText : KissFile → List ℕ → List ℕ → Type 0
 IsWalkText F symbols text =
     (word : List (List Bool)) × IsSymbolFile F.inputs symbols word × (text ≡ answers_text (answers F F.reset word))

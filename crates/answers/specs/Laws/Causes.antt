@@ -20,7 +20,7 @@ IsOf answer cause = (refusal : Refusal) → cause refusal → answer_of refusal 
 abbrev pub HasOneAnswer : Cause → Type 0
 HasOneAnswer cause = (one other : Refusal) → cause one → cause other → answer_of one ≡ answer_of other
 
--- so do the refusals of each of some causes
+-- the same for each of some causes
 abbrev pub EachHasOne : List Cause → Type 0
 EachHasOne [] = ⊤
 EachHasOne (cause ∷ later) = HasOneAnswer cause × EachHasOne later
@@ -48,7 +48,7 @@ none_first (cause ∷ later) none refusal (inl h) = none.0 refusal h
 none_first (cause ∷ later) none refusal (inr h) = none_first later none.1 refusal h.1
 
 -- ---- from one cause to another that calls for the same
--- whatever the one cause calls for, the other does
+-- whatever the first cause calls for, the other calls for too
 abbrev pub Within : Cause → Cause → Type 0
 Within cause other = (refusal : Refusal) → cause refusal → other refusal
 

@@ -3,7 +3,7 @@
 use Rattle.std.specs.Prelude.{◌⊎◌, List}
 use Rattle.hs_lattice.specs.Collection.{Adds, IsAscending, Knows}
 
--- an ascending list of items, the value of each of which is also the value of one of the others
+-- an ascending list of items; the value of each is also the value of one of `others`
 pub record IsPicked {X M : Type 0} (meaning : X → M) (precedes : M → M → Type 0) (others items : List X) : Type 0 where
   pub ascending : IsAscending meaning precedes items
   pub from : (z : M) → Knows meaning items z → Knows meaning others z

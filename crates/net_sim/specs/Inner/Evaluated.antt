@@ -16,7 +16,7 @@ value_for gate bits = if list_any (λ row. row_holds row bits) gate.rows then ga
 abbrev pub value_at : List Bool → NumberedGate → Bool
 value_at signals gate = value_for gate (bits_at signals gate.inputs.items)
 
--- the signals after this gate gave this signal its value
+-- the signals after the gate, if there is one, gave this signal its value
 abbrev pub with_value : List Bool → ℕ → Option NumberedGate → List Bool
 with_value signals s None = signals
 with_value signals s (Some gate) = slice_set signals s (value_at signals gate)
