@@ -11,7 +11,7 @@ unfoldable pub number_of : List Bool → ℕ
 number_of [] = 0
 number_of (b ∷ bits) = (if b then 2 ^ length bits else 0) + number_of bits
 
--- the symbol of this many bits whose number this is, where the number has no more bits
+-- the symbol of this many lowest bits of the number, the highest of them first
 unfoldable pub symbol_of : ℕ → ℕ → List Bool
 symbol_of zero number = []
 symbol_of (suc places) number = bit number places ∷ symbol_of places number

@@ -73,7 +73,7 @@ pub record IsDecomposition (reduce : Bool) (F W : KissFile) (class : ℕ → ℕ
   pub within : IsWithinParts W N codes.words H.latches H.parts
   pub gates : HasGates F W H.parts codes N
 
--- the text is written for a split of the work machine W of a file, of this kind and into these parts
+-- the text is the text of a split of the work machine W of a file, of this kind and into these parts
 unfoldable pub IsTextOf : Bool → KissFile → KissFile → Kind → List Part → List ℕ → Type 0
 IsTextOf reduce F W kind parts text =
     (class : ℕ → ℕ) × (codes : Codes) × (N : Network) × (H : Header)

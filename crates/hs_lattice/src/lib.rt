@@ -2,13 +2,14 @@
 //!
 //! A [`JoinWorld`] is a finite semilattice with a bottom and a total order on its values. It keeps values as
 //! items of any type; contracts speak of what an item means, which is plain data. Several kinds of values of
-//! this product are such worlds, so what is proved of any world is proved once:
+//! this product are such worlds, so what is proved of any world is proved once. The definitions are in
+//! `specs/`:
 //!
-//! - `specs/JoinWorld.antt` says when a value is a join of some list of generators.
-//! - `specs/Listing.antt` says what a whole listing is, and what is evidence of more than a limit.
-//! - `specs/Laws.antt` says that a property of the least value and of the generators that joins keep is a
-//!   property of every generated value.
-//! - `specs/Inner` is for private functions only.
+//! - `JoinWorld` says when a value is a join of some list of generators.
+//! - `Listing` says what a whole listing is, and what is evidence of more than a limit.
+//! - `Laws` says that a property of the least value and of the generators that joins keep is a property of
+//!   every generated value.
+//! - `Inner` is for private functions only.
 //!
 //! A [`Collection`] keeps different values as it grows, and says of each item whether its value is already
 //! there. It also has the places of its items in ascending order. A value is found by halving these places, so
@@ -20,10 +21,10 @@
 //! each generator passes over the values known so far, and the join with each of them becomes known. So the
 //! known values are always the joins of lists of the generators that have passed.
 //!
-//! The known values are closed under joins with these generators. For the values of before a pass this is the
-//! induction. A new value is x + g; its join with an earlier generator h is (x + h) + g, and its join with g is
-//! x + g. A generator that is known already is a join of earlier ones, so the known values are closed under
-//! joins with it too, and it needs no pass.
+//! The known values are closed under joins with these generators. For the values known before a pass this is
+//! the induction hypothesis. A new value is x + g; its join with an earlier generator h is (x + h) + g, and its
+//! join with g is x + g. A generator that is known already is a join of earlier ones, so the known values are
+//! closed under joins with it too, and it needs no pass.
 //!
 //! In the end each list of generators has a join, and this join is known, by induction on the list. The join of
 //! the empty list is the least value. That of a longer list is the join of its first generator and of a value

@@ -8,8 +8,8 @@ use std::alloc::{AllocError, Global};
 ///
 /// The meaning of an item is its value; two items may have one value. A world may be unlawful, and then nothing
 /// is promised of it. An item fits a lawful world if its meaning is one of the world's values. The least value
-/// and joins are given by relations, since in some worlds they are the greatest or the least value with some
-/// property.
+/// and joins are given by relations, since some worlds define them as the greatest or the least value with
+/// some property.
 pub trait JoinWorld {
     /// The type of the items, which keep values.
     type Item: Drop;

@@ -47,7 +47,7 @@ pub record IsPageAnswer (page : List ℕ) (given : Answer) (out out' : Option (L
   pub whole : given ≡ Done → Appends out page out'
   pub front : given ≡ WriteFault → AppendsFront out page out'
 
--- a page is not put whole only if out had a fault or memory ran out
+-- why a page is not put whole: out had a fault, or memory ran out
 abbrev pub IsPageRefusal : Type 0 → Refusal → Type 0
 IsPageRefusal PutFaulted refusal = ((refusal ≡ refusals.Unwritable) × PutFaulted) ⊎ (refusal ≡ refusals.NoMemory)
 

@@ -11,7 +11,8 @@
 //! [`judge`] does the same by a table that is handed in.
 //!
 //! A command that is not built has no row, and an option that is not built is in no row, so the words do not
-//! know it. To add one is to change the table, in `specs/Table` and in [`built_forms`], and nothing else.
+//! know it. To build it is to change the table, in `specs/Table` and in [`built_forms`]; the judgement stays. A
+//! new row also has an item in the lists of `proofs/Slashes` and `proofs/Sizes`.
 //!
 //! The words are judged item by item in a draft of the job, which knows the number of operands and the options
 //! so far (`specs/Inner/Draft`).

@@ -21,7 +21,8 @@ pub record IsSplitOf (kind : Kind) (text : List ℕ) (W : KissFile) (parts : Lis
   pub made : AreParts kind text W parts
   pub apart : AreApart (length W.states) parts
 
--- what is known of a split of this kind before it has codes; it gets codes if its parts distinguish all states
+-- what is known of a split of this kind before it has codes; it can get codes only if its parts distinguish all
+-- states
 pub record IsPlanned (kind : Kind) (text : List ℕ) (W : KissFile) (split : Split) : Type 0 where
   pub same_kind : split.kind ≡ kind
   pub few : length split.parts ≤ 256
