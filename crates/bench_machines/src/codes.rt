@@ -1,6 +1,6 @@
-//! What the gates of codes read. A machine that never moves has a code of a part of two blocks for each state but the
-//! first, `copies` of the partition that tells all states apart, so many times, and each part may read all others.
-//! Other machines have the natural code.
+//! What the gates of codes read. A machine that never moves has a code with a part of two blocks for each state
+//! but the first. `copies` has the partition that separates all states as a part, as many times as its size. In
+//! both codes each part may read all others. Other machines have the natural code.
 
 ghost use Rattle.std.specs.Prelude.{◌≡◌, ◌<◌, ◌≤◌, All, IfOk, length};
 ghost use Rattle.partition.specs.Partition.{IsPartition, IsStateCount};
@@ -15,7 +15,7 @@ use partition::Partition;
 use state_codes::{Codes, Split, encode, given, one_part};
 use std::alloc::{AllocError, Global};
 
-/// How many bits and inputs all gates read.
+/// The number of bits and inputs that all gates read.
 pub(crate) fn answer(alloc: Global, m: &Machine, case: Case<'_>) -> Result<usize, Error> {
     let split = split_of(alloc, case, m.states())?;
     let codes = coded(alloc, &split, m.states())?;
@@ -30,7 +30,7 @@ pub(crate) fn answer(alloc: Global, m: &Machine, case: Case<'_>) -> Result<usize
     Ok(found)
 }
 
-/// The same, by the call.
+/// The same number, as `reads` gives it.
 fn read_count(alloc: Global, m: &Machine, split: &Split, codes: &Codes) -> Result<usize, AllocError>
     requires parts { All (IsPart (length m.now.states)) split.now.parts }
     requires code { IsCode (length m.now.states) split.now.parts codes.now }
@@ -40,7 +40,7 @@ fn read_count(alloc: Global, m: &Machine, split: &Split, codes: &Codes) -> Resul
     Ok(counted(&found.latches).wrapping_add(counted(&found.outputs)))
 }
 
-/// How many bits and inputs some gates read.
+/// The number of bits and inputs that some gates read.
 fn counted(sets: &ReadSets) -> usize {
     let mut count = 0usize;
     for set in sets.as_slice() {
@@ -77,7 +77,7 @@ fn split_of(alloc: Global, case: Case<'_>, n: usize) -> Result<Split, Error>
     }
 }
 
-/// The split with so many partitions.
+/// The split that has the given number of partitions.
 fn given_split(alloc: Global, apart: bool, n: usize, count: usize) -> Result<Split, Error>
     requires { IsStateCount n }
     ensures few { IfOk result (λ split. length split.parts ≤ 256) }
@@ -90,7 +90,7 @@ fn given_split(alloc: Global, apart: bool, n: usize, count: usize) -> Result<Spl
     Ok(given(alloc, partitions)?)
 }
 
-/// So many partitions, each of which tells one state apart from the others, or all.
+/// The given number of partitions. Each separates one state from the others if `apart`, and else all states.
 fn partitions_of(
     alloc: Global,
     apart: bool,
@@ -107,7 +107,7 @@ fn partitions_of(
     Ok(partitions)
 }
 
-/// The partition of that number.
+/// The partition with the given number.
 fn partition_of(alloc: Global, apart: bool, n: usize, number: usize) -> Result<Partition, Error>
     requires { IsStateCount n }
     ensures { IfOk result (IsPartition n) }
@@ -118,7 +118,8 @@ fn partition_of(alloc: Global, apart: bool, n: usize, number: usize) -> Result<P
     Ok(Partition::zero(alloc, n)?)
 }
 
-/// The partition of n states that tells the one of that number, from the last one on, apart from the others.
+/// The partition of n states that separates one state from the others: the state with the given number, counted
+/// from the last state.
 fn one_apart(alloc: Global, n: usize, number: usize) -> Result<Partition, Error>
     ensures { IfOk result (IsPartition n) }
 {

@@ -9,8 +9,8 @@ use machine_table::Machine;
 use partition::Partition;
 use std::alloc::{AllocError, Global};
 
-/// How many are listed, which is one more than 1,000 where they are not all; or how many pairs of states go to equal
-/// states.
+/// The number of values that are listed, which is 1,001 if there are more than 1,000; or the number of pairs of
+/// states that go to equal states.
 pub(crate) fn answer(alloc: Global, m: &Machine, case: Case<'_>) -> Result<usize, Error> {
     match case.work {
         "closed" => Ok(counted(&closed_lattice::all(alloc, m, 1000)?)),
@@ -21,7 +21,7 @@ pub(crate) fn answer(alloc: Global, m: &Machine, case: Case<'_>) -> Result<usize
     }
 }
 
-/// How many a listing has.
+/// The number of values of a listing.
 fn counted<T>(listing: &Listing<T>) -> usize {
     match listing {
         Listing::Whole(all) => all.as_slice().len(),
@@ -29,7 +29,8 @@ fn counted<T>(listing: &Listing<T>) -> usize {
     }
 }
 
-/// How many pairs of states go to equal states at each symbol, asked as often as there are states.
+/// The number of pairs of states that go to equal states at each symbol, added up over as many passes as there
+/// are states.
 fn equal_pairs(alloc: Global, m: &Machine) -> Result<usize, AllocError> {
     let zero = Partition::zero(alloc, m.states())?;
     let mut count = 0usize;
@@ -41,7 +42,7 @@ fn equal_pairs(alloc: Global, m: &Machine) -> Result<usize, AllocError> {
     Ok(count)
 }
 
-/// How many states before this one go to the states that it goes to, at each symbol.
+/// The number of states before this one that go, at each symbol, to the state that it goes to.
 fn equal_before(m: &Machine, t: usize, zero: &Partition) -> usize
     requires t { t < length m.now.states }
     requires zero { length zero.now ≡ length m.now.states }

@@ -1,18 +1,20 @@
-//! Works on machines, so that a script can time the work from outside, and prints counts alone. Each argument is a
-//! case, of words apart by one space: the kind of machine, its size, the work, and how often it is done. The kinds
-//! are told where they are made, in `texts`.
+//! Works on machines, so that a script can time the work from outside, and prints only counts. Each argument is
+//! a case, which is words separated by one space: the kind of machine, its size, the work, and how many times
+//! it is done. `texts` makes the kinds, and describes them.
 //!
-//! - `read` reads the machine's file alone, and `build` builds it too.
-//! - `goes` asks of so many pairs of states whether their next states are together in the partition of the states
-//!   by the last bit of their numbers, `images` lists their pairs of next states, and `symbols` asks as `goes`
-//!   does, but at each symbol by itself, through `next`.
-//! - `closed` lists the closed partitions, `pairs` the Mm pairs, and `consistent` the closed partitions that the
-//!   outputs respect, each up to 1,000. `equal` asks of each two states whether they go to equal states, as often
-//!   as there are states, since so many pairs are what closing each pair alone may come to.
-//! - `alike` is the partition of alike states, and `marks` marks pairs of states that are not alike, until a pass
-//!   through all pairs marks no more.
-//! - `reads` finds what the gates of a code read. `search` asks each state about the first one like it, which is
-//!   searched, for each bit that is judged, and compares each two pieces of a state.
+//! - `read` only reads the machine's file, and `build` builds the machine too.
+//! - `goes` takes as many pairs of states as the case has times. It asks whether their next states are together
+//!   in the partition of the states by the last bit of their numbers. `images` lists their pairs of next
+//!   states. `symbols` asks as `goes` does, but at each symbol on its own, through `next`.
+//! - `closed` lists the closed partitions, `pairs` the Mm pairs, and `consistent` the closed partitions that
+//!   the outputs respect, each up to 1,000. `equal` asks of each two states whether they go to equal states. It
+//!   asks this as many times as there are states, since closing each pair on its own may ask about that many
+//!   pairs.
+//! - `alike` is the partition of alike states, and `marks` marks pairs of states that are not alike, until a
+//!   pass through all pairs marks no more.
+//! - `reads` finds what the gates of a code read. `search` finds it plainly: for each bit that is judged and
+//!   each state, it searches for the first state like that state, and compares the two; and it compares each
+//!   two pieces of a state.
 #![tactic(auto)]
 
 mod codes;
@@ -49,7 +51,7 @@ fn case_of(line: &str) -> Option<Case<'_>> {
     })
 }
 
-/// The number of rows, and what the work comes to.
+/// The number of rows, and the result of the work.
 fn answer(alloc: Global, case: Case<'_>) -> Result<(usize, usize), Error> {
     let file = files::file_of(alloc, case)?;
     let rows = file.rows.as_slice().len();
@@ -60,7 +62,7 @@ fn answer(alloc: Global, case: Case<'_>) -> Result<(usize, usize), Error> {
     Ok((rows, worked(alloc, &machine, case)?))
 }
 
-/// What the work on a machine comes to.
+/// The result of the work on a machine.
 fn worked(alloc: Global, m: &Machine, case: Case<'_>) -> Result<usize, Error> {
     match case.work {
         "build" => Ok(m.states()),

@@ -1,4 +1,4 @@
-//! The plain way to alike states: pairs that are not alike are marked, by their outputs or by their next states,
+//! Alike states, found plainly: pairs that are not alike are marked, by their outputs or by their next states,
 //! until a pass through all pairs marks no more.
 
 ghost use Rattle.std.specs.Prelude.{◌<◌, length};
@@ -6,7 +6,7 @@ ghost use Rattle.std.specs.Prelude.{◌<◌, length};
 use machine_table::Machine;
 use std::alloc::{AllocError, Global};
 
-/// How many classes of alike states there are.
+/// The number of classes of alike states.
 pub(crate) fn classes(alloc: Global, m: &Machine) -> Result<usize, AllocError> {
     let mut marks = vec![in alloc; false; 65_536]?;
     for _ in 0..m.states() {
@@ -17,7 +17,7 @@ pub(crate) fn classes(alloc: Global, m: &Machine) -> Result<usize, AllocError> {
     Ok(firsts(&marks, m.states()))
 }
 
-/// Where the mark of two states stands.
+/// The place of the mark of two states.
 fn place_of(s: usize, t: usize) -> usize {
     s.wrapping_mul(256).wrapping_add(t)
 }
@@ -28,7 +28,7 @@ fn has(marks: &[bool], s: usize, t: usize) -> bool {
     place < marks.len() && marks[place]
 }
 
-/// Goes through all pairs, and tells whether some were marked.
+/// Goes through all pairs, and returns whether some were marked.
 fn marks_more(alloc: Global, m: &Machine, marks: &mut [bool]) -> Result<bool, AllocError> {
     let mut more = false;
     for s in 0..m.states() {
@@ -39,7 +39,7 @@ fn marks_more(alloc: Global, m: &Machine, marks: &mut [bool]) -> Result<bool, Al
     Ok(more)
 }
 
-/// Goes through the pairs of one state.
+/// Goes through the pairs of one state, and returns whether some were marked.
 fn mark_state(alloc: Global, m: &Machine, marks: &mut [bool], s: usize) -> Result<bool, AllocError>
     requires { s < length m.now.states }
 {
@@ -54,7 +54,7 @@ fn mark_state(alloc: Global, m: &Machine, marks: &mut [bool], s: usize) -> Resul
     Ok(more)
 }
 
-/// Whether the outputs of two states differ, or some symbol leads them to marked ones.
+/// Whether the outputs of two states differ, or some symbol leads them to two states that are marked.
 fn is_apart(
     alloc: Global,
     m: &Machine,
@@ -82,7 +82,7 @@ fn some_marked(pairs: &[(u16, u16)], marks: &[bool]) -> bool {
     false
 }
 
-/// How many states have no state before them that is alike.
+/// The number of states that are alike to no state before them.
 fn firsts(marks: &[bool], states: usize) -> usize {
     let mut count = 0usize;
     for s in 0..states {
@@ -91,7 +91,7 @@ fn firsts(marks: &[bool], states: usize) -> usize {
     count
 }
 
-/// Whether no state before it is alike.
+/// Whether the state is alike to no state before it.
 fn is_first(marks: &[bool], s: usize) -> bool {
     for t in 0..s {
         if !has(marks, t, s) {

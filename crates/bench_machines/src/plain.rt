@@ -1,5 +1,6 @@
-//! The plain way to what gates read: for each bit that is judged each state is asked about the first one like it,
-//! which is searched; and each two pieces of a state are compared. Each gate may read all bits.
+//! What gates read, found plainly. For each bit that is judged and each state, the first state like that state
+//! is searched for, and the two are compared. Each two pieces of a state are compared too. Each gate may read
+//! all bits.
 
 ghost use Rattle.std.specs.Prelude.{◌≡◌, ◌<◌, ◌≤◌, length};
 
@@ -7,7 +8,7 @@ use machine_table::{Machine, Piece};
 use state_codes::Codes;
 use std::alloc::{AllocError, Global};
 
-/// How many bits and inputs all gates read.
+/// The number of bits and inputs that all gates read.
 pub(crate) fn read_count(alloc: Global, m: &Machine, codes: &Codes) -> Result<usize, AllocError>
     requires words { length codes.now.words ≡ length m.now.states }
     requires short { codes.now.bits ≤ 64 }
@@ -20,7 +21,7 @@ pub(crate) fn read_count(alloc: Global, m: &Machine, codes: &Codes) -> Result<us
     Ok(count)
 }
 
-/// How many bits the gate reads: that of a latch, or behind those of all latches that of an output.
+/// The number of bits that the gate reads. The gates of the latches come first, and then those of the outputs.
 fn bits_read(m: &Machine, words: &[u64], bits: usize, gate: usize) -> usize
     requires words { length words.now ≡ length m.now.states }
     requires short { bits ≤ 64 }
@@ -49,7 +50,7 @@ fn permits(m: &Machine, words: &[u64], set: u64, bits: usize, gate: usize) -> bo
     true
 }
 
-/// The first state with the same bits of the set.
+/// The first state whose code has the same bits of the set as that of t.
 fn first_like(words: &[u64], set: u64, t: usize) -> usize
     requires { t < length words.now }
     ensures { result < length words.now }
@@ -76,10 +77,10 @@ fn gives_the_same(m: &Machine, words: &[u64], bits: usize, gate: usize, s: usize
     output >= usize::from(m.outputs()) || m.bit_agrees(s, t, output as u8)
 }
 
-/// For which latches and outputs the input at each place matters.
+/// For each place of an input, the latches and the outputs for which the input matters.
 type Effects = [(u64, u64); 32];
 
-/// How many inputs all gates read.
+/// The number of inputs that all gates read.
 fn inputs_read(alloc: Global, m: &Machine, words: &[u64]) -> Result<usize, AllocError> {
     let mut effects = [(0, 0); 32];
     for s in 0..m.states() {
@@ -101,7 +102,7 @@ fn compare_pieces(words: &[u64], pieces: &[Piece], effects: &mut Effects) {
     }
 }
 
-/// Adds what a piece shows beside the ones before it.
+/// Adds what a piece shows together with each piece before it.
 fn compare_with(words: &[u64], one: &Piece, pieces: &[Piece], effects: &mut Effects) {
     for other in pieces {
         let clash = (one.cube.value ^ other.cube.value) & one.cube.care & other.cube.care;
@@ -111,7 +112,7 @@ fn compare_with(words: &[u64], one: &Piece, pieces: &[Piece], effects: &mut Effe
     }
 }
 
-/// Adds what two pieces show that differ at one place.
+/// Adds what two pieces show whose cubes differ at one place.
 fn add_effect(words: &[u64], one: &Piece, other: &Piece, place: usize, effects: &mut Effects) {
     let (first, second) = (usize::from(one.next), usize::from(other.next));
     if place < 32 && first < words.len() && second < words.len() {

@@ -8,7 +8,8 @@ use machine_table::Machine;
 use partition::Partition;
 use std::alloc::{AllocError, Global};
 
-/// The sum of what the work comes to at so many pairs of states, or at all.
+/// The sum of the results of the work at as many pairs of states as the case has times, or at all if there are
+/// fewer.
 pub(crate) fn answer(alloc: Global, m: &Machine, case: Case<'_>) -> Result<usize, Error> {
     let q = by_last_bit(alloc, m.states())?;
     if q.len() != m.states() {
@@ -17,7 +18,7 @@ pub(crate) fn answer(alloc: Global, m: &Machine, case: Case<'_>) -> Result<usize
     Ok(asked(alloc, m, case, &q)?)
 }
 
-/// The partition of so many states by the last bit of their numbers.
+/// The partition of the given number of states by the last bit of their numbers.
 fn by_last_bit(alloc: Global, states: usize) -> Result<Partition, Error> {
     let mut labels = Vec::new(alloc);
     for s in 0..states {
@@ -29,7 +30,7 @@ fn by_last_bit(alloc: Global, states: usize) -> Result<Partition, Error> {
     }
 }
 
-/// The same by the partition.
+/// The same sum, where the partition is given.
 fn asked(alloc: Global, m: &Machine, case: Case<'_>, q: &Partition) -> Result<usize, AllocError>
     requires { length q.now ≡ length m.now.states }
 {
@@ -49,7 +50,7 @@ fn asked(alloc: Global, m: &Machine, case: Case<'_>, q: &Partition) -> Result<us
     Ok(sum)
 }
 
-/// What the work comes to at one pair of states.
+/// The result of the work at one pair of states.
 fn ask(
     alloc: Global,
     m: &Machine,
@@ -69,7 +70,7 @@ fn ask(
     }
 }
 
-/// Whether the next states are together at each symbol, each asked by itself.
+/// Whether the next states are together at each symbol, where each symbol is asked about on its own.
 fn goes_at_symbols(m: &Machine, s: usize, t: usize, q: &Partition) -> bool
     requires s { s < length m.now.states }
     requires t { t < length m.now.states }

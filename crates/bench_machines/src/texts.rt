@@ -3,7 +3,7 @@
 
 use std::alloc::{AllocError, Global};
 
-/// Where states go, and what they give.
+/// The rule by which states go to states and give outputs.
 #[derive(Clone, Copy, PartialEq, Eq)]
 enum Rule {
     Cycle,
@@ -18,7 +18,8 @@ enum Rule {
     Tree,
 }
 
-/// A machine: its rule, the size of its kind, its states and inputs, and how many inputs its cubes look at.
+/// A machine: its rule, the size of its kind, its numbers of states and inputs, and the number of bits of its
+/// cubes.
 #[derive(Clone, Copy)]
 pub(crate) struct Shape {
     rule: Rule,
@@ -28,7 +29,7 @@ pub(crate) struct Shape {
     depth: usize,
 }
 
-/// A number that a kind has, by the size.
+/// A number that a kind has, given by the size.
 #[derive(Clone, Copy)]
 enum Amount {
     Fixed(usize),
@@ -37,7 +38,7 @@ enum Amount {
     Power,
 }
 
-/// A kind of machine: its rule, its states and inputs, and how many inputs its cubes look at.
+/// A kind of machine: its rule, its numbers of states and inputs, and the number of bits of its cubes.
 struct Kind {
     name: &'static str,
     rule: Rule,
@@ -48,20 +49,20 @@ struct Kind {
 
 /// The kinds, by rules.
 ///
-/// - `cycle` is a counter modulo the size, which stays at 0 and goes on at 1; `still` has so many states that never
-///   move; `grid` is a product of two chains of so many states, of which 0 moves the one and 1 the other; `shift` is
-///   a shift register of so many bits. None of these has an output that is ever 1.
-/// - `chain` goes from each state to the next one and tells the last one alone by its output, so states are told
-///   apart one after another. `halves` has 256 symbols, each state of its lower half alike to one of the upper half,
-///   and no others.
-/// - `adder` has so many states and 256 symbols, a number that is added each, and `random` goes where a number says
-///   that is drawn. `copies` is such a counter of four states and two symbols. `wide` has 16 states and so many
-///   inputs, of which its rows look at eight.
-/// - `long` has one state, with a row for each symbol of so many inputs, in order; in `mixed` they stand in another
-///   order.
-/// - `dense` has so many states, each with a row for each of 256 symbols, in one order. `cubes` has so many states,
-///   each with 256 cubes of 32 inputs of its own, and `sparse` so many with 16 cubes of 27 inputs. A next state's
-///   last bit is the first input.
+/// - `cycle` is a counter modulo the size, which stays at 0 and counts at 1. `still` has `size` states that
+///   never move. `grid` is a product of two chains of `size` states, of which 0 moves one and 1 the other.
+///   `shift` is a shift register of `size` bits. No output of these is ever 1.
+/// - `chain` goes from each state to the next one, and only its last state has the output 1, so states are
+///   distinguished one after another. `halves` has 256 symbols. Each state of its lower half is alike to one of
+///   the upper half, and no other states are alike.
+/// - `adder` has `size` states and 256 symbols, each of which is a number that is added, and `random` goes
+///   where a number says that is drawn. `copies` is such a counter of four states and two symbols. `wide` has
+///   16 states and `size` inputs, of which eight have bits in its rows.
+/// - `long` has one state, with a row for each symbol of `size` inputs, in order; in `mixed` the rows are in
+///   another order.
+/// - `dense` has `size` states, each with a row for each of 256 symbols, all in the same order. `cubes` has
+///   `size` states, each with 256 cubes of 32 inputs of its own. `sparse` has `size` states, each with 16 cubes
+///   of 27 inputs. The last bit of a next state is the first input.
 static KINDS: [Kind; 15] = [
     Kind {
         name: "cycle",
@@ -170,7 +171,7 @@ static KINDS: [Kind; 15] = [
     },
 ];
 
-/// The number that an amount says.
+/// The number that an amount says, for a size.
 fn number_of(amount: Amount, size: usize) -> usize {
     match amount {
         Amount::Fixed(number) => number,
@@ -180,7 +181,7 @@ fn number_of(amount: Amount, size: usize) -> usize {
     }
 }
 
-/// The machine of that kind and size, of at most 256 states and 32 inputs.
+/// The machine of the given kind and size, of at most 256 states and 32 inputs.
 pub(crate) fn shape_of(name: &str, size: usize) -> Option<Shape> {
     for kind in &KINDS {
         if kind.name == name {
@@ -230,7 +231,7 @@ fn add_state(text: &mut Vec<u8>, shape: Shape, state: usize) -> Result<(), Alloc
     Ok(())
 }
 
-/// The input field of a row, and dashes.
+/// The input field of a row, filled up with dashes.
 fn field_of(shape: Shape, state: usize, number: usize) -> [u8; 32] {
     let mut field = [b'-'; 32];
     let depth = shape.depth.min(16);
@@ -248,7 +249,8 @@ fn field_of(shape: Shape, state: usize, number: usize) -> [u8; 32] {
     field
 }
 
-/// The input that is asked at a level behind these answers: in a tree one of several, but the first one first.
+/// The input that is asked at a level after these answers. In a tree it is one of several, but at the first
+/// level it is the first input.
 fn place_of(shape: Shape, state: usize, level: usize, answers: usize) -> usize {
     let choices = shape.inputs / shape.depth.max(1);
     if level == 0 || shape.rule != Rule::Tree || choices == 0 {
@@ -259,7 +261,7 @@ fn place_of(shape: Shape, state: usize, level: usize, answers: usize) -> usize {
         .wrapping_add(level)
 }
 
-/// What stands in a row behind its input field.
+/// The end of a row after its input field.
 fn ending_of(shape: Shape, state: usize, number: usize) -> [u8; 13] {
     let next = next_of(shape, state, number) % shape.states.max(1);
     [
@@ -279,7 +281,7 @@ fn ending_of(shape: Shape, state: usize, number: usize) -> [u8; 13] {
     ]
 }
 
-/// Where the state goes, as a number that its rest by the number of states says.
+/// The number whose remainder by the number of states is the state that it goes to.
 fn next_of(shape: Shape, state: usize, number: usize) -> usize {
     match shape.rule {
         Rule::Cycle | Rule::Adder => state.wrapping_add(number),
@@ -314,7 +316,8 @@ fn grid_next(side: usize, state: usize, number: usize) -> usize {
     }
 }
 
-/// Whether the output is 1. In halves the lower bits of the number of the state in its half are its outputs.
+/// Whether the output is 1. In halves, the output at symbol i below 8 is the last bit of the state's number in
+/// its half divided by i + 1.
 fn gives_one(shape: Shape, state: usize, number: usize) -> bool {
     match shape.rule {
         Rule::Cycle | Rule::Still | Rule::Grid | Rule::Shift => false,

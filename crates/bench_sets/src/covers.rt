@@ -6,7 +6,7 @@ use anyhow::{Error, bail};
 use cover_logic::{Term, can_cover, cover};
 use std::alloc::Global;
 
-/// The rows and the literals of the covers of all gates of a kind.
+/// The numbers of rows and of literals of the covers of all gates of a kind.
 pub(crate) fn answer(alloc: Global, case: Case<'_>) -> Result<(usize, usize), Error> {
     let mut counts = (0usize, 0usize);
     for number in 0..gates_of(case.kind, case.size) {
@@ -17,7 +17,7 @@ pub(crate) fn answer(alloc: Global, case: Case<'_>) -> Result<(usize, usize), Er
     Ok(counts)
 }
 
-/// The same of one gate.
+/// The same two numbers for one gate.
 fn worked(alloc: Global, gate: &Gate, case: Case<'_>) -> Result<(usize, usize), Error> {
     let mut counts = (0, 0);
     for _ in 0..case.times {
@@ -31,7 +31,7 @@ fn worked(alloc: Global, gate: &Gate, case: Case<'_>) -> Result<(usize, usize), 
     Ok(counts)
 }
 
-/// How many terms there are, and how many literals they have.
+/// The number of terms, and the number of their literals.
 fn counted(terms: &[Term]) -> (usize, usize) {
     let mut literals = 0usize;
     for term in terms {

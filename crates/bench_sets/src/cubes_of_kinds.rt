@@ -1,4 +1,4 @@
-//! Lists of cubes, of which each kind is made as pairs of care and value first.
+//! Lists of cubes. Each kind is first made as pairs of care and value.
 
 ghost use Rattle.std.specs.Prelude.{◌≡◌, ◌<◌, ◌≤◌, IfSome};
 
@@ -9,12 +9,15 @@ use std::alloc::{AllocError, Global};
 /// The care and the value of a cube.
 type Pair = (u32, u32);
 
-/// The cubes of that width and kind.
+/// The cubes of the given kind, size and width.
 ///
 /// - `minterms` are all symbols of the width, in a scattered order.
-/// - `random` are so many cubes that leave one gap, and `mirrored` the same, which look at the last places first.
-/// - `chain` and `pairs` leave no gap, and look at so many of the last places first.
-/// - `five` and `seven` are so many cubes with bits at that many random places, or fewer where one comes twice.
+/// - `random` are `size` cubes, but at least 32, that leave one gap. `mirrored` are the same with their places
+///   reversed: their tree cuts at the last places first.
+/// - `chain` and `pairs` leave no gap, and have bits at the last places, as many as the size says. `pairs` also
+///   has bits at places of the first half.
+/// - `five` and `seven` are `size` cubes with bits at five or seven random places, or at fewer if a place comes
+///   twice.
 pub(crate) fn cubes_of(
     alloc: Global,
     kind: &str,
@@ -36,7 +39,7 @@ pub(crate) fn cubes_of(
     made(alloc, &pairs, width, kind == "random")
 }
 
-/// The cubes of pairs, with their places in the other order where they are turned.
+/// The cubes of pairs, with their places in reverse order if `turned`.
 fn made(alloc: Global, pairs: &[Pair], width: u8, turned: bool) -> Result<Vec<Cube>, AllocError>
     requires positive { 0 < width }
     requires bound { width ≤ 32 }
@@ -55,7 +58,7 @@ fn made(alloc: Global, pairs: &[Pair], width: u8, turned: bool) -> Result<Vec<Cu
     Ok(cubes)
 }
 
-/// The cube of a care and a value, where they fit.
+/// The cube of a care and a value, if they fit.
 fn cube_of(care: u32, value: u32, width: u8) -> Option<Cube>
     requires positive { 0 < width }
     requires bound { width ≤ 32 }
@@ -79,9 +82,9 @@ fn add_minterms(pairs: &mut Vec<Pair>, width: u8) -> Result<(), AllocError>
     Ok(())
 }
 
-/// Adds cubes that leave no gap: one with a 1 at the last place, one with 0 there and 1 at the place before it, and
-/// so on, and one with 0 at all of these places. In place of each with a 1 may stand two, of which one has a 0 and
-/// one a 1 at a place of its own in the first half.
+/// Adds cubes that leave no gap: one with a 1 at the last place, one with 0 there and 1 at the place before it,
+/// and so on, and one with 0 at all of these places. If `two`, each cube with a 1 is replaced by two cubes:
+/// they have a 0 and a 1 at a place of the first half, which no other cubes use.
 fn add_chain(pairs: &mut Vec<Pair>, length: usize, two: bool) -> Result<(), AllocError> {
     let length = length.clamp(1, 32);
     for place in 0..length {
@@ -98,7 +101,7 @@ fn add_chain(pairs: &mut Vec<Pair>, length: usize, two: bool) -> Result<(), Allo
     Ok(())
 }
 
-/// Adds so many cubes with bits at so many random places.
+/// Adds `count` cubes, each with bits at up to `bits` random places.
 fn add_scattered(pairs: &mut Vec<Pair>, count: usize, bits: u64) -> Result<(), AllocError> {
     for number in 0..count as u64 {
         let care = scattered_care(number, bits);
@@ -107,7 +110,7 @@ fn add_scattered(pairs: &mut Vec<Pair>, count: usize, bits: u64) -> Result<(), A
     Ok(())
 }
 
-/// So many random places.
+/// Up to `bits` random places.
 fn scattered_care(number: u64, bits: u64) -> u32 {
     let mut care = 0u32;
     for i in 0..bits {
@@ -116,9 +119,10 @@ fn scattered_care(number: u64, bits: u64) -> u32 {
     care
 }
 
-/// Adds so many cubes that leave one gap. About half of them are the leaves of a tree that cuts the symbols at
-/// random by one bit or another, never by an earlier one below a later one. One leaf is cut down to a single
-/// symbol, which is the gap. The others have bits at random places, and miss the gap.
+/// Adds `count` cubes, but at least 32, that leave one gap. About half of them are the leaves of a tree that
+/// cuts the symbols at random by one bit or another. Along each path of the tree the bits rise. One leaf is cut
+/// down to a single symbol, which is the gap. The other cubes have bits at random places, and do not hold the
+/// gap.
 fn add_random(pairs: &mut Vec<Pair>, count: usize) -> Result<(), AllocError> {
     pairs.push((0, 0))?;
     for made in 1..(count / 2).saturating_sub(32) {
@@ -131,7 +135,7 @@ fn add_random(pairs: &mut Vec<Pair>, count: usize) -> Result<(), AllocError> {
     Ok(())
 }
 
-/// Cuts one of the leaves in two, by a bit at the next place or the one behind it.
+/// Cuts one of the leaves in two, by a bit at the next place or at the one after it.
 fn cut_leaf(pairs: &mut Vec<Pair>, draw: u64) -> Result<(), AllocError> {
     let chosen = (draw >> 8) as usize % pairs.len().max(1);
     if chosen < pairs.len() {
@@ -149,7 +153,7 @@ fn cut_leaf(pairs: &mut Vec<Pair>, draw: u64) -> Result<(), AllocError> {
     Ok(())
 }
 
-/// Puts pairs that hold all of the last one but one symbol in its place, and gives that symbol.
+/// Replaces the last pair by pairs that hold all of its symbols but one, and returns that one.
 fn cut_to_symbol(pairs: &mut Vec<Pair>) -> Result<u32, AllocError> {
     let (mut care, mut value) = pairs.pop().unwrap_or((0, 0));
     let draws = drawn_word(7, 7);
@@ -164,7 +168,7 @@ fn cut_to_symbol(pairs: &mut Vec<Pair>) -> Result<u32, AllocError> {
     Ok(value)
 }
 
-/// A pair with bits at about a quarter of the places, which differs from the symbol at one of them.
+/// A pair with bits at about a quarter of the places, which differs from the symbol at one of them at least.
 fn pair_without(symbol: u32, number: u64) -> Pair {
     let bit = 1u32 << (drawn(number, 1) % 32);
     let care = drawn_word(number, 2) & drawn_word(number, 3) | bit;

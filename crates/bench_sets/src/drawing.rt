@@ -1,4 +1,4 @@
-//! Numbers that look drawn at random, and are the same everywhere.
+//! Numbers that look as if drawn at random, and are the same everywhere.
 
 /// The number that two numbers draw.
 pub(crate) fn drawn(a: u64, b: u64) -> u64 {

@@ -8,7 +8,8 @@ use anyhow::{Error, bail};
 use cubes::{Cube, first_gap};
 use std::alloc::{AllocError, Global};
 
-/// The number of cubes, and what was asked of them: the first gap, or how often yes was said.
+/// The number of cubes, and the answer about them: the first gap, or how many times a cube holds the symbol
+/// that it is asked about.
 pub(crate) fn answer(alloc: Global, case: Case<'_>) -> Result<(usize, usize), Error> {
     let width = if case.kind == "minterms" {
         case.size.clamp(1, 16) as u8
@@ -30,7 +31,7 @@ pub(crate) fn answer(alloc: Global, case: Case<'_>) -> Result<(usize, usize), Er
     Ok((cubes.len(), found))
 }
 
-/// The first symbol that no cube holds, or the number of symbols where there is none.
+/// The first symbol that no cube holds, or the number of symbols if there is none.
 fn gap(alloc: Global, cubes: &[Cube], width: u8) -> Result<usize, AllocError>
     requires positive { 0 < width }
     requires bound { width ≤ 32 }
@@ -42,7 +43,8 @@ fn gap(alloc: Global, cubes: &[Cube], width: u8) -> Result<usize, AllocError>
     })
 }
 
-/// How often yes is said, where each cube is asked once for each bit of a symbol.
+/// How many times a cube holds the symbol that it is asked about. Each cube is asked once for each bit of a
+/// symbol.
 fn scan(cubes: &[Cube], width: u8) -> usize
     requires positive { 0 < width }
     requires widths { All (λ c. c.width ≡ width) cubes.now }
@@ -54,7 +56,7 @@ fn scan(cubes: &[Cube], width: u8) -> usize
     held
 }
 
-/// How many cubes hold the symbol.
+/// The number of cubes that hold the symbol.
 fn count_held(cubes: &[Cube], width: u8, x: u32) -> usize
     requires widths { All (λ c. c.width ≡ width) cubes.now }
     requires symbol { x < 2 ^ width }

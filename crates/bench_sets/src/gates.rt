@@ -17,25 +17,26 @@ pub(crate) struct Gate {
 /// Which values a gate has in its lists.
 #[derive(Clone, Copy)]
 enum Rule {
-    /// So many in on, and half as many in off.
+    /// This number of values is in on, and half as many are in off.
     First(usize),
-    /// Each in one of them, at random.
+    /// Each value is in on or in off, at random.
     Drawn,
-    /// The next value of that bit of a counter with an enable, which is column 0; the state follows.
+    /// The next value of this bit of a counter. Column 0 is the enable, and the state follows.
     Counter(usize),
 }
 
-/// How many gates there are of a kind: a counter of `size` bits has one for each.
+/// The number of gates of a kind: a counter of `size` bits has one for each bit.
 pub(crate) fn gates_of(kind: &str, size: usize) -> usize {
     if kind == "counter" { size.min(16) } else { 1 }
 }
 
-/// The gate of that number of a kind.
+/// The gate with the given number, of a kind.
 ///
-/// - `minterms` is a random function of 10 columns, with so many values in on and half as many in off.
-/// - `dense` is a random function of so many columns, each of whose values is in on or in off.
-/// - `counter` has so many bits of state, and a gate for each.
-/// - `terms` are random terms of 40 columns with about 30 literals, so many in on, and at most so many in off.
+/// - `minterms` is a random function of 10 columns, with `size` values in on and half as many in off.
+/// - `dense` is a random function of `size` columns, each of whose values is in on or in off.
+/// - `counter` has `size` bits of state, and a gate for each.
+/// - `terms` are random terms of 40 columns with about 30 literals: `size` of them in on, and at most `size` in
+///   off.
 pub(crate) fn gate_of(
     alloc: Global,
     kind: &str,
@@ -57,7 +58,7 @@ pub(crate) fn gate_of(
     Ok(gate)
 }
 
-/// Puts the values of so many columns into the lists of an empty gate, in a scattered order.
+/// Puts the values of the given number of columns into the lists of an empty gate, in a scattered order.
 fn add_values(gate: &mut Gate, columns: u8, rule: Rule) -> Result<(), AllocError>
     requires { columns ≤ 17 }
 {
@@ -75,7 +76,7 @@ fn add_values(gate: &mut Gate, columns: u8, rule: Rule) -> Result<(), AllocError
     Ok(())
 }
 
-/// Whether a value is in on or in off, if it is in one of them.
+/// Whether a value is in on, not in off. None if it is in neither.
 fn is_on(rule: Rule, number: usize, value: usize) -> Option<bool> {
     match rule {
         Rule::First(size) if number >= size.wrapping_add(size / 2) => None,
@@ -88,7 +89,7 @@ fn is_on(rule: Rule, number: usize, value: usize) -> Option<bool> {
     }
 }
 
-/// The term with literals at the columns of `care`, by the bits of `value` there.
+/// The term with literals at the columns of `care`, which are the bits of `value` there.
 fn term(care: u128, value: u128) -> Term {
     Term {
         care,
@@ -96,7 +97,7 @@ fn term(care: u128, value: u128) -> Term {
     }
 }
 
-/// Puts random terms into the lists, in off those alone that meet none of on.
+/// Puts random terms into the lists, and into off only those that meet no term of on.
 fn add_terms(gate: &mut Gate, size: usize) -> Result<(), AllocError> {
     for number in 0..size {
         gate.on.push(drawn_term(number as u64))?;

@@ -1,15 +1,15 @@
-//! Works on cubes, covers and partitions, so that a script can time the work from outside, and prints counts
-//! alone. Each argument is a case, of words apart by one space: the subject, the kind, its size, the work, and how
-//! often it is done. With no times the case is made and nothing is done.
+//! Works on cubes, covers and partitions, so that a script can time the work from outside, and prints only
+//! counts. Each argument is a case, which is words separated by one space: the subject, the kind, its size, the
+//! work, and how many times it is done. With 0 times the case is made and nothing is done.
 //!
-//! - The subjects are `cubes`, `covers`, and partitions as `labels` or as rows of `bits`. The kinds are told
-//!   where they are made.
-//! - `gap` asks `first_gap`, and `scan` asks each cube once for each bit of a symbol whether it holds symbol 0
-//!   or 1 in turn.
-//! - `cover` makes the cover that the product writes, and `check` tests that the lists may be covered, which looks
-//!   at each pair of a term of on and a term of off.
-//! - `meet`, `join` and `before` ask of the first partition and the last one, and `plain` asks of each two states
-//!   whether they are together in both. `list` lists the joins of all the partitions, up to 10,000.
+//! - The subjects are `cubes`, `covers`, and partitions as `labels` or as rows of `bits`. The functions that
+//!   make the kinds describe them.
+//! - `gap` asks `first_gap`. `scan` asks each cube, once for each bit of a symbol, whether it holds symbol 0 or
+//!   symbol 1, in turn.
+//! - `cover` makes the cover that the product writes. `check` tests that the lists may be covered: it compares
+//!   each term of on with each term of off.
+//! - `meet`, `join` and `before` ask about the first partition and the last one. `plain` asks of each two
+//!   states whether they are together in both. `list` lists the joins of all the partitions, up to 10,000.
 #![tactic(auto)]
 
 mod covers;
@@ -46,7 +46,7 @@ fn case_of(line: &str) -> Option<Case<'_>> {
     })
 }
 
-/// Two counts that the work comes to.
+/// The two counts that the work gives.
 fn answer(alloc: Global, case: Case<'_>) -> Result<(usize, usize), Error> {
     match case.subject {
         "cubes" => gaps::answer(alloc, case),

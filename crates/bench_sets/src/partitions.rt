@@ -7,7 +7,7 @@ use anyhow::{Error, bail};
 use partition::Partition;
 use std::alloc::{AllocError, Global};
 
-/// How many states the partitions of a kind and size have.
+/// The number of states of the partitions of a kind and size.
 pub(crate) fn states_of(kind: &str, size: usize) -> usize
     ensures { IsStateCount result }
 {
@@ -19,7 +19,7 @@ pub(crate) fn states_of(kind: &str, size: usize) -> usize
     }
 }
 
-/// How many partitions there are.
+/// The number of partitions.
 fn count_of(kind: &str, size: usize, n: usize) -> usize {
     match kind {
         "pairs" | "equal" => n.wrapping_mul(n.wrapping_sub(1)) / 2,
@@ -29,14 +29,15 @@ fn count_of(kind: &str, size: usize, n: usize) -> usize {
     }
 }
 
-/// The partitions of that kind and size, of n states.
+/// The partitions of the given kind and size, of n states.
 ///
-/// - In `few` states are together whose numbers divided by 16 leave the same rest, or the same quotient. In
-///   `ladder` each state is together with the next one, in one partition or in the other. In `alone` there are two
-///   partitions with each state in a block of its own.
-/// - `pairs` are all that hold two states together, and `nested` those that hold the first states together, two or
-///   more. `product` are so many that each hold two of 50 states together, no state twice. `equal` are as many as
-///   there are pairs of states, eight of which differ.
+/// - `few` are two partitions. In one, states are together if their numbers have the same remainder by 16, and
+///   in the other if they have the same quotient. In `ladder` each state is together with the next one, in one
+///   partition or in the other. `alone` are two partitions with each state in a block of its own.
+/// - `pairs` are all partitions that hold two states together, and `nested` those that hold the first two or
+///   more states together. `product` are `size` partitions, each of which holds two of 50 states together, no
+///   state twice. `equal` are as many partitions as there are pairs of states, of which only eight are
+///   different.
 pub(crate) fn partitions_of(
     alloc: Global,
     kind: &str,
@@ -56,7 +57,7 @@ pub(crate) fn partitions_of(
     Ok(list)
 }
 
-/// The two states that come after these ones.
+/// The two states that come after these two, by the kind.
 fn after(kind: &str, two: (usize, usize), n: usize) -> (usize, usize) {
     let (s, t) = two;
     match kind {
@@ -68,7 +69,7 @@ fn after(kind: &str, two: (usize, usize), n: usize) -> (usize, usize) {
     }
 }
 
-/// The partition of a kind at two states.
+/// The partition of a kind at the given two states.
 fn partition_of(
     alloc: Global,
     kind: &str,
@@ -84,7 +85,7 @@ fn partition_of(
     }
 }
 
-/// Its labels.
+/// The labels of that partition.
 fn labels_of(
     alloc: Global,
     kind: &str,

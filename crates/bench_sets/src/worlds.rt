@@ -10,8 +10,8 @@ use hs_lattice::{JoinWorld, Listing, join_closure};
 use partition::{BitPart, BitWorld, PartWorld, Partition};
 use std::alloc::{AllocError, Global};
 
-/// The number of partitions, and what was asked of them, as labels: the number of joins, how many pairs of states
-/// are together, or whether it holds.
+/// The number of partitions, kept as labels, and the answer about them: the number of joins, the number of
+/// pairs of states that are together, or whether what is asked holds.
 pub(crate) fn answer_labels(alloc: Global, case: Case<'_>) -> Result<(usize, usize), Error> {
     let n = states_of(case.kind, case.size);
     let list = partitions_of(alloc, case.kind, case.size, n)?;
@@ -22,7 +22,7 @@ pub(crate) fn answer_labels(alloc: Global, case: Case<'_>) -> Result<(usize, usi
     Ok((list.len(), found))
 }
 
-/// The same, as rows of bits.
+/// The same two numbers, with the partitions kept as rows of bits.
 pub(crate) fn answer_bits(alloc: Global, case: Case<'_>) -> Result<(usize, usize), Error> {
     let n = states_of(case.kind, case.size);
     let list = in_bits(alloc, case, n)?;
@@ -65,7 +65,7 @@ fn ask_labels(alloc: Global, list: &[Partition], n: usize, work: &str) -> Result
     }
 }
 
-/// Asks a question of two of them.
+/// Asks a question of two partitions that are kept as labels.
 fn ask_two_labels(alloc: Global, p: &Partition, q: &Partition, work: &str) -> Result<usize, Error>
     requires { length q.now ≡ length p.now }
 {
@@ -91,7 +91,7 @@ fn ask_bits(alloc: Global, list: &[BitPart], n: usize, work: &str) -> Result<usi
     }
 }
 
-/// Asks a question of two of them.
+/// Asks a question of two partitions that are kept as rows of bits.
 fn ask_two_rows(alloc: Global, p: &BitPart, q: &BitPart, work: &str) -> Result<usize, Error>
     requires { length q.now ≡ length p.now }
 {
@@ -104,7 +104,7 @@ fn ask_two_rows(alloc: Global, p: &BitPart, q: &BitPart, work: &str) -> Result<u
     })
 }
 
-/// How many pairs of states are together in both.
+/// The number of pairs of states that are together in both partitions.
 fn plain_meet(p: &Partition, q: &Partition) -> usize
     requires { length q.now ≡ length p.now }
 {
@@ -117,7 +117,7 @@ fn plain_meet(p: &Partition, q: &Partition) -> usize
     together
 }
 
-/// The number of joins that are listed, which is one more than 10,000 where they are not all.
+/// The number of joins that are listed, which is 10,001 if there are more than 10,000.
 fn listed<W: JoinWorld>(
     alloc: Global,
     world: &W,

@@ -1,21 +1,25 @@
-//! The texts, as forms: pieces that stand once and pieces that are repeated, by turns.
+//! The texts, as forms: pieces that occur once and pieces that are repeated, in turn.
 
 ghost use Rattle.std.specs.Prelude.{◌≤◌};
 
 use std::alloc::{AllocError, Global};
 
-/// A kind of text. Every second piece is repeated as often as the size says.
+/// A kind of text. Every second piece is repeated `size` times.
 pub(crate) struct Form {
     subject: &'static str,
     kind: &'static str,
     pieces: &'static [&'static str],
 }
 
-/// The kinds of texts. A piece that is repeated has a number from 0 on, and a piece that stands once has the size.
-/// In it `%` stands for its number in five digits, `^` for the next one, `@` for its rest by 256 in three digits, `&`
-/// for that of its 256th part, `~` for the number's bit at the place, and `!` for a bit that number and place draw.
+/// The kinds of texts. A piece that is repeated has a number at each repetition, counted from 0. A piece that
+/// occurs once has the size for its number. In a piece these characters stand for others:
+///
+/// - `%` for the number in five digits, and `^` for the next number;
+/// - `@` for the remainder of the number by 256 in three digits, and `&` for that of its 256th part;
+/// - `~` for the bit of the number at the character's place, modulo 16;
+/// - `!` for a bit that the number and the place draw.
 static FORMS: [Form; 26] = [
-    // rows of so many fields of four bytes
+    // rows of fields of four bytes, as many as the kind says
     Form {
         subject: "lines",
         kind: "four",
@@ -34,7 +38,7 @@ static FORMS: [Form; 26] = [
             "st01 st01 st01 st01 st01 st01 st01 st01 st01 st01 st01 st01 \n",
         ],
     },
-    // rows of 256 states, and the same with names that share a front of 20 bytes
+    // rows of 256 states, and the same with names that have the same first 20 bytes
     Form {
         subject: "kiss2",
         kind: "rows",
@@ -48,7 +52,7 @@ static FORMS: [Form; 26] = [
             "~~~~~~~~~~~~~~~~ state_of_the_machine@ state_of_the_machine& 0101--01\n",
         ],
     },
-    // comments and empty lines, and then the toggle
+    // comments or empty lines, and then the toggle
     Form {
         subject: "kiss2",
         kind: "comments",
@@ -59,7 +63,7 @@ static FORMS: [Form; 26] = [
         kind: "blanks",
         pieces: &["", "\n", TOGGLE],
     },
-    // one field of so many bytes, and one line of so many names
+    // one field of `size` bytes, and one line with `size` names
     Form {
         subject: "kiss2",
         kind: "line",
@@ -76,7 +80,7 @@ static FORMS: [Form; 26] = [
         kind: "refused",
         pieces: &[".i 0\n", "0 a a 0\n"],
     },
-    // gates with twelve inputs, and gates whose names share a front of 20 bytes
+    // gates with twelve inputs, and gates whose names have the same first 20 bytes
     Form {
         subject: "blif",
         kind: "gates",
@@ -87,7 +91,7 @@ static FORMS: [Form; 26] = [
         kind: "names",
         pieces: &[MODEL, ".names state_of_the_machine%\n1\n"],
     },
-    // gates that each read the gate behind them, and one that reads an input, or the first gate
+    // gates that each read the gate after them, and a last gate that reads an input, or the first gate
     Form {
         subject: "blif",
         kind: "chain",
@@ -104,7 +108,7 @@ static FORMS: [Form; 26] = [
         kind: "rows",
         pieces: &[".model m\n.inputs x\n.names x z\n", "1 1\n"],
     },
-    // a line that is continued, with a field on each line and without
+    // a line that is continued, with a field on each line and without fields
     Form {
         subject: "blif",
         kind: "continued",
@@ -115,7 +119,7 @@ static FORMS: [Form; 26] = [
         kind: "blanks",
         pieces: &[".model m\n.names x\\\n", "\\\n"],
     },
-    // one name of so many bytes, and one line of so many names
+    // one name of `size` bytes, and one line with `size` names
     Form {
         subject: "blif",
         kind: "line",
@@ -152,7 +156,7 @@ static FORMS: [Form; 26] = [
             " 0\n",
         ],
     },
-    // random gates over a code of so many bits, each of which reads four inputs and all latches
+    // random gates over a code of `size` bits, each of which reads four inputs and all latches
     Form {
         subject: "networks",
         kind: "code",
@@ -161,7 +165,7 @@ static FORMS: [Form; 26] = [
             ".latch d% q% 0\n",
         ],
     },
-    // inverters, each of which reads the one before it, and the first one the input
+    // inverters, of which the first reads the input and each other reads the one before it
     Form {
         subject: "networks",
         kind: "chain",
@@ -170,7 +174,7 @@ static FORMS: [Form; 26] = [
             ".names g% g^\n0 1\n",
         ],
     },
-    // what networks are run on
+    // the symbols that networks are run on
     Form {
         subject: "symbols",
         kind: "counter",
@@ -192,7 +196,7 @@ const TOGGLE: &str = ".i 1\n.o 1\n0 a a 0\n1 a b 1\n0 b b 1\n1 b a 0\n.e\n";
 
 const MODEL: &str = ".model m\n.inputs x\n";
 
-/// The form of that subject and kind, if there is one.
+/// The form with this subject and kind, if there is one.
 pub(crate) fn form_of(subject: &str, kind: &str) -> Option<&'static Form> {
     for form in &FORMS {
         if form.subject == subject && form.kind == kind {
@@ -202,7 +206,7 @@ pub(crate) fn form_of(subject: &str, kind: &str) -> Option<&'static Form> {
     None
 }
 
-/// The text of a form, in that size.
+/// The text of a form in the given size.
 pub(crate) fn text_of(alloc: Global, form: &Form, size: usize) -> Result<Vec<u8>, AllocError> {
     let mut text = Vec::new(alloc);
     add_pieces(&mut text, form.pieces, size)?;
@@ -212,7 +216,7 @@ pub(crate) fn text_of(alloc: Global, form: &Form, size: usize) -> Result<Vec<u8>
     Ok(text)
 }
 
-/// Adds pieces, every second one as often as the size says.
+/// Adds pieces, every second one `size` times.
 fn add_pieces(text: &mut Vec<u8>, pieces: &[&str], size: usize) -> Result<(), AllocError> {
     for (place, piece) in pieces.iter().enumerate() {
         if place % 2 == 0 {
@@ -224,7 +228,7 @@ fn add_pieces(text: &mut Vec<u8>, pieces: &[&str], size: usize) -> Result<(), Al
     Ok(())
 }
 
-/// Adds a piece so many times.
+/// Adds a piece the given number of times, with the numbers from 0 on.
 fn add_each(text: &mut Vec<u8>, piece: &str, times: usize) -> Result<(), AllocError> {
     for number in 0..times {
         add_piece(text, piece, number)?;
@@ -232,7 +236,7 @@ fn add_each(text: &mut Vec<u8>, piece: &str, times: usize) -> Result<(), AllocEr
     Ok(())
 }
 
-/// Adds a piece of that number.
+/// Adds a piece with the given number.
 fn add_piece(text: &mut Vec<u8>, piece: &str, number: usize) -> Result<(), AllocError> {
     for (place, byte) in piece.as_bytes().iter().enumerate() {
         let (value, unsaid) = match *byte {
@@ -266,7 +270,7 @@ fn digit(number: usize) -> u8 {
     b'0' + (number % 10) as u8
 }
 
-/// The character that a byte stands for in a piece of that number, at that place.
+/// The character that a byte stands for in a piece with this number, at this place.
 fn character(byte: u8, number: usize, place: usize) -> u8 {
     match byte {
         b'~' => bit_character(number >> (place % 16)),
@@ -290,7 +294,7 @@ fn drawn(a: usize, b: usize) -> usize {
     n ^ n >> 32
 }
 
-/// Adds a gate for each of so many latches, with a row for each six values of all inputs and latches.
+/// Adds a gate for each latch, with one row for every six values of all inputs and latches.
 fn add_gates(text: &mut Vec<u8>, latches: usize) -> Result<(), AllocError> {
     let latches = latches.min(16);
     for latch in 0..latches {
@@ -301,7 +305,7 @@ fn add_gates(text: &mut Vec<u8>, latches: usize) -> Result<(), AllocError> {
     Ok(())
 }
 
-/// Adds the rows of a gate with so many inputs.
+/// Adds the rows of a gate with `width` inputs.
 fn add_rows(text: &mut Vec<u8>, width: usize, gate: usize) -> Result<(), AllocError>
     requires { width ≤ 20 }
 {
@@ -311,7 +315,7 @@ fn add_rows(text: &mut Vec<u8>, width: usize, gate: usize) -> Result<(), AllocEr
     Ok(())
 }
 
-/// Adds a row of bits drawn by its number, with a dash once in six times.
+/// Adds a row of bits that its number draws, with a dash one time in six.
 fn add_row(text: &mut Vec<u8>, width: usize, number: usize) -> Result<(), AllocError> {
     for place in 0..width {
         let draw = drawn(number, place);

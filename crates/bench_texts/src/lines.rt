@@ -5,7 +5,7 @@ ghost use Rattle.std.specs.Prelude.{◌<◌, ◌^◌, length};
 use hs_io::{Line, Name, content_of, cut_lines, is_clean};
 use std::alloc::{AllocError, Global};
 
-/// Cuts a text by `cut_lines`, and counts its lines and fields.
+/// Cuts a text by `cut_lines`. Gives the numbers of its lines and of its fields.
 pub(crate) fn cut(alloc: Global, text: &[u8]) -> Result<(usize, usize), AllocError>
     requires { length text.now < 2 ^ 32 }
 {
@@ -13,7 +13,7 @@ pub(crate) fn cut(alloc: Global, text: &[u8]) -> Result<(usize, usize), AllocErr
     Ok((lines.len(), fields_of(&lines)))
 }
 
-/// How many fields lines have.
+/// The number of fields of lines.
 fn fields_of(lines: &[Line]) -> usize {
     let mut fields = 0usize;
     for line in lines {
@@ -22,14 +22,15 @@ fn fields_of(lines: &[Line]) -> usize {
     fields
 }
 
-/// A line whose fields stand in a list.
+/// A line whose fields are in a list.
 #[derive(Drop)]
 struct PlainLine {
     fields: Vec<Name>,
     clean: bool,
 }
 
-/// Cuts a text plainly, and counts its lines that are not empty and the fields of those that are clean.
+/// Cuts a text plainly. Gives the numbers of its lines that are not empty and of the fields of those that are
+/// clean.
 pub(crate) fn cut_to_lists(alloc: Global, text: &[u8]) -> Result<(usize, usize), AllocError> {
     let mut lines = Vec::new(alloc);
     for line in text.split(|b| *b == b'\n') {
@@ -40,7 +41,7 @@ pub(crate) fn cut_to_lists(alloc: Global, text: &[u8]) -> Result<(usize, usize),
     Ok((lines.len(), plain_fields(&lines)))
 }
 
-/// How many fields the clean lines have.
+/// The number of fields of the clean lines.
 fn plain_fields(lines: &[PlainLine]) -> usize {
     let mut fields = 0usize;
     for line in lines {

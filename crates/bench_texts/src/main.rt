@@ -1,13 +1,13 @@
-//! Reads and runs large texts, so that a script can time the work from outside, and prints counts alone. Each
-//! argument is a case, of words apart by one space: the subject, the kind of text, its size, the work, and how
-//! often it is done. With no times the text is made and nothing is done.
+//! Reads and runs large texts, so that a script can time the work from outside, and prints only counts. Each
+//! argument is a case, which is words separated by one space: the subject, the kind of text, its size, the
+//! work, and how many times it is done. With 0 times the text is made and nothing is done.
 //!
 //! - The subjects are `lines`, `kiss2`, `blif` and `networks`; `forms` has their kinds of texts.
-//! - `cut` cuts a text into lines by `cut_lines`, which keeps the first fields of a line in the line, and `lists`
+//! - `cut` cuts a text into lines by `cut_lines`, which keeps the first fields of a line in the line. `lists`
 //!   cuts it with the splits of the library, and keeps each line's fields in a list of its own.
-//! - `read` reads a text of KISS2 or BLIF, or tells the line of its first fault.
-//! - Networks are read and put in order (`order`), run on so many symbols (`run`), or run plainly on them, each
-//!   gate by its rows, character by character (`plain`).
+//! - `read` reads a text of KISS2 or BLIF, or gives the line of its first fault.
+//! - Networks are read and put in order (`order`). They are then run on as many symbols as the case has times
+//!   (`run`), or run on them plainly, each gate by its rows, character by character (`plain`).
 #![tactic(auto)]
 
 ghost use Rattle.std.specs.Prelude.{◌<◌, ◌^◌, length};
@@ -45,7 +45,7 @@ fn case_of(line: &str) -> Option<Case<'_>> {
     })
 }
 
-/// Two counts that the work comes to, done as often as the case says.
+/// The two counts that the work gives, done as many times as the case says.
 fn answer(alloc: Global, case: Case<'_>, text: &[u8]) -> Result<(usize, usize), Error>
     requires { length text.now < 2 ^ 32 }
 {

@@ -12,7 +12,7 @@ use net_core::{Network, Order, check};
 use net_sim::run;
 use std::alloc::Global;
 
-/// The gates of the network of a text, and the ones that the work gives.
+/// The number of gates of the network of a text, and the number of ones that the work gives.
 pub(crate) fn answer(alloc: Global, text: &[u8], case: Case<'_>) -> Result<(usize, usize), Error>
     requires { length text.now < 2 ^ 32 }
 {
@@ -22,7 +22,7 @@ pub(crate) fn answer(alloc: Global, text: &[u8], case: Case<'_>) -> Result<(usiz
     }
 }
 
-/// The same of a network.
+/// The same two numbers for a network.
 fn ordered(alloc: Global, net: &Network, case: Case<'_>) -> Result<(usize, usize), Error> {
     match check(alloc, net) {
         Ok(order) => Ok((order.gates.len(), ones(alloc, net, &order, case)?)),
@@ -30,7 +30,7 @@ fn ordered(alloc: Global, net: &Network, case: Case<'_>) -> Result<(usize, usize
     }
 }
 
-/// How many ones the work gives.
+/// The number of ones that the work gives.
 fn ones(alloc: Global, net: &Network, order: &Order, case: Case<'_>) -> Result<usize, Error>
     requires sound { Sound net.now }
     requires order { IsOrderOf net.now order.now }
@@ -44,7 +44,7 @@ fn ones(alloc: Global, net: &Network, order: &Order, case: Case<'_>) -> Result<u
     }
 }
 
-/// So many symbols for networks of the kind.
+/// As many symbols as the case has times, for networks of its kind.
 fn symbols_of(alloc: Global, case: Case<'_>) -> Result<Vec<u8>, Error>
     ensures { IfOk result (λ symbols. vec_len symbols < 2 ^ 32) }
 {
@@ -58,7 +58,7 @@ fn symbols_of(alloc: Global, case: Case<'_>) -> Result<Vec<u8>, Error>
     Ok(symbols)
 }
 
-/// How many ones the answers of a run have.
+/// The number of ones in the answers of a run.
 fn ones_of_run(alloc: Global, net: &Network, order: &Order, symbols: &[u8]) -> Result<usize, Error>
     requires sound { Sound net.now }
     requires order { IsOrderOf net.now order.now }
@@ -70,7 +70,7 @@ fn ones_of_run(alloc: Global, net: &Network, order: &Order, symbols: &[u8]) -> R
     }
 }
 
-/// How many bytes are the digit 1.
+/// The number of bytes that are the digit 1.
 fn ones_in(text: &[u8]) -> usize {
     let mut ones = 0usize;
     for byte in text {

@@ -4,7 +4,7 @@ ghost use Rattle.std.specs.Prelude.{◌≡◌, ◌<◌, All, length};
 use net_core::{NumberedGate, Order};
 use std::alloc::{AllocError, Global};
 
-/// How many ones the answers to the symbols have, from a state of zeros.
+/// The number of ones in the answers to the symbols, from a state of zeros.
 pub(crate) fn count_ones(
     alloc: Global,
     order: &Order,
@@ -59,7 +59,7 @@ fn is_held(gate: &NumberedGate, signals: &[bool]) -> bool
     false
 }
 
-/// Whether each character of a row holds the signal of its number.
+/// Whether each character of a row holds the signal with its number.
 fn row_holds(row: &[u8], numbers: &[usize], signals: &[bool]) -> bool
     requires { All (λ s. s < length signals.now) numbers.now }
 {

@@ -1,4 +1,4 @@
-//! Texts of machines and networks read. A text that is refused comes to no count and the line of its fault.
+//! Reading of texts of machines and networks. A text that is refused gives 0 and the line of its fault.
 
 ghost use Rattle.std.specs.Prelude.{◌<◌, ◌^◌, length};
 
@@ -6,7 +6,7 @@ use blif_in::BlifFail;
 use kiss2::KissFail;
 use std::alloc::{AllocError, Global};
 
-/// The states and rows of a text of KISS2.
+/// The numbers of states and of rows of a text of KISS2.
 pub(crate) fn read_kiss2(alloc: Global, text: &[u8]) -> Result<(usize, usize), AllocError>
     requires { length text.now < 2 ^ 32 }
 {
@@ -17,7 +17,7 @@ pub(crate) fn read_kiss2(alloc: Global, text: &[u8]) -> Result<(usize, usize), A
     }
 }
 
-/// The signals that a text of BLIF declares, and its gates.
+/// The numbers of inputs and of gates of a text of BLIF.
 pub(crate) fn read_blif(alloc: Global, text: &[u8]) -> Result<(usize, usize), AllocError>
     requires { length text.now < 2 ^ 32 }
 {

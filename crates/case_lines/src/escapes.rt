@@ -47,7 +47,7 @@ fn digit(byte: u8) -> anyhow::Result<u8>
     }
 }
 
-/// The text that says these bytes.
+/// The text, with escapes, that says these bytes.
 pub fn escaped(alloc: Global, bytes: &[u8]) -> anyhow::Result<String> {
     let mut text = Vec::new(alloc);
     for byte in bytes {
@@ -56,7 +56,7 @@ pub fn escaped(alloc: Global, bytes: &[u8]) -> anyhow::Result<String> {
     String::from_utf8(text).ok().context("no text")
 }
 
-/// Appends what says a byte.
+/// Appends the text that says a byte.
 fn append_byte(alloc: Global, text: &mut Vec<u8>, byte: u8) -> Result<(), AllocError> {
     match byte {
         b'\n' => text.extend_from_slice(b"\\n")?,

@@ -1,12 +1,12 @@
-//! Files of cases: a line a case, which says a call, its arguments and what it answers.
+//! Files of cases. A line is a case: it says a call, its arguments and its answer.
 //!
 //! Empty lines and lines that begin with `#` are skipped. In every other line the call is the first word, its
 //! arguments are the words up to the first ` =`, and the answer is what follows after one space:
 //! `meet 0,1,0,2 0,1,2,1 = 0,1,2,3`. Cases of one call follow one another.
 //!
-//! A program of cases says in its [`Calls`] what a call of its libraries answers, as a text. [`agree`] prints
-//! `CALL: N cases` where all cases of a call agree, and each case that differs, with the first byte that does.
-//! It serves such programs alone, and promises nothing.
+//! A program of cases says in its [`Calls`] what a call of its libraries answers, as a text. For each call,
+//! [`agree`] prints `CALL: N cases` if all of its cases agree. It prints each case that differs, with the
+//! number of bytes before the first difference. This crate serves such programs alone, and promises nothing.
 #![tactic(auto)]
 
 ghost use Rattle.std.specs.Prelude.{◌≤◌, IfOk};
@@ -29,7 +29,7 @@ pub trait Calls {
     ) -> anyhow::Result<String>;
 }
 
-/// How many cases of one call there are, and how many of them differ.
+/// The number of cases of one call, and how many of them differ.
 #[derive(Clone, Copy, Default)]
 struct Tally {
     cases: u32,
@@ -67,7 +67,7 @@ pub fn agree<C: Calls, R: Files + AllocGlobal + Print>(
     Ok(all)
 }
 
-/// Prints how many cases of a call there are where all agree.
+/// Prints the number of cases of a call, if all of them agree.
 fn report<R: Print>(rt: &R, call: &str, tally: &Tally) -> anyhow::Result<()> {
     if tally.cases > 0 && tally.differ == 0 {
         println!(rt; "{call}: {} cases", tally.cases)?;
@@ -75,7 +75,7 @@ fn report<R: Print>(rt: &R, call: &str, tally: &Tally) -> anyhow::Result<()> {
     Ok(())
 }
 
-/// Whether the answer is the wanted one, which stands after a space. Prints the case where it is not.
+/// Whether the answer is the wanted one, which follows a space. Prints the case if it is not.
 fn agrees<C: Calls, R: Files + AllocGlobal + Print>(
     rt: &R,
     calls: &C,
@@ -101,7 +101,7 @@ fn agrees<C: Calls, R: Files + AllocGlobal + Print>(
     Ok(false)
 }
 
-/// How many bytes stand before the first difference.
+/// The number of bytes before the first difference.
 fn first_difference(found: &[u8], wanted: &[u8]) -> usize {
     found.iter().zip(wanted).take_while(|(a, b)| a == b).count()
 }
@@ -116,7 +116,7 @@ pub fn number(word: &str) -> anyhow::Result<usize> {
     word.parse().ok().context("no number")
 }
 
-/// A limit from 1 to 10,000 that the first word says, and the words after it: `-` where none follows.
+/// A limit from 1 to 10,000 that the first word says, and the words after it, or `-` if there are none.
 pub fn limit(words: &str) -> anyhow::Result<(usize, &str)>
     ensures positive { IfOk result (λ it. 1 ≤ it.0) }
     ensures bounded { IfOk result (λ it. it.0 ≤ 10000) }

@@ -8,13 +8,13 @@ use hsdec_core::run;
 use job_words::Words;
 use std::alloc::{AllocError, Global};
 
-/// The room of out where a case does not say it.
+/// The room of out if a case does not say it.
 const OUT_ROOM: usize = 8_388_608;
 
 /// The room of err.
 const ERR_ROOM: usize = 65_536;
 
-/// The texts under names that cases load.
+/// The texts that cases load, each under a name.
 #[derive(Drop)]
 pub struct Texts {
     texts: Vec<(Name, Vec<u8>)>,
@@ -27,13 +27,13 @@ impl Texts {
         }
     }
 
-    /// Puts a text under a name.
+    /// Adds a text under a name.
     pub fn add(&mut self, name: Name, text: Vec<u8>) -> Result<(), AllocError> {
         self.texts.push((name, text))?;
         Ok(())
     }
 
-    /// The text that was put last under a name.
+    /// The text that was added last under a name.
     pub fn text(&self, name: &[u8]) -> anyhow::Result<&[u8]> {
         for (other, text) in self.texts.iter().rev() {
             if other.bytes() == name {
@@ -43,7 +43,7 @@ impl Texts {
         bail!("no such file")
     }
 
-    /// The shelf that holds them.
+    /// The shelf that holds the texts.
     fn shelf(&self, alloc: Global) -> Result<MemShelf, AllocError> {
         let mut shelf = MemShelf::new(alloc);
         for (name, text) in &self.texts {
@@ -60,9 +60,9 @@ pub struct Wanted {
     /// The text, or how it begins.
     pub text: Vec<u8>,
     pub whole: bool,
-    /// How many lines begin so.
+    /// How many lines begin with a text, and that text.
     pub lines: Option<(usize, Vec<u8>)>,
-    /// The file that says how many ones there are.
+    /// The file that says how many digits 1 there are.
     pub ones: Option<Name>,
     /// What err is given.
     pub told: Vec<u8>,
@@ -72,7 +72,7 @@ pub struct Wanted {
 #[derive(Drop)]
 pub struct Case {
     alloc: Global,
-    /// The number of its first line.
+    /// The number of the first line of the case.
     pub number: usize,
     pub words: Words,
     load: Option<u32>,
@@ -84,7 +84,7 @@ pub struct Case {
 }
 
 impl Case {
-    /// The case of some words, cut at each space.
+    /// The case with the words of a line, cut at each space.
     pub fn new(alloc: Global, number: usize, line: &str) -> Result<Case, AllocError> {
         let mut words = Words::new(alloc);
         if !line.is_empty() {
@@ -135,7 +135,7 @@ impl Case {
         Ok(())
     }
 
-    /// What differs first, if anything does. What out was given is kept where the case says so.
+    /// The first difference, if there is any. Keeps what out was given if the case says so.
     pub fn difference(&self, texts: &mut Texts) -> anyhow::Result<Option<String>> {
         let alloc = self.alloc;
         let mut shelf = texts.shelf(alloc)?;
@@ -168,7 +168,7 @@ impl Case {
     }
 }
 
-/// The number of a failing put, and how many bytes it takes.
+/// The number of a put that fails, and how many bytes it takes.
 fn failing(text: &str) -> anyhow::Result<(u32, usize)> {
     let (call, take) = text.split_once(' ').context("a number is missing")?;
     let call = call.parse::<u32>().context("a number is missing")?;

@@ -4,7 +4,7 @@ use crate::cases::{Texts, Wanted};
 use std::alloc::{AllocError, Global};
 use std::str;
 
-/// What differs first, if anything does: the status, the text, its lines, its ones, or what err was given.
+/// The first difference, if there is any: in the status, the text, its lines, its ones, or what err was given.
 pub(crate) fn difference(
     alloc: Global,
     wanted: &Wanted,
@@ -38,7 +38,7 @@ pub(crate) fn difference(
     Ok(first_line_apart(alloc, "err", told, wanted.told.as_slice())?)
 }
 
-/// The first line in which two texts differ.
+/// The first line in which two texts differ, if there is any.
 fn first_line_apart(
     alloc: Global,
     what: &str,
@@ -75,12 +75,12 @@ fn first_line_apart(
     }
 }
 
-/// The text of some bytes, as far as they are text.
+/// The text of some bytes, or words that say that they are no text.
 fn shown(bytes: &[u8]) -> &str {
     str::from_utf8(bytes).unwrap_or("bytes that are no text")
 }
 
-/// Another number of lines that begin so.
+/// The difference if another number of lines than the count begins with `start`.
 fn count_apart(
     alloc: Global,
     text: &[u8],
@@ -97,7 +97,7 @@ fn count_apart(
     Ok(Some(found))
 }
 
-/// Another number of ones than the line `# ones N` of the summary says.
+/// The difference if the summary has no line `# ones N` with the number of ones of the text.
 fn ones_apart(alloc: Global, text: &[u8], summary: &[u8]) -> Result<Option<String>, AllocError> {
     let ones = text.iter().filter(|byte| **byte == b'1').count();
     let line = format!(in alloc; "# ones {ones}")?;

@@ -1,24 +1,24 @@
-//! Runs the cases of the files that its words name, and prints of each file how many of its cases agree. A case
-//! that differs is named, with the first difference. [`run`](hsdec_core::run) answers each case, over a shelf and
-//! two sinks in memory, so a new case is some lines in a file of `data/` and takes no proof.
+//! Runs the cases of the files that its words name, and prints for each file how many of its cases agree. For a
+//! case that differs it prints the line and the first difference. [`run`](hsdec_core::run) answers each case,
+//! over a shelf and two sinks in memory, so a new case is some lines in a file of `data/` and needs no proof.
 //!
-//! A file of cases is read line by line. Empty lines and lines that begin with `#` are skipped. A line is a word
-//! and what stands after the first space.
+//! A file of cases is read line by line. Empty lines and lines that begin with `#` are skipped. A line is a
+//! word and the text after the first space.
 //!
 //! | Line | Means |
 //! |---|---|
-//! | `file NAME` | the text below is the file NAME of the cases that follow, in place of an earlier one |
+//! | `file NAME` | the text below is the file NAME of the cases that follow, instead of an earlier one |
 //! | `case WORDS` | a case with these words, cut at each space; `case` alone has none |
 //! | `word` | one more word of the case, which is the text below |
-//! | `load N` | the load of that number fails, counted from 1 |
-//! | `out N K` | the put of that number to out takes K bytes and fails |
+//! | `load N` | load N fails, counted from 1 |
+//! | `out N K` | put N to out takes K bytes and fails |
 //! | `err N K` | the same for err |
 //! | `room N` | out has room for N bytes; without this line it is 8,388,608 |
 //! | `status N` | the number of the answer; without this line it is 0 |
 //! | `text` | out is given the text below; without this line nothing |
 //! | `front` | out is given a text that begins with the text below |
-//! | `lines N START` | that many of its lines begin with START |
-//! | `ones NAME` | it has as many digits 1 as a line `# ones N` of the file NAME says |
+//! | `lines N START` | N of its lines begin with START |
+//! | `ones NAME` | it has N digits 1, where the file NAME has a line `# ones N` |
 //! | `line TEXT` | err is given this line; without this line nothing |
 //! | `told` | err is given the text below |
 //! | `keep NAME` | what out was given is the file NAME of the cases that follow |
@@ -30,8 +30,8 @@
 //! | `\| TEXT` | TEXT and the end of a line; `\|` alone an empty line |
 //! | `bytes TEXT` | TEXT |
 //! | `times N TEXT` | TEXT, N times |
-//! | `each N TEXT` | TEXT for each number from 0 below N, with the number in place of each `@` |
-//! | `fill N TEXT` | TEXT, as often as it begins below N bytes |
+//! | `each N TEXT` | TEXT for each number from 0 below N, with each `@` replaced by the number |
+//! | `fill N TEXT` | TEXT, again and again while the text has fewer than N bytes |
 //! | `copy NAME` | the file NAME of these cases |
 //! | `data NAME` | the file NAME of `data/` |
 //! | `cut N` | nothing: it leaves the first N bytes |

@@ -10,7 +10,7 @@ use std::alloc::Global;
 use std::rt::Files;
 use std::{fs, mem};
 
-/// Whether all cases of a file agree. Prints each that differs, and how many agree.
+/// Whether all cases of a file agree. Prints each case that differs, and how many agree.
 pub(crate) fn agrees<R: Files + AllocGlobal + Print>(rt: &R, name: &str) -> anyhow::Result<bool> {
     let text = fs::read_to_string(rt, name).context(format_args!("reading {name}"))?;
     let mut script = Script::new(rt.alloc());
@@ -25,7 +25,7 @@ pub(crate) fn agrees<R: Files + AllocGlobal + Print>(rt: &R, name: &str) -> anyh
     Ok(script.agreeing == script.cases)
 }
 
-/// Where a text belongs.
+/// What a text is for.
 #[derive(Drop)]
 enum Place {
     Nowhere,
@@ -35,7 +35,7 @@ enum Place {
     Told,
 }
 
-/// What the lines so far say.
+/// What was read so far.
 #[derive(Drop)]
 struct Script {
     alloc: Global,
@@ -60,7 +60,7 @@ impl Script {
         }
     }
 
-    /// Takes a line, with so many before it.
+    /// Takes a line, which comes after `place` lines.
     fn take<R: Files + AllocGlobal + Print>(
         &mut self,
         rt: &R,
@@ -90,7 +90,7 @@ impl Script {
         Ok(())
     }
 
-    /// Takes a line of the case that stands.
+    /// Takes a line of the open case.
     fn take_of_case(&mut self, word: &str, rest: &str) -> anyhow::Result<()> {
         let Some(case) = &mut self.case else {
             bail!("no case stands here");
@@ -108,7 +108,7 @@ impl Script {
         Ok(())
     }
 
-    /// Adds what the line says to the text, and tells whether it is a line of a text.
+    /// Adds what the line says to the text, and returns whether it is a line of a text.
     fn add_to_text<R: Files + AllocGlobal>(
         &mut self,
         rt: &R,
@@ -138,7 +138,7 @@ impl Script {
         Ok(true)
     }
 
-    /// Adds what a line of repetition says to the text, and tells whether it is one.
+    /// Adds what a line of repetition says to the text, and returns whether it is such a line.
     fn repeat_in_text(&mut self, word: &str, rest: &str) -> anyhow::Result<bool> {
         if word != "times" && word != "each" && word != "fill" {
             return Ok(false);
@@ -178,7 +178,7 @@ impl Script {
         Ok(())
     }
 
-    /// Runs the case that stands, and prints its difference.
+    /// Runs the open case, if there is one, and prints its difference.
     fn end_case<R: Print>(&mut self, rt: &R, name: &str) -> anyhow::Result<()> {
         let Some(case) = self.case.take() else {
             return Ok(());

@@ -5,13 +5,13 @@ ghost use Rattle.std.specs.Prelude.{◌<◌, IfOk};
 use anyhow::{Context, bail};
 use std::alloc::{AllocError, Global};
 
-/// The number that a text is.
+/// The number that a text says.
 pub(crate) fn number(text: &str) -> anyhow::Result<usize> {
     let number = text.parse::<usize>().context("a number is missing")?;
     Ok(number)
 }
 
-/// A number, and what stands after the first space.
+/// A number, and the text after the first space.
 pub(crate) fn number_and_text(text: &str) -> anyhow::Result<(usize, &str)> {
     let (front, rest) = text.split_once(' ').unwrap_or((text, ""));
     Ok((number(front)?, rest))
@@ -71,7 +71,7 @@ pub(crate) fn append_times(
     Ok(())
 }
 
-/// Appends the piece as often as it begins below that length.
+/// Appends the piece again and again, while the text is shorter than `length`.
 pub(crate) fn append_to_length(
     text: &mut Vec<u8>,
     length: usize,
@@ -85,7 +85,7 @@ pub(crate) fn append_to_length(
     Ok(())
 }
 
-/// Appends the piece for each number below the count, with the number in place of each `@`.
+/// Appends the piece for each number below the count, with each `@` replaced by the number.
 pub(crate) fn append_each(
     alloc: Global,
     text: &mut Vec<u8>,

@@ -34,7 +34,7 @@ first_appearances (x ∷ xs) = x ∷ filter (λ y. not (y == x)) (first_appearan
 abbrev pub occurring : KissFile → List ℕ
 occurring F = first_appearances (all_outputs F)
 
--- the list is that of the outputs that occur, and there are no more of them than a partition has labels for
+-- the list has the outputs that occur, and there are at most 256 of them
 pub record AreOutputs (F : KissFile) (outs : List ℕ) : Type 0 where
   pub same : outs ≡ occurring F
   pub few : length outs ≤ 256

@@ -9,7 +9,7 @@ use crate::family::Family;
 use partition::Partition;
 use std::alloc::{AllocError, Global};
 
-/// Puts the values of two members together, for each function, and no more than that.
+/// Merges the values of two members under each function, and nothing else.
 pub(crate) fn tie(family: &Family, x: usize, y: usize, q: &mut Partition)
     requires family { IsFamily family.now }
     requires x { x < family.now.members }
@@ -23,8 +23,8 @@ pub(crate) fn tie(family: &Family, x: usize, y: usize, q: &mut Partition)
     }
 }
 
-/// The least partition of the values that p makes a pair with: the values of each member are put together with
-/// those of the first member of its block.
+/// The least partition of the values that p makes a pair with: the value of each member is merged with that of
+/// the first member of its block, under each function.
 pub(crate) fn least_partner(
     alloc: Global,
     family: &Family,

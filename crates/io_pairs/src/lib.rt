@@ -1,10 +1,10 @@
 //! Pairs on the inputs and on the outputs of a machine, after Hartmanis and Stearns.
 //!
 //! (p, q) is an input-state pair where symbols that are together in p lead, from every state, to states that
-//! are together in q: it says which inputs need not be distinguished to know that much of the next state. It is
-//! a state-output pair where states that are together in p have, at every symbol, outputs that are together in
-//! q: it says how much of the state an output needs. A machine has at most 8 inputs here, and at most 256 of
-//! its outputs may occur; [`outputs`] lists them.
+//! are together in q. So p says which inputs need not be distinguished to know the block of q of the next
+//! state. (p, q) is a state-output pair where states that are together in p have, at every symbol, outputs that
+//! are together in q. So p says how much of the state the block of q of an output needs. A machine has at most
+//! 8 inputs here, and at most 256 of its outputs may occur; [`outputs`] lists them.
 //!
 //! [`input_low`] and [`output_low`] give the least q for a p, [`input_high`] and [`output_high`] the greatest p
 //! for a q. [`input_pairs`] and [`output_pairs`] list the Mm pairs: those of which each side is what the other
@@ -15,10 +15,15 @@
 //! numbers that each call makes once. Two members go together into q where each function gives them values that
 //! are together in q. The least q is merged value by value, and the greatest p is split function by function.
 //!
-//! `specs/Inputs` has input-state pairs, `specs/Outputs` the outputs that occur and state-output pairs,
-//! `specs/Partners` the least and the greatest side and the Mm pairs of both kinds, `specs/Sides` how contracts
-//! see an [`IoPair`], and `specs/Laws` the laws of the worlds. What is in `specs/Inner` is for private
-//! functions alone.
+//! The definitions are in `specs/`:
+//!
+//! - `Inputs` has input-state pairs;
+//! - `Outputs` has the outputs that occur, and state-output pairs;
+//! - `Partners` has the least and the greatest side, and the Mm pairs of both kinds;
+//! - `Sides` says how contracts see an [`IoPair`];
+//! - `Laws` has the laws of the worlds.
+//!
+//! What is in `specs/Inner` is for private functions alone.
 #![tactic(auto)]
 
 mod collecting;

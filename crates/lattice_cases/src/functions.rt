@@ -1,9 +1,9 @@
-//! Covers of functions of two columns, judged by trying all four values. A set of values is a number, value v at 2^v,
-//! where the bits of v are its columns.
+//! Covers of functions of two columns, judged by trying all four values. A set of values is a number with value
+//! v at 2^v. The bits of v are its columns.
 
 use cover_logic::Term;
 
-/// The values that the literal of a term at a column holds: all of them where it has none.
+/// The values that the literal of a term at a column holds: all values if it has no literal there.
 fn held_at(term: Term, column: u8) -> u8 {
     let (zeros, ones) = if column == 0 {
         (0b0101, 0b1010)
@@ -29,7 +29,7 @@ pub(crate) fn held_by_any(terms: &[Term]) -> u8 {
     held
 }
 
-/// The values that two terms hold.
+/// The values that two terms or more hold.
 fn held_twice(terms: &[Term]) -> u8 {
     let mut once = 0;
     let mut twice = 0;
@@ -41,7 +41,7 @@ fn held_twice(terms: &[Term]) -> u8 {
     twice
 }
 
-/// Whether a row holds a value of on that no other row holds, and each of its literals keeps it from a value of off.
+/// Whether a row holds a value of on that no other row holds, and each of its literals excludes a value of off.
 fn is_needed(row: Term, twice: u8, on: u8, off: u8) -> bool {
     let (first, second) = (held_at(row, 0), held_at(row, 1));
     let alone = first & second & on & !twice != 0;

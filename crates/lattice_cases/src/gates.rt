@@ -50,7 +50,7 @@ fn add_can(alloc: Global, words: &str, text: &mut Vec<u8>) -> Option<()> {
     add(text, if can { "yes" } else { "no" }).ok()
 }
 
-/// The rows of a cover, where it has the same rows in the same order the second time.
+/// The rows of a cover, if a second cover has the same rows in the same order.
 fn rows(alloc: Global, gate: &Gate) -> Option<Vec<Term>> {
     if !can_cover(&gate.on, &gate.off, gate.width) {
         return None;
@@ -73,16 +73,16 @@ fn add_cover(alloc: Global, gate: &Gate, text: &mut Vec<u8>) -> Option<()> {
 /// Which values of a gate are on and which are off; the others are free.
 #[derive(Drop)]
 enum OnValues {
-    /// On are those with a 1 in column 0, and off the others.
+    /// The values with a 1 in column 0 are on, and the others are off.
     FirstColumn,
-    /// On are those with an odd number of ones, and off the others.
+    /// The values with an odd number of ones are on, and the others are off.
     OddOnes,
-    /// A digit to base 3 for each of the four values of two columns: 0 where it is on, and 1 where it is off.
+    /// A digit to base 3 for each of the four values of two columns: 0 if the value is on, and 1 if it is off.
     Digits(u8),
 }
 
 impl OnValues {
-    /// The digit of a value: 0 where it is on, and 1 where it is off.
+    /// The digit of a value: 0 if it is on, and 1 if it is off.
     fn digit(&self, value: u32) -> u32 {
         match self {
             OnValues::FirstColumn => 1 - value % 2,
@@ -97,7 +97,7 @@ impl OnValues {
     }
 }
 
-/// The gate of all values of so many columns.
+/// The gate of all values of the given number of columns.
 fn gate_of_values(
     alloc: Global,
     width: u8,
@@ -113,7 +113,7 @@ fn gate_of_values(
     Ok(Gate { width, on, off })
 }
 
-/// Adds the values with a digit.
+/// Adds the values that have the digit.
 fn add_values(
     list: &mut Vec<Term>,
     columns: u32,
@@ -141,13 +141,13 @@ fn read_columns(alloc: Global, words: &str, values: &OnValues) -> Option<Gate> {
     gate_of_values(alloc, width, u32::from(columns), values).ok()
 }
 
-/// Adds the rows for values that are on where column 0 is 1.
+/// Adds the rows for the values that are on where column 0 is 1.
 fn add_first(alloc: Global, words: &str, text: &mut Vec<u8>) -> Option<()> {
     let gate = read_columns(alloc, words, &OnValues::FirstColumn)?;
     add_cover(alloc, &gate, text)
 }
 
-/// Adds how many rows cover the values with an odd number of ones, and whether these are the values themselves.
+/// Adds the number of rows that cover the values with an odd number of ones, if each of these values is a row.
 fn add_odd(alloc: Global, words: &str, text: &mut Vec<u8>) -> Option<()> {
     let gate = read_columns(alloc, words, &OnValues::OddOnes)?;
     let rows = rows(alloc, &gate)?;
@@ -168,7 +168,7 @@ fn are_among(terms: &[Term], rows: &[Term]) -> bool {
     true
 }
 
-/// Adds how many of the 81 functions of two columns have a good cover.
+/// Adds the number of the 81 functions of two columns that have a good cover.
 fn add_functions(alloc: Global, text: &mut Vec<u8>) -> Option<()> {
     let mut good = 0usize;
     for number in 0..81u8 {

@@ -1,4 +1,4 @@
-//! The calls of `hs_lattice`, at numbers and at partitions kept in both ways.
+//! The calls of `hs_lattice`, on numbers and on partitions that are kept in both ways.
 
 ghost use Rattle.std.specs.Prelude.{◌≡◌, ◌++◌, ◌∷◌, [], ◌<◌, All, IfOk, IfSome, OnOk};
 ghost use Rattle.hs_lattice.specs.Collection.{IsCollection};
@@ -50,7 +50,7 @@ fn add_item<T: Drop>(list: &mut Vec<T>, item: T) -> Result<(), AllocError>
     Ok(())
 }
 
-/// The values that words say, `-` saying none.
+/// The values that words say. `-` says none.
 fn values<W: Worded>(alloc: Global, world: &W, words: &str) -> Option<Vec<W::Item>>
     ensures { IfSome result (λ list. All (λ x. W.fits world.now (W.meaning x)) list.items) }
 {
@@ -104,7 +104,7 @@ fn add_listing<W: Worded>(
     add_values(alloc, world, items, text)
 }
 
-/// Adds how many of the values came again in a collection, and what it gives in ascending order.
+/// Adds how many of the values came again in a collection, and the values of the collection in ascending order.
 fn add_collected<W: Worded>(alloc: Global, world: &W, words: &str, text: &mut Vec<u8>) -> Option<()>
     requires { W.lawful world.now }
 {
@@ -116,7 +116,7 @@ fn add_collected<W: Worded>(alloc: Global, world: &W, words: &str, text: &mut Ve
     add_values(alloc, world, ascending.as_slice(), text).ok()
 }
 
-/// Adds how many came again.
+/// Adds how many values came again.
 fn add_again(again: usize, text: &mut Vec<u8>) -> Result<(), AllocError> {
     add(text, "again ")?;
     add_number(again, text)?;

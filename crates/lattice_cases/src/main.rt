@@ -1,8 +1,9 @@
 //! Runs the cases of partitions, of listings of joins and of covers of gates. The form of a line is that of
-//! [`case_lines`]; what the arguments and the answers of a call are is told at the top of each file of `data/`:
-//! `labels.cases` has the calls of `Partition`, `rows.cases` those of `BitPart`, `joins.cases` those of `hs_lattice`
-//! and of the worlds of partitions, and `covers.cases` those of `cover_logic`. `four_states.cases` and
-//! `four_states_rows.cases` have all pairs of the partitions of four states. A new case is a line, and takes no proof.
+//! [`case_lines`]. The top of each file of `data/` says what the arguments and the answers of its calls are:
+//! `labels.cases` has the calls of `Partition`, `rows.cases` those of `BitPart`, `joins.cases` those of
+//! `hs_lattice` and of the worlds of partitions, and `covers.cases` those of `cover_logic`. `four_states.cases`
+//! and `four_states_rows.cases` have all pairs of the partitions of four states. A new case is a line, and
+//! needs no proof.
 #![tactic(auto)]
 
 mod functions;
@@ -40,7 +41,7 @@ static FILES: [(Asked, &str); 6] = [
 ];
 
 impl Asked {
-    /// Adds what a call answers. There is none where the words do not fit the call.
+    /// Adds what a call answers. None if the words do not fit the call.
     fn add_answer(&self, alloc: Global, call: &str, words: &str, text: &mut Vec<u8>) -> Option<()> {
         match self {
             Asked::Labels => labels::add_answer(alloc, call, words, text),

@@ -1,4 +1,4 @@
-//! The numbers below n, joined by taking the greater one: a small world for listings of joins.
+//! The numbers below n, where a join is the greater number: a small world for listings of joins.
 
 ghost use Rattle.std.specs.Prelude.{◌≡◌, ℕ, ◌<◌, max};
 ghost use Rattle.std.proofs.Common.{arith};

@@ -53,7 +53,7 @@ fn add_of_one(
     }
 }
 
-/// Adds the row of a state, or where there are two, whether they are together.
+/// Adds the row of a state, or, if there are two states, whether they are together.
 fn add_of_states(alloc: Global, words: &str, text: &mut Vec<u8>) -> Option<()> {
     let (p, both) = cut(words);
     let (s, t) = states(both)?;

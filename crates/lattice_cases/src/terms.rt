@@ -3,7 +3,7 @@
 use cover_logic::Term;
 use std::alloc::{AllocError, Global};
 
-/// The term with literals at the columns of `care`, by the bits of `value` there.
+/// The term with literals at the columns of `care`, which are the bits of `value` there.
 pub(crate) fn masked(care: u128, value: u128) -> Term {
     Term {
         care,
@@ -26,7 +26,7 @@ fn term(text: &str) -> Term {
     masked(care, value)
 }
 
-/// The terms of a text, between spaces.
+/// The terms of texts that are separated by spaces.
 pub(crate) fn terms(alloc: Global, texts: &str) -> Result<Vec<Term>, AllocError> {
     let mut list = Vec::new(alloc);
     for text in texts.split_whitespace() {
@@ -69,7 +69,7 @@ fn ordered(alloc: Global, terms: &[Term], width: u8) -> Result<Vec<Vec<u8>>, All
     Ok(texts)
 }
 
-/// Adds texts with a space between each two.
+/// Adds texts, separated by spaces.
 fn add_texts(texts: &[Vec<u8>], text: &mut Vec<u8>) -> Result<(), AllocError> {
     for (place, item) in texts.iter().enumerate() {
         let between: &[u8] = if place == 0 { b"" } else { b" " };

@@ -25,7 +25,7 @@ pub(crate) fn count(word: &str) -> Option<usize>
     if n > 0 && n <= 256 { Some(n) } else { None }
 }
 
-/// The number of one state, or the numbers of two: the second is 0 where there is none.
+/// The number of one state, or the numbers of two. The second number is 0 if there is only one.
 pub(crate) fn states(words: &str) -> Option<(usize, usize)> {
     let (s, t) = cut(words);
     let t = number(t).unwrap_or(0);
@@ -45,13 +45,13 @@ pub(crate) fn labels(alloc: Global, word: &str) -> Option<Vec<u16>> {
     }
 }
 
-/// A label, so many times.
+/// A label, the given number of times.
 fn repeated(alloc: Global, word: &str, times: &str) -> Option<Vec<u16>> {
     let label = label(word)?;
     vec![in alloc; label; number(times)?].ok()
 }
 
-/// Labels with commas between them.
+/// Labels that are separated by commas.
 fn listed(alloc: Global, word: &str) -> Option<Vec<u16>> {
     let mut labels = Vec::new(alloc);
     if word == "-" || add_labels(&mut labels, word).is_some() {
@@ -61,7 +61,7 @@ fn listed(alloc: Global, word: &str) -> Option<Vec<u16>> {
     }
 }
 
-/// Adds labels with commas between them.
+/// Adds labels that are separated by commas.
 fn add_labels(labels: &mut Vec<u16>, words: &str) -> Option<()> {
     for word in words.split(',') {
         labels.push(label(word)?).ok()?;
@@ -69,7 +69,7 @@ fn add_labels(labels: &mut Vec<u16>, words: &str) -> Option<()> {
     Some(())
 }
 
-/// The partition that a word says: its labels, or the word for one of n states.
+/// The partition that a word says: its labels, or the name of a partition of n states.
 pub(crate) fn part(alloc: Global, word: &str) -> Option<Partition> {
     match word.split_once('*') {
         Some((kind, n)) => named(alloc, kind, count(n)?),
@@ -84,7 +84,7 @@ pub(crate) fn two_parts(alloc: Global, words: &str) -> Option<(Partition, Partit
     Some((p, part(alloc, q)?))
 }
 
-/// The partition of n states that a word says.
+/// The partition of n states that a word names.
 pub(crate) fn named(alloc: Global, kind: &str, n: usize) -> Option<Partition>
     requires { IsStateCount n }
 {
@@ -97,7 +97,7 @@ pub(crate) fn named(alloc: Global, kind: &str, n: usize) -> Option<Partition>
     }
 }
 
-/// The partition of n states into pairs of neighbours, the first pair beginning with that state.
+/// The partition of n states into pairs of neighbours, of which the first begins with the state `first`.
 fn neighbours(alloc: Global, n: usize, first: u16) -> Option<Partition>
     requires n { n ≤ 256 }
     requires first { first ≤ 1 }
@@ -109,7 +109,7 @@ fn neighbours(alloc: Global, n: usize, first: u16) -> Option<Partition>
     Partition::from_labels(alloc, labels.as_slice()).ok()
 }
 
-/// Adds a partition: its labels, or where it has more than eight states and is zero or one, the word for it.
+/// Adds a partition: its labels, or its name if it has more than eight states and is zero or one.
 pub(crate) fn add_part(alloc: Global, p: &Partition, text: &mut Vec<u8>) -> Result<(), AllocError> {
     let n = p.len();
     if n > 8 && p.blocks() == n {

@@ -27,7 +27,7 @@ pub fn low(alloc: Global, m: &Machine, p: &Partition) -> Result<Partition, Alloc
     Ok(q)
 }
 
-/// Puts the next states of two states together, for each symbol, and no more than that.
+/// Merges the next states of two states at each symbol, and nothing else.
 fn hold_next(
     alloc: Global,
     m: &Machine,

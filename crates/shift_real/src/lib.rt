@@ -21,10 +21,17 @@
 //! two contents that differ there alone are of two classes. The terms of a gate are those of the pieces of each
 //! class, for the contents whose latches that are not read are 0.
 //!
-//! The definitions are in `specs/`: `Words` has words and the states after them, `Definite` definite machines
-//! and their orders, `Chain` the chain, `Register` contents of the register, `Start` what it starts at, `Gates`
-//! what the gates read and give, and `ShiftNetwork` the network and what it does. The laws of `Laws` are the
-//! contract of a function that does nothing. What only private functions and proofs need is in `specs/Inner`.
+//! The definitions are in `specs/`:
+//!
+//! - `Words` has words and the states after them;
+//! - `Definite` has definite machines and their orders;
+//! - `Chain` has the chain;
+//! - `Register` has the contents of the register, and `Start` what it starts at;
+//! - `Gates` says what the gates read and give;
+//! - `ShiftNetwork` has the network, and says what it does.
+//!
+//! The laws of `Laws` are the contract of a function that does nothing. What only private functions and proofs
+//! need is in `specs/Inner`.
 #![tactic(auto)]
 
 mod chains;

@@ -10,8 +10,8 @@ use Rattle.state_reduce.specs.Alike.{IsEquivalence}
 use Rattle.state_reduce.specs.declared.judging.QuotientFail.{QuotientFail}
 use Rattle.state_reduce.specs.declared.judging.QuotientFail.TheVariants.{NotClosed, NotConsistent, NoMemory}
 
--- s < t are the first two states of a block for which P fails at some symbol, by the least s and then the least
--- t, and x is the least symbol at which it fails
+-- s < t are the first two states of a block for which P fails at some symbol, by s and then by t, and x is the
+-- least such symbol
 pub record IsFirstAgainst (P : KissFile → (s t x : ℕ) → Type 0) (F : KissFile) (p : List ℕ) (s t x : ℕ) : Type 0 where
   pub order : s < t
   pub together : Together p s t

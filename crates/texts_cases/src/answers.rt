@@ -12,7 +12,7 @@ pub fn put_all(texts: &[&[u8]], into: &mut Vec<u8>) -> Result<(), AllocError> {
     Ok(())
 }
 
-/// Appends the front and then what a value says of itself.
+/// Appends the front and then a value as it is displayed.
 pub fn put<T: fmt::Display + Drop>(
     alloc: Global,
     front: &[u8],
@@ -45,7 +45,7 @@ pub fn put_debugged<T: fmt::Debug>(
     put_all(&[front, text.as_bytes()], into)
 }
 
-/// Appends names, each between the same texts.
+/// Appends names, each between the same two texts.
 pub fn put_names(
     front: &[u8],
     names: &[Name],

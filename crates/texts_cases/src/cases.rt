@@ -16,7 +16,7 @@ struct Case<'a> {
     wanted: &'a str,
 }
 
-/// How many cases of one call there are, and how many of them differ.
+/// The number of cases of one call, and how many of them differ.
 #[derive(Clone, Copy, Default)]
 struct Tally {
     cases: u32,
@@ -73,7 +73,7 @@ fn case_of(line: &str) -> Option<Case<'_>> {
     })
 }
 
-/// Prints how many cases of a call there are where all agree.
+/// Prints the number of cases of a call, if all of them agree.
 fn report(rt: &HostRuntime, call: &[u8], tally: Tally) -> io::Result<()> {
     if tally.cases > 0 && tally.differ == 0 {
         println!(rt; "{}: {} cases", shown(call), tally.cases)?;
@@ -81,7 +81,7 @@ fn report(rt: &HostRuntime, call: &[u8], tally: Tally) -> io::Result<()> {
     Ok(())
 }
 
-/// Whether the answer is the wanted one. Prints the case where it is not.
+/// Whether the answer is the wanted one. Prints the case if it is not.
 fn agrees(rt: &HostRuntime, file: &str, case: Case) -> io::Result<bool> {
     let mut found = Vec::new(rt.alloc());
     let mut wanted = Vec::new(rt.alloc());
@@ -89,7 +89,7 @@ fn agrees(rt: &HostRuntime, file: &str, case: Case) -> io::Result<bool> {
     compare(rt, case, found.as_slice(), wanted.as_slice())
 }
 
-/// Puts what a case answers and what it is to answer.
+/// Puts what a case answers, and what it is to answer.
 fn put_both(
     rt: &HostRuntime,
     file: &str,
@@ -140,7 +140,7 @@ fn compare(rt: &HostRuntime, case: Case, found: &[u8], wanted: &[u8]) -> io::Res
     Ok(false)
 }
 
-/// How many bytes stand before the first difference.
+/// The number of bytes before the first difference.
 fn first_difference(found: &[u8], wanted: &[u8]) -> usize {
     let most = found.len().min(wanted.len());
     for i in 0..most {
@@ -151,7 +151,7 @@ fn first_difference(found: &[u8], wanted: &[u8]) -> usize {
     most
 }
 
-/// The text of some bytes, as far as they are text.
+/// The text of some bytes, or words that say that they are no text.
 fn shown(bytes: &[u8]) -> &str {
     str::from_utf8(bytes).unwrap_or("bytes that are no text")
 }

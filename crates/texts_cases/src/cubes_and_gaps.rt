@@ -58,7 +58,7 @@ pub(crate) fn put_cube(
     put(alloc, b" ", cube.width, into)
 }
 
-/// Whether a cube of three places holds the symbol of a number.
+/// Whether a cube of three places holds the symbol with this number.
 fn holds(text: &[u8], symbol: &[u8]) -> bool {
     let x = number(symbol).min(7) as u32;
     match Cube::parse(text, 3) {

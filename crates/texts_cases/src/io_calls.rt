@@ -25,13 +25,13 @@ pub(crate) fn answer(
     }
 }
 
-/// Puts how many names there are, and then the names.
+/// Puts the number of names, and then the names.
 fn put_counted(alloc: Global, names: &[Name], into: &mut Vec<u8>) -> Result<(), AllocError> {
     put(alloc, b"", names.len(), into)?;
     put_names(b"/", names, b"", into)
 }
 
-/// Puts the names of a list that is made from the vector of another one.
+/// Puts the names of a list that is made from the vector of another list.
 fn put_items(alloc: Global, words: &[u8], into: &mut Vec<u8>) -> Result<(), AllocError> {
     let list = Items::from(pieces(alloc, words, b'/')?.into_vec());
     put_counted(alloc, list.as_slice(), into)
@@ -44,7 +44,7 @@ fn put_copies(alloc: Global, words: &[u8], into: &mut Vec<u8>) -> Result<(), All
     put_counted(alloc, copies.as_slice(), into)
 }
 
-/// Puts what a failure says.
+/// Puts the message of a failure.
 fn put_message(alloc: Global, word: &[u8], into: &mut Vec<u8>) -> Result<(), AllocError> {
     match word {
         b"LoadFail::Failed" => put(alloc, b"", LoadFail::Failed, into),

@@ -57,16 +57,16 @@ fn put_state_names(names: &StateNames, into: &mut Vec<u8>) -> Result<(), AllocEr
     Ok(())
 }
 
-/// The toggle, of which the fronts are read.
+/// The toggle, whose fronts are read.
 const TOGGLE: &[u8] = b".i 1\n.o 1\n0 a a 0\n1 a b 1\n0 b b 1\n1 b a 0\n.e\n";
 
-/// The front of the toggle of a length.
+/// The front of the toggle that has this length.
 fn front(length: &[u8]) -> &'static [u8] {
     let length = number(length).min(1000) as usize;
     &TOGGLE[..length.min(TOGGLE.len())]
 }
 
-/// Puts what a byte so many times is read as.
+/// Puts what a piece, repeated the given number of times, is read as.
 fn put_repeated(alloc: Global, words: &[u8], into: &mut Vec<u8>) -> Result<(), AllocError> {
     let (times, piece) = cut(words, b' ');
     let mut text = Vec::new(alloc);
@@ -74,7 +74,7 @@ fn put_repeated(alloc: Global, words: &[u8], into: &mut Vec<u8>) -> Result<(), A
     put_read(alloc, text.as_slice(), into)
 }
 
-/// Appends a piece so many times.
+/// Appends a piece the given number of times.
 pub(crate) fn repeat(piece: &[u8], times: u64, into: &mut Vec<u8>) -> Result<(), AllocError> {
     for _ in 0..times {
         into.extend_from_slice(piece)?;
@@ -127,7 +127,7 @@ fn put_next(alloc: Global, to: Option<u16>, into: &mut Vec<u8>) -> Result<(), Al
     }
 }
 
-/// Puts what is written of a text that is read.
+/// Reads a text, and puts what is written of the file.
 fn put_rewritten(alloc: Global, text: &[u8], into: &mut Vec<u8>) -> Result<(), AllocError> {
     match read(alloc, readable(text)) {
         Ok(file) => put_written(alloc, &file, into),

@@ -5,7 +5,7 @@ use hs_io::{Name, Names};
 use net_core::{Gate, Gates, Latch, Latches, Network, Start};
 use std::alloc::{AllocError, Global};
 
-/// The network that a text says: its inputs, outputs, latches and gates, with `/` between each two.
+/// The network that a text says: its inputs, outputs, latches and gates, separated by `/`.
 pub(crate) fn network(alloc: Global, text: &[u8]) -> Result<Network, AllocError> {
     let mut net = Network {
         inputs: Names::new(alloc),
@@ -78,8 +78,8 @@ fn add_gates(alloc: Global, text: &[u8], gates: &mut Gates) -> Result<(), AllocE
     Ok(())
 }
 
-/// Adds a gate: the letters of its output and of its inputs, and after `=` or `!`, as they list the on-set or the
-/// off-set, its rows, each after a comma.
+/// Adds a gate: the letters of its output and of its inputs, then `=` or `!`, and then its rows, each after a
+/// comma. With `=` the rows list the on-set, and with `!` the off-set.
 fn add_gate(alloc: Global, word: &[u8], gates: &mut Gates) -> Result<(), AllocError> {
     let (rest, _) = cut(word, b'!');
     let on = rest.len() == word.len();
@@ -99,7 +99,7 @@ fn add_gate(alloc: Global, word: &[u8], gates: &mut Gates) -> Result<(), AllocEr
     })
 }
 
-/// What stands after each comma of a word.
+/// The pieces of a word after its commas.
 fn rows_of(alloc: Global, word: &[u8]) -> Result<Names, AllocError> {
     let (front, rows) = cut(word, b',');
     if front.len() == word.len() {

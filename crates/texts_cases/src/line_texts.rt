@@ -5,7 +5,7 @@ use crate::words::readable;
 use hs_io::{Line, content_of, cut_lines, first_field, first_line, is_clean};
 use std::alloc::{AllocError, Global};
 
-/// Puts the lines of a text, and then the lines as they are read in turn where those are others.
+/// Puts the lines of a text, and then, if these differ, the lines as they are read one after another.
 pub(crate) fn put_lines(alloc: Global, text: &[u8], into: &mut Vec<u8>) -> Result<(), AllocError> {
     let mut in_turn = Vec::new(alloc);
     put_in_turn(alloc, text, &mut in_turn)?;
@@ -16,7 +16,7 @@ pub(crate) fn put_lines(alloc: Global, text: &[u8], into: &mut Vec<u8>) -> Resul
     put_all(&[b"; in turn ", in_turn.as_slice()], into)
 }
 
-/// Puts the number of a line, and a mark where it is bad.
+/// Puts the number of a line, and a mark if it is bad.
 fn put_number(alloc: Global, number: u32, bad: bool, into: &mut Vec<u8>) -> Result<(), AllocError> {
     put(alloc, b"", number, into)?;
     into.extend_from_slice(if bad {
@@ -57,7 +57,7 @@ fn put_in_turn(alloc: Global, text: &[u8], into: &mut Vec<u8>) -> Result<(), All
     Ok(())
 }
 
-/// Puts what a line says.
+/// Puts the number of a line and its fields.
 fn put_content(
     alloc: Global,
     number: u32,

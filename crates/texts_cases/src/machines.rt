@@ -45,12 +45,12 @@ fn put_words(alloc: Global, seed: u64, count: u64, into: &mut Vec<u8>) -> Result
     Ok(())
 }
 
-/// What stands before the word of a number, counted from 0.
+/// The text before the word with this number, counted from 0.
 fn space_before(i: u64) -> &'static [u8] {
     if i == 0 { b"" } else { b" " }
 }
 
-/// Puts how many states and rows a machine has.
+/// Puts the numbers of states and of rows of a machine.
 fn put_sizes(alloc: Global, file: &KissFile, into: &mut Vec<u8>) -> Result<(), AllocError> {
     put(alloc, b"", file.states.count(), into)?;
     put(alloc, b" states ", file.rows.as_slice().len(), into)?;

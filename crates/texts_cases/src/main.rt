@@ -13,19 +13,21 @@
 //! | `runs.cases` | `net_sim` |
 //! | `machines.cases` | `machine_gen` |
 //!
-//! A case is a line: the call is its first word, the arguments are the words up to the first ` =`, and the answer
-//! is what follows after one space, as in `meets 01- -11 = true`. Empty lines and lines that begin with `#` are
-//! skipped. In the arguments and the answer `\n`, `\r` and `\t` are one byte each, and so is `\x` with two
-//! hexadecimal digits. What the arguments and the answers of a call are is told at the top of each file. A new
-//! case is a line, and takes no proof. Cases of one call follow one another.
+//! A case is a line: the call is its first word, the arguments are the words up to the first ` =`, and the
+//! answer is what follows after one space, as in `meets 01- -11 = true`. Empty lines and lines that begin with
+//! `#` are skipped. In the arguments and the answer `\n`, `\r` and `\t` are one byte each, and so is `\x` with
+//! two hexadecimal digits. The top of each file says what the arguments and the answers of its calls are. A new
+//! case is a line, and needs no proof. Cases of one call follow one another.
 //!
-//! An argument that is missing is empty, a character that is no digit counts as one, and a number outside its
-//! range is the nearest one inside. So a case with a fault is not refused: it shows as a difference where it is given
-//! another answer than the one that it asks for.
+//! A missing argument is empty, a character that is no digit counts as a digit, and a number outside its range
+//! is the nearest number in the range. So a case with a fault is not refused. It shows as a difference if the
+//! call answers something other than what the case asks for.
 //!
-//! Three words name no files: `streams` puts a line to standard output and nothing to standard error, `small_cubes`
-//! compares the gaps of every list of up to three small cubes with a plain count, and `short_lists` compares what is
-//! told of every short list of words with a plain judge.
+//! Three words name no files:
+//!
+//! - `streams` puts a line to standard output and nothing to standard error;
+//! - `small_cubes` compares the gaps of every list of up to three small cubes with a plain count;
+//! - `short_lists` compares what is said of every short list of words with a plain judge.
 #![tactic(auto)]
 
 mod answers;

@@ -25,7 +25,7 @@ pub(crate) fn answer(
     }
 }
 
-/// Puts what a text that ends in a piece so many times is read as.
+/// Puts what a text is read as that consists of a front and of a piece repeated the given number of times.
 fn put_repeated(alloc: Global, words: &[u8], into: &mut Vec<u8>) -> Result<(), AllocError> {
     let (times, rest) = cut(words, b'|');
     let (front, piece) = cut(rest, b'|');
@@ -97,7 +97,7 @@ fn put_fault(alloc: Global, fault: &BlifFault, into: &mut Vec<u8>) -> Result<(),
     }
 }
 
-/// Puts why a network is not sound, with the same behind each name.
+/// Puts why a network is not sound, with `behind` after each name.
 pub(crate) fn put_unsound(
     fail: &NetFail,
     behind: &[u8],
@@ -114,7 +114,7 @@ pub(crate) fn put_unsound(
     }
 }
 
-/// Puts the text of the network without signals, and then its network again.
+/// Puts the text of the network without signals, and then the text of that network alone, without a header.
 fn put_written(alloc: Global, into: &mut Vec<u8>) -> Result<(), AllocError> {
     put_headed(alloc, into)?;
     let net = Network {
@@ -126,7 +126,7 @@ fn put_written(alloc: Global, into: &mut Vec<u8>) -> Result<(), AllocError> {
     append(alloc, &net, into)
 }
 
-/// Puts the text of the network without signals.
+/// Puts the text of the network without signals, with its header.
 fn put_headed(alloc: Global, into: &mut Vec<u8>) -> Result<(), AllocError> {
     let net = Network {
         inputs: Items::new(alloc),

@@ -44,7 +44,7 @@ fn put_order(alloc: Global, order: &Order, into: &mut Vec<u8>) -> Result<(), All
     Ok(())
 }
 
-/// Puts how many inputs, outputs, latches and signals there are.
+/// Puts the numbers of inputs, outputs, latches and signals.
 fn put_counts(alloc: Global, order: &Order, into: &mut Vec<u8>) -> Result<(), AllocError> {
     put(alloc, b"", order.inputs(), into)?;
     put(alloc, b" ", order.outputs(), into)?;

@@ -1,11 +1,11 @@
-//! Every list of one to three cubes of three places, beside a plain count over the eight symbols.
+//! Every list of up to three cubes of three places, compared with a plain count over the eight symbols.
 
 use crate::cubes_and_gaps::gap;
 use hs_io::{Name, Names};
 use std::alloc::{AllocError, Global};
 use std::io;
 
-/// Whether all lists agree. Prints how many there are, and each that differs.
+/// Whether all lists agree. Prints the number of lists if they do, and else each list that differs.
 pub(crate) fn agree(rt: &HostRuntime) -> io::Result<bool> {
     let mut all = true;
     for number in 0..28 * 28 * 28usize {
@@ -20,14 +20,14 @@ pub(crate) fn agree(rt: &HostRuntime) -> io::Result<bool> {
     Ok(all)
 }
 
-/// Whether the first gap of a list is the one that is counted.
+/// Whether the first gap of a list is the one that the plain count finds.
 fn agrees(alloc: Global, number: usize) -> Result<bool, AllocError> {
     let mut fields = Names::new(alloc);
     add_fields(alloc, number, &mut fields)?;
     Ok(gap(alloc, fields.as_slice(), 3)? == plain_gap(fields.as_slice()))
 }
 
-/// Adds up to three fields of three characters, by number: three digits below 28, of which 27 stands for none.
+/// Adds up to three fields of three characters, by number: three digits below 28, of which 27 means no field.
 fn add_fields(alloc: Global, number: usize, fields: &mut Names) -> Result<(), AllocError> {
     for digit in [number / 784 % 28, number / 28 % 28, number % 28] {
         if digit < 27 {
@@ -37,7 +37,7 @@ fn add_fields(alloc: Global, number: usize, fields: &mut Names) -> Result<(), Al
     Ok(())
 }
 
-/// The fields of three characters, by number.
+/// The field of three characters with this number.
 fn small_field(number: usize) -> [u8; 3] {
     let characters = [b'0', b'1', b'-'];
     [

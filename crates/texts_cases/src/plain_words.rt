@@ -1,4 +1,4 @@
-//! A judge of words that looks at each word by itself and counts what stands before it.
+//! A judge of words that looks at each word on its own and counts the words before it.
 
 use job_words::{CommandOption, Form, OperandKind, built_forms};
 use std::str;
@@ -19,7 +19,7 @@ pub(crate) fn refused_word(words: &[&[u8]]) -> usize {
     0
 }
 
-/// The row of the first word.
+/// The form whose command is the first word.
 fn form_of(words: &[&[u8]]) -> Option<Form> {
     if words.is_empty() {
         return None;
@@ -32,7 +32,7 @@ fn form_of(words: &[&[u8]]) -> Option<Form> {
     None
 }
 
-/// Whether a word can stand at its place behind those before it.
+/// Whether a word can be at its place, after the words before it.
 fn can_stand(form: &Form, words: &[&[u8]], place: usize) -> bool {
     if place == 0 || place >= words.len() {
         return false;
@@ -59,7 +59,7 @@ fn is_taken(words: &[&[u8]], place: usize) -> bool {
     taken
 }
 
-/// Whether a word is an option that takes the next one.
+/// Whether a word is an option that takes the next word.
 fn takes_word(word: &[u8]) -> bool {
     word == b"--limit".as_slice() || word == b"--start".as_slice() || word == b"--fill".as_slice()
 }
@@ -72,7 +72,7 @@ fn can_be_taken(option: &[u8], word: &[u8]) -> bool {
     option == b"--start".as_slice() || word == b"hold".as_slice()
 }
 
-/// Whether the row has the option of a word.
+/// Whether the form has the option that a word names.
 fn has_option(form: &Form, word: &[u8]) -> bool {
     for option in form.options {
         let name: &[u8] = match option {
@@ -88,7 +88,7 @@ fn has_option(form: &Form, word: &[u8]) -> bool {
     false
 }
 
-/// Whether the word at a place stands before it as an option.
+/// Whether the word at a place also comes before it, as an option.
 fn stands_before(words: &[&[u8]], place: usize) -> bool {
     for i in 1..place.min(words.len()) {
         if place < words.len() && words[i] == words[place] && !is_taken(words, i) {
@@ -98,7 +98,7 @@ fn stands_before(words: &[&[u8]], place: usize) -> bool {
     false
 }
 
-/// How many operands stand before a place.
+/// The number of operands before a place.
 fn operands_before(words: &[&[u8]], place: usize) -> usize {
     let mut count = 0usize;
     for i in 1..place.min(words.len()) {
@@ -109,7 +109,7 @@ fn operands_before(words: &[&[u8]], place: usize) -> usize {
     count
 }
 
-/// Whether the word at a place is an operand of a kind. B stands right behind A here.
+/// Whether the word at a place is an operand of a kind. Here B comes directly after A.
 fn is_of_kind(kind: OperandKind, words: &[&[u8]], place: usize) -> bool {
     if place == 0 || place >= words.len() {
         return false;

@@ -86,7 +86,7 @@ fn counted(alloc: Global, states: &[u8], words: &[u8]) -> Result<Vec<u8>, AllocE
     counts(alloc, states, inputs, outputs, rows, reset)
 }
 
-/// The summary of the trial of 42 2 2 1 with so many closed partitions, or more than 1,000.
+/// The summary of the trial of 42 2 2 1 with the given number of closed partitions, or with more than 1,000.
 fn summary(alloc: Global, closed: &[u8]) -> Result<Vec<u8>, AllocError> {
     let closed = if closed == b"more".as_slice() {
         None

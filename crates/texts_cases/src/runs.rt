@@ -49,7 +49,7 @@ fn put_of_network(
     }
 }
 
-/// The start that a word says: none where it is the network's own.
+/// The start that a word says, or None for the network's own start.
 fn start_of(word: &[u8]) -> Option<&[u8]> {
     if word == b"own".as_slice() {
         None
@@ -68,7 +68,7 @@ fn put_refused(alloc: Global, fail: &SimFail, into: &mut Vec<u8>) -> Result<(), 
     }
 }
 
-/// The bits that a text says, and none where it is a dash.
+/// The bits that a text says. A dash says none.
 fn bits(alloc: Global, text: &[u8]) -> Result<Vec<bool>, AllocError> {
     let mut bits = Vec::new(alloc);
     for byte in text {
@@ -133,7 +133,7 @@ fn put_symbols(
     }
 }
 
-/// Puts a text after an answer was appended.
+/// Puts a text with an answer appended to it.
 fn put_appended(
     alloc: Global,
     text: &[u8],

@@ -6,7 +6,7 @@ use hs_io::{FileShelf, LoadFail, MemShelf, MemSink, Shelf, Sink, SinkFail, StdSi
 use std::alloc::{AllocError, Global};
 use std::io;
 
-/// What a load tells.
+/// The word for the answer of a load.
 fn told(answer: Result<(), LoadFail>) -> &'static [u8] {
     match answer {
         Ok(()) => b"ok ",
@@ -16,7 +16,7 @@ fn told(answer: Result<(), LoadFail>) -> &'static [u8] {
     }
 }
 
-/// Puts what each load of a shelf in memory tells, and the bytes of it.
+/// Puts the answer of each load from a shelf in memory, and the bytes that it gives.
 pub(crate) fn load_all(alloc: Global, words: &[u8], into: &mut Vec<u8>) -> Result<(), AllocError> {
     let mut shelf = MemShelf::new(alloc);
     let steps = pieces(alloc, words, b';')?;
@@ -42,7 +42,7 @@ fn take_step(
     }
 }
 
-/// Puts what a load of a name with a limit tells, and the bytes of it.
+/// Puts the answer of a load of a name with a limit, and the bytes that it gives.
 fn load(
     alloc: Global,
     shelf: &mut MemShelf,
@@ -56,7 +56,7 @@ fn load(
     put_all(&[told(answer), bytes.as_slice(), b";"], into)
 }
 
-/// Puts what a load of a file with a limit of ten bytes tells, and the bytes of it.
+/// Puts the answer of a load of a file with a limit of ten bytes, and the bytes that it gives.
 pub(crate) fn load_file(
     rt: &HostRuntime,
     name: &[u8],
@@ -68,7 +68,7 @@ pub(crate) fn load_file(
     put_all(&[told(answer), bytes.as_slice()], into)
 }
 
-/// Puts what each put to a sink in memory tells, and the bytes that the sink was given so far.
+/// Puts the answer of each put to a sink in memory, and the bytes that the sink was given so far.
 pub(crate) fn put_pieces(
     alloc: Global,
     words: &[u8],
@@ -97,7 +97,7 @@ fn put_step(sink: &mut MemSink, step: &[u8], into: &mut Vec<u8>) -> Result<(), A
     into.extend_from_slice(b";")
 }
 
-/// What a put tells.
+/// The word for the answer of a put.
 fn taken(answer: Result<(), SinkFail>) -> &'static [u8] {
     match answer {
         Ok(()) => b"ok ",
@@ -122,13 +122,13 @@ impl Print for Closed {
     }
 }
 
-/// Puts what a put to a stream that takes nothing tells.
+/// Puts the answer of a put to a stream that takes nothing.
 pub(crate) fn put_to_closed(alloc: Global, into: &mut Vec<u8>) -> Result<(), AllocError> {
     let answer = StdSink::new(&Closed).put(b"a line\n");
     put_debugged(alloc, b"", &answer, into)
 }
 
-/// Puts a line to standard output, and nothing to standard error, and tells whether they took it.
+/// Puts a line to standard output and nothing to standard error, and returns whether they took it.
 pub(crate) fn put_to_streams(rt: &HostRuntime) -> bool {
     let line = StdSink::new(rt.stdout()).put(b"a line\n");
     let nothing = StdSink::new(rt.stderr()).put(b"");

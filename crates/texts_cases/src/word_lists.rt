@@ -1,4 +1,4 @@
-//! Every short list of words, beside a plain judge of each word by itself.
+//! Every short list of words, compared with a plain judge that looks at each word on its own.
 
 use crate::plain_words::refused_word;
 use job_words::{JobFail, Words, built_forms, judge};
@@ -40,7 +40,7 @@ const NUMBERS: [&[u8]; 9] = [
     b"--reduce",
 ];
 
-/// Whether all lists agree. Prints how many there are, and each that differs.
+/// Whether all lists agree. Prints the number of lists if they do, and else each list that differs.
 pub(crate) fn agree(rt: &HostRuntime) -> io::Result<bool> {
     let mut all = true;
     for (count, lists) in [(0, 1), (1, 18), (2, 324), (3, 5832), (4, 104_976)] {
@@ -51,7 +51,7 @@ pub(crate) fn agree(rt: &HostRuntime) -> io::Result<bool> {
     Ok(all && agree)
 }
 
-/// Whether the lists of so many words agree.
+/// Whether the lists of `count` words agree.
 fn agree_on(
     rt: &HostRuntime,
     first: Option<&'static [u8]>,
@@ -72,7 +72,7 @@ fn agree_on(
     Ok(all)
 }
 
-/// Whether the plain judge refuses the same word of a list.
+/// Whether the plain judge refuses the same word of a list, or also accepts it.
 fn agrees(
     alloc: Global,
     first: Option<&'static [u8]>,
@@ -89,7 +89,7 @@ fn agrees(
     Ok(refused(alloc, &words)? == refused_word(plain.as_slice()))
 }
 
-/// Adds words of the alphabet, which the digits of the number say.
+/// Adds the words of the alphabet that the digits of the number select.
 fn add_words(
     alphabet: &[&'static [u8]],
     count: u32,
@@ -118,7 +118,7 @@ fn add_word(
     words.push(word)
 }
 
-/// The number of the refused word, or 0.
+/// The number of the refused word, or 0 if the words are a job.
 fn refused(alloc: Global, words: &Words) -> Result<usize, AllocError> {
     if words.count() > 1000 {
         return Ok(0);

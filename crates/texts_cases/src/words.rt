@@ -5,7 +5,7 @@ ghost use Rattle.std.specs.Prelude.{◌<◌, ◌≤◌, length};
 use hs_io::{Name, Names};
 use std::alloc::{AllocError, Global};
 
-/// What stands before the first such byte, and what stands after it: all and nothing where there is none.
+/// The text before the first `mark` and the text after it; the whole text and nothing if there is no `mark`.
 pub fn cut(text: &[u8], mark: u8) -> (&[u8], &[u8]) {
     for i in 0..text.len() {
         if text[i] == mark {
@@ -15,7 +15,7 @@ pub fn cut(text: &[u8], mark: u8) -> (&[u8], &[u8]) {
     (text, &text[text.len()..])
 }
 
-/// What stands between the bytes of that kind.
+/// The pieces of a text between its bytes `mark`.
 pub fn pieces(alloc: Global, text: &[u8], mark: u8) -> Result<Names, AllocError> {
     let mut pieces = Names::new(alloc);
     for piece in text.split(|byte| *byte == mark) {

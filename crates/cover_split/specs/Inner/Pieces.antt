@@ -16,7 +16,7 @@ pub record IsBlockText (n : ℕ) (text block : List ℕ) : Type 0 where
   pub lawful : IsBlock n block
   pub spelled : pieces_in text ≡ map decimal block
 
--- the first piece that is not the number of a state, greater than the one before it
+-- the first piece that is not the number of a state, or is not greater than the number before it
 pub record IsFirstBadPiece (n : ℕ) (pieces : List (List ℕ)) (place : ℕ) : Type 0 where
   pub within : place < length pieces
   pub bad : IsStatePiece n pieces place → ⊥
