@@ -6,8 +6,8 @@ use Rattle.cover_split.specs.declared.cover.CoverFail.TheVariants.{BadText, Cont
 use Rattle.cover_split.specs.Text.{pieces_of, Spells}
 use Rattle.cover_split.specs.Cover.{IsBlock, IsCovered, IsTrivial, IsWithin, NoneIsWithin, places_of}
 
--- the piece at the given place of a block is the number of a state, and greater than the number of a state
--- before it
+-- the piece at the given place of a block is the number of a state; if the piece before it is also the number
+-- of a state, this number is the greater one
 pub record IsStatePiece (n : ℕ) (pieces : List (List ℕ)) (place : ℕ) : Type 0 where
   pub state : ℕ
   pub among : state < n

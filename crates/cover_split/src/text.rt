@@ -116,7 +116,7 @@ fn read_blocks(alloc: Global, text: &[u8], n: usize) -> Result<Blocks, CoverFail
     Ok(found)
 }
 
-/// The block with this text: what the text has between commas. The block's number is given.
+/// The block whose states the text has between commas. `number` is the number of the block.
 fn read_block(alloc: Global, text: &[u8], n: usize, number: usize) -> Result<Block, CoverFail>
     requires { IsStateCount n }
     ensures { MatchResult result (IsBlockText n text.now) (IsBlockFault n text.now number) }

@@ -17,7 +17,7 @@
 //!
 //! Codes are tried in the order of their texts, and a code replaces the best so far only if it costs less.
 //! Inverting one bit in all codes changes no agreement of two states, and so no cost. Hence the bits of state 0
-//! are 0 in the least code, and no other codes are tried. The machine is asked only once, for each two states,
+//! are 0 in the least code, and no other codes are tried. For each two states, the machine is asked only once
 //! where its symbols lead them.
 #![tactic(auto)]
 

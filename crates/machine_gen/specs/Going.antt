@@ -1,5 +1,5 @@
--- What a machine of words does: each part of a state goes by that part and the symbol alone, and each output
--- depends on one part.
+-- What a machine of words does. Where each part of a state goes depends on that part and the symbol alone, and
+-- each output depends on one part alone.
 use Rattle.std.specs.Prelude.{◌≡◌, ℕ, ◌+◌, ◌*◌, ◌<◌, ◌==◌, Bool, List, [], ◌∷◌, length}
 use Rattle.cubes.specs.Symbol.{number_of}
 use Rattle.kiss2.specs.declared.kiss_file.KissFile.{KissFile}

@@ -1,5 +1,5 @@
 -- The machine of words and three numbers (source: this project). State i * b + j has the parts i and j. The
--- words say where each part goes, by that part and the symbol alone.
+-- words say where each part goes, which depends on that part and the symbol alone.
 use Rattle.std.specs.Prelude.{◌≡◌, ℕ, ◌+◌, ◌*◌, ◌/◌, ◌%◌, ◌^◌, ◌<◌, ◌≤◌, ◌==◌, if◌then◌else◌, List, Some, None, ◌++◌, codes, length, map, slice_get}
 use Rattle.std.specs.Fmt.{decimal}
 use Rattle.std.specs.List.{range_with_len}
@@ -22,11 +22,11 @@ pub record AreSizes (a b k : ℕ) : Type 0 where
 abbrev pub drawn : (ℕ → ℕ) → ℕ → ℕ → ℕ → ℕ
 drawn word k part x = word (part * 2 ^ k + x)
 
--- where the first part i goes, among a first parts: the low half of the word decides
+-- where first part i goes, one of `a` first parts: the low half of the word decides
 abbrev pub next_first : (ℕ → ℕ) → ℕ → ℕ → ℕ → ℕ → ℕ
 next_first word a k i x = drawn word k i x % 65536 % a
 
--- where the second part j goes, among b second parts: the high half of the word decides
+-- where second part j goes, one of `b` second parts: the high half of the word decides
 abbrev pub next_second : (ℕ → ℕ) → ℕ → ℕ → ℕ → ℕ → ℕ
 next_second word b k j x = drawn word k j x / 65536 % b
 

@@ -8,7 +8,7 @@ use rand_pcg::Lcg64Xsh32;
 use rand_pcg::rand_core::Rng;
 use std::alloc::{AllocError, Global};
 
-/// The stream of the generator: the one that the generator's reference words are on.
+/// The stream of the generator. The reference words of the generator are on this stream.
 const STREAM: u64 = 54;
 
 /// What one word says.

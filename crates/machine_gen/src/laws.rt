@@ -11,7 +11,7 @@ pub fn one_machine()
     ensures { HaveOneMachine }
 {}
 
-/// Each part of a state goes where it does by that part and the symbol alone. Output 0 says whether the first
+/// Where each part of a state goes depends on that part and the symbol alone. Output 0 says whether the first
 /// part is 0, and output 1 whether the second part is 0.
 pub fn parts_go()
     ensures { GoByParts }

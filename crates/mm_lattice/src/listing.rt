@@ -1,8 +1,8 @@
 //! All Mm pairs, in order.
 //!
-//! An Mm pair is decided by its right side, and each right side m(p) is the join of the right sides m(hold(s,
-//! t)) of the states s and t that are together in p. So the right sides are listed as joins of partitions, and
-//! then the left side of each is made, once.
+//! An Mm pair is decided by its right side, and each right side m(p) is the join of the right sides
+//! m(hold(s, t)) of the states s and t that are together in p. So the right sides are listed as joins of
+//! partitions, and then the left side of each is made, once.
 
 ghost use Rattle.std.specs.Prelude.{◌≤◌, All, IfOk, List, ℕ, length, map};
 ghost use Rattle.hs_lattice.specs.Listing.{Evidence, IfMore, IfWhole, Lists, items_of};

@@ -18,8 +18,7 @@ pub record IsOrder (F : KissFile) (k : ℕ) : Type 0 where
 abbrev pub ComeBefore : ℕ → ℕ → ℕ → ℕ → Type 0
 ComeBefore u v s t = (u < s) ⊎ ((u ≡ s) × (v < t))
 
--- s and t are two states that no k has every word of k symbols bring to one state, and they are the least two
--- such states
+-- for no k does every word of k symbols bring s and t to one state, and they are the least two such states
 pub record AreFirstApart (F : KissFile) (s t : ℕ) : Type 0 where
   pub first_state : s < length F.states
   pub second_state : t < length F.states

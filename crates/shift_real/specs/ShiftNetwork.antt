@@ -42,7 +42,7 @@ pub record Shifts (F : KissFile) (k : ℕ) (names : SignalNames) (N : Network) :
   pub newest : (i : ℕ) → i < F.inputs → 0 < k → TakesAt names N i (name_at names.inputs i)
   pub older : (j i : ℕ) → i < F.inputs → j + 1 < k → TakesAt names N ((j + 1) * F.inputs + i) (name_at names.latch_outputs (j * F.inputs + i))
 
--- after the gates of the latches come those of the outputs, and here that of output b
+-- the gates of the outputs come after those of the latches, and this is the gate of output b
 abbrev pub HasOutputGate : KissFile → ℕ → SignalNames → Network → ℕ → Type 0
 HasOutputGate F k names N b = (set : ReadSet) × (gate : Gate) × (slice_get N.gates (k * F.inputs + b) ≡ Some gate) × IsOutputGate F k names b set gate
 

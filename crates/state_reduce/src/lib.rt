@@ -7,8 +7,9 @@
 //!
 //! [`quotient`] makes the file of the blocks of a partition (`specs/Quotient`): it keeps the rows of the least
 //! state of each block, and replaces states by their blocks. Each block answers every word as its members do,
-//! and blocks of alike states are not alike. The partition has to be closed and consistent. `specs/Cause` says
-//! which refusal names which states, and that the partition of alike states is refused only if memory runs out.
+//! and no two blocks of the partition of alike states are alike. The partition has to be closed and consistent.
+//! `specs/Cause` says which refusal names which states, and that the partition of alike states is refused only
+//! if memory runs out.
 //!
 //! `specs/WorkMachine` says on which machine a job works, with `--reduce` and without.
 #![tactic(auto)]

@@ -24,7 +24,7 @@ pub record AreApart (F : KissFile) (value : ℕ → List Bool → Bool) (apart :
   pub differ : All (Differ F value) apart
   pub each : (s t : ℕ) → s < t → t < length F.states → Contains apart (record { s = s; t = t }) ⊎ GiveTheSame F value s t
 
--- for no two of these states do the codes agree on the set
+-- for no pair of the list do the codes of its two states agree on the set
 abbrev pub TellsApart : List ℕ → List TwoStates → (ℕ → Type 0) → Type 0
 TellsApart words apart R = All (λ pair. AgreeOn words R pair.s pair.t → ⊥) apart
 

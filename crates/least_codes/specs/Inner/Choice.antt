@@ -11,7 +11,7 @@ abbrev pub Ascend : ℕ → List ℕ → Type 0
 Ascend from [] = Unit {0}
 Ascend from (c ∷ rest) = (from ≤ c) × Ascend (c + 1) rest
 
--- left candidates from bit `from` on, ascending
+-- `left` candidates from bit `from` on, ascending
 pub record AreChosen (candidates from left : ℕ) (rest : List ℕ) : Type 0 where
   pub size : length rest ≡ left
   pub ascend : Ascend from rest

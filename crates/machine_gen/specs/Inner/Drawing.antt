@@ -6,7 +6,7 @@ use Rattle.machine_gen.specs.declared.drawing.Draw.{Draw}
 use Rattle.machine_gen.specs.declared.rows.Place.{Place}
 use Rattle.machine_gen.specs.MachineOf.{IsDrawnRow, next_first, next_second}
 
--- what a word says where there are a first parts and b second parts
+-- what a word says where there are `a` first parts and `b` second parts
 abbrev pub draw_of : ℕ → ℕ → ℕ → Draw
 draw_of a b word = record { first = word % 65536 % a; second = word / 65536 % b }
 

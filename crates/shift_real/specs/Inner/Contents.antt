@@ -14,7 +14,7 @@ abbrev pub turned_bits : ℕ → ℕ → ℕ
 turned_bits zero x = 0
 turned_bits (suc places) x = 2 * turned_bits places x + (if bit x places then 1 else 0)
 
--- the content after a content at which a symbol comes in
+-- the content that follows a content when a symbol comes in
 abbrev pub content_after : KissFile → Content → ℕ → Content
 content_after F content x =
     record {
