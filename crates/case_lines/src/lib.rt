@@ -36,7 +36,8 @@ struct Tally {
     differ: u32,
 }
 
-/// Whether all cases of a file agree. Prints a line for each call, and one for each case that differs.
+/// Whether all cases of a file agree. Prints a line for each call whose cases all agree, and a line for each
+/// case that differs.
 pub fn agree<C: Calls, R: Files + AllocGlobal + Print>(
     rt: &R,
     calls: &C,

@@ -12,7 +12,7 @@ use crate::table::{Images, image_table};
 use machine_table::Machine;
 use std::alloc::{AllocError, Global};
 
-/// Codes, bit i of a code at 2^i of the word of its state, and what they cost.
+/// Codes, with bit i of a code at 2^i in the word of its state, and what they cost.
 #[derive(Debug, Drop)]
 pub(crate) struct Best {
     pub(crate) words: Vec<u64>,

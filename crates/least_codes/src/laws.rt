@@ -10,7 +10,7 @@ pub fn choice_is_one()
     ensures given { GivenCodesAreLeast }
 {}
 
-/// There is a least code, whose state 0 has zeros, and a split that gives it.
+/// There is a least code, in which the bits of state 0 are 0. For 3 to 8 states there is a split that gives it.
 pub fn least_code_exists()
     ensures code { LeastCodeExists }
     ensures zeros { LeastCodeHasZeros }

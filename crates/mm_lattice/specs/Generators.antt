@@ -1,4 +1,4 @@
--- The right sides of two states, of which all right sides are joins.
+-- The right sides of pairs of states. All right sides are joins of these.
 use Rattle.std.specs.Prelude.{ℕ, List, length}
 use Rattle.kiss2.specs.declared.kiss_file.KissFile.{KissFile}
 use Rattle.partition.specs.Partition.{IsHold}

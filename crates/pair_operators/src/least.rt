@@ -11,7 +11,7 @@ use std::alloc::{AllocError, Global};
 
 /// m(p): the least partition q for which (p, q) is a pair.
 ///
-/// It begins with zero, and puts together what has to be: the next states of each state and of the least
+/// It begins with zero, and merges what has to be together: the next states of each state and of the least
 /// state of its block.
 pub fn low(alloc: Global, m: &Machine, p: &Partition) -> Result<Partition, AllocError>
     requires { length p.now ≡ length m.now.states }

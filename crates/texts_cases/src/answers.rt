@@ -34,7 +34,7 @@ pub fn put_bits(
     put_all(&[front, text.as_bytes()], into)
 }
 
-/// Appends the front and then a value as it is debugged.
+/// Appends the front and then the debug form of a value.
 pub fn put_debugged<T: fmt::Debug>(
     alloc: Global,
     front: &[u8],

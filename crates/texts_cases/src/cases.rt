@@ -23,7 +23,8 @@ struct Tally {
     differ: u32,
 }
 
-/// Whether all cases of a file agree. Prints a line for each call, and one for each case that differs.
+/// Whether all cases of a file agree. Prints a line for each call whose cases all agree, and a line for each
+/// case that differs.
 pub(crate) fn agree(rt: &HostRuntime, file: &str) -> io::Result<bool> {
     match fs::read_to_string(rt, file) {
         Ok(text) => agree_on(rt, file, text.as_str()),

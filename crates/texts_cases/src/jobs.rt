@@ -27,7 +27,7 @@ pub(crate) fn answer(
     }
 }
 
-/// Adds the words of a line, cut at each space; no words of an empty line.
+/// Adds the words of a line, cut at each space. An empty line has no words.
 fn add_words(alloc: Global, line: &[u8], words: &mut Words) -> Result<(), AllocError> {
     if line.is_empty() {
         return Ok(());

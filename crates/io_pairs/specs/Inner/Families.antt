@@ -7,7 +7,8 @@ use Rattle.io_pairs.specs.declared.family.Family.{Family}
 abbrev pub value_at : List (List ℕ) → ℕ → ℕ → ℕ
 value_at functions k x = slice_index (slice_index_or functions k []) x
 
--- each function has a value for each member
+-- there are 1 to 256 members, 1 to 256 values, and at most 256 functions, each of which has a value for each
+-- member
 pub record AreFunctions (members values : ℕ) (functions : List (List ℕ)) : Type 0 where
   pub some_members : IsStateCount members
   pub some_values : IsStateCount values
