@@ -49,6 +49,12 @@ pub fn worked_forms()
     ensures row_behind_inputs { IsRefused (codes ".model m" ∷ codes ".names z" ∷ codes "1" ∷ codes ".inputs a" ∷ codes "1" ∷ []) 5 BadFields }
     ensures latch_kind { IsRefused (codes ".model m" ∷ codes ".latch a b fe c 0" ∷ []) 2 LatchKind }
     ensures kind_before_name { IsRefused (codes ".model m" ∷ (codes ".latch a " ++ (long 65 ++ codes " fe c 0")) ∷ []) 2 LatchKind }
+    ensures capital_word { IsRefused (codes ".model m" ∷ codes ".INPUTS a" ∷ []) 2 Unsupported }
+    ensures shorter_word { IsRefused (codes ".model m" ∷ codes ".input a" ∷ []) 2 Unsupported }
+    ensures no_names { IsRefused (codes ".model m" ∷ codes ".names" ∷ []) 2 BadFields }
+    ensures two_digits { IsRefused (codes ".model m" ∷ codes ".latch a b 00" ∷ []) 2 BadFields }
+    ensures type_alone { IsRefused (codes ".model m" ∷ codes ".latch a b re" ∷ []) 2 BadFields }
+    ensures active_high { IsRefused (codes ".model m" ∷ codes ".latch a b ah c" ∷ []) 2 LatchKind }
 {}
 
 /// Rows that are none of their gate.
@@ -59,6 +65,8 @@ pub fn worked_rows()
     ensures gate_before { IsRefused (codes ".model m" ∷ codes ".names a b u" ∷ codes "11 1" ∷ codes ".names a v" ∷ codes "11 1" ∷ []) 5 BadRow }
     ensures mixed_cover { IsRefused (codes ".model m" ∷ codes ".names a z" ∷ codes "1 1" ∷ codes "0 0" ∷ []) 4 MixedCover }
     ensures mixed_joined { IsRefused (codes ".model m" ∷ codes ".names \\" ∷ codes "a z" ∷ codes "1 1" ∷ codes "0\\" ∷ codes "0" ∷ []) 5 MixedCover }
+    ensures skipped_between { IsRefused (codes ".model m" ∷ codes ".names a z" ∷ [] ∷ codes "# rows" ∷ codes "11 1" ∷ []) 5 BadRow }
+    ensures row_behind_clock { IsRefused (codes ".model m" ∷ codes ".names a z" ∷ codes ".clock c" ∷ codes "11 1" ∷ []) 4 BadFields }
 {}
 
 /// Clocks, and lines that are joined.
@@ -72,6 +80,10 @@ pub fn worked_clocks()
     ensures joined_word { IsRefused (codes ".model m\\" ∷ [] ∷ codes ".subckt\\" ∷ codes " n" ∷ []) 3 Unsupported }
     ensures joined_bad { IsRefused (codes ".model m" ∷ codes ".inputs a \\" ∷ codes "\u{1}" ∷ codes ".gate x" ∷ []) 2 BadByte }
     ensures joined_end { IsRefused (codes ".model m" ∷ codes ".gate\\" ∷ []) 2 Unsupported }
+    ensures first_named_by_word { IsRefused (codes ".model m" ∷ codes ".clock c" ∷ codes ".latch a c re c" ∷ []) 2 Clocks }
+    ensures line_before_driven_clock { IsRefused (codes ".model m" ∷ codes ".clock c" ∷ codes ".names c" ∷ codes "1" ∷ codes ".gate x" ∷ []) 5 Unsupported }
+    ensures driven_before_structure { IsRefused (codes ".model m" ∷ codes ".outputs z" ∷ codes ".clock c" ∷ codes ".names c" ∷ []) 3 Clocks }
+    ensures comment_backslash { IsRefused (codes ".model m" ∷ codes "# \\" ∷ codes ".gate x" ∷ []) 3 Unsupported }
 {}
 
 /// Limits, and which fault of a line comes first.
@@ -84,6 +96,9 @@ pub fn worked_limits()
     ensures many_outputs { IsRefused (codes ".model m" ∷ (codes ".outputs" ++ many 257) ∷ []) 2 (OverLimit Outputs 257) }
     ensures many_latches { IsRefused (codes ".model m" ∷ replicate 257 (codes ".latch a b")) 258 (OverLimit Latches 257) }
     ensures many_gate_inputs { IsRefused (codes ".model m" ∷ (codes ".names" ++ many 258) ∷ []) 2 (OverLimit GateInputs 257) }
+    ensures inputs_one_by_one { IsRefused (codes ".model m" ∷ (codes ".inputs" ++ many 300) ∷ []) 2 (OverLimit Inputs 257) }
+    ensures outputs_one_by_one { IsRefused (codes ".model m" ∷ (codes ".outputs" ++ many 300) ∷ []) 2 (OverLimit Outputs 257) }
+    ensures gate_inputs_one_by_one { IsRefused (codes ".model m" ∷ (codes ".names" ++ many 300) ∷ []) 2 (OverLimit GateInputs 257) }
 {}
 
 /// Lines with several faults: which of them is named, and where.
@@ -96,6 +111,10 @@ pub fn worked_orders()
     ensures long_latch_output { IsRefused (codes ".model m" ∷ (codes ".latch a " ++ long 65) ∷ []) 2 (OverLimit NameBytes 65) }
     ensures long_output { IsRefused (codes ".model m" ∷ (codes ".outputs " ++ long 65) ∷ []) 2 (OverLimit NameBytes 65) }
     ensures long_clock { IsRefused (codes ".model m" ∷ (codes ".clock " ++ long 65) ∷ []) 2 (OverLimit NameBytes 65) }
+    ensures input_before_output { IsRefused (codes ".model m" ∷ (codes ".latch " ++ (long 66 ++ (codes " " ++ long 65))) ∷ []) 2 (OverLimit NameBytes 66) }
+    ensures output_before_control { IsRefused (codes ".model m" ∷ (codes ".latch a " ++ (long 66 ++ (codes " re " ++ long 65))) ∷ []) 2 (OverLimit NameBytes 66) }
+    ensures long_before_clocks { IsRefused (codes ".model m" ∷ codes ".clock c" ∷ (codes ".clock " ++ long 65) ∷ []) 3 (OverLimit NameBytes 65) }
+    ensures long_before_outputs { IsRefused (codes ".model m" ∷ (codes ".outputs" ++ (many 257 ++ (codes " " ++ long 65))) ∷ []) 2 (OverLimit NameBytes 65) }
 {}
 
 /// Texts that reach a limit and do not go over it: their first fault is on the line after.
@@ -106,6 +125,7 @@ pub fn worked_reaches()
     ensures outputs { IsRefused (codes ".model m" ∷ (codes ".outputs" ++ many 256) ∷ codes ".gate x" ∷ []) 3 Unsupported }
     ensures latches { IsRefused (codes ".model m" ∷ (replicate 256 (codes ".latch a b") ++ codes ".gate x" ∷ [])) 258 Unsupported }
     ensures gate_inputs { IsRefused (codes ".model m" ∷ (codes ".names" ++ many 257) ∷ codes ".gate x" ∷ []) 3 Unsupported }
+    ensures names_of_each_word { IsRefused (codes ".model m" ∷ (codes ".outputs " ++ long 64) ∷ (codes ".clock " ++ long 64) ∷ (codes ".latch " ++ (long 64 ++ (codes " " ++ (long 64 ++ (codes " re " ++ long 64))))) ∷ (codes ".names " ++ (long 64 ++ (codes " " ++ long 64))) ∷ codes ".gate x" ∷ []) 6 Unsupported }
 {}
 
 /// The limit of gates, and that the inputs of a gate are looked at before it.
@@ -114,6 +134,7 @@ pub fn worked_gate_limit()
     ensures gone_over { (earlier : List Statement) → count_by is_names earlier ≡ 65536 → form_fault earlier (Names (codes "z" ∷ [])) ≡ Some (OverLimit Gates 65537) }
     ensures inputs_before_gates { (earlier : List Statement) → count_by is_names earlier ≡ 65536
         → form_fault earlier (Names (replicate 258 (codes "a"))) ≡ Some (OverLimit GateInputs 257) }
+    ensures long_before_gates { (earlier : List Statement) → count_by is_names earlier ≡ 65536 → form_fault earlier (Names (long 65 ∷ [])) ≡ Some (OverLimit NameBytes 65) }
 {}
 
 /// Networks that are not sound, though each statement is right.

@@ -30,7 +30,14 @@ is_word field = slice_index field 0 == 46
 abbrev pub statement_of : List (List ℕ) → Statement
 statement_of [] = Row []
 statement_of (word ∷ operands) =
-    if bytes_eq word model_word then Model operands else (if bytes_eq word inputs_word then Inputs operands else (if bytes_eq word outputs_word then Outputs operands else (if bytes_eq word clock_word then Clock operands else (if bytes_eq word latch_word then LatchLine operands else (if bytes_eq word names_word then Names operands else (if is_word word then Other else Row (word ∷ operands)))))))
+    if bytes_eq word model_word then Model operands
+    else if bytes_eq word inputs_word then Inputs operands
+    else if bytes_eq word outputs_word then Outputs operands
+    else if bytes_eq word clock_word then Clock operands
+    else if bytes_eq word latch_word then LatchLine operands
+    else if bytes_eq word names_word then Names operands
+    else if is_word word then Other
+    else Row (word ∷ operands)
 
 -- a statement, with the number of its line and whether that is bad
 pub record NumberedStatement : Type 0 where
@@ -91,7 +98,11 @@ latch_parts _ = None
 -- the start that a field says
 abbrev pub start_of : List ℕ → Option Start
 start_of field =
-    if bytes_eq field (start_digit Zero ∷ []) then Some Zero else (if bytes_eq field (start_digit One ∷ []) then Some One else (if bytes_eq field (start_digit Free ∷ []) then Some Free else (if bytes_eq field (start_digit Unknown ∷ []) then Some Unknown else None)))
+    if bytes_eq field (start_digit Zero ∷ []) then Some Zero
+    else if bytes_eq field (start_digit One ∷ []) then Some One
+    else if bytes_eq field (start_digit Free ∷ []) then Some Free
+    else if bytes_eq field (start_digit Unknown ∷ []) then Some Unknown
+    else None
 
 -- a missing start is not known
 abbrev pub start_said : Option (List ℕ) → Option Start

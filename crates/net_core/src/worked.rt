@@ -70,6 +70,7 @@ pub fn worked_gates()
 /// a start is one digit, and blank lines and comments end no gate's rows where other statements do.
 pub fn worked_readings()
     ensures clock_beside_inputs { Denotes (codes ".model m\n.inputs a\n.latch a p re c 0\n") (network (codes "a") [] (latch (codes "a") (codes "p") Zero ∷ []) []) }
+    ensures clock_word_beside_inputs { Denotes (codes ".model m\n.inputs a\n.clock c\n") (network (codes "a") [] [] []) }
     ensures active_high { DenotesNothing (codes ".model m\n.latch a p ah c 0\n") }
     ensures active_low { DenotesNothing (codes ".model m\n.latch a p al c 0\n") }
     ensures asynchronous { DenotesNothing (codes ".model m\n.latch a p as c 0\n") }

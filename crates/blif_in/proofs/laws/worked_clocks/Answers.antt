@@ -27,3 +27,15 @@ returns-clause-joined_bad c = inl refl
 
 pub returns-clause-joined_end : goal.returns-clause-joined_end
 returns-clause-joined_end c = inl refl
+
+pub returns-clause-first_named_by_word : goal.returns-clause-first_named_by_word
+returns-clause-first_named_by_word c = inl refl
+
+pub returns-clause-line_before_driven_clock : goal.returns-clause-line_before_driven_clock
+returns-clause-line_before_driven_clock c = inl refl
+
+pub returns-clause-driven_before_structure : goal.returns-clause-driven_before_structure
+returns-clause-driven_before_structure c = inl refl
+
+pub returns-clause-comment_backslash : goal.returns-clause-comment_backslash
+returns-clause-comment_backslash c = inl refl

@@ -33,3 +33,21 @@ returns-clause-latch_kind c = inl refl
 
 pub returns-clause-kind_before_name : goal.returns-clause-kind_before_name
 returns-clause-kind_before_name c = inl refl
+
+pub returns-clause-capital_word : goal.returns-clause-capital_word
+returns-clause-capital_word c = inl refl
+
+pub returns-clause-shorter_word : goal.returns-clause-shorter_word
+returns-clause-shorter_word c = inl refl
+
+pub returns-clause-no_names : goal.returns-clause-no_names
+returns-clause-no_names c = inl refl
+
+pub returns-clause-two_digits : goal.returns-clause-two_digits
+returns-clause-two_digits c = inl refl
+
+pub returns-clause-type_alone : goal.returns-clause-type_alone
+returns-clause-type_alone c = inl refl
+
+pub returns-clause-active_high : goal.returns-clause-active_high
+returns-clause-active_high c = inl refl

@@ -24,3 +24,12 @@ returns-clause-many_gate_inputs c = inl refl
 
 pub returns-clause-many_latches : goal.returns-clause-many_latches
 returns-clause-many_latches c = inl refl
+
+pub returns-clause-inputs_one_by_one : goal.returns-clause-inputs_one_by_one
+returns-clause-inputs_one_by_one c = inl refl
+
+pub returns-clause-outputs_one_by_one : goal.returns-clause-outputs_one_by_one
+returns-clause-outputs_one_by_one c = inl refl
+
+pub returns-clause-gate_inputs_one_by_one : goal.returns-clause-gate_inputs_one_by_one
+returns-clause-gate_inputs_one_by_one c = inl refl

@@ -24,3 +24,15 @@ returns-clause-long_output c = inl refl
 
 pub returns-clause-long_clock : goal.returns-clause-long_clock
 returns-clause-long_clock c = inl refl
+
+pub returns-clause-input_before_output : goal.returns-clause-input_before_output
+returns-clause-input_before_output c = inl refl
+
+pub returns-clause-output_before_control : goal.returns-clause-output_before_control
+returns-clause-output_before_control c = inl refl
+
+pub returns-clause-long_before_clocks : goal.returns-clause-long_before_clocks
+returns-clause-long_before_clocks c = inl refl
+
+pub returns-clause-long_before_outputs : goal.returns-clause-long_before_outputs
+returns-clause-long_before_outputs c = inl refl

@@ -18,3 +18,6 @@ returns-clause-latches c = inl refl
 
 pub returns-clause-gate_inputs : goal.returns-clause-gate_inputs
 returns-clause-gate_inputs c = inl refl
+
+pub returns-clause-names_of_each_word : goal.returns-clause-names_of_each_word
+returns-clause-names_of_each_word c = inl refl

@@ -18,3 +18,9 @@ returns-clause-mixed_cover c = inl refl
 
 pub returns-clause-mixed_joined : goal.returns-clause-mixed_joined
 returns-clause-mixed_joined c = inl refl
+
+pub returns-clause-skipped_between : goal.returns-clause-skipped_between
+returns-clause-skipped_between c = inl refl
+
+pub returns-clause-row_behind_clock : goal.returns-clause-row_behind_clock
+returns-clause-row_behind_clock c = inl refl

@@ -25,5 +25,8 @@ returns-clause-row_behind_clock c = nothing_from_fault _ refl
 pub returns-clause-clock_beside_inputs : goal.returns-clause-clock_beside_inputs
 returns-clause-clock_beside_inputs c = denotes_from_test _ _ (omega arith) refl refl refl refl refl refl refl
 
+pub returns-clause-clock_word_beside_inputs : goal.returns-clause-clock_word_beside_inputs
+returns-clause-clock_word_beside_inputs c = denotes_from_test _ _ (omega arith) refl refl refl refl refl refl refl
+
 pub returns-clause-skipped_lines : goal.returns-clause-skipped_lines
 returns-clause-skipped_lines c = denotes_from_test _ _ (omega arith) refl refl refl refl refl refl refl
