@@ -10,6 +10,7 @@ pub mod NamedPairs
 pub mod NextLabels
 pub mod OpenCubes
 pub mod OpenParts
+pub mod Ordered
 pub mod OutputLabels
 pub mod OutputWords
 pub mod Outputs

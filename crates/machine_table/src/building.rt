@@ -6,6 +6,7 @@ ghost use Rattle.machine_table.specs.Table.{IsTable};
 
 use crate::contradiction::first_conflict;
 use crate::copying::copied_file;
+use crate::order::places_by_cubes;
 use crate::places::places_of_states;
 use crate::{Machine, Missing};
 use kiss2::{Fill, KissFile};
@@ -81,10 +82,11 @@ impl Machine {
                 row_b: later as u32 + 1,
             });
         }
+        let ordered = places_by_cubes(alloc, rows, &places)?;
         let file = copied_file(alloc, file)?;
         Ok(Machine {
             file,
-            places,
+            places: ordered,
             complete: false,
         })
     }

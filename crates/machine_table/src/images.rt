@@ -21,6 +21,18 @@ fn keep_one_of_each(pairs: &mut Vec<(u16, u16)>)
     pairs.dedup();
 }
 
+/// The length past which a list of pairs is long: twice the number of pairs of 256 states.
+const LONG: usize = 131_072;
+
+/// Leaves each pair once, where the list is long.
+fn thin_out(pairs: &mut Vec<(u16, u16)>)
+    ensures { (pair : ℕ × ℕ) → Contains pairs.new.items pair ↔ Contains pairs.old.items pair }
+{
+    if pairs.len() > LONG {
+        keep_one_of_each(pairs);
+    }
+}
+
 /// Adds the pair that was found, if one was.
 fn add_found(found: Option<(u16, u16)>, pairs: &mut Vec<(u16, u16)>) -> Result<(), AllocError>
     ensures { OnOk result (AddsPairs (IsFound found) pairs.old.items pairs.new.items) }
@@ -113,7 +125,8 @@ impl Machine {
         Ok(())
     }
 
-    /// Adds the pairs that some row of the first state and some row of the second name.
+    /// Adds the pairs that some row of the first state and some row of the second name. The list is thinned
+    /// out after each row, so that it stays short.
     fn add_by_rows(&self, s: usize, t: usize, pairs: &mut Vec<(u16, u16)>) -> Result<(), AllocError>
         requires s { s < length self.now.states }
         requires t { t < length self.now.states }
@@ -121,6 +134,7 @@ impl Machine {
     {
         for number in self.numbers_of(s) {
             self.add_beside(self.row(*number), t, pairs)?;
+            thin_out(pairs);
         }
         Ok(())
     }

@@ -20,6 +20,7 @@ mod laws;
 mod machine;
 mod missing;
 mod open_entry;
+mod order;
 mod pairs;
 mod places;
 mod question;

@@ -19,7 +19,7 @@ use std::marker::Model;
 #[derive(Drop)]
 pub struct Machine {
     pub(crate) file: KissFile,
-    /// For each state the numbers of its rows, ascending.
+    /// For each state the numbers of its rows, in the order of their cubes.
     pub(crate) places: Vec<Items<usize>>,
     /// Rows leave nothing open. Where it is not set, nothing is known of that.
     pub(crate) complete: bool,
@@ -30,14 +30,14 @@ impl Model for Machine {
     ghost use Rattle.kiss2.specs.declared.kiss_file.KissFile.{KissFile};
     ghost use Rattle.kiss2.specs.Machine.{Conflicting, Specified};
     ghost use Rattle.machine_table.specs.Table.{IsTable};
-    ghost use Rattle.machine_table.specs.Inner.Places.{ArePlaces};
+    ghost use Rattle.machine_table.specs.Inner.Places.{ListRows};
 
     ghost Value = { KissFile };
 
     ghost view = { λ m. m.file };
 
     ghost invariant = { λ m. IsTable m.file × (Conflicting m.file → ⊥)
-        × ArePlaces m.file.rows (length m.file.states) (length m.file.rows) m.places.items
+        × ListRows m.file.rows (length m.file.states) m.places.items
         × (IsTrue m.complete → Specified m.file) };
 }
 
@@ -149,7 +149,7 @@ impl Machine {
         self.complete
     }
 
-    /// The numbers of the rows of a state, ascending.
+    /// The numbers of the rows of a state, in the order of their cubes.
     pub(crate) fn numbers_of(&self, s: usize) -> &[usize]
         requires { s < length self.now.states }
         ensures inside { All (λ i. i < length self.now.rows) result.now }

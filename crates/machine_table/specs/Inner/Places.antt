@@ -15,6 +15,12 @@ pub record ArePlaces (rows : List KissRow) (states count : ℕ) (places : List (
   pub each : (i : ℕ) (row : KissRow) → i < count → slice_get rows i ≡ Some row → Contains (places_of places row.from) i
   pub ascending : (s : ℕ) → AllPairs (λ i j. i < j) (places_of places s)
 
+-- for each state the numbers of its rows, in whatever order
+pub record ListRows (rows : List KissRow) (states : ℕ) (places : List (List ℕ)) : Type 0 where
+  pub size : length places ≡ states
+  pub own : (s i : ℕ) → Contains (places_of places s) i → (row : KissRow) × (slice_get rows i ≡ Some row) × (row.from ≡ s)
+  pub each : (i : ℕ) (row : KissRow) → slice_get rows i ≡ Some row → Contains (places_of places row.from) i
+
 -- the row of that number contradicts the row
 abbrev pub ContradictsRow : List KissRow → KissRow → ℕ → Type 0
 ContradictsRow rows row i = (other : KissRow) × (slice_get rows i ≡ Some other) × Contradicts other row

@@ -1,6 +1,6 @@
-use Rattle.std.proofs.Common.{ℕ, ◌≡◌, length, subst, arith}
+use Rattle.std.proofs.Common.{ℕ, ◌≡◌, ◌+◌, length, subst, arith}
 use Rattle.machine_table.specs.Inner.AddedPairs.{AddsPairs, AtPlace, BelowCount, OfSomeRow, IsNamedBeside}
-use Rattle.machine_table.proofs.AddedPairs.{adds_as, adds_more, at_some_row, at_this_place}
+use Rattle.machine_table.proofs.AddedPairs.{adds_as, adds_more, adds_thinned, at_some_row, at_this_place}
 use Rattle.machine_table.proofs.machine.Machine.add_by_rows.Goals as goal
 
 pub loop-number-preserved : goal.loop-number-preserved
@@ -9,9 +9,11 @@ loop-number-preserved c =
     let numbers = c.numbers_of-number-items.result.now in
     let index = c.loop-number.number-index in
     let row = c.row.result.now in
-    adds_more (AtPlace rows numbers (IsNamedBeside c.args.self.now c.args.t)) index (IsNamedBeside c.args.self.now c.args.t row) c.args.pairs.now.items c.loop-number.pairs.items c.add_beside.new.pairs.items
+    let At = AtPlace rows numbers (IsNamedBeside c.args.self.now c.args.t) in
+    adds_thinned (BelowCount At (index + 1)) c.args.pairs.now.items c.add_beside.new.pairs.items c.thin_out.new.pairs.items c.thin_out.ensures
+    (adds_more At index (IsNamedBeside c.args.self.now c.args.t row) c.args.pairs.now.items c.loop-number.pairs.items c.add_beside.new.pairs.items
     (at_this_place rows numbers (IsNamedBeside c.args.self.now c.args.t) index row c.row.ensures.row) c.loop-number.invariant
-    c.in_ok-add_beside.ensures
+    c.in_ok-add_beside.ensures)
 
 pub returns : goal.returns
 returns c =

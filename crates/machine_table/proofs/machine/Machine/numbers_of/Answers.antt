@@ -3,14 +3,14 @@ use Rattle.std.proofs.lemmas.List.Elements.{Contains-get_or}
 use Rattle.std.proofs.lemmas.Option.{slice_get_within}
 use Rattle.kiss2.specs.declared.kiss_file.KissFile.{KissFile}
 use Rattle.kiss2.specs.Machine.{Conflicting}
-use Rattle.machine_table.specs.Inner.Places.{ArePlaces, IsNumberOf, places_of}
+use Rattle.machine_table.specs.Inner.Places.{IsNumberOf, ListRows, places_of}
 use Rattle.machine_table.specs.Table.{IsTable}
 use Rattle.machine_table.proofs.Against.{list_at}
 use Rattle.machine_table.proofs.machine.Machine.numbers_of.Goals as goal
 
 -- what stands in the places of a machine
-stand : (c : goal.After-as_slice) → ArePlaces c.args.self.now.rows (length c.args.self.now.states) (length c.args.self.now.rows) c.self.inside.places.items
-stand c = subst (λ (F : KissFile). ArePlaces F.rows (length F.states) (length F.rows) c.self.inside.places.items) c.self.view_is c.self.invariant.2
+stand : (c : goal.After-as_slice) → ListRows c.args.self.now.rows (length c.args.self.now.states) c.self.inside.places.items
+stand c = subst (λ (F : KissFile). ListRows F.rows (length F.states) c.self.inside.places.items) c.self.view_is c.self.invariant.2
 
 -- the list that is lent is that of the state
 lent : (c : goal.After-as_slice) → c.as_slice.result.now ≡ places_of c.self.inside.places.items c.args.s
@@ -21,7 +21,7 @@ lent c =
 own_of : (c : goal.After-as_slice) (i : ℕ) → Contains c.as_slice.result.now i → IsNumberOf c.args.self.now c.args.s i
 own_of c i among =
     let found = (stand c).own c.args.s i (subst (λ (numbers : List ℕ). Contains numbers i) (lent c) among) in
-    (found.0, found.2, found.3)
+    (found.0, found.1, found.2)
 
 pub returns-clause-inside : goal.returns-clause-inside
 returns-clause-inside c k d within =
@@ -35,7 +35,7 @@ pub returns-clause-each : goal.returns-clause-each
 returns-clause-each c i row at_i from =
     subst (λ (numbers : List ℕ). Contains numbers i) (sym (lent c))
     (subst (λ (s : ℕ). Contains (places_of c.self.inside.places.items s) i) from
-    ((stand c).each i row (slice_get_within c.args.self.now.rows i row at_i) at_i))
+    ((stand c).each i row at_i))
 
 pub returns-clause-table : goal.returns-clause-table
 returns-clause-table c = subst IsTable c.self.view_is c.self.invariant.0

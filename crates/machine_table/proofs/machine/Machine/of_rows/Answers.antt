@@ -1,11 +1,11 @@
-use Rattle.std.proofs.Common.{ℕ, ◌<◌, List, IsTrue, false, length, sym, subst, arith}
+use Rattle.std.proofs.Common.{ℕ, ◌<◌, List, IsTrue, false, length, sym, ap, ◌∙◌, subst, arith}
 use Rattle.std.proofs.lemmas.Bool.{false≢true}
 use Rattle.kiss2.specs.declared.kiss_file.KissFile.{KissFile}
 use Rattle.kiss2.specs.declared.kiss_file.KissRow.{KissRow}
 use Rattle.kiss2.specs.Machine.{Conflicting, Specified}
 use Rattle.machine_table.specs.Conflict.{ContradictAt}
 use Rattle.machine_table.specs.Table.{IsTable}
-use Rattle.machine_table.specs.Inner.Places.{ArePlaces}
+use Rattle.machine_table.specs.Inner.Places.{ListRows}
 use Rattle.machine_table.proofs.Conflicts.{few_rows, none_conflicting}
 use Rattle.machine_table.proofs.machine.Machine.of_rows.Goals as goal
 
@@ -34,10 +34,11 @@ invariant_of-result c =
     let F = c.args.file.now in
     let none = none_conflicting F
     (subst (λ (list : List KissRow). (i j : ℕ) → i < j → ContradictAt list i j → ⊥) c.as_slice-rows.ensures c.in_default.ensures.none) in
-    let stand : ArePlaces F.rows (length F.states) (length F.rows) c.in_ok-places.places.items =
-    subst (λ (n : ℕ). ArePlaces F.rows n (length F.rows) c.in_ok-places.places.items) c.count.ensures.count
-    (subst (λ (list : List KissRow). ArePlaces list c.count.result (length list) c.in_ok-places.places.items) c.as_slice-rows.ensures c.in_ok-places.ensures) in
-    subst (λ (G : KissFile). IsTable G × (Conflicting G → ⊥) × ArePlaces G.rows (length G.states) (length G.rows) c.in_ok-places.places.items × (IsTrue false → Specified G))
+    let stand : ListRows F.rows (length F.states) c.in_ok-ordered.ordered.items =
+    subst (λ (n : ℕ). ListRows F.rows n c.in_ok-ordered.ordered.items) c.count.ensures.count
+    (subst (λ (list : List KissRow). ListRows list c.count.result c.in_ok-ordered.ordered.items) c.as_slice-rows.ensures
+    (subst (λ (n : ℕ). ListRows c.as_slice-rows.result.now n c.in_ok-ordered.ordered.items) (ap (λ (lists : List (List ℕ)). length lists) c.deref-2.ensures.value ∙ c.in_ok-places.ensures.size) c.in_ok-ordered.ensures)) in
+    subst (λ (G : KissFile). IsTable G × (Conflicting G → ⊥) × ListRows G.rows (length G.states) c.in_ok-ordered.ordered.items × (IsTrue false → Specified G))
     (sym c.in_ok-file.ensures) (c.requires.table, none, stand, λ complete. absurd (false≢true complete))
 
 pub returns-clause-no_conflict : goal.returns-clause-no_conflict
