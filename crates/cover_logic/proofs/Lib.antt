@@ -13,3 +13,5 @@ pub mod PrimeRows
 pub mod SpareRows
 pub mod Standing
 pub mod Width
+pub mod Charts
+pub mod Tables

@@ -1,11 +1,11 @@
-use Rattle.std.proofs.Common.{◌≡◌, ℕ, List, [], ◌∷◌, ◌++◌, not, false, ◌⊎◌, ⊎_elim, inl, inr, ap, subst}
+use Rattle.std.proofs.Common.{◌≡◌, ℕ, List, [], ◌∷◌, ◌++◌, not, false, ◌⊎◌, ⊎_elim, inl, inr, ap, subst, sym}
 use Rattle.std.specs.List.{All, Contains, filter}
 use Rattle.std.proofs.lemmas.Bool.{cases_Bool}
 use Rattle.std.proofs.lemmas.List.Elements.{All-push, All-nil, All-contains, Contains-append_left, Contains-push_cases}
 use Rattle.cover_logic.specs.declared.term.Term.{Term}
 use Rattle.cover_logic.specs.Term.{FitsWidth, Holds, IsCovered}
 use Rattle.cover_logic.specs.Inner.Pair.{Includes, refines}
-use Rattle.cover_logic.specs.Inner.Rows.{ArePrimeRows, IsClear, IsPrime}
+use Rattle.cover_logic.specs.Inner.Rows.{ArePrimeRows, HasSameTerms, IsAllHeld, IsClear, IsPrime}
 use Rattle.cover_logic.proofs.Terms.{refines_includes}
 use Rattle.cover_logic.proofs.Lists.{held_push, held_left, Contains-filter, Contains-from_filter}
 
@@ -39,6 +39,30 @@ primes_more on off width Before After rows row p gone among clear prime fits = r
   left_clear = λ t l. p.left_clear t (among t l);
   left_fits = λ t l. p.left_fits t (among t l);
 }
+
+-- no row more; the seed's values the rows hold
+pub primes_skip : (on off : List Term) (width : ℕ) (left rows : List Term) (seed : Term) → ArePrimes on off width (Contains (left ++ seed ∷ [])) rows → IsAllHeld rows seed → ArePrimes on off width (Contains left) rows
+primes_skip on off width left rows seed p all = record {
+  held = λ x h. ⊎_elim (λ k. inl k)
+      (λ k. ⊎_elim (λ e. inr (k.0, e, k.2)) (λ same. inl (all x (subst (λ (t : Term). Holds t x) (sym same) k.2))) (Contains-push_cases left seed k.0 k.1)) (p.held x h);
+  clear = p.clear;
+  prime = p.prime;
+  fits = p.fits;
+  left_clear = λ t l. p.left_clear t (Contains-append_left left (seed ∷ []) t l);
+  left_fits = λ t l. p.left_fits t (Contains-append_left left (seed ∷ []) t l);
+}
+
+-- rows for the same terms of off
+pub primes_same : (on off list : List Term) (width : ℕ) (rows : List Term) → HasSameTerms off list → ArePrimeRows on list width rows → ArePrimeRows on off width rows
+primes_same on off list width rows same p = record {
+  covers = p.covers;
+  clear = λ k d below x h held. p.clear k d below x h (held.0, (same held.0).1 held.1, held.2);
+  prime = λ k d below column l. let w = p.prime k d below column l in (w.0, (w.1.0, (same w.1.0).0 w.1.1, w.1.2), w.2);
+  fits = p.fits;
+}
+
+pub clear_same : (on off list : List Term) → HasSameTerms off list → All (IsClear off) on → All (IsClear list) on
+clear_same on off list same clear = λ k d below x h held. clear k d below x h (held.0, (same held.0).0 held.1, held.2)
 
 pub primes_all : (on off : List Term) (width : ℕ) (Left : Term → Type 0) (rows : List Term) → ((t : Term) → Left t → ⊥) → ArePrimes on off width Left rows → ArePrimeRows on off width rows
 primes_all on off width Left rows none p = record {

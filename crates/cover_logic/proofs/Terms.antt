@@ -1,7 +1,7 @@
-use Rattle.std.proofs.Common.{◌≡◌, ◌≢◌, ℕ, ◌%◌, ◌<◌, ◌^◌, ◌*◌, ◌∙◌, ◌↔◌, IsTrue, Bool, true, false, if◌then◌else◌, min, max, bit_and, bit_or, bit_xor, ap, sym, refl, ⊎_elim, zero-mul, arith}
+use Rattle.std.proofs.Common.{◌≡◌, ◌≢◌, ℕ, ◌%◌, ◌<◌, ◌^◌, ◌*◌, ◌∙◌, ◌↔◌, IsTrue, Bool, true, false, if◌then◌else◌, min, max, bit_and, bit_or, bit_xor, ap, sym, refl, ⊎_elim, zero-mul, subst, arith}
 use Rattle.std.specs.Int.{bit_at, bit_not, w128}
 use Rattle.std.proofs.lemmas.Nat.Bits.{bit_at-lt, bit_at_and, bit_at_or, bit_at_clear_same, bit_at_clear_other, bit_at_set_same, bit_at_set_other, and_pow, same_from_bits}
-use Rattle.std.proofs.lemmas.Nat.{one_shl, or_disjoint, pow_pos}
+use Rattle.std.proofs.lemmas.Nat.{one_shl, or_disjoint, or_lt, pow_below, pow_pos}
 use Rattle.std.proofs.lemmas.Bool.{cases_eq, and_parts, eq-eqb}
 use Rattle.std.specs.Cmp.Derive.{both_true}
 use Rattle.cover_logic.specs.declared.term.Term.{Term}
@@ -231,6 +231,10 @@ split_care n k h d =
     let sum = or_disjoint n _ apart in
     let positive = pow_pos k in
     omega (arith, sum, one, positive)
+
+-- and no column at or above a width that is above them all
+pub split_fits : (n k w : ℕ) → k < 128 → k < w → n < 2 ^ w → bit_or n (1 * 2 ^ k % 2 ^ 128) < 2 ^ w
+split_fits n k w h below fits = or_lt w n _ fits (subst (λ (m : ℕ). m < 2 ^ w) (sym (one_shl k 128 h)) (pow_below k w below))
 
 -- more columns of care, with or without their bits in the value, keep the value inside
 pub inside_with : (t : Term) (m : ℕ) → bit_and (bit_or t.value m) (bit_or t.care m) ≡ bit_or t.value m

@@ -18,11 +18,11 @@ same_below : (width x column : ℕ) → column < width → bit_at (x % 2 ^ width
 same_below width x column h =
     sym (bit_at_cat_low (x / 2 ^ width) width (x % 2 ^ width) column h) ∙ ap (λ n. bit_at n column) (div-add-mod' x (2 ^ width))
 
-low_is_value : (width x : ℕ) → x % 2 ^ width < 2 ^ width
+pub low_is_value : (width x : ℕ) → x % 2 ^ width < 2 ^ width
 low_is_value width x = mod-lt x (pow_pos width)
 
 -- a term holds a value where it holds its lowest bits
-holds_low : (width : ℕ) (t : Term) → FitsWidth width t → (x : ℕ) → Holds t x → Holds t (x % 2 ^ width)
+pub holds_low : (width : ℕ) (t : Term) → FitsWidth width t → (x : ℕ) → Holds t x → Holds t (x % 2 ^ width)
 unfolding Holds
 holds_low width t fits x p column l = same_below width x column (below_width width t.care column fits l) ∙ p column l
 
@@ -34,10 +34,10 @@ dash_low : (width : ℕ) (t : Term) → FitsWidth width t → (dash x : ℕ) →
 unfolding HoldsWithDash
 dash_low width t fits dash x p column ne l = same_below width x column (below_width width t.care column fits l) ∙ p column ne l
 
-held_low : (width : ℕ) (terms : List Term) → All (FitsWidth width) terms → (x : ℕ) → IsCovered terms x → IsCovered terms (x % 2 ^ width)
+pub held_low : (width : ℕ) (terms : List Term) → All (FitsWidth width) terms → (x : ℕ) → IsCovered terms x → IsCovered terms (x % 2 ^ width)
 held_low width terms fits x h = (h.0, h.1, holds_low width h.0 (All-contains (FitsWidth width) terms h.0 fits h.1) x h.2)
 
-held_from_low : (width : ℕ) (terms : List Term) → All (FitsWidth width) terms → (x : ℕ) → IsCovered terms (x % 2 ^ width) → IsCovered terms x
+pub held_from_low : (width : ℕ) (terms : List Term) → All (FitsWidth width) terms → (x : ℕ) → IsCovered terms (x % 2 ^ width) → IsCovered terms x
 held_from_low width terms fits x h = (h.0, h.1, holds_from_low width h.0 (All-contains (FitsWidth width) terms h.0 fits h.1) x h.2)
 
 -- each term of on is clear of off

@@ -8,3 +8,5 @@ pub mod Groups
 pub mod Waiting
 pub mod Nodes
 pub mod Index
+pub mod Charts
+pub mod Tables

@@ -73,7 +73,7 @@ impl Index {
     }
 
     /// The terms of the list, in the order of the nodes.
-    pub fn terms(&self, alloc: Global) -> Result<Vec<Term>, AllocError> {
+    pub(crate) fn terms(&self, alloc: Global) -> Result<Vec<Term>, AllocError> {
         let mut terms = Vec::new(alloc);
         for node in &self.nodes {
             if node.is_listed {
@@ -84,7 +84,7 @@ impl Index {
     }
 
     /// The places of their nodes.
-    pub fn places(&self, alloc: Global) -> Result<Vec<usize>, AllocError> {
+    pub(crate) fn places(&self, alloc: Global) -> Result<Vec<usize>, AllocError> {
         let mut places = Vec::new(alloc);
         for (place, node) in self.nodes.iter().enumerate() {
             if node.is_listed {

@@ -30,19 +30,22 @@ ghost use Rattle.cover_logic.specs.Cover.{CanCover, GoodCover};
 ghost use Rattle.cover_logic.specs.Inner.Rows.{IsClear};
 
 mod bundles;
+mod chart;
+mod dense;
 mod distinct;
 mod gap;
+mod growth;
 mod index;
 mod primes;
 mod raise;
 mod rivals;
 mod slices;
 mod spare;
+mod table;
 mod term;
 mod waiting;
 
 use distinct::distinct;
-use index::Index;
 use primes::primes;
 use raise::is_clear;
 use spare::without_spare;
@@ -82,7 +85,6 @@ pub fn cover(alloc: Global, on: &[Term], off: &[Term], width: u8) -> Result<Vec<
 {
     let ones = distinct(alloc, on)?;
     let zeros = distinct(alloc, off)?;
-    let index = Index::new(alloc, &zeros, width)?;
-    let rows = primes(alloc, &ones, &index, width)?;
+    let rows = primes(alloc, &ones, &zeros, width)?;
     without_spare(alloc, &rows, &ones, width)
 }

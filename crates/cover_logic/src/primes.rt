@@ -4,6 +4,7 @@ ghost use Rattle.cover_logic.specs.Inner.Index.{terms_of};
 ghost use Rattle.cover_logic.specs.Inner.Pair.{refines};
 ghost use Rattle.cover_logic.specs.Inner.Rows.{ArePrimeRows, IsClear, IsPrimeRow};
 
+use crate::dense::{dense_rows, is_dense};
 use crate::index::Index;
 use crate::raise::{grow, raise, widened};
 use crate::slices::Slices;
@@ -157,8 +158,13 @@ fn guided_rows(
     Ok(rows)
 }
 
-/// Rows that hold every value of on and none of off, and that need each of their literals.
-pub fn primes(alloc: Global, on: &[Term], off: &Index, width: u8) -> Result<Vec<Term>, AllocError>
+/// The same, by an index of off, with a guide or without.
+fn searched_rows(
+    alloc: Global,
+    on: &[Term],
+    off: &Index,
+    width: u8,
+) -> Result<Vec<Term>, AllocError>
     requires width { width ≤ 128 }
     requires fits { All (FitsWidth width) on.now }
     requires clear { All (IsClear (terms_of off.now)) on.now }
@@ -168,4 +174,19 @@ pub fn primes(alloc: Global, on: &[Term], off: &Index, width: u8) -> Result<Vec<
         Some(guide) => guided_rows(alloc, on, guide, off, width),
         None => plain_rows(alloc, on, off, width),
     }
+}
+
+/// Rows that hold every value of on and none of off, and that need each of their literals.
+pub fn primes(alloc: Global, on: &[Term], off: &[Term], width: u8) -> Result<Vec<Term>, AllocError>
+    requires width { width ≤ 128 }
+    requires fits { All (FitsWidth width) on.now }
+    requires off_fits { All (FitsWidth width) off.now }
+    requires clear { All (IsClear off.now) on.now }
+    ensures { IfOk result (λ rows. ArePrimeRows on.now off.now width rows.items) }
+{
+    if is_dense(on, off, width) {
+        return dense_rows(alloc, on, off, width);
+    }
+    let index = Index::new(alloc, off, width)?;
+    searched_rows(alloc, on, &index, width)
 }

@@ -101,7 +101,7 @@ pub struct Slices {
 }
 
 impl Slices {
-    pub fn new(alloc: Global, terms: &[Term], width: u8) -> Result<Slices, AllocError>
+    pub(crate) fn new(alloc: Global, terms: &[Term], width: u8) -> Result<Slices, AllocError>
         requires { width ≤ 128 }
     {
         let mut columns = Vec::new(alloc);
@@ -121,7 +121,7 @@ impl Slices {
     }
 
     /// Asks no longer for the terms that the row holds whole.
-    pub fn drop_included(&mut self, alloc: Global, row: Term) -> Result<(), AllocError> {
+    pub(crate) fn drop_included(&mut self, alloc: Global, row: Term) -> Result<(), AllocError> {
         let mut inside = self.live.clone()?;
         for column in &self.columns {
             if column.is_literal_of(row) {
@@ -136,7 +136,12 @@ impl Slices {
 
     /// The columns at which terms stand against the row, for at most so many terms: those of few columns first,
     /// and none of more than 7.
-    pub fn nearest(&self, alloc: Global, row: Term, most: usize) -> Result<Vec<u128>, AllocError> {
+    pub(crate) fn nearest(
+        &self,
+        alloc: Global,
+        row: Term,
+        most: usize,
+    ) -> Result<Vec<u128>, AllocError> {
         let mut counts = Vec::new(alloc);
         for word in &self.live {
             counts.push(Count {
@@ -188,7 +193,7 @@ impl Slices {
     }
 
     /// The terms that have the literal of the row at a column of each set, as far as the first sets tell.
-    pub fn joinable(
+    pub(crate) fn joinable(
         &self,
         alloc: Global,
         row: Term,
@@ -235,7 +240,7 @@ impl Slices {
     }
 
     /// What the row comes to when each literal in turn becomes a dash as long as it touches no term.
-    pub fn advice(&self, alloc: Global, row: Term) -> Result<Advice, AllocError> {
+    pub(crate) fn advice(&self, alloc: Global, row: Term) -> Result<Advice, AllocError> {
         let mut later = self.later(alloc, row)?;
         let mut kept = Vec::new(alloc);
         for word in &self.live {

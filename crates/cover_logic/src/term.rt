@@ -85,6 +85,7 @@ impl Term {
         requires dash { bit_at self.care column ≡ 0 }
         ensures half { IsColumnHalf self column (if one then 1 else 0) result }
         ensures care { self.care < result.care }
+        ensures fits { (w : ℕ) → column < w → FitsWidth w self → FitsWidth w result }
     {
         let bit = 1u128 << column;
         let value = if one { self.value | bit } else { self.value };

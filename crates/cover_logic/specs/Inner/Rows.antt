@@ -16,6 +16,10 @@ NeedsLiteral off t column = (x : ℕ) × IsCovered off x × HoldsWithDash t colu
 abbrev pub MeetsSome : List Term → Term → Type 0
 MeetsSome terms t = (x : ℕ) × IsCovered terms x × Holds t x
 
+-- each value of the term is held by the list
+abbrev pub IsAllHeld : List Term → Term → Type 0
+IsAllHeld terms t = (x : ℕ) → Holds t x → IsCovered terms x
+
 -- each literal is needed
 abbrev pub IsPrime : List Term → Term → Type 0
 IsPrime off t = (column : ℕ) → LooksAt t column → NeedsLiteral off t column

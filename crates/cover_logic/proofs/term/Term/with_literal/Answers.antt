@@ -1,6 +1,6 @@
 use Rattle.std.proofs.Common.{refl, sym, ◌∙◌}
 use Rattle.std.proofs.lemmas.Bool.{false≢true}
-use Rattle.cover_logic.proofs.Terms.{inside_with, inside_more, split_by, split_care}
+use Rattle.cover_logic.proofs.Terms.{inside_with, inside_more, split_by, split_care, split_fits}
 use Rattle.cover_logic.proofs.term.Term.with_literal.Goals as goal
 use Rattle.cover_logic.proofs.term.Term.with_literal.Goals.{then-one, else-one}
 
@@ -17,3 +17,6 @@ returns-clause-half c =
 
 pub returns-clause-care : goal.returns-clause-care
 returns-clause-care c = split_care c.args.self.care c.args.column c.requires.column c.requires.dash
+
+pub returns-clause-fits : goal.returns-clause-fits
+returns-clause-fits c = λ w below fits. split_fits c.args.self.care c.args.column w c.requires.column below fits

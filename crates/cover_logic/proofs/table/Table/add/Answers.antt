@@ -1,0 +1,25 @@
+use Rattle.std.proofs.Common.{◌≡◌, ◌∙◌, ℕ, List, [], ◌∷◌, ◌++◌, refl, sym, subst, rules}
+use Rattle.std.proofs.lemmas.List.{with_items_is}
+use Rattle.cover_logic.specs.declared.term.Term.{Term}
+use Rattle.cover_logic.specs.Inner.Charts.{IsFilled}
+use Rattle.cover_logic.specs.Inner.Tables.{AreMarks}
+use Rattle.cover_logic.proofs.Tables.{marks_more}
+use Rattle.cover_logic.proofs.table.Table.add.Goals as goal
+
+pub returns : goal.returns
+returns c =
+    let width = c.args.self.now.width in
+    let terms = c.args.self.now.terms.items in
+    let marks = c.fill.new.chart in
+    let filled : IsFilled width c.args.term 1 c.args.self.now.marks.items marks =
+    subst (λ (ns : List ℕ). IsFilled width c.args.term 1 ns marks) c.deref_mut.ensures.value c.fill.ensures in
+    let pushed : c.push.new.self.items ≡ terms ++ c.args.term ∷ [] = search rules in
+    let told : AreMarks width c.push.new.self.items marks =
+    subst (λ (ts : List Term). AreMarks width ts marks) (sym pushed)
+    (marks_more width terms c.args.term c.args.self.now.marks.items marks c.requires.table.told c.requires.fits filled) in
+    let kept = with_items_is c.args.self.now.marks marks (c.fill.ensures.size ∙ c.deref_mut.ensures.len) in
+    record {
+      columns = refl;
+      items = pushed;
+      right = record { few = c.requires.table.few; told = subst (λ (ns : List ℕ). AreMarks width c.push.new.self.items ns) (sym kept) told };
+    }

@@ -1,0 +1,16 @@
+-- A number for each value. Private functions need it; no public contract cites it.
+use Rattle.std.specs.Prelude.{◌≡◌, ℕ, ◌<◌, ◌^◌, ◌⊎◌, List, Option, MatchOption, length, slice_index_or}
+use Rattle.cover_logic.specs.declared.term.Term.{Term}
+use Rattle.cover_logic.specs.Term.{Holds}
+
+-- the number stands at each value of the row, and any other value has the number that it had
+pub record IsFilled (width : ℕ) (row : Term) (number : ℕ) (before after : List ℕ) : Type 0 where
+  pub size : length after ≡ length before
+  pub all : (x : ℕ) → x < 2 ^ width → Holds row x → slice_index_or after x 0 ≡ number
+  pub rest : (x : ℕ) → x < 2 ^ width → (slice_index_or after x 0 ≡ slice_index_or before x 0) ⊎ Holds row x
+
+-- a value of the row at which the number stands, or none where it stands at none
+abbrev pub IsFound : ℕ → Term → ℕ → List ℕ → Option ℕ → Type 0
+IsFound width row number chart found =
+    MatchOption found ((x : ℕ) → x < 2 ^ width → Holds row x → slice_index_or chart x 0 ≡ number → ⊥)
+    (λ x. (x < 2 ^ width) × Holds row x × (slice_index_or chart x 0 ≡ number))

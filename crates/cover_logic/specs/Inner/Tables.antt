@@ -1,0 +1,33 @@
+-- Tables of terms. Private functions need it; no public contract cites it.
+use Rattle.std.specs.Prelude.{◌≡◌, ℕ, ◌<◌, ◌≤◌, ◌^◌, ◌++◌, ◌⊎◌, Bool, true, false, List, [], ◌∷◌, All, length, slice_index_or}
+use Rattle.cover_logic.specs.declared.table.Table.{Table}
+use Rattle.cover_logic.specs.declared.term.Term.{Term}
+use Rattle.cover_logic.specs.Term.{FitsWidth, Holds, IsCovered}
+use Rattle.cover_logic.specs.Inner.Rows.{IsClear, MeetsSome}
+
+-- of the values of `width` bits those have a 1 that a term holds, and the others a 0
+pub record AreMarks (width : ℕ) (terms : List Term) (marks : List ℕ) : Type 0 where
+  pub size : length marks ≡ 2 ^ width
+  pub fits : All (FitsWidth width) terms
+  pub one : (x : ℕ) → x < 2 ^ width → IsCovered terms x → slice_index_or marks x 0 ≡ 1
+  pub zero : (x : ℕ) → x < 2 ^ width → (slice_index_or marks x 0 ≡ 0) ⊎ IsCovered terms x
+
+-- the table is of at most 16 columns and has the marks of its terms
+pub record IsTable (table : Table) : Type 0 where
+  pub few : table.width ≤ 16
+  pub told : AreMarks table.width table.terms.items table.marks.items
+
+-- and it is of those terms, and of so many columns
+pub record IsTableOf (width : ℕ) (terms : List Term) (table : Table) : Type 0 where
+  pub columns : table.width ≡ width
+  pub items : table.terms.items ≡ terms
+  pub right : IsTable table
+
+-- with one term more
+abbrev pub IsOneMore : Table → Term → Table → Type 0
+IsOneMore before term after = IsTableOf before.width (before.terms.items ++ term ∷ []) after
+
+-- the row has a value of the terms, or it has none
+abbrev pub IsMetOrClear : List Term → Term → Bool → Type 0
+IsMetOrClear terms row true = MeetsSome terms row
+IsMetOrClear terms row false = IsClear terms row

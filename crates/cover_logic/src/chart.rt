@@ -1,0 +1,52 @@
+//! A number for each value of at most 16 columns.
+ghost use Rattle.std.specs.Prelude.{◌≡◌, ◌≤◌, ◌-◌, ◌^◌, length};
+ghost use Rattle.cover_logic.specs.Term.{FitsWidth};
+ghost use Rattle.cover_logic.specs.Inner.Charts.{IsFilled, IsFound};
+
+use crate::term::Term;
+
+/// The columns below the width.
+fn columns(width: u8) -> u128
+    requires { width ≤ 16 }
+    ensures { result ≡ 2 ^ width - 1 }
+{
+    (1u128 << width) - 1
+}
+
+/// Puts the number at each value that the row holds.
+pub fn fill(chart: &mut [usize], row: Term, width: u8, number: usize)
+    requires few { width ≤ 16 }
+    requires fits { FitsWidth width row }
+    requires size { length chart.old ≡ 2 ^ width }
+    ensures { IsFilled width row number chart.old chart.new }
+{
+    let open = columns(width) & !row.care;
+    if open == 0 {
+        chart[row.value as usize] = number;
+        return;
+    }
+    let column = open.trailing_zeros();
+    fill(chart, row.with_literal(column, false), width, number);
+    fill(chart, row.with_literal(column, true), width, number);
+}
+
+/// A value of the row at which the number stands.
+pub fn find(chart: &[usize], row: Term, width: u8, number: usize) -> Option<u128>
+    requires few { width ≤ 16 }
+    requires fits { FitsWidth width row }
+    requires size { length chart.now ≡ 2 ^ width }
+    ensures { IsFound width row number chart.now result }
+{
+    let open = columns(width) & !row.care;
+    if open == 0 {
+        if chart[row.value as usize] == number {
+            return Some(row.value);
+        }
+        return None;
+    }
+    let column = open.trailing_zeros();
+    if let Some(value) = find(chart, row.with_literal(column, false), width, number) {
+        return Some(value);
+    }
+    find(chart, row.with_literal(column, true), width, number)
+}

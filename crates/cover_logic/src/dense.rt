@@ -1,0 +1,131 @@
+//! The rows of dense gates of few columns, by tables of their values.
+ghost use Rattle.std.specs.Prelude.{◌≡◌, ◌≤◌, ◌<◌, All, IfOk, IsTrue};
+ghost use Rattle.cover_logic.specs.Term.{FitsWidth, LooksAt};
+ghost use Rattle.cover_logic.specs.Inner.Pair.{Includes, IsLooser};
+ghost use Rattle.cover_logic.specs.Inner.Rows.{ArePrimeRows, IsClear, IsGrown, IsPrime, IsPrimeRow, NeedsLiteral};
+ghost use Rattle.cover_logic.specs.Inner.Tables.{IsTable};
+
+use crate::growth::Ground;
+use crate::table::Table;
+use crate::term::Term;
+use std::alloc::{AllocError, Global};
+
+/// The fewest columns, the most columns and the fewest terms of a gate that is dense.
+const DENSE_WIDTH: u8 = 10;
+
+const MOST_WIDTH: u8 = 16;
+
+const DENSE_TERMS: usize = 512;
+
+/// How many values the terms hold, each term for itself.
+fn values_of(terms: &[Term], width: u8) -> usize {
+    let mut values = 0usize;
+    for term in terms {
+        let dashes = u32::from(width).saturating_sub(term.care.count_ones());
+        values = values.saturating_add(1usize << dashes.min(16));
+    }
+    values
+}
+
+/// Whether tables are worth their making: where the terms hold at least three quarters of all values, and do
+/// not hold the same ones too often.
+pub fn is_dense(on: &[Term], off: &[Term], width: u8) -> bool
+    ensures { IsTrue result → width ≤ 16 }
+{
+    if width < DENSE_WIDTH || width > MOST_WIDTH {
+        return false;
+    }
+    let values = values_of(on, width).saturating_add(values_of(off, width));
+    let all = 1usize << width;
+    on.len().saturating_add(off.len()) >= DENSE_TERMS && values >= all / 4 * 3 && values / 8 <= all
+}
+
+/// The row widened to hold the other term whole, or the row itself where it would hold a value of off.
+fn widened(row: Term, other: Term, off: &Table, width: u8) -> Term
+    requires table { IsTable off.now }
+    requires width { off.now.width ≡ width }
+    requires fits { FitsWidth width row }
+    requires clear { IsClear off.now.terms.items row }
+    ensures { IsGrown row off.now.terms.items result }
+{
+    let joined = row.joined(other);
+    if off.meets(joined) { row } else { joined }
+}
+
+/// The row with a dash at the column, or the row itself where it would hold a value of off.
+fn dashed(row: Term, column: u32, off: &Table, width: u8) -> Term
+    requires column { column < 128 }
+    requires table { IsTable off.now }
+    requires width { off.now.width ≡ width }
+    requires fits { FitsWidth width row }
+    requires clear { IsClear off.now.terms.items row }
+    ensures looser { IsLooser result row }
+    ensures clear { IsClear off.now.terms.items result }
+    ensures needed { LooksAt result column → NeedsLiteral off.now.terms.items result column }
+    ensures care { result.care ≤ row.care }
+{
+    let wider = row.with_dash(column);
+    if wider.care == row.care {
+        return row;
+    }
+    if off.meets(wider) { row } else { wider }
+}
+
+/// Replaces literals by dashes as long as no value of off is held.
+fn raised(row: Term, off: &Table, width: u8) -> Term
+    requires table { IsTable off.now }
+    requires width { off.now.width ≡ width }
+    requires few { width ≤ 16 }
+    requires fits { FitsWidth width row }
+    requires clear { IsClear off.now.terms.items row }
+    ensures includes { Includes result row }
+    ensures clear { IsClear off.now.terms.items result }
+    ensures prime { IsPrime off.now.terms.items result }
+    ensures fits { FitsWidth width result }
+{
+    let mut raised = row;
+    for column in 0..u32::from(width) {
+        raised = dashed(raised, column, off, width);
+    }
+    raised
+}
+
+/// A row that holds the seed and no value of off, and that needs each of its literals.
+fn row_of(seed: Term, ground: &Ground, off: &Table, width: u8) -> Term
+    requires table { IsTable off.now }
+    requires width { off.now.width ≡ width }
+    requires few { width ≤ 16 }
+    requires fits { FitsWidth width seed }
+    requires clear { IsClear off.now.terms.items seed }
+    ensures { IsPrimeRow seed off.now.terms.items width result }
+{
+    let wide = widened(seed, ground.grown(seed), off, width);
+    raised(wide, off, width)
+}
+
+/// Rows that hold every value of on and none of off, and that need each of their literals.
+pub fn dense_rows(
+    alloc: Global,
+    on: &[Term],
+    off: &[Term],
+    width: u8,
+) -> Result<Vec<Term>, AllocError>
+    requires few { width ≤ 16 }
+    requires fits { All (FitsWidth width) on.now }
+    requires off_fits { All (FitsWidth width) off.now }
+    requires clear { All (IsClear off.now) on.now }
+    ensures { IfOk result (λ rows. ArePrimeRows on.now off.now width rows.items) }
+{
+    let zeros = Table::of(alloc, off, width)?;
+    let mut ground = Ground::new(alloc, on, off, width)?;
+    let mut left = Vec::from_slice(alloc, on)?;
+    let mut rows = Table::new(alloc, width)?;
+    while let Some(seed) = left.pop() {
+        if !rows.holds(seed) {
+            let row = row_of(seed, &ground, &zeros, width);
+            ground.take(row);
+            rows.add(row)?;
+        }
+    }
+    Ok(rows.terms)
+}

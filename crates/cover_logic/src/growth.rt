@@ -1,0 +1,146 @@
+//! How far a row may go in a gate of few columns. Nothing is promised of what is answered: it is advice, and
+//! whoever takes it asks a table before a row is changed.
+
+ghost use Rattle.std.specs.Prelude.{◌≤◌};
+
+use crate::term::Term;
+use std::alloc::{AllocError, Global};
+
+/// What a value is: free, or of off, or of on and in no row yet.
+#[derive(Clone, Copy, PartialEq, Eq)]
+enum Cell {
+    Free,
+    Off,
+    Open,
+}
+
+/// The values that have the bits of `value` at the columns of `care`.
+#[derive(Clone, Copy)]
+struct Block {
+    care: usize,
+    value: usize,
+}
+
+impl Block {
+    fn of(term: Term) -> Block {
+        Block {
+            care: (term.care & 0xffff) as usize,
+            value: (term.value & 0xffff) as usize,
+        }
+    }
+
+    /// The block on the other side of a column.
+    fn across(self, bit: usize) -> Block {
+        Block {
+            care: self.care,
+            value: self.value ^ bit,
+        }
+    }
+
+    /// The block with a dash at a column.
+    fn without(self, bit: usize) -> Block {
+        Block {
+            care: self.care & !bit,
+            value: self.value & !bit,
+        }
+    }
+}
+
+/// A cell for each value of the columns.
+#[derive(Drop)]
+pub struct Ground {
+    cells: Vec<Cell>,
+    width: u8,
+}
+
+impl Ground {
+    pub(crate) fn new(
+        alloc: Global,
+        on: &[Term],
+        off: &[Term],
+        width: u8,
+    ) -> Result<Ground, AllocError>
+        requires { width ≤ 16 }
+    {
+        let mut ground = Ground {
+            cells: vec![in alloc; Cell::Free; 1usize << width]?,
+            width,
+        };
+        for term in on {
+            ground.put(*term, Cell::Open);
+        }
+        for term in off {
+            ground.put(*term, Cell::Off);
+        }
+        Ok(ground)
+    }
+
+    /// Asks no longer for the values of the row.
+    pub(crate) fn take(&mut self, row: Term) {
+        self.put(row, Cell::Free);
+    }
+
+    /// The row with dashes, at each step at the column that brings most values of on in no row yet.
+    pub(crate) fn grown(&self, row: Term) -> Term {
+        let mut block = Block::of(row);
+        for _ in 0..16 {
+            let Some(bit) = self.best(block) else {
+                break;
+            };
+            block = block.without(bit);
+        }
+        Term::masked(block.care as u128, block.value as u128)
+    }
+
+    /// The literal of the block that brings most when it becomes a dash, among those that bring no value of off.
+    fn best(&self, block: Block) -> Option<usize> {
+        let mut best = None;
+        let mut most = 0;
+        for column in 0..16u32 {
+            let bit = 1usize << column;
+            if block.care & bit != 0 {
+                let gain = self.gain(block.across(bit));
+                if gain > most {
+                    most = gain;
+                    best = Some(bit);
+                }
+            }
+        }
+        best
+    }
+
+    /// One more than the values of the block that are of on and in no row yet; 0 where one is of off.
+    fn gain(&self, block: Block) -> usize {
+        let dashes = self.cells.len().saturating_sub(1) & !block.care;
+        let mut part = 0;
+        let mut gain = 1usize;
+        for _ in 0..1usize << 16 {
+            match self.cells.get(block.value | part).copied() {
+                Some(Cell::Open) => gain = gain.wrapping_add(1),
+                Some(Cell::Free) => {}
+                _ => return 0,
+            }
+            part = part.wrapping_sub(dashes) & dashes;
+            if part == 0 {
+                break;
+            }
+        }
+        gain
+    }
+
+    /// Makes each value of the row that cell.
+    fn put(&mut self, row: Term, cell: Cell) {
+        let block = Block::of(row);
+        let dashes = self.cells.len().saturating_sub(1) & !block.care;
+        let mut part = 0;
+        for _ in 0..1usize << 16 {
+            if let Some(old) = self.cells.get_mut(block.value | part) {
+                *old = cell;
+            }
+            part = part.wrapping_sub(dashes) & dashes;
+            if part == 0 {
+                break;
+            }
+        }
+    }
+}
