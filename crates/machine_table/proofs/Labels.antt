@@ -1,5 +1,5 @@
 -- The labels of what a machine does at a symbol, and where those of two states differ.
-use Rattle.std.proofs.Common.{◌≡◌, ◌≢◌, ℕ, zero, suc, ◌<◌, ◌^◌, ◌⊎◌, Bool, true, false, not, List, [], ◌∷◌, Option, Some, None, IsSome, IsNone, IfSome, IfNone, Contains, inl, inr, sym, ◌∙◌, subst, refl, arith, is_some, bit_and, length}
+use Rattle.std.proofs.Common.{◌≡◌, ◌≢◌, ℕ, zero, suc, ◌<◌, ◌^◌, ◌⊎◌, Bool, true, false, not, List, [], ◌∷◌, Option, Some, None, IsSome, IsNone, IfSome, IfNone, Contains, inl, inr, sym, ◌∙◌, subst, refl, arith, is_some, bit_and}
 use Rattle.std.proofs.lemmas.Bool.{cases_Bool, cases_eq, true≢false}
 use Rattle.std.proofs.lemmas.List.Elements.{Contains-append_cases, Contains-append_right}
 use Rattle.cubes.specs.Cube.{HoldsNumber}
@@ -178,8 +178,7 @@ module _ (F : KissFile) (table : IsTable F) (said : KissRow → Option ℕ) (uns
       (first_from_least F table said unsaid value labels.when_said labels.when_open s t found some within met)
 
 -- where some row says a label at each symbol, no labels differ by what no row says
-pub never_open : (F : KissFile) (said : KissRow → Option ℕ) (unsaid : ℕ → ℕ) → NoneIsOpen said F → (s t : ℕ) → s < length F.states → t < length F.states
-    → (x : ℕ) → DifferOpen said unsaid F s t x → ⊥
-never_open F said unsaid none s t first second x (inl (v, says, two, silent)) = none t x second silent
-never_open F said unsaid none s t first second x (inr (inl (v, says, two, silent))) = none s x first silent
-never_open F said unsaid none s t first second x (inr (inr (both, two))) = none s x first both.0
+pub never_open : (F : KissFile) (said : KissRow → Option ℕ) (unsaid : ℕ → ℕ) (s t : ℕ) → NoneIsOpen said F s t → (x : ℕ) → DifferOpen said unsaid F s t x → ⊥
+never_open F said unsaid s t none x (inl (v, says, two, silent)) = (none x).1 silent
+never_open F said unsaid s t none x (inr (inl (v, says, two, silent))) = (none x).0 silent
+never_open F said unsaid s t none x (inr (inr (both, two))) = (none x).0 both.0

@@ -4,6 +4,7 @@ pub mod AlikeRows
 pub mod Asking
 pub mod Conflicts
 pub mod Copies
+pub mod GatheredOutputs
 pub mod Labels
 pub mod Lawful
 pub mod NamedPairs
@@ -22,3 +23,4 @@ pub mod SharedCubes
 pub mod Sought
 pub mod Specified
 pub mod Staying
+pub mod WordLabels

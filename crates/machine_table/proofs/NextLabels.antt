@@ -77,7 +77,9 @@ pub one_named : (F : KissFile) → (Conflicting F → ⊥) → (f : ℕ → ℕ)
 one_named F no_conflict f s x v w first second = sym (when_named F no_conflict f s x v first) ∙ when_named F no_conflict f s x w second
 
 -- where nothing is open some row names a state
-pub named_everywhere : (F : KissFile) (f : ℕ → ℕ) → Specified F → NoneIsOpen (named f) F
-named_everywhere F f specified s x within silent =
-    let there = (specified s (symbol_of F.inputs x) within (length-symbol_of F.inputs x)).next in
-    true≢false (sym (some_mapped f there.0.to there.2) ∙ silent there.0 there.1)
+pub named_everywhere : (F : KissFile) (f : ℕ → ℕ) (s t : ℕ) → s < length F.states → t < length F.states → Specified F → NoneIsOpen (named f) F s t
+named_everywhere F f s t first second specified x = (at s first, at t second) where
+  at : (u : ℕ) → u < length F.states → IsOpenAt (named f) F u x → ⊥
+  at u within silent =
+      let there = (specified u (symbol_of F.inputs x) within (length-symbol_of F.inputs x)).next in
+      true≢false (sym (some_mapped f there.0.to there.2) ∙ silent there.0 there.1)

@@ -1,5 +1,5 @@
 -- Outputs by their labels.
-use Rattle.std.proofs.Common.{◌≡◌, ℕ, ◌+◌, ◌<◌, ◌≤◌, ◌^◌, ◌⊎◌, Option, Some, None, IsNone, IfSome, IfNone, Bool, true, false, inl, inr, sym, ◌∙◌, subst, refl, arith, ap, is_some}
+use Rattle.std.proofs.Common.{◌≡◌, ℕ, length, ◌+◌, ◌<◌, ◌≤◌, ◌^◌, ◌⊎◌, Option, Some, None, IsNone, IfSome, IfNone, Bool, true, false, inl, inr, sym, ◌∙◌, subst, refl, arith, ap, is_some}
 use Rattle.std.proofs.lemmas.Bool.{cases_lt, false≢true, true≢false}
 use Rattle.std.specs.Option.{option_map}
 use Rattle.cubes.specs.Symbol.{symbol_of}
@@ -151,7 +151,9 @@ pub one_given : (F : KissFile) → (Conflicting F → ⊥) → (b : ℕ) → Hav
 one_given F no_conflict b s x v w first second = sym (when_given F no_conflict b s x v first) ∙ when_given F no_conflict b s x w second
 
 -- where nothing is open some row gives a bit
-pub given_everywhere : (F : KissFile) (b : ℕ) → b < F.outputs → Specified F → NoneIsOpen (given_label b) F
-given_everywhere F b inside specified s x within silent =
-    let there = (specified s (symbol_of F.inputs x) within (length-symbol_of F.inputs x)).outputs b inside in
-    true≢false (sym (some_digit (given_bit b there.0) there.2) ∙ silent there.0 there.1)
+pub given_everywhere : (F : KissFile) (b s t : ℕ) → b < F.outputs → s < length F.states → t < length F.states → Specified F → NoneIsOpen (given_label b) F s t
+given_everywhere F b s t inside first second specified x = (at s first, at t second) where
+  at : (u : ℕ) → u < length F.states → IsOpenAt (given_label b) F u x → ⊥
+  at u within silent =
+      let there = (specified u (symbol_of F.inputs x) within (length-symbol_of F.inputs x)).outputs b inside in
+      true≢false (sym (some_digit (given_bit b there.0) there.2) ∙ silent there.0 there.1)

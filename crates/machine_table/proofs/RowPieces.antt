@@ -24,7 +24,7 @@ use Rattle.machine_table.proofs.OutputWords.{same_map}
 use Rattle.machine_table.proofs.Sought.{at_from_held}
 
 -- a number whose bits are all at low places is small
-below_from_bits : (n k : ℕ) → ((b : ℕ) → bit n b ≡ true → b < k) → n < 2 ^ k
+pub below_from_bits : (n k : ℕ) → ((b : ℕ) → bit n b ≡ true → b < k) → n < 2 ^ k
 below_from_bits n k low = subst (λ (m : ℕ). m < 2 ^ k) (sym same) small where
   small : n % 2 ^ k < 2 ^ k
   small = mod_below n (2 ^ k) (pow_pos k)

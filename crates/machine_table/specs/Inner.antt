@@ -3,4 +3,5 @@ pub mod Places
 pub mod OpenSymbol
 pub mod Asked
 pub mod Settled
+pub mod Step
 pub mod AddedPairs

@@ -24,6 +24,7 @@ mod order;
 mod pairs;
 mod places;
 mod question;
+mod row_tree;
 mod searching;
 mod walking;
 

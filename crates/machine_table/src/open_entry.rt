@@ -32,7 +32,7 @@ fn says(row: &KissRow, part: Missing) -> bool
 }
 
 /// The care of a row that gives each of so many outputs.
-fn all_outputs(outputs: u8) -> u64
+pub(crate) fn all_outputs(outputs: u8) -> u64
     requires { outputs ≤ 64 }
     ensures { result ≡ 2 ^ outputs - 1 }
 {

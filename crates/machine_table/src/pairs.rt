@@ -1,10 +1,12 @@
 //! The questions about two states at all symbols.
-ghost use Rattle.std.specs.Prelude.{◌≡◌, ◌<◌, ◌↔◌, IfNone, IfSome, IsTrue, length};
+ghost use Rattle.std.specs.Prelude.{◌≡◌, ◌<◌, ◌↔◌, IfNone, IfSome, IsNone, IsTrue, length};
 ghost use Rattle.partition.specs.Partition.{Together};
+ghost use Rattle.machine_table.specs.Inner.OpenSymbol.{SaysAll};
 ghost use Rattle.machine_table.specs.Pairs.{AgreeAt, AgreeInBit, AtEachSymbol, GoInto, HaveOneBit, IsFirstWithout};
 
 use crate::Machine;
-use crate::question::{OutputBit, WordBits};
+use crate::open_entry::all_outputs;
+use crate::question::{OutputBit, OutputWord, WordBits};
 use crate::searching::lesser;
 use partition::Partition;
 
@@ -71,12 +73,30 @@ impl Machine {
         self.first_differing(&OutputBit::new(b), s, t, true)
     }
 
+    /// A symbol at which the outputs are not the same, where each row of both states says all; where the
+    /// least is asked for, it is the least such.
+    fn first_word_apart(&self, s: usize, t: usize, least: bool) -> Option<u32>
+        requires s { s < length self.now.states }
+        requires t { t < length self.now.states }
+        requires first { SaysAll self.now s }
+        requires second { SaysAll self.now t }
+        ensures least { IsTrue least → IfSome result (IsFirstWithout self.now.inputs (AgreeAt self.now s t)) }
+        ensures none { IsNone result ↔ AtEachSymbol self.now.inputs (AgreeAt self.now s t) }
+    {
+        let _ = &self.file;
+        let all = all_outputs(self.outputs());
+        self.first_differing(&OutputWord::new(all), s, t, least)
+    }
+
     /// Whether the outputs are the same at each symbol.
     pub fn outputs_agree(&self, s: usize, t: usize) -> bool
         requires s { s < length self.now.states }
         requires t { t < length self.now.states }
         ensures { IsTrue result ↔ AtEachSymbol self.now.inputs (AgreeAt self.now s t) }
     {
+        if self.says_all(s) && self.says_all(t) {
+            return self.first_word_apart(s, t, false).is_none();
+        }
         for b in 0..self.outputs() {
             if !self.bit_agrees(s, t, b) {
                 return false;
@@ -92,6 +112,9 @@ impl Machine {
         ensures some { IfSome result (IsFirstWithout self.now.inputs (AgreeAt self.now s t)) }
         ensures none { IfNone result (AtEachSymbol self.now.inputs (AgreeAt self.now s t)) }
     {
+        if self.says_all(s) && self.says_all(t) {
+            return self.first_word_apart(s, t, true);
+        }
         let mut first = None;
         for b in 0..self.outputs() {
             first = lesser(first, self.first_bit_apart(s, t, b));

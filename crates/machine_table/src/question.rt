@@ -20,12 +20,12 @@ pub(crate) trait Question {
     ghost unsaid: { Self → ℕ → ℕ };
 
     /// The label of what a row says, if it says the part.
-    fn said(&self, row: &KissRow) -> Option<u16>
+    fn said(&self, row: &KissRow) -> Option<u64>
         requires { IfSome row.now.to (λ t. t < states self.now) }
         ensures { result ≡ said self.now row.now };
 
     /// The label of what holds at a state where no row says the part.
-    fn unsaid(&self, s: usize) -> u16
+    fn unsaid(&self, s: usize) -> u64
         requires { s < states self.now }
         ensures { result ≡ unsaid self.now s };
 }
@@ -40,15 +40,15 @@ impl Question for Partition {
 
     ghost unsaid = { λ q s. slice_index q s };
 
-    fn said(&self, row: &KissRow) -> Option<u16> {
+    fn said(&self, row: &KissRow) -> Option<u64> {
         match row.to {
-            Some(t) => Some(self.label(usize::from(t))),
+            Some(t) => Some(u64::from(self.label(usize::from(t)))),
             None => None,
         }
     }
 
-    fn unsaid(&self, s: usize) -> u16 {
-        self.label(s)
+    fn unsaid(&self, s: usize) -> u64 {
+        u64::from(self.label(s))
     }
 }
 
@@ -70,11 +70,11 @@ impl<'a> WordBits<'a> {
     }
 
     /// The bit of the word of a state.
-    fn bit(&self, s: usize) -> u16
+    fn bit(&self, s: usize) -> u64
         requires { s < length self.now.words.now }
         ensures { result ≡ bit_at (slice_index self.now.words.now s) self.now.at }
     {
-        ((self.words[s] >> self.at) & 1) as u16
+        (self.words[s] >> self.at) & 1
     }
 }
 
@@ -89,14 +89,14 @@ impl<'a> Question for WordBits<'a> {
 
     ghost unsaid = { λ q s. bit_at (slice_index q.words.now s) q.at };
 
-    fn said(&self, row: &KissRow) -> Option<u16> {
+    fn said(&self, row: &KissRow) -> Option<u64> {
         match row.to {
             Some(t) => Some(self.bit(usize::from(t))),
             None => None,
         }
     }
 
-    fn unsaid(&self, s: usize) -> u16 {
+    fn unsaid(&self, s: usize) -> u64 {
         self.bit(s)
     }
 }
@@ -129,14 +129,51 @@ impl Question for OutputBit {
 
     ghost unsaid = { λ _ _. 0 };
 
-    fn said(&self, row: &KissRow) -> Option<u16> {
+    fn said(&self, row: &KissRow) -> Option<u64> {
         match given(row, self.b) {
-            Some(bit) => Some(u16::from(bit)),
+            Some(bit) => Some(u64::from(bit)),
             None => None,
         }
     }
 
-    fn unsaid(&self, _s: usize) -> u16 {
+    fn unsaid(&self, _s: usize) -> u64 {
+        0
+    }
+}
+
+/// All outputs, as rows say them that give each: those that care for no output more or less than `all`.
+#[derive(Clone, Copy)]
+pub(crate) struct OutputWord {
+    all: u64,
+}
+
+impl OutputWord {
+    pub fn new(all: u64) -> OutputWord
+        ensures { result.all ≡ all }
+    {
+        OutputWord { all }
+    }
+}
+
+/// Equal words are alike.
+impl Question for OutputWord {
+    ghost use Rattle.std.specs.Prelude.{◌==◌, None, Some, if◌then◌else◌};
+
+    ghost states = { λ _. 65536 };
+
+    ghost said = { λ q row. if row.care == q.all then Some row.value else None };
+
+    ghost unsaid = { λ _ _. 0 };
+
+    fn said(&self, row: &KissRow) -> Option<u64> {
+        if row.care == self.all {
+            Some(row.value)
+        } else {
+            None
+        }
+    }
+
+    fn unsaid(&self, _s: usize) -> u64 {
         0
     }
 }
@@ -165,12 +202,15 @@ impl Question for NextState {
 
     ghost unsaid = { λ _ s. s };
 
-    fn said(&self, row: &KissRow) -> Option<u16> {
-        row.to
+    fn said(&self, row: &KissRow) -> Option<u64> {
+        match row.to {
+            Some(t) => Some(u64::from(t)),
+            None => None,
+        }
     }
 
-    fn unsaid(&self, s: usize) -> u16 {
+    fn unsaid(&self, s: usize) -> u64 {
         let _ = self.states;
-        s as u16
+        s as u64
     }
 }

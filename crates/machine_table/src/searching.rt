@@ -153,7 +153,7 @@ impl Machine {
         requires t { t < length self.now.states }
         requires known { length self.now.states ≤ Q.states question.now }
         requires one { HaveOneLabel (Q.said question.now) self.now }
-        requires none_open { Specified self.now → NoneIsOpen (Q.said question.now) self.now }
+        requires none_open { Specified self.now → NoneIsOpen (Q.said question.now) self.now s t }
         ensures some { IfSome result (DifferAt (Q.said question.now) (Q.unsaid question.now) self.now s t) }
         ensures within { IfSome result (λ x. x < 2 ^ self.now.inputs) }
         ensures met { (y : ℕ) → DifferAt (Q.said question.now) (Q.unsaid question.now) self.now s t y → IsMetBy result least y }

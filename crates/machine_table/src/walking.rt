@@ -1,11 +1,24 @@
 //! The outputs along a word.
-ghost use Rattle.std.specs.Prelude.{◌≡◌, ◌<◌, ◌^◌, All, IfOk, length, map};
+ghost use Rattle.std.specs.Prelude.{◌≡◌, ◌<◌, ◌^◌, All, IfOk, IfSome, length, map};
 ghost use Rattle.cubes.specs.Symbol.{symbol_of};
 ghost use Rattle.kiss2.specs.Machine.{answers, out};
+ghost use Rattle.machine_table.specs.Inner.Step.{IsStep};
 ghost use Rattle.machine_table.specs.Walk.{outputs_of};
 
 use crate::Machine;
+use crate::open_entry::all_outputs;
+use crate::row_tree::RowTree;
 use std::alloc::{AllocError, Global};
+
+/// With so many symbols for each state trees of rows are worth it.
+const MANY_VISITS: usize = 256;
+
+/// Where a machine goes, and its outputs, output b at 2^b.
+#[derive(Clone, Copy)]
+struct Step {
+    next: usize,
+    outputs: u64,
+}
 
 impl Machine {
     /// The outputs from the reset state on, one number for each symbol: output b at 2^b.
@@ -14,13 +27,103 @@ impl Machine {
         ensures outputs { IfOk result (λ words. map (outputs_of self.now.outputs) words.items ≡ answers self.now self.now.reset (map (symbol_of self.now.inputs) symbols.now)) }
         ensures below { IfOk result (λ words. All (λ word. word < 2 ^ self.now.outputs) words.items) }
     {
+        let trees = self.trees_for(alloc, symbols.len())?;
         let mut words = Vec::with_capacity(alloc, symbols.len())?;
         let mut s = self.reset();
         for x in symbols {
-            words.push(self.output_word(s, *x))?;
-            s = self.next(s, *x);
+            let step = self.step(&trees, s, *x);
+            words.push(step.outputs)?;
+            s = step.next;
         }
         Ok(words)
+    }
+
+    /// A tree of the rows of each state, where a word has so many symbols that they are worth it.
+    fn trees_for(&self, alloc: Global, symbols: usize) -> Result<Vec<RowTree>, AllocError> {
+        let mut trees = Vec::new(alloc);
+        if symbols / MANY_VISITS < self.states() {
+            return Ok(trees);
+        }
+        let rows = self.file.rows.as_slice();
+        for s in 0..self.states() {
+            let tree = RowTree::of_rows(alloc, rows, self.numbers_of(s), u32::MAX, 32)?;
+            trees.push(tree)?;
+        }
+        Ok(trees)
+    }
+
+    /// The step from a state at a symbol. There may be trees of the rows of the states.
+    fn step(&self, trees: &[RowTree], s: usize, x: u32) -> Step
+        requires s { s < length self.now.states }
+        requires x { x < 2 ^ self.now.inputs }
+        ensures { IsStep self.now s x result.next result.outputs }
+    {
+        if let Some(tree) = trees.get(s)
+            && let Some(step) = self.step_in(tree, s, x)
+        {
+            return step;
+        }
+        Step {
+            next: self.next(s, x),
+            outputs: self.output_word(s, x),
+        }
+    }
+
+    /// The same, if a row in the tree says it.
+    fn step_in(&self, tree: &RowTree, s: usize, x: u32) -> Option<Step>
+        requires x { x < 2 ^ self.now.inputs }
+        ensures { IfSome result (λ step. IsStep self.now s x step.next step.outputs) }
+    {
+        match tree {
+            RowTree::Leaf(numbers) => self.step_among(numbers.as_slice(), s, x),
+            RowTree::Fork {
+                at,
+                zero,
+                one,
+                dash,
+            } => {
+                let side = if x & *at == 0 { zero } else { one };
+                match self.step_in(side, s, x) {
+                    Some(step) => Some(step),
+                    None => self.step_in(dash, s, x),
+                }
+            }
+        }
+    }
+
+    /// The same, if one of the rows of these numbers says it.
+    fn step_among(&self, numbers: &[usize], s: usize, x: u32) -> Option<Step>
+        requires x { x < 2 ^ self.now.inputs }
+        ensures { IfSome result (λ step. IsStep self.now s x step.next step.outputs) }
+    {
+        for number in numbers {
+            if let Some(step) = self.step_of_row(*number, s, x) {
+                return Some(step);
+            }
+        }
+        None
+    }
+
+    /// The same, if the row of that number says it: a row of the state that holds the symbol, names a next
+    /// state and gives each output.
+    fn step_of_row(&self, number: usize, s: usize, x: u32) -> Option<Step>
+        requires x { x < 2 ^ self.now.inputs }
+        ensures { IfSome result (λ step. IsStep self.now s x step.next step.outputs) }
+    {
+        if number >= self.file.rows.as_slice().len() {
+            return None;
+        }
+        let row = self.row(number);
+        if usize::from(row.from) != s || row.care != all_outputs(self.outputs()) {
+            return None;
+        }
+        match row.to {
+            Some(t) if row.cube.holds(x) => Some(Step {
+                next: usize::from(t),
+                outputs: row.value,
+            }),
+            _ => None,
+        }
     }
 
     /// The outputs at a state and a symbol, output b at 2^b.
@@ -30,10 +133,17 @@ impl Machine {
         ensures below { result < 2 ^ self.now.outputs }
         ensures outputs { outputs_of self.now.outputs result ≡ out self.now s (symbol_of self.now.inputs x) }
     {
+        let all = all_outputs(self.outputs());
+        let mut given = 0;
         let mut word = 0;
-        for b in 0..self.outputs() {
-            if self.output_bit(s, x, b) {
-                word += 1 << b;
+        for number in self.numbers_of(s) {
+            let row = self.row(*number);
+            if row.cube.holds(x) {
+                given |= row.care;
+                word |= row.value;
+                if given == all {
+                    return word;
+                }
             }
         }
         word

@@ -1,6 +1,6 @@
 -- What rows say of two states at one symbol, where a part has labels: a function gives the label of what a row says.
 -- Private functions need it; no public contract cites it.
-use Rattle.std.specs.Prelude.{ℕ, ◌≡◌, ◌≢◌, ◌<◌, ◌≤◌, ◌^◌, ◌⊎◌, min, Bool, false, true, Contains, IfSome, IsNone, IsTrue, List, Option, None, Some, slice_get, slice_index_or, IsSome, length, slice_index}
+use Rattle.std.specs.Prelude.{ℕ, ◌≡◌, ◌≢◌, ◌<◌, ◌≤◌, ◌^◌, ◌⊎◌, min, Bool, false, true, Contains, IfSome, IsNone, IsTrue, List, Option, None, Some, slice_get, slice_index_or, IsSome, slice_index}
 use Rattle.cubes.specs.Cube.{HoldsNumber}
 use Rattle.cubes.specs.Symbol.{symbol_of}
 use Rattle.kiss2.specs.declared.kiss_file.KissFile.{KissFile}
@@ -93,9 +93,9 @@ pub record IsSearched (F : KissFile) (numbers : List ℕ) (count : ℕ) (Wanted 
 abbrev pub HaveOneLabel : (KissRow → Option ℕ) → KissFile → Type 0
 HaveOneLabel said F = (s x v w : ℕ) → IsLabelAt said F s x v → IsLabelAt said F s x w → v ≡ w
 
--- at each symbol some row of each state says a label
-abbrev pub NoneIsOpen : (KissRow → Option ℕ) → KissFile → Type 0
-NoneIsOpen said F = (s x : ℕ) → s < length F.states → IsOpenAt said F s x → ⊥
+-- at each symbol some row of each of the two states says a label
+abbrev pub NoneIsOpen : (KissRow → Option ℕ) → KissFile → (s t : ℕ) → Type 0
+NoneIsOpen said F s t = (x : ℕ) → (IsOpenAt said F s x → ⊥) × (IsOpenAt said F t x → ⊥)
 
 -- the rows hold the same symbols, and the second says a label
 pub record AreAlike (said : KissRow → Option ℕ) (row other : KissRow) : Type 0 where

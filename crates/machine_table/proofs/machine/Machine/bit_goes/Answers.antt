@@ -39,4 +39,4 @@ first_differing-requires-clause-one c =
     one_named c.args.self.now (subst (λ (G : KissFile). Conflicting G → ⊥) c.self.view_is c.self.invariant.1) (λ (u : ℕ). bit_at (slice_index c.new.result.words.now u) c.new.result.at)
 
 pub first_differing-requires-clause-none_open : goal.first_differing-requires-clause-none_open
-first_differing-requires-clause-none_open c = named_everywhere c.args.self.now (λ (u : ℕ). bit_at (slice_index c.new.result.words.now u) c.new.result.at)
+first_differing-requires-clause-none_open c = named_everywhere c.args.self.now (λ (u : ℕ). bit_at (slice_index c.new.result.words.now u) c.new.result.at) c.args.s c.args.t c.requires.s c.requires.t

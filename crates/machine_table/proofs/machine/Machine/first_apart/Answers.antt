@@ -36,4 +36,4 @@ first_differing-requires-clause-one c =
     one_named c.args.self.now (subst (λ (G : KissFile). Conflicting G → ⊥) c.self.view_is c.self.invariant.1) (slice_index c.args.q.now)
 
 pub first_differing-requires-clause-none_open : goal.first_differing-requires-clause-none_open
-first_differing-requires-clause-none_open c = named_everywhere c.args.self.now (slice_index c.args.q.now)
+first_differing-requires-clause-none_open c = named_everywhere c.args.self.now (slice_index c.args.q.now) c.args.s c.args.t c.requires.s c.requires.t

@@ -34,4 +34,4 @@ first_differing-requires-clause-one c =
 
 pub first_differing-requires-clause-none_open : goal.first_differing-requires-clause-none_open
 first_differing-requires-clause-none_open c =
-    given_everywhere c.args.self.now c.new.result.b (subst (λ (n : ℕ). n < c.args.self.now.outputs) (sym c.new.ensures) c.requires.b)
+    given_everywhere c.args.self.now c.new.result.b c.args.s c.args.t (subst (λ (n : ℕ). n < c.args.self.now.outputs) (sym c.new.ensures) c.requires.b) c.requires.s c.requires.t

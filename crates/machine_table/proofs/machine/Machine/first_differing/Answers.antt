@@ -34,5 +34,5 @@ returns-then-is_complete-clause-met g c y differ =
       | inl two ↦ c.first_said-found.ensures.met y two
       | inr silent ↦
           absurd (never_open c.args.self.now (g.Q.Question.said c.args.question.now) (g.Q.Question.unsaid c.args.question.now)
-          (c.requires.none_open (c.is_complete.ensures.specified c.if-is_complete.true)) c.args.s c.args.t c.requires.s c.requires.t y silent)
+          c.args.s c.args.t (c.requires.none_open (c.is_complete.ensures.specified c.if-is_complete.true)) y silent)
     ]

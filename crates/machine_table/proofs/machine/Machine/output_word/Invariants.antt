@@ -1,10 +1,14 @@
-use Rattle.std.proofs.Common.{ℕ, ◌≡◌, ◌<◌, ◌^◌}
-use Rattle.cubes.specs.Symbol.{bit, symbol_of}
-use Rattle.kiss2.specs.Machine.{output_bit}
+use Rattle.std.proofs.Common.{ℕ, ◌≡◌, ◌<◌, false, None, Some, get_or, slice_get}
+use Rattle.cubes.specs.Cube.{HoldsNumber}
+use Rattle.cubes.specs.Symbol.{bit}
+use Rattle.kiss2.specs.declared.kiss_file.KissRow.{KissRow}
+use Rattle.kiss2.specs.Machine.{given_bit}
+use Rattle.machine_table.proofs.GatheredOutputs.{IsGathered}
 use Rattle.machine_table.proofs.machine.Machine.output_word.Given as goal
 
-abbrev pub invariant-loop-b : goal.invariant-loop-b
-invariant-loop-b l = record {
-  below : l.word < 2 ^ l.b;
-  bits : (k : ℕ) → k < l.b → bit l.word k ≡ output_bit l.self l.s (symbol_of l.self.inputs l.x) k;
+abbrev pub invariant-loop-number : goal.invariant-loop-number
+invariant-loop-number l = record {
+  gathered : IsGathered l.self l.s l.x l.given l.word;
+  seen : (k d : ℕ) (row : KissRow) → k < l.number-index → slice_get l.self.rows (get_or l.number-items k d) ≡ Some row → HoldsNumber row.cube l.x
+      → (b : ℕ) → bit l.given b ≡ false → given_bit b row ≡ None;
 }

@@ -1,0 +1,13 @@
+-- One step of a machine. Private functions need it; no public contract cites it.
+use Rattle.std.specs.Prelude.{ℕ, ◌≡◌, ◌<◌, ◌^◌, length}
+use Rattle.cubes.specs.Symbol.{symbol_of}
+use Rattle.kiss2.specs.declared.kiss_file.KissFile.{KissFile}
+use Rattle.kiss2.specs.Machine.{next, out}
+use Rattle.machine_table.specs.Walk.{outputs_of}
+
+-- where the machine goes from the state at the symbol of that number, and the number of its outputs there
+pub record IsStep (F : KissFile) (s x goes word : ℕ) : Type 0 where
+  pub next_state : goes ≡ next F s (symbol_of F.inputs x)
+  pub state : goes < length F.states
+  pub outputs : outputs_of F.outputs word ≡ out F s (symbol_of F.inputs x)
+  pub below : word < 2 ^ F.outputs

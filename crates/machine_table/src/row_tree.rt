@@ -1,0 +1,118 @@
+//! Rows of a state in a tree, in which one that holds a symbol is found without looking at each.
+//!
+//! A tree advises and no more: what is found in it is judged by the row itself, and where nothing is found
+//! all rows of the state are asked.
+
+use cubes::Cube;
+use kiss2::KissRow;
+use std::alloc::{AllocError, Global};
+
+/// So many rows are not told apart.
+const FEW_ROWS: usize = 4;
+
+/// Numbers of rows, told apart by the bits of their cubes.
+#[derive(Drop)]
+pub enum RowTree {
+    Leaf(Vec<usize>),
+    Fork {
+        /// The place, as the number that has a 1 there alone.
+        at: u32,
+        zero: Box<RowTree>,
+        one: Box<RowTree>,
+        dash: Box<RowTree>,
+    },
+}
+
+/// What a cube has at a place.
+#[derive(Clone, Copy, PartialEq, Eq)]
+enum Side {
+    Zero,
+    One,
+    Dash,
+}
+
+/// What the cube has at the place of the 1 in `at`.
+fn side_of(cube: &Cube, at: u32) -> Side {
+    if cube.care & at == 0 {
+        Side::Dash
+    } else if cube.value & at == 0 {
+        Side::Zero
+    } else {
+        Side::One
+    }
+}
+
+/// Whether the row of that number has that at the place.
+fn is_on_side(rows: &[KissRow], number: usize, at: u32, side: Side) -> bool {
+    match rows.get(number) {
+        Some(row) => side_of(&row.cube, at) == side,
+        None => false,
+    }
+}
+
+/// Those of the numbers whose rows have that at the place.
+fn on_side(
+    alloc: Global,
+    rows: &[KissRow],
+    numbers: &[usize],
+    at: u32,
+    side: Side,
+) -> Result<Vec<usize>, AllocError> {
+    numbers
+        .iter()
+        .copied()
+        .filter(|number| is_on_side(rows, *number, at, side))
+        .collect(alloc)
+}
+
+/// The place of those with a 1 in `free` at which the fewest rows have a dash; none where all have one.
+fn least_dashed(rows: &[KissRow], numbers: &[usize], free: u32) -> Option<u32> {
+    let mut best = None;
+    let mut fewest = numbers.len();
+    for place in 0..32u32 {
+        let at = free & (1 << place);
+        let dashes = numbers
+            .iter()
+            .filter(|number| is_on_side(rows, **number, at, Side::Dash))
+            .count();
+        if dashes < fewest {
+            best = Some(at);
+            fewest = dashes;
+        }
+        if fewest == 0 {
+            return best;
+        }
+    }
+    best
+}
+
+impl RowTree {
+    /// The tree of the rows of these numbers, at most so deep, by the places with a 1 in `free`.
+    pub fn of_rows(
+        alloc: Global,
+        rows: &[KissRow],
+        numbers: &[usize],
+        free: u32,
+        depth: u8,
+    ) -> Result<RowTree, AllocError> {
+        if depth == 0 || numbers.len() <= FEW_ROWS {
+            return Ok(RowTree::Leaf(Vec::from_slice(alloc, numbers)?));
+        }
+        let Some(at) = least_dashed(rows, numbers, free) else {
+            return Ok(RowTree::Leaf(Vec::from_slice(alloc, numbers)?));
+        };
+        let rest = free & !at;
+        let zeros = on_side(alloc, rows, numbers, at, Side::Zero)?;
+        let zero = RowTree::of_rows(alloc, rows, &zeros, rest, depth - 1)?;
+        let ones = on_side(alloc, rows, numbers, at, Side::One)?;
+        let one = RowTree::of_rows(alloc, rows, &ones, rest, depth - 1)?;
+        let dashes = on_side(alloc, rows, numbers, at, Side::Dash)?;
+        let dash = RowTree::of_rows(alloc, rows, &dashes, rest, depth - 1)?;
+        Ok(RowTree::Fork {
+            at,
+            zero: Box::new(alloc, zero)?,
+            one: Box::new(alloc, one)?,
+            dash: Box::new(alloc, dash)?,
+        })
+    }
+}
