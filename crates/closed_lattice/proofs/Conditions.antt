@@ -1,8 +1,7 @@
 -- The conditions of growths: each holds of every smaller partition too, and zero meets them.
 use Rattle.std.proofs.Common.{◌≡◌, ℕ, ◌<◌, List, length, subst, arith}
 use Rattle.partition.specs.Partition.{IsPartition, IsZero, Together, Le, zero_of}
-use Rattle.partition.specs.MeetAndJoin.{IsMeet}
-use Rattle.partition.specs.Laws.Extremes.{zero_once, zero_of_is_zero}
+use Rattle.partition.specs.Laws.Extremes.{zero_of_is_zero}
 use Rattle.closed_lattice.specs.Limits.{HoldsApart, IsStrictlyBelow, MeetInZero}
 use Rattle.closed_lattice.proofs.Growing.{together_itself}
 
@@ -22,13 +21,6 @@ never_below_zero n top size zero p lawful (below, strict) =
 
 pub meet_in_zero_down : (other p q : List ℕ) → Le q p → MeetInZero other p → MeetInZero other q
 meet_in_zero_down other p q le meets s t held = meets s t (le s t held)
-
--- two partitions meet in zero where their meet is zero
-pub meet_is_zero : (p other r zero' : List ℕ) → IsMeet p other r → IsPartition (length p) zero' → IsZero zero' → (r ≡ zero' → MeetInZero other p) × (MeetInZero other p → r ≡ zero')
-meet_is_zero p other r zero' is lawful zero = (
-  (λ same s t here there. zero s t (subst (λ (x : List ℕ). Together x s t) same ((is.together s t).1 (here, there)))),
-  (λ meets. zero_once (length p) r zero' is.lawful lawful (λ s t held. let both = (is.together s t).0 held in meets s t both.0 both.1) zero),
-)
 
 pub apart_down : (s t : ℕ) (p q : List ℕ) → Le q p → HoldsApart s t p → HoldsApart s t q
 apart_down s t p q le apart held = apart (le s t held)

@@ -155,3 +155,7 @@ principals_are_one F s t p q one other =
 
 pub states_counted : (F : KissFile) (n : ℕ) → n ≡ length F.states → 0 < n → n ≤ 256 → IsStateCount (length F.states)
 states_counted F n size some few = (omega (arith, size, some), omega (arith, size, few))
+
+-- zero is closed
+pub zero_of_closed : (F : KissFile) (n : ℕ) → n ≡ length F.states → 0 < n → n ≤ 256 → NeverLeaves F → IsClosedPartition F (zero_of (length F.states))
+zero_of_closed F n size some few inside = zero_closed F (zero_of (length F.states)) inside (states_counted F n size some few) refl

@@ -1,5 +1,5 @@
 -- Partitions that grow by joins with least closed partitions that are known.
-use Rattle.std.proofs.Common.{◌≡◌, ℕ, ◌<◌, List, [], ◌∷◌, ◌++◌, get_or, length, refl, sym, ◌∙◌, subst}
+use Rattle.std.proofs.Common.{◌≡◌, ℕ, ◌<◌, All, List, [], ◌∷◌, ◌++◌, get_or, length, refl, sym, ◌∙◌, subst}
 use Rattle.std.proofs.lemmas.List.Elements.{All-push, Contains-get_or}
 use Rattle.kiss2.specs.declared.kiss_file.KissFile.{KissFile}
 use Rattle.partition.specs.Partition.{IsPartition, Together}
@@ -9,7 +9,8 @@ use Rattle.partition.specs.Laws.World.{join_fits, join_repeats}
 use Rattle.pair_operators.specs.Laws.Pairs.{joins_pair, pair_monotone}
 use Rattle.closed_lattice.specs.Closed.{IsPrincipal}
 use Rattle.closed_lattice.specs.declared.known.Item.{Item}
-use Rattle.closed_lattice.specs.Inner.Known.{AreKnown, Joins}
+use Rattle.closed_lattice.specs.Inner.Joined.{Joins}
+use Rattle.closed_lattice.specs.Kept.{IsPrincipalItem}
 use Rattle.closed_lattice.specs.Inner.Waiting.{AreStates, AreTogether}
 use Rattle.closed_lattice.proofs.Growing.{IsGrowing}
 
@@ -78,8 +79,8 @@ joins_weaker F Holds More p r from joins = record {
 }
 
 -- one more is known
-pub known_more : (F : KissFile) (items : List Item) (item : Item) → AreKnown F items → IsPrincipal F item.s item.t item.least → AreKnown F (items ++ item ∷ [])
-known_more F items item known is = All-push (λ (x : Item). IsPrincipal F x.s x.t x.least) items item known is
+pub known_more : (F : KissFile) (items : List Item) (item : Item) → All (IsPrincipalItem F) items → IsPrincipalItem F item → All (IsPrincipalItem F) (items ++ item ∷ [])
+known_more F items item known is = All-push (IsPrincipalItem F) items item known is
 
 -- the pair at a place of the list
 pub states_at : (n : ℕ) (pairs : List (ℕ × ℕ)) (k : ℕ) → AreStates n pairs → k < length pairs → ((get_or pairs k (0, 0)).0 < n) × ((get_or pairs k (0, 0)).1 < n)

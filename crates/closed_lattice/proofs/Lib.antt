@@ -4,9 +4,11 @@ pub mod Joining
 pub mod Blocks
 pub mod ZeroBlocks
 pub mod Generating
-pub mod Principals
+pub mod Collected
 pub mod Listed
 pub mod Grown
 pub mod Conditions
+pub mod Existing
+pub mod Passing
 pub mod Sifting
 pub mod Symbols

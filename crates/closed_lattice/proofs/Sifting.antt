@@ -6,11 +6,12 @@ use Rattle.std.proofs.lemmas.List.Elements.{All-contains, All-push, Contains-app
 use Rattle.std.proofs.lemmas.List.Quantifiers.{all_pairs_push}
 use Rattle.hs_lattice.specs.Listing.{Lists}
 use Rattle.kiss2.specs.declared.kiss_file.KissFile.{KissFile}
-use Rattle.partition.specs.Partition.{Le}
+use Rattle.partition.specs.Partition.{blocks_of, IsPartition, Le}
 use Rattle.partition.specs.Before.{Before}
 use Rattle.partition.specs.Laws.Labels.{same_labels}
 use Rattle.closed_lattice.specs.Closed.{HoldsSome, IsAtom, IsClosedPartition}
 use Rattle.closed_lattice.specs.Inner.Generators.{AreGenerators, IsLeastAmong}
+use Rattle.closed_lattice.proofs.ZeroBlocks.{above_by_blocks}
 
 -- What is known after the first i of the found ones.
 pub record IsSifting (F : KissFile) (found list : List (List ℕ)) (i : ℕ) : Type 0 where
@@ -96,3 +97,39 @@ module _ (F : KissFile) (found : List (List ℕ)) (found_all : AreGenerators F f
         let read : get_or found k z ≡ z = both.0.2 in
         subst (Contains list) read (all.kept k z (omega (arith, both.0.1)) (subst (IsLeastAmong found) (sym read) both.1));
   }
+
+-- What is_least asks: where no partition up to a place is strictly below p, and the one there has no more blocks, none is.
+pub least_so_far : (found : List (List ℕ)) (p q : List ℕ) (i : ℕ) → IsPartition (length p) p → All (IsPartition (length p)) found → AllPairs Before found → i < length found → q ≡ get_or found i q → blocks_of q ≤ blocks_of p
+    → ((k : ℕ) (d : List ℕ) → k < i → Le (get_or found k d) p → Le p (get_or found k d)) → IsLeastAmong found p
+least_so_far found p q i lawful all ascending within read few so_far k d inside below =
+    elim (cases_lt k i) [
+      | inl earlier ↦ so_far k d earlier below
+      | inr later ↦ above_by_blocks (length p) (get_or found k d) p (all k d inside) lawful below (elim (cases_lt i k) [
+        | inl order ↦ elim (ascending i k d order inside) [
+          | inl fewer ↦ omega (arith, few, ap blocks_of here, fewer)
+          | inr equal ↦ omega (arith, few, ap blocks_of here, equal.0)
+        ]
+        | inr not_before ↦ let at : i ≡ k = omega arith in omega (arith, few, ap blocks_of (here ∙ ap (λ (n : ℕ). get_or found n d) at))
+      ])
+    ]
+  where
+    here : q ≡ get_or found i d
+    here = read ∙ get_or_default found i q d within
+
+-- a partition strictly below p
+pub not_least : (found : List (List ℕ)) (p q : List ℕ) (i : ℕ) → IsPartition (length p) p → All (IsPartition (length p)) found → i < length found → q ≡ get_or found i q → blocks_of p < blocks_of q → Le q p → IsLeastAmong found p → ⊥
+not_least found p q i lawful all within read more le least =
+    let is : IsPartition (length p) q = subst (IsPartition (length p)) (sym read) (all i q within) in
+    let above : Le p q = subst (Le p) (sym read) (least i q within (subst (λ (x : List ℕ). Le x p) read le)) in
+    omega (arith, more, ap blocks_of (same_labels p q lawful.numbered is.numbered (sym is.length) (λ u v. (above u v, le u v))))
+
+-- a partition that is not below p
+pub still_least : (found : List (List ℕ)) (p q : List ℕ) (i : ℕ) → i < length found → q ≡ get_or found i q → (Le q p → ⊥)
+    → ((k : ℕ) (d : List ℕ) → k < i → Le (get_or found k d) p → Le p (get_or found k d)) → (k : ℕ) (d : List ℕ) → k < i + 1 → Le (get_or found k d) p → Le p (get_or found k d)
+still_least found p q i within read not_below so_far k d up_to below =
+    elim (cases_lt k i) [
+      | inl earlier ↦ so_far k d earlier below
+      | inr later ↦
+          let at : k ≡ i = omega arith in
+          absurd (not_below (subst (λ (x : List ℕ). Le x p) (ap (λ (n : ℕ). get_or found n d) at ∙ sym (read ∙ get_or_default found i q d within)) below))
+    ]

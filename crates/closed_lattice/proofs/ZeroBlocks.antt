@@ -36,18 +36,22 @@ zero_by_blocks n p lawful all s t held =
           absurd (omega (arith, fewer, all, zero_blocks n (zero_of n) least (zero_of_is_zero n)))
     ]
 
+-- a partition above p with no fewer blocks is no greater
+pub above_by_blocks : (n : ℕ) (p r : List ℕ) → IsPartition n p → IsPartition n r → Le p r → blocks_of p ≤ blocks_of r → Le r p
+above_by_blocks n p r lawful above le no_fewer s t held =
+    let in_s : s < length p = omega (arith, held.0, above.length, lawful.length) in
+    let in_t : t < length p = omega (arith, held.1, above.length, lawful.length) in
+    elim (cases_eq (get_or p s 0) (get_or p t 0)) [
+      | inl same ↦ (in_s, in_t, same)
+      | inr other ↦
+          let fewer = fewer_blocks p r lawful.numbered above.numbered (above.length ∙ sym lawful.length) le s t in_s in_t (λ together. other together.2) held in
+          absurd (omega arith)
+    ]
+
 -- a partition strictly above p has fewer blocks
 pub strictly_fewer : (n : ℕ) (p r : List ℕ) → IsPartition n p → IsPartition n r → Le p r → (Le r p → ⊥) → blocks_of r < blocks_of p
 strictly_fewer n p r lawful above le strict =
     elim (cases_lt (blocks_of r) (blocks_of p)) [
       | inl fewer ↦ fewer
-      | inr not_fewer ↦ absurd (strict (λ s t held.
-          let in_s : s < length p = omega (arith, held.0, above.length, lawful.length) in
-          let in_t : t < length p = omega (arith, held.1, above.length, lawful.length) in
-          elim (cases_eq (get_or p s 0) (get_or p t 0)) [
-            | inl same ↦ (in_s, in_t, same)
-            | inr other ↦
-                let fewer = fewer_blocks p r lawful.numbered above.numbered (above.length ∙ sym lawful.length) le s t in_s in_t (λ together. other together.2) held in
-                absurd (omega arith)
-          ]))
+      | inr not_fewer ↦ absurd (strict (above_by_blocks n p r lawful above le (omega arith)))
     ]

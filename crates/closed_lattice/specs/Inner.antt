@@ -1,4 +1,5 @@
 -- Definitions that only private functions and proofs need.
 pub mod Waiting
-pub mod Known
+pub mod Joined
+pub mod Growing
 pub mod Generators

@@ -1,3 +1,4 @@
 pub mod Closed
 pub mod Limits
+pub mod Kept
 pub mod Inner

@@ -8,7 +8,7 @@
 ghost use Rattle.std.specs.Prelude.{◌≡◌, ◌<◌, IfOk, IfSome, length};
 ghost use Rattle.closed_lattice.specs.Inner.Waiting.{AreStates};
 
-use crate::known::{Known, number_of};
+use crate::known::{Principals, number_of};
 use machine_table::Machine;
 use std::alloc::{AllocError, Global};
 
@@ -25,7 +25,7 @@ pub(crate) fn numbered(m: &Machine, s: usize) -> u16
 
 /// Two states that the two go to at one of the first symbols: not the two again, and none whose least closed
 /// partition is known.
-fn pair_ahead(m: &Machine, known: &Known, s: u16, t: u16) -> Option<(u16, u16)>
+fn pair_ahead(m: &Machine, known: &Principals, s: u16, t: u16) -> Option<(u16, u16)>
     requires s { s < length m.now.states }
     requires t { t < length m.now.states }
     ensures { IfSome result (λ pair. (pair.0 < length m.now.states) × (pair.1 < length m.now.states)) }
@@ -45,7 +45,7 @@ fn pair_ahead(m: &Machine, known: &Known, s: u16, t: u16) -> Option<(u16, u16)>
 pub(crate) fn pairs_ahead(
     alloc: Global,
     m: &Machine,
-    known: &Known,
+    known: &Principals,
     s: u16,
     t: u16,
 ) -> Result<Vec<(u16, u16)>, AllocError>

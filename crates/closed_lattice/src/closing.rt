@@ -8,14 +8,15 @@
 
 ghost use Rattle.std.specs.Prelude.{ℕ, ◌≡◌, ◌<◌, Contains, IfNone, IfOk, IfSome, OnOk, length};
 ghost use Rattle.closed_lattice.specs.Closed.{IsPrincipal};
-ghost use Rattle.closed_lattice.specs.Inner.Known.{AreKnown, Joins};
+ghost use Rattle.closed_lattice.specs.Inner.Joined.{Joins};
+ghost use Rattle.closed_lattice.specs.Kept.{ArePrincipalsOf};
 ghost use Rattle.closed_lattice.specs.Inner.Waiting.{AddsImages, AreStates, AreTogether, TakesApart};
 ghost use Rattle.machine_table.specs.Staying.{NeverLeaves};
 ghost use Rattle.partition.specs.MeetAndJoin.{IsJoin};
 ghost use Rattle.partition.specs.Partition.{IsPartition, Together};
 
 use crate::ahead::{numbered, pairs_ahead};
-use crate::known::Known;
+use crate::known::Principals;
 use machine_table::Machine;
 use partition::Partition;
 use std::alloc::{AllocError, Global};
@@ -53,12 +54,12 @@ pub(crate) fn joined(alloc: Global, p: &Partition, q: &Partition) -> Result<Part
 fn join_one(
     alloc: Global,
     m: &Machine,
-    known: &Known,
+    known: &Principals,
     u: u16,
     v: u16,
     p: &mut Partition,
 ) -> Result<(), AllocError>
-    requires known { AreKnown m.now known.now.items.items }
+    requires known { ArePrincipalsOf m.now known.now }
     requires lawful { IsPartition (length m.now.states) p.old }
     requires u { u < length p.old }
     requires v { v < length p.old }
@@ -76,11 +77,11 @@ fn join_one(
 fn join_known(
     alloc: Global,
     m: &Machine,
-    known: &Known,
+    known: &Principals,
     pairs: &[(u16, u16)],
     p: &mut Partition,
 ) -> Result<(), AllocError>
-    requires known { AreKnown m.now known.now.items.items }
+    requires known { ArePrincipalsOf m.now known.now }
     requires lawful { IsPartition (length m.now.states) p.old }
     requires states { AreStates (length m.now.states) pairs.now }
     ensures { OnOk result (Joins m.now (λ q. AreTogether q pairs.now) p.old p.new) }
@@ -95,13 +96,13 @@ fn join_known(
 fn add_images(
     alloc: Global,
     m: &Machine,
-    known: &Known,
+    known: &Principals,
     s: usize,
     t: usize,
     waiting: &mut Vec<(u16, u16)>,
     p: &mut Partition,
 ) -> Result<(), AllocError>
-    requires known { AreKnown m.now known.now.items.items }
+    requires known { ArePrincipalsOf m.now known.now }
     requires stays { NeverLeaves m.now }
     requires lawful { IsPartition (length m.now.states) p.old }
     requires s { s < length m.now.states }
@@ -120,11 +121,11 @@ fn add_images(
 pub(crate) fn principal_beside(
     alloc: Global,
     m: &Machine,
-    known: &Known,
+    known: &Principals,
     s: usize,
     t: usize,
 ) -> Result<Partition, AllocError>
-    requires known { AreKnown m.now known.now.items.items }
+    requires known { ArePrincipalsOf m.now known.now }
     requires s { s < length m.now.states }
     requires t { t < length m.now.states }
     ensures { IfOk result (IsPrincipal m.now s t) }
@@ -148,21 +149,21 @@ pub fn principal(alloc: Global, m: &Machine, s: usize, t: usize) -> Result<Parti
     requires t { t < length m.now.states }
     ensures { IfOk result (IsPrincipal m.now s t) }
 {
-    principal_beside(alloc, m, &Known::none(alloc), s, t)
+    principal_beside(alloc, m, &Principals::none(alloc), s, t)
 }
 
 /// Makes the least closed partition that holds s and t together, which is known from then on.
 fn make_known(
     alloc: Global,
     m: &Machine,
-    known: &mut Known,
+    known: &mut Principals,
     s: u16,
     t: u16,
 ) -> Result<Partition, AllocError>
-    requires known { AreKnown m.now known.old.items.items }
+    requires known { ArePrincipalsOf m.now known.old }
     requires s { s < length m.now.states }
     requires t { t < length m.now.states }
-    ensures known { OnOk result (AreKnown m.now known.new.items.items) }
+    ensures known { OnOk result (ArePrincipalsOf m.now known.new) }
     ensures principal { IfOk result (IsPrincipal m.now s t) }
 {
     let p = principal_beside(alloc, m, known, usize::from(s), usize::from(t))?;
@@ -174,12 +175,12 @@ fn make_known(
 fn learn_pairs(
     alloc: Global,
     m: &Machine,
-    known: &mut Known,
+    known: &mut Principals,
     pairs: Vec<(u16, u16)>,
 ) -> Result<(), AllocError>
-    requires known { AreKnown m.now known.old.items.items }
+    requires known { ArePrincipalsOf m.now known.old }
     requires states { AreStates (length m.now.states) pairs.items }
-    ensures { OnOk result (AreKnown m.now known.new.items.items) }
+    ensures { OnOk result (ArePrincipalsOf m.now known.new) }
 {
     let mut left = pairs;
     while let Some((u, v)) = left.pop() {
@@ -195,14 +196,14 @@ fn learn_pairs(
 pub(crate) fn learn(
     alloc: Global,
     m: &Machine,
-    known: &mut Known,
+    known: &mut Principals,
     s: usize,
     t: usize,
 ) -> Result<Partition, AllocError>
-    requires known { AreKnown m.now known.old.items.items }
+    requires known { ArePrincipalsOf m.now known.old }
     requires s { s < length m.now.states }
     requires t { t < length m.now.states }
-    ensures known { OnOk result (AreKnown m.now known.new.items.items) }
+    ensures known { OnOk result (ArePrincipalsOf m.now known.new) }
     ensures principal { IfOk result (IsPrincipal m.now s t) }
 {
     let (u, v) = (numbered(m, s), numbered(m, t));

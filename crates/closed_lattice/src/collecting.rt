@@ -3,13 +3,13 @@
 ghost use Rattle.std.specs.Prelude.{◌≡◌, ◌+◌, ◌<◌, ◌≤◌, ℕ, All, AllPairs, IfOk, OnOk, length};
 ghost use Rattle.closed_lattice.specs.Closed.{HasPrincipal, IsPrincipalWithin};
 ghost use Rattle.closed_lattice.specs.Inner.Generators.{HavePrincipals};
-ghost use Rattle.closed_lattice.specs.Inner.Known.{AreKnown};
+ghost use Rattle.closed_lattice.specs.Kept.{ArePrincipalsOf};
 ghost use Rattle.hs_lattice.specs.Collection.{IsCollection, items_in};
 ghost use Rattle.partition.specs.Before.{Before};
 ghost use Rattle.partition.specs.Partition.{IsPartition, Together};
 
 use crate::closing::learn;
-use crate::known::Known;
+use crate::known::Principals;
 use hs_lattice::Collection;
 use machine_table::Machine;
 use partition::{PartWorld, Partition};
@@ -21,16 +21,16 @@ fn add_principals(
     m: &Machine,
     top: &Partition,
     t: usize,
-    known: &mut Known,
+    known: &mut Principals,
     found: &mut Collection<Partition>,
 ) -> Result<(), AllocError>
     requires states { length top.now ≡ length m.now.states }
     requires t { t < length m.now.states }
-    requires known { AreKnown m.now known.old.items.items }
+    requires known { ArePrincipalsOf m.now known.old }
     requires collection { IsCollection (λ p. p) (IsPartition (length m.now.states)) Before found.old }
     requires found { All (IsPrincipalWithin m.now top.now) (items_in found.old) }
     requires before { HavePrincipals m.now top.now t (items_in found.old) }
-    ensures known { OnOk result (AreKnown m.now known.new.items.items) }
+    ensures known { OnOk result (ArePrincipalsOf m.now known.new) }
     ensures collection { OnOk result (IsCollection (λ p. p) (IsPartition (length m.now.states)) Before found.new) }
     ensures found { OnOk result (All (IsPrincipalWithin m.now top.now) (items_in found.new)) }
     ensures each { OnOk result (HavePrincipals m.now top.now (t + 1) (items_in found.new)) }
@@ -58,7 +58,7 @@ fn collected(
     ensures each { IfOk result (λ found. length (items_in found) ≤ limit
         → HavePrincipals m.now top.now (length m.now.states) (items_in found)) }
 {
-    let mut known = Known::new(alloc)?;
+    let mut known = Principals::new(alloc)?;
     let mut found = Collection::new(alloc);
     for t in 0..m.states() {
         add_principals(alloc, m, top, t, &mut known, &mut found)?;

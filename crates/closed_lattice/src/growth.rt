@@ -1,17 +1,21 @@
 //! Closed partitions that grow as far as a condition lets them.
 //!
 //! Each condition that a partition meets, each smaller one meets too. So a pair whose least closed partition
-//! could not be joined once cannot be joined later, and one pass over the pairs is enough.
+//! could not be joined once cannot be joined later, and one pass over the pairs is enough. A pair that is together
+//! already adds nothing, and one that no partition which meets the condition holds together is passed over: for
+//! neither is a partition made.
 
-ghost use Rattle.std.specs.Prelude.{ℕ, ◌≡◌, ◌<◌, ◌↔◌, IfOk, IsTrue, List, OnOk, length};
+ghost use Rattle.std.specs.Prelude.{ℕ, ◌≡◌, ◌+◌, ◌<◌, ◌↔◌, IfOk, IsTrue, List, OnOk, length};
 ghost use Rattle.closed_lattice.specs.Closed.{IsClosedPartition, IsPrincipal};
-ghost use Rattle.pair_operators.specs.Growth.{GrowsOver, IsGrowth, pairs_from};
-ghost use Rattle.closed_lattice.specs.Inner.Known.{AreKnown};
+ghost use Rattle.closed_lattice.specs.Kept.{ArePrincipalsOf};
+ghost use Rattle.closed_lattice.specs.Inner.Growing.{IsSettled, NeverHolds};
+ghost use Rattle.machine_table.specs.Staying.{NeverLeaves};
+ghost use Rattle.pair_operators.specs.Growth.{GrowsOver, IsGrowth, TakesPair, pairs_from};
 ghost use Rattle.closed_lattice.specs.Limits.{HoldsApart, IsGreatestGrown, IsStrictlyBelow, MeetInZero};
-ghost use Rattle.partition.specs.Partition.{IsPartition, IsZero, zero_of};
+ghost use Rattle.partition.specs.Partition.{blocks_of, IsPartition, IsZero, Together, zero_of};
 
 use crate::closing::{joined, learn};
-use crate::known::Known;
+use crate::known::Principals;
 use machine_table::Machine;
 use partition::Partition;
 use std::alloc::{AllocError, Global};
@@ -28,21 +32,43 @@ trait Condition {
     fn is_met(&self, alloc: Global, p: &Partition) -> Result<bool, AllocError>
         requires { suits self.now (length p.now) }
         ensures { IfOk result (λ met. IsTrue met ↔ meets self.now p.now) };
+
+    /// Whether it bars two states that are apart here: no partition above this one that meets it holds them together.
+    /// It may say no where that is so. Takes no memory.
+    fn bars(&self, p: &Partition, s: usize, t: usize) -> bool
+        requires suits { suits self.now (length p.now) }
+        requires s { s < length p.now }
+        requires t { t < length p.now }
+        requires apart { Together p.now s t → ⊥ }
+        ensures { IsTrue result → NeverHolds (meets self.now) p.now s t };
 }
 
-/// The partition stays strictly below this one.
+/// How often two blocks are put together to make the partition of zero.
+fn rank(p: &Partition) -> usize
+    ensures rank { result + blocks_of p.now ≡ length p.now }
+    ensures lawful { IsPartition (length p.now) p.now }
+{
+    p.len() - p.blocks()
+}
+
+/// The partition stays strictly below this one, which has the rank.
 #[derive(Drop)]
 struct StrictlyBelow<'a> {
     top: &'a Partition,
+    rank: usize,
 }
 
 impl Condition for StrictlyBelow<'_> {
-    ghost suits = { λ c n. length c.top.now ≡ n };
+    ghost suits = { λ c n. IsPartition n c.top.now × (c.rank + blocks_of c.top.now ≡ n) };
 
     ghost meets = { λ c p. IsStrictlyBelow c.top.now p };
 
     fn is_met(&self, _alloc: Global, p: &Partition) -> Result<bool, AllocError> {
         Ok(p.le(self.top) && !self.top.le(p))
+    }
+
+    fn bars(&self, p: &Partition, s: usize, t: usize) -> bool {
+        !self.top.same(s, t) || self.rank <= rank(p) + 1
     }
 }
 
@@ -58,10 +84,22 @@ impl Condition for MeetsInZero<'_> {
     ghost meets = { λ c p. MeetInZero c.other.now p };
 
     fn is_met(&self, alloc: Global, p: &Partition) -> Result<bool, AllocError> {
-        let zero = Partition::zero(alloc, p.len())?;
         let common = p.meet(alloc, self.other)?;
-        Ok(common.equal(&zero))
+        Ok(common.blocks() == p.len())
     }
+
+    fn bars(&self, _p: &Partition, s: usize, t: usize) -> bool {
+        self.other.same(s, t)
+    }
+}
+
+/// Whether the two of each pair are together.
+fn both_same(p: &Partition, one: (usize, usize), other: (usize, usize)) -> bool
+    requires one { (one.0 < length p.now) × (one.1 < length p.now) }
+    requires other { (other.0 < length p.now) × (other.1 < length p.now) }
+    ensures { IsTrue result ↔ (Together p.now one.0 one.1 × Together p.now other.0 other.1) }
+{
+    p.same(one.0, one.1) && p.same(other.0, other.1)
 }
 
 /// The two states stay in two blocks.
@@ -79,33 +117,67 @@ impl Condition for InTwoBlocks {
     fn is_met(&self, _alloc: Global, p: &Partition) -> Result<bool, AllocError> {
         Ok(!p.same(self.s, self.t))
     }
+
+    fn bars(&self, p: &Partition, s: usize, t: usize) -> bool {
+        both_same(p, (self.s, s), (t, self.t)) || both_same(p, (self.s, t), (s, self.t))
+    }
+}
+
+/// The growth by the least closed partition of two states, which is not made where it adds nothing.
+fn grow_by<C: Condition>(
+    alloc: Global,
+    m: &Machine,
+    known: &mut Principals,
+    grown: Partition,
+    s: usize,
+    t: usize,
+    condition: &C,
+) -> Result<Partition, AllocError>
+    requires known { ArePrincipalsOf m.now known.old }
+    requires stays { NeverLeaves m.now }
+    requires settled { IsSettled m.now (C.meets condition.now) grown }
+    requires s { s < length m.now.states }
+    requires t { t < length m.now.states }
+    requires suits { C.suits condition.now (length m.now.states) }
+    ensures known { OnOk result (ArePrincipalsOf m.now known.new) }
+    ensures takes { IfOk result (TakesPair (IsPrincipal m.now) (C.meets condition.now) grown s t) }
+{
+    if grown.same(s, t) {
+        return Ok(grown);
+    }
+    if condition.bars(&grown, s, t) {
+        return Ok(grown);
+    }
+    let least = learn(alloc, m, known, s, t)?;
+    let joined = joined(alloc, &grown, &least)?;
+    if condition.is_met(alloc, &joined)? {
+        Ok(joined)
+    } else {
+        Ok(grown)
+    }
 }
 
 /// The growth over the pairs of one state and a greater one.
 fn grow_from<C: Condition>(
     alloc: Global,
     m: &Machine,
-    known: &mut Known,
+    known: &mut Principals,
     start: Partition,
     s: usize,
     condition: &C,
 ) -> Result<Partition, AllocError>
-    requires known { AreKnown m.now known.old.items.items }
-    requires lawful { IsPartition (length m.now.states) start }
+    requires known { ArePrincipalsOf m.now known.old }
+    requires settled { IsSettled m.now (C.meets condition.now) start }
     requires state { s < length m.now.states }
     requires suits { C.suits condition.now (length m.now.states) }
-    ensures known { OnOk result (AreKnown m.now known.new.items.items) }
-    ensures lawful { IfOk result (IsPartition (length m.now.states)) }
+    ensures known { OnOk result (ArePrincipalsOf m.now known.new) }
+    ensures settled { IfOk result (IsSettled m.now (C.meets condition.now)) }
     ensures grown { IfOk result (GrowsOver (IsPrincipal m.now) (C.meets condition.now) start
         (pairs_from (length m.now.states) s)) }
 {
     let mut grown = start;
     for t in s + 1..m.states() {
-        let least = learn(alloc, m, known, s, t)?;
-        let joined = joined(alloc, &grown, &least)?;
-        if condition.is_met(alloc, &joined)? {
-            grown = joined;
-        }
+        grown = grow_by(alloc, m, known, grown, s, t, condition)?;
     }
     Ok(grown)
 }
@@ -114,20 +186,87 @@ fn grow_from<C: Condition>(
 fn grow<C: Condition>(
     alloc: Global,
     m: &Machine,
+    known: &mut Principals,
     start: Partition,
     condition: &C,
 ) -> Result<Partition, AllocError>
-    requires lawful { IsPartition (length m.now.states) start }
+    requires known { ArePrincipalsOf m.now known.old }
+    requires settled { IsSettled m.now (C.meets condition.now) start }
     requires suits { C.suits condition.now (length m.now.states) }
-    ensures { IfOk result (IsGrowth (IsPrincipal m.now) (C.meets condition.now)
+    ensures known { OnOk result (ArePrincipalsOf m.now known.new) }
+    ensures grown { IfOk result (IsGrowth (IsPrincipal m.now) (C.meets condition.now)
         (length m.now.states) start) }
 {
-    let mut known = Known::new(alloc)?;
     let mut grown = start;
     for s in 0..m.states() {
-        grown = grow_from(alloc, m, &mut known, grown, s, condition)?;
+        grown = grow_from(alloc, m, known, grown, s, condition)?;
     }
     Ok(grown)
+}
+
+impl Principals {
+    /// The growth of zero strictly below a partition, which is zero below zero, made with what is kept.
+    pub fn below(
+        &mut self,
+        alloc: Global,
+        m: &Machine,
+        top: &Partition,
+    ) -> Result<Partition, AllocError>
+        requires kept { ArePrincipalsOf m.now self.old }
+        requires states { length top.now ≡ length m.now.states }
+        ensures kept { OnOk result (ArePrincipalsOf m.now self.new) }
+        ensures growth { IfOk result (IsGrowth (IsPrincipal m.now) (IsStrictlyBelow top.now)
+            (length m.now.states) (zero_of (length m.now.states))) }
+        ensures greatest { IfOk result (λ p. (IsZero top.now → ⊥)
+            → IsGreatestGrown m.now (IsStrictlyBelow top.now) (zero_of (length m.now.states)) p) }
+        ensures zero { IfOk result (λ p. IsZero top.now → p ≡ zero_of (length m.now.states)) }
+    {
+        let zero = Partition::zero(alloc, m.states())?;
+        let rank = rank(top);
+        grow(alloc, m, self, zero, &StrictlyBelow { top, rank })
+    }
+
+    /// The growth of a closed partition that meets another one in zero, as far as it does, made with what is kept.
+    pub fn apart(
+        &mut self,
+        alloc: Global,
+        m: &Machine,
+        start: &Partition,
+        other: &Partition,
+    ) -> Result<Partition, AllocError>
+        requires kept { ArePrincipalsOf m.now self.old }
+        requires states { length other.now ≡ length m.now.states }
+        requires closed { IsClosedPartition m.now start.now }
+        requires in_zero { MeetInZero other.now start.now }
+        ensures kept { OnOk result (ArePrincipalsOf m.now self.new) }
+        ensures growth { IfOk result (IsGrowth (IsPrincipal m.now) (MeetInZero other.now)
+            (length m.now.states) start.now) }
+        ensures greatest { IfOk result (IsGreatestGrown m.now (MeetInZero other.now) start.now) }
+    {
+        let copy = start.copy(alloc)?;
+        grow(alloc, m, self, copy, &MeetsInZero { other })
+    }
+
+    /// The growth of zero as far as two states stay apart, made with what is kept.
+    pub fn separating(
+        &mut self,
+        alloc: Global,
+        m: &Machine,
+        s: usize,
+        t: usize,
+    ) -> Result<Partition, AllocError>
+        requires kept { ArePrincipalsOf m.now self.old }
+        requires order { s < t }
+        requires t { t < length m.now.states }
+        ensures kept { OnOk result (ArePrincipalsOf m.now self.new) }
+        ensures growth { IfOk result (IsGrowth (IsPrincipal m.now) (HoldsApart s t)
+            (length m.now.states) (zero_of (length m.now.states))) }
+        ensures greatest { IfOk result (IsGreatestGrown m.now (HoldsApart s t)
+            (zero_of (length m.now.states))) }
+    {
+        let zero = Partition::zero(alloc, m.states())?;
+        grow(alloc, m, self, zero, &InTwoBlocks { s, t })
+    }
 }
 
 /// The growth of zero strictly below a partition, which is zero below zero.
@@ -139,8 +278,7 @@ pub fn below(alloc: Global, m: &Machine, top: &Partition) -> Result<Partition, A
         → IsGreatestGrown m.now (IsStrictlyBelow top.now) (zero_of (length m.now.states)) p) }
     ensures zero { IfOk result (λ p. IsZero top.now → p ≡ zero_of (length m.now.states)) }
 {
-    let zero = Partition::zero(alloc, m.states())?;
-    grow(alloc, m, zero, &StrictlyBelow { top })
+    Principals::new(alloc)?.below(alloc, m, top)
 }
 
 /// The growth of a closed partition that meets another one in zero, as far as it does.
@@ -157,8 +295,7 @@ pub fn apart(
         (length m.now.states) start.now) }
     ensures greatest { IfOk result (IsGreatestGrown m.now (MeetInZero other.now) start.now) }
 {
-    let copy = start.copy(alloc)?;
-    grow(alloc, m, copy, &MeetsInZero { other })
+    Principals::new(alloc)?.apart(alloc, m, start, other)
 }
 
 /// The growth of zero as far as two states stay apart.
@@ -170,6 +307,5 @@ pub fn separating(alloc: Global, m: &Machine, s: usize, t: usize) -> Result<Part
     ensures greatest { IfOk result (IsGreatestGrown m.now (HoldsApart s t)
         (zero_of (length m.now.states))) }
 {
-    let zero = Partition::zero(alloc, m.states())?;
-    grow(alloc, m, zero, &InTwoBlocks { s, t })
+    Principals::new(alloc)?.separating(alloc, m, s, t)
 }

@@ -2,7 +2,7 @@
 
 ghost use Rattle.std.specs.Prelude.{◌≡◌, All, IfOk, IfSome, OnOk, length};
 ghost use Rattle.closed_lattice.specs.Closed.{IsPrincipal};
-ghost use Rattle.closed_lattice.specs.Inner.Known.{AreKnown};
+ghost use Rattle.closed_lattice.specs.Kept.{ArePrincipalsOf};
 ghost use Rattle.kiss2.specs.declared.kiss_file.KissFile.{KissFile};
 
 use partition::Partition;
@@ -10,16 +10,18 @@ use std::alloc::{AllocError, Global};
 
 /// The least closed partition that holds two states together.
 #[derive(Drop)]
-pub(crate) struct Item {
+pub struct Item {
     s: u16,
     t: u16,
     least: Partition,
 }
 
-/// Least closed partitions, and for each two states the place where theirs would stand.
+/// Least closed partitions of pairs of states of one machine, kept from one growth to the next, so that each is made
+/// once.
 #[derive(Drop)]
-pub(crate) struct Known {
+pub struct Principals {
     items: Vec<Item>,
+    /// For each two states the place where theirs would stand.
     places: Vec<usize>,
 }
 
@@ -28,22 +30,22 @@ pub(crate) fn number_of(s: u16, t: u16) -> usize {
     usize::from(s.max(t)) * 256 + usize::from(s.min(t))
 }
 
-impl Known {
+impl Principals {
     /// None, and none will be found.
-    pub(crate) fn none(alloc: Global) -> Known
-        ensures { (F : KissFile) → AreKnown F result.items.items }
+    pub(crate) fn none(alloc: Global) -> Principals
+        ensures { (F : KissFile) → ArePrincipalsOf F result }
     {
-        Known {
+        Principals {
             items: Vec::new(alloc),
             places: Vec::new(alloc),
         }
     }
 
     /// None so far.
-    pub(crate) fn new(alloc: Global) -> Result<Known, AllocError>
-        ensures { IfOk result (λ known. (F : KissFile) → AreKnown F known.items.items) }
+    pub fn new(alloc: Global) -> Result<Principals, AllocError>
+        ensures { IfOk result (λ kept. (F : KissFile) → ArePrincipalsOf F kept) }
     {
-        Ok(Known {
+        Ok(Principals {
             items: Vec::new(alloc),
             places: vec![in alloc; 0; 65536]?,
         })
@@ -51,7 +53,7 @@ impl Known {
 
     /// The one that holds the two states together, if it is known.
     pub(crate) fn find(&self, s: u16, t: u16) -> Option<&Partition>
-        ensures { IfSome result (λ p. (F : KissFile) → AreKnown F self.now.items.items → IsPrincipal F s t p.now) }
+        ensures { IfSome result (λ p. (F : KissFile) → ArePrincipalsOf F self.now → IsPrincipal F s t p.now) }
     {
         let place = self.places.get(number_of(s, t))?;
         let item = self.items.get(*place)?;
@@ -70,8 +72,8 @@ impl Known {
         t: u16,
         least: &Partition,
     ) -> Result<(), AllocError>
-        ensures { OnOk result ((F : KissFile) → AreKnown F self.old.items.items
-            → IsPrincipal F s t least.now → AreKnown F self.new.items.items) }
+        ensures { OnOk result ((F : KissFile) → ArePrincipalsOf F self.old
+            → IsPrincipal F s t least.now → ArePrincipalsOf F self.new) }
     {
         let place = self.items.len();
         let least = least.copy(alloc)?;

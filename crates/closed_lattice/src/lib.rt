@@ -6,14 +6,15 @@
 //! [`principals_within`] gives the least ones of the pairs of states that another partition holds together.
 //! [`below`], [`apart`] and [`separating`] join the least ones of pairs of states, one pair after another, as
 //! far as a condition lets them; one pass is enough, since each condition that a partition meets, each
-//! smaller one meets too.
+//! smaller one meets too. [`Principals`] keeps the least ones over several such growths of one machine.
 //!
 //! That joins of closed partitions are closed, and that each closed partition is such a join, are the clauses
 //! of [`closed_are_joins`].
 //!
 //! `specs/Closed` says what a closed partition is and which one is the least that holds two states together,
 //! `specs/Limits` how far closed partitions grow and what a growth is for: no closed partition
-//! strictly above it meets the condition. What stands in `specs/Inner` serves private functions alone.
+//! strictly above it meets the condition, and `specs/Kept` what is kept over growths. What stands in
+//! `specs/Inner` serves private functions alone.
 #![tactic(auto)]
 
 mod ahead;
@@ -27,5 +28,6 @@ mod listing;
 pub use closing::principal;
 pub use collecting::principals_within;
 pub use growth::{apart, below, separating};
+pub use known::Principals;
 pub use laws::{closed_are_joins, one_is_principal};
 pub use listing::{all, atoms};

@@ -4,11 +4,12 @@
 //! partitions of its pairs of states. So the joins of these least ones are all of them. Each closed
 //! partition other than zero is above one of them too, so the least of these are the least of all.
 
-ghost use Rattle.std.specs.Prelude.{ℕ, ◌≡◌, ◌↔◌, ◌≤◌, All, IfOk, IsTrue, List, length};
+ghost use Rattle.std.specs.Prelude.{ℕ, ◌≡◌, ◌↔◌, ◌≤◌, All, AllPairs, IfOk, IsTrue, List, length};
 ghost use Rattle.closed_lattice.specs.Closed.{IsAtom, IsClosedPartition};
 ghost use Rattle.closed_lattice.specs.Inner.Generators.{AreGenerators, IsLeastAmong};
 ghost use Rattle.hs_lattice.specs.Listing.{Evidence, IfMore, IfWhole, Lists};
 ghost use Rattle.partition.specs.Before.{Before};
+ghost use Rattle.partition.specs.Partition.{IsPartition};
 
 use crate::collecting::principals_within;
 use hs_lattice::{Listing, join_closure};
@@ -73,13 +74,19 @@ pub fn all(alloc: Global, m: &Machine, limit: usize) -> Result<Listing<BitPart>,
     joins_of(alloc, m, partitions, limit)
 }
 
-/// Whether no partition of the list is strictly below this one.
+/// Whether no partition of the list is strictly below this one. One that is has more blocks, and those with more
+/// blocks come first.
 fn is_least(found: &[Partition], p: &Partition) -> bool
-    requires { All (λ q. length q ≡ length p.now) found.now }
+    requires lawful { IsPartition (length p.now) p.now }
+    requires found { All (IsPartition (length p.now)) found.now }
+    requires ascending { AllPairs Before found.now }
     ensures { IsTrue result ↔ IsLeastAmong found.now p.now }
 {
     for q in found {
-        if q.le(p) && !p.le(q) {
+        if q.blocks() <= p.blocks() {
+            return true;
+        }
+        if q.le(p) {
             return false;
         }
     }

@@ -7,7 +7,7 @@ ghost use Rattle.parallel_split.specs.Kind.{HasNoneInParallel};
 ghost use Rattle.partition.specs.Partition.{IsZero, Together};
 
 use crate::ordering::put_in_order;
-use closed_lattice::separating;
+use closed_lattice::Principals;
 use machine_table::Machine;
 use partition::Partition;
 use std::alloc::{AllocError, Global};
@@ -50,8 +50,9 @@ pub(crate) fn members(alloc: Global, m: &Machine) -> Result<Option<Vec<Partition
     let n = m.states();
     let mut common = Partition::one(alloc, n)?;
     let mut found = Vec::new(alloc);
+    let mut kept = Principals::new(alloc)?;
     while let Some((s, t)) = first_held(&common) {
-        let member = separating(alloc, m, s, t)?;
+        let member = kept.separating(alloc, m, s, t)?;
         if member.blocks() == n {
             return Ok(None);
         }

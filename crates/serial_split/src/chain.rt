@@ -9,7 +9,7 @@ ghost use Rattle.serial_split.specs.Kind.{HasNoneNontrivial, IsCascade};
 ghost use Rattle.state_codes.specs.Split.{IsPart};
 
 use crate::part::part_after;
-use closed_lattice::below;
+use closed_lattice::Principals;
 use machine_table::Machine;
 use partition::Partition;
 use state_codes::{Kind, Parts, Split};
@@ -22,8 +22,9 @@ fn chain(alloc: Global, m: &Machine) -> Result<Parts, AllocError>
     let n = m.states();
     let mut top = Partition::one(alloc, n)?;
     let mut parts = Parts::new(alloc);
+    let mut kept = Principals::new(alloc)?;
     while top.blocks() < n {
-        let next = below(alloc, m, &top)?;
+        let next = kept.below(alloc, m, &top)?;
         let inside = top.inside(alloc, &next)?;
         let number = parts.as_slice().len();
         parts.push(part_after(alloc, inside, number)?)?;

@@ -1,4 +1,4 @@
-use Rattle.closed_lattice.specs.Inner.Known.{Joins}
+use Rattle.closed_lattice.specs.Inner.Joined.{Joins}
 use Rattle.closed_lattice.specs.Inner.Waiting.{AreTogether}
 use Rattle.closed_lattice.proofs.closing.join_known.Given as goal
 

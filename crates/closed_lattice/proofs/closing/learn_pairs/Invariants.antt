@@ -1,10 +1,10 @@
 use Rattle.std.proofs.Common.{length, vec_len}
-use Rattle.closed_lattice.specs.Inner.Known.{AreKnown}
+use Rattle.closed_lattice.specs.Kept.{ArePrincipalsOf}
 use Rattle.closed_lattice.specs.Inner.Waiting.{AreStates}
 use Rattle.closed_lattice.proofs.closing.learn_pairs.Given as goal
 
 abbrev pub invariant-loop-u : goal.invariant-loop-u
-invariant-loop-u l = AreKnown l.m l.known.items.items × AreStates (length l.m.states) l.left.items
+invariant-loop-u l = ArePrincipalsOf l.m l.known × AreStates (length l.m.states) l.left.items
 
 abbrev pub decreases-loop-u : goal.decreases-loop-u
 decreases-loop-u l = vec_len l.left

@@ -3,7 +3,7 @@ use Rattle.std.proofs.lemmas.Bool.{true≢false}
 use Rattle.hs_lattice.specs.Collection.{IsCollection, items_in}
 use Rattle.partition.specs.Before.{Before}
 use Rattle.partition.specs.Partition.{IsPartition}
-use Rattle.closed_lattice.proofs.Principals.{collecting_more, collecting_left, collecting_done}
+use Rattle.closed_lattice.proofs.Collected.{collecting_more, collecting_left, collecting_done}
 use Rattle.closed_lattice.proofs.collecting.add_principals.Goals as goal
 use Rattle.closed_lattice.proofs.collecting.add_principals.Goals.{then-same+in_ok-p+in_ok-add, else-same}
 

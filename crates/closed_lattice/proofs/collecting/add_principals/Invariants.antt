@@ -1,13 +1,13 @@
 use Rattle.hs_lattice.specs.Collection.{IsCollection, items_in}
 use Rattle.partition.specs.Before.{Before}
 use Rattle.partition.specs.Partition.{IsPartition}
-use Rattle.closed_lattice.specs.Inner.Known.{AreKnown}
-use Rattle.closed_lattice.proofs.Principals.{IsCollecting}
+use Rattle.closed_lattice.specs.Kept.{ArePrincipalsOf}
+use Rattle.closed_lattice.proofs.Collected.{IsCollecting}
 use Rattle.closed_lattice.proofs.collecting.add_principals.Given as goal
 
 abbrev pub invariant-loop-s : goal.invariant-loop-s
 invariant-loop-s l = record {
-  known : AreKnown l.m l.known.items.items;
+  known : ArePrincipalsOf l.m l.known;
   collection : IsCollection (λ p. p) (IsPartition l.world.n) Before l.found;
   collecting : IsCollecting l.m l.top l.t l.s (items_in l.found);
 }

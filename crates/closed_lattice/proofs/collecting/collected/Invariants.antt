@@ -4,12 +4,12 @@ use Rattle.partition.specs.Before.{Before}
 use Rattle.partition.specs.Partition.{IsPartition}
 use Rattle.closed_lattice.specs.Closed.{IsPrincipalWithin}
 use Rattle.closed_lattice.specs.Inner.Generators.{HavePrincipals}
-use Rattle.closed_lattice.specs.Inner.Known.{AreKnown}
+use Rattle.closed_lattice.specs.Kept.{ArePrincipalsOf}
 use Rattle.closed_lattice.proofs.collecting.collected.Given as goal
 
 abbrev pub invariant-loop-t : goal.invariant-loop-t
 invariant-loop-t l = record {
-  known : AreKnown l.m l.known.items.items;
+  known : ArePrincipalsOf l.m l.known;
   collection : IsCollection (λ p. p) (IsPartition (length l.m.states)) Before l.found;
   found : All (IsPrincipalWithin l.m l.top) (items_in l.found);
   each : HavePrincipals l.m l.top l.t (items_in l.found);

@@ -4,7 +4,7 @@ use Rattle.hs_lattice.proofs.Members.{All-same}
 use Rattle.partition.specs.Before.{Before}
 use Rattle.partition.specs.Partition.{IsPartition}
 use Rattle.closed_lattice.specs.Closed.{IsPrincipalWithin}
-use Rattle.closed_lattice.proofs.Principals.{have_same}
+use Rattle.closed_lattice.proofs.Collected.{have_same}
 use Rattle.closed_lattice.proofs.collecting.principals_within.Goals as goal
 
 pub ascending-requires-clause-world : goal.ascending-requires-clause-world

@@ -1,14 +1,14 @@
 use Rattle.std.proofs.Common.{length}
 use Rattle.std.specs.List.{flat_map, range_with_len}
-use Rattle.partition.specs.Partition.{IsPartition}
-use Rattle.closed_lattice.specs.Inner.Known.{AreKnown}
 use Rattle.closed_lattice.specs.Closed.{IsPrincipal}
+use Rattle.closed_lattice.specs.Inner.Growing.{IsSettled}
+use Rattle.closed_lattice.specs.Kept.{ArePrincipalsOf}
 use Rattle.pair_operators.specs.Growth.{GrowsOver, pairs_from}
 use Rattle.closed_lattice.proofs.growth.grow.Given as goal
 
 abbrev pub invariant-loop-s : goal.invariant-loop-s
 invariant-loop-s g l = record {
-  known : AreKnown l.m l.known.items.items;
-  lawful : IsPartition (length l.m.states) l.grown;
+  known : ArePrincipalsOf l.m l.known;
+  settled : IsSettled l.m (g.C.Condition.meets l.condition) l.grown;
   grown : GrowsOver (IsPrincipal l.m) (g.C.Condition.meets l.condition) l.fn.start (flat_map (pairs_from (length l.m.states)) (range_with_len 0 l.s)) l.grown;
 }

@@ -1,23 +1,4 @@
-use Rattle.std.proofs.Common.{◌≡◌, ℕ, List, IfOk, length, ap, ◌∙◌, refl, subst}
-use Rattle.std.proofs.lemmas.Result.{IfOk-weaker}
-use Rattle.partition.specs.Partition.{zero_of}
-use Rattle.closed_lattice.specs.Closed.{IsPrincipal}
-use Rattle.pair_operators.specs.Growth.{IsGrowth}
-use Rattle.closed_lattice.specs.Limits.{HoldsApart}
-use Rattle.closed_lattice.proofs.Conditions.{apart_down, zero_apart}
-use Rattle.closed_lattice.proofs.Generating.{states_counted, zero_closed}
-use Rattle.closed_lattice.proofs.Grown.{grown_greatest}
 use Rattle.closed_lattice.proofs.growth.separating.Goals as goal
 
-pub returns-clause-growth : goal.returns-clause-growth
-returns-clause-growth c =
-    let begun : c.in_ok-zero.zero ≡ zero_of (length c.args.m.now.states) = c.in_ok-zero.ensures.labels ∙ ap zero_of c.states.ensures.count in
-    subst (λ (start : List ℕ). IfOk c.grow.result (IsGrowth (IsPrincipal c.args.m.now) (HoldsApart c.args.s c.args.t) (length c.args.m.now.states) start)) begun c.grow.ensures
-
-pub returns-clause-greatest : goal.returns-clause-greatest
-returns-clause-greatest c =
-    let n = length c.args.m.now.states in
-    let closed = zero_closed c.args.m.now (zero_of n) c.states.ensures.inside (states_counted c.args.m.now c.states.result c.states.ensures.count c.states.ensures.some c.states.ensures.limit) refl in
-    IfOk-weaker c.grow.result _ _
-    (λ p growth. grown_greatest c.args.m.now (HoldsApart c.args.s c.args.t) (apart_down c.args.s c.args.t) (zero_of n) p closed (zero_apart n c.args.s c.args.t c.requires.order) growth)
-    (returns-clause-growth c)
+pub separating-requires-clause-kept : goal.separating-requires-clause-kept
+separating-requires-clause-kept c = c.in_ok-new.ensures c.args.m.now

@@ -2,7 +2,7 @@ use Rattle.std.proofs.Common.{◌≡◌, ℕ, ◌+◌, ◌≤◌, All, AllPairs,
 use Rattle.partition.specs.Before.{Before}
 use Rattle.closed_lattice.specs.Closed.{IsClosedPartition}
 use Rattle.hs_lattice.proofs.Members.{first_evident}
-use Rattle.closed_lattice.proofs.Principals.{all_generate, closed_within}
+use Rattle.closed_lattice.proofs.Collected.{all_generate, closed_within}
 use Rattle.closed_lattice.proofs.listing.all.Goals as goal
 
 pub joins_of-requires-clause-found : goal.joins_of-requires-clause-found

@@ -1,17 +1,27 @@
 use Rattle.std.proofs.Common.{◌≤◌, length, sym, ◌∙◌, arith}
 use Rattle.std.proofs.lemmas.Bool.{false≢true}
 use Rattle.closed_lattice.specs.Inner.Generators.{AreGenerators}
-use Rattle.closed_lattice.proofs.Principals.{all_generate, same_sizes}
+use Rattle.closed_lattice.proofs.Collected.{all_generate, same_sizes}
 use Rattle.closed_lattice.proofs.Sifting.{sifting_taken, sifting_left, sifted}
 use Rattle.closed_lattice.proofs.listing.atoms.Goals as goal
 use Rattle.closed_lattice.proofs.listing.atoms.Goals.{then-is_least+in_ok-copy+in_ok-push, else-is_least}
 
-pub is_least-requires : goal.is_least-requires
-is_least-requires c =
+pub is_least-requires-clause-lawful : goal.is_least-requires-clause-lawful
+is_least-requires-clause-lawful c =
     let few : length c.in_ok-found.found.items ≤ 18446744073709551615 = omega arith in
     let are : AreGenerators c.args.m.now c.as_slice-candidates.result.now = rw c.as_slice-candidates.ensures.value (all_generate c.args.m.now c.in_ok-one.one c.in_ok-found.found.items
     (c.in_ok-one.ensures.lawful.length ∙ c.states.ensures.count) c.in_ok-one.ensures.one c.in_ok-found.ensures.ascending c.in_ok-found.ensures.members (c.in_ok-found.ensures.each few)) in
-    same_sizes c.args.m.now c.as_slice-candidates.result.now are c.loop-p.p-index c.p-item.result c.loop-p-test.true c.p-item.is
+    (same_sizes c.args.m.now c.as_slice-candidates.result.now are c.loop-p.p-index c.p-item.result c.loop-p-test.true c.p-item.is).0
+
+pub is_least-requires-clause-found : goal.is_least-requires-clause-found
+is_least-requires-clause-found c =
+    let few : length c.in_ok-found.found.items ≤ 18446744073709551615 = omega arith in
+    let are : AreGenerators c.args.m.now c.as_slice-candidates.result.now = rw c.as_slice-candidates.ensures.value (all_generate c.args.m.now c.in_ok-one.one c.in_ok-found.found.items
+    (c.in_ok-one.ensures.lawful.length ∙ c.states.ensures.count) c.in_ok-one.ensures.one c.in_ok-found.ensures.ascending c.in_ok-found.ensures.members (c.in_ok-found.ensures.each few)) in
+    (same_sizes c.args.m.now c.as_slice-candidates.result.now are c.loop-p.p-index c.p-item.result c.loop-p-test.true c.p-item.is).1
+
+pub is_least-requires-clause-ascending : goal.is_least-requires-clause-ascending
+is_least-requires-clause-ascending c = rw c.as_slice-candidates.ensures.value c.in_ok-found.ensures.ascending
 
 pub loop-p-preserved : goal.loop-p-preserved
 loop-p-preserved c =

@@ -11,11 +11,14 @@ use Rattle.parallel_split.proofs.members.members.Goals as goal
 
 pub loop-s-init : goal.loop-s-init
 loop-s-init c =
-    rw c.new-found.ensures.items
-    (members_begun c.args.m.now c.in_ok-common.common (subst (λ (n : ℕ). IsPartition n c.in_ok-common.common) c.states-n.ensures.count c.in_ok-common.ensures.lawful) c.in_ok-common.ensures.one)
+    record {
+      members = rw c.new-found.ensures.items
+          (members_begun c.args.m.now c.in_ok-common.common (subst (λ (n : ℕ). IsPartition n c.in_ok-common.common) c.states-n.ensures.count c.in_ok-common.ensures.lawful) c.in_ok-common.ensures.one);
+      kept = c.in_ok-kept.ensures c.args.m.now;
+    }
 
 pub separating-requires-clause-t : goal.separating-requires-clause-t
-separating-requires-clause-t c = omega (arith, c.in-Some.ensures.some.held.1, c.loop-s.invariant.lawful.length)
+separating-requires-clause-t c = omega (arith, c.in-Some.ensures.some.held.1, c.loop-s.invariant.members.lawful.length)
 
 pub returns-then-blocks-n-clause-none : goal.returns-then-blocks-n-clause-none
 returns-then-blocks-n-clause-none c =
@@ -24,18 +27,18 @@ returns-then-blocks-n-clause-none c =
     (zero_by_blocks (length c.args.m.now.states) c.in_ok-member.member greatest.closed.0 (omega (arith, c.blocks-in-Some.ensures, c.if-blocks-n.true, c.states-n.ensures.count)))
 
 pub meet-requires : goal.meet-requires
-meet-requires c = c.in_ok-member.ensures.greatest.closed.0.length ∙ sym c.loop-s.invariant.lawful.length
+meet-requires c = c.in_ok-member.ensures.greatest.closed.0.length ∙ sym c.loop-s.invariant.members.lawful.length
 
 pub put_in_order-requires-clause-found : goal.put_in_order-requires-clause-found
 put_in_order-requires-clause-found c k d within =
-    subst (λ (n : ℕ). IsPartition n (get_or c.loop-s.found.items k d)) (sym c.in_ok-member.ensures.greatest.closed.0.length) (c.loop-s.invariant.members k d within).greatest.closed.0
+    subst (λ (n : ℕ). IsPartition n (get_or c.loop-s.found.items k d)) (sym c.in_ok-member.ensures.greatest.closed.0.length) (c.loop-s.invariant.members.members k d within).greatest.closed.0
 
 pub put_in_order-requires-clause-ascending : goal.put_in_order-requires-clause-ascending
-put_in_order-requires-clause-ascending c = c.loop-s.invariant.ascending
+put_in_order-requires-clause-ascending c = c.loop-s.invariant.members.ascending
 
 pub put_in_order-requires-clause-new : goal.put_in_order-requires-clause-new
 put_in_order-requires-clause-new c =
-    member_new c.args.m.now c.loop-s.common c.loop-s.found.items c.in-Some.s c.in-Some.t c.in_ok-member.member c.loop-s.invariant c.in-Some.ensures.some c.in_ok-member.ensures.greatest.meets
+    member_new c.args.m.now c.loop-s.common c.loop-s.found.items c.in-Some.s c.in-Some.t c.in_ok-member.member c.loop-s.invariant.members c.in-Some.ensures.some c.in_ok-member.ensures.greatest.meets
 
 -- the meet with a member that holds apart two states which were together has more blocks
 more_blocks : (n : ℕ) (c p next : List ℕ) (s t : ℕ) → IsPartition n c → IsMeet c p next → IsFirstHeld c s t → HoldsApart s t p → blocks_of c < blocks_of next
@@ -44,7 +47,7 @@ more_blocks n c p next s t lawful meet first apart =
 
 pub loop-s-smaller : goal.loop-s-smaller
 loop-s-smaller c =
-    let lawful = c.loop-s.invariant.lawful in
+    let lawful = c.loop-s.invariant.members.lawful in
     let meet = c.in_ok-common-2.ensures.meet in
     let next : IsPartition (length c.args.m.now.states) c.in_ok-common-2.common = IsPartition-of lawful.length meet.lawful in
     omega (
@@ -60,8 +63,11 @@ loop-s-preserved c =
     let F = c.args.m.now in
     let p = c.in_ok-member.member in
     let not_zero : IsZero p → ⊥ = λ zero. omega (arith, zero_blocks (length F.states) p c.in_ok-member.ensures.greatest.closed.0 zero, c.blocks-in-Some.ensures, c.if-blocks-n.false, c.states-n.ensures.count) in
-    members_more F c.loop-s.common c.loop-s.found.items c.in-Some.s c.in-Some.t p c.in_ok-common-2.common c.put_in_order.new.found.items
-    c.loop-s.invariant c.in-Some.ensures.some c.in_ok-member.ensures.growth c.in_ok-member.ensures.greatest not_zero c.in_ok-common-2.ensures.meet c.in_ok-put_in_order.ensures
+    record {
+      members = members_more F c.loop-s.common c.loop-s.found.items c.in-Some.s c.in-Some.t p c.in_ok-common-2.common c.put_in_order.new.found.items
+          c.loop-s.invariant.members c.in-Some.ensures.some c.in_ok-member.ensures.growth c.in_ok-member.ensures.greatest not_zero c.in_ok-common-2.ensures.meet c.in_ok-put_in_order.ensures;
+      kept = c.in_ok-member.ensures.kept;
+    }
 
 pub returns-clause-some : goal.returns-clause-some
-returns-clause-some c = (c.loop-s.common, c.in_default.ensures.none, c.loop-s.invariant)
+returns-clause-some c = (c.loop-s.common, c.in_default.ensures.none, c.loop-s.invariant.members)

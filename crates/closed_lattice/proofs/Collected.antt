@@ -1,10 +1,11 @@
 -- The least closed partitions of pairs, as they are found one after another.
-use Rattle.std.proofs.Common.{◌≡◌, ℕ, ◌+◌, ◌<◌, ◌≤◌, ◌↔◌, inl, inr, All, AllPairs, List, get_or, length, subst, sym, ◌∙◌, arith}
+use Rattle.std.proofs.Common.{◌≡◌, ℕ, ◌+◌, ◌<◌, ◌≤◌, ◌↔◌, inl, inr, All, AllPairs, List, get_or, length, subst, sym, arith}
 use Rattle.std.proofs.lemmas.Bool.{cases_lt}
 use Rattle.hs_lattice.specs.Collection.{Adds, Knows}
 use Rattle.hs_lattice.proofs.Members.{All-added, Contains-added, Contains-same, Contains-value}
 use Rattle.kiss2.specs.declared.kiss_file.KissFile.{KissFile}
-use Rattle.partition.specs.Partition.{IsOne, Together}
+use Rattle.partition.specs.Partition.{IsOne, IsPartition, Together}
+use Rattle.partition.specs.Laws.Labels.{IsPartition-of}
 use Rattle.partition.specs.Before.{Before}
 use Rattle.closed_lattice.specs.Closed.{HasPrincipal, IsClosedPartition, IsPrincipal, IsPrincipalWithin}
 use Rattle.closed_lattice.specs.Inner.Generators.{AreGenerators, HavePrincipals}
@@ -69,6 +70,7 @@ all_generate F top found size one ascending members each = record {
 }
 
 -- they are partitions of as many states
-pub same_sizes : (F : KissFile) (found : List (List ℕ)) → AreGenerators F found → (i : ℕ) (p : List ℕ) → i < length found → p ≡ get_or found i p → All (λ q. length q ≡ length p) found
-same_sizes F found are i p within read k d inside =
-    (are.closed k d inside).0.length ∙ sym (subst (IsClosedPartition F) (sym read) (are.closed i p within)).0.length
+pub same_sizes : (F : KissFile) (found : List (List ℕ)) → AreGenerators F found → (i : ℕ) (p : List ℕ) → i < length found → p ≡ get_or found i p → IsPartition (length p) p × All (IsPartition (length p)) found
+same_sizes F found are i p within read =
+    let lawful = (subst (IsClosedPartition F) (sym read) (are.closed i p within)).0 in
+    (IsPartition-of (sym lawful.length) lawful, (λ k d inside. IsPartition-of (sym lawful.length) (are.closed k d inside).0))

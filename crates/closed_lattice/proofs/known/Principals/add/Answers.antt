@@ -1,7 +1,7 @@
 use Rattle.std.proofs.Common.{sym, subst}
 use Rattle.closed_lattice.specs.Closed.{IsPrincipal}
 use Rattle.closed_lattice.proofs.Joining.{known_more}
-use Rattle.closed_lattice.proofs.known.Known.add.Goals as goal
+use Rattle.closed_lattice.proofs.known.Principals.add.Goals as goal
 
 pub returns-in-Some : goal.returns-in-Some
 returns-in-Some c =

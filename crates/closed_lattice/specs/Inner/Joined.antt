@@ -1,14 +1,9 @@
--- Least closed partitions that are known, and joins with them.
-use Rattle.std.specs.Prelude.{ℕ, All, List, length}
+-- Joins with least closed partitions that are known.
+use Rattle.std.specs.Prelude.{ℕ, List, length}
 use Rattle.kiss2.specs.declared.kiss_file.KissFile.{KissFile}
 use Rattle.partition.specs.Partition.{IsPartition, Le}
 use Rattle.pair_operators.specs.Pair.{Pair}
-use Rattle.closed_lattice.specs.declared.known.Item.{Item}
-use Rattle.closed_lattice.specs.Closed.{IsClosedPartition, IsPrincipal}
-
--- each is the least closed partition that holds its two states together
-abbrev pub AreKnown : KissFile → List Item → Type 0
-AreKnown F items = All (λ (item : Item). IsPrincipal F item.s item.t item.least) items
+use Rattle.closed_lattice.specs.Closed.{IsClosedPartition}
 
 -- r is p joined with closed partitions that are below each closed one above p of which the condition holds
 pub record Joins (F : KissFile) (Holds : List ℕ → Type 0) (p r : List ℕ) : Type 0 where

@@ -1,0 +1,14 @@
+-- The least closed partitions of pairs of states that are kept from one call to the next.
+use Rattle.std.specs.Prelude.{All}
+use Rattle.kiss2.specs.declared.kiss_file.KissFile.{KissFile}
+use Rattle.closed_lattice.specs.declared.known.Item.{Item}
+use Rattle.closed_lattice.specs.declared.known.Principals.{Principals}
+use Rattle.closed_lattice.specs.Closed.{IsPrincipal}
+
+-- the least closed partition of this machine that holds the two states together which stand with it
+abbrev pub IsPrincipalItem : KissFile → Item → Type 0
+IsPrincipalItem F item = IsPrincipal F item.s item.t item.least
+
+-- all that are kept are least closed partitions of this machine
+abbrev pub ArePrincipalsOf : KissFile → Principals → Type 0
+ArePrincipalsOf F kept = All (IsPrincipalItem F) kept.items.items
