@@ -1,13 +1,40 @@
 -- Numbers whose bits are outputs.
-use Rattle.std.proofs.Common.{◌≡◌, ℕ, ◌+◌, ◌<◌, ◌≤◌, Bool, false, List, [], ◌∷◌, ◌++◌, length, map, drop, get_or, sym, ◌∙◌, arith, ap, append_assoc, add-one}
+use Rattle.std.proofs.Common.{◌≡◌, ℕ, ◌+◌, ◌*◌, ◌<◌, ◌≤◌, ◌^◌, Bool, true, false, List, [], ◌∷◌, ◌++◌, length, map, drop, get_or, inl, inr, sym, ◌∙◌, subst, arith, ap, append_assoc, add-one}
 use Rattle.std.proofs.Math.Seq.{drop-cons}
+use Rattle.std.proofs.lemmas.Bool.{cases_lt}
 use Rattle.std.proofs.lemmas.List.{append-nil, drop_all, map-append}
 use Rattle.std.proofs.lemmas.List.FromFn.{fill_by_all, length-map-range_with_len, get_or-map-range_with_len}
+use Rattle.std.proofs.lemmas.Nat.Bits.{bit_at_cat_low}
+use Rattle.std.specs.Int.{bit_at}
 use Rattle.std.specs.List.{range_with_len}
-use Rattle.cubes.specs.Symbol.{symbol_of}
+use Rattle.cubes.specs.Symbol.{bit, symbol_of}
+use Rattle.cubes.proofs.Bits.{same_bits}
+use Rattle.cubes.proofs.Numbers.{bit-above, bit-top}
 use Rattle.kiss2.specs.declared.kiss_file.KissFile.{KissFile}
 use Rattle.kiss2.specs.Machine.{answers, next, out}
 use Rattle.machine_table.specs.Walk.{outputs_of}
+
+-- one more bit of a number is known
+module _ (value : ℕ → Bool) (word b : ℕ) (below : word < 2 ^ b) (bits : (k : ℕ) → k < b → bit word k ≡ value k) where
+  pub bits_with_one : value b ≡ true → (k : ℕ) → k < b + 1 → bit (word + 2 ^ b) k ≡ value k
+  bits_with_one one k within =
+      let turned : word + 2 ^ b ≡ 2 ^ b + word = omega arith in
+      let cat : 2 ^ b + word ≡ 1 * 2 ^ b + word = omega arith in
+      elim (cases_lt k b) [
+        | inl lower ↦ same_bits (word + 2 ^ b) word k k (ap (λ n. bit_at n k) (turned ∙ cat) ∙ bit_at_cat_low 1 b word k lower) ∙ bits k lower
+        | inr here ↦
+            let same : b ≡ k = omega arith in
+            subst (λ (n : ℕ). bit (word + 2 ^ b) n ≡ value n) same (ap (λ n. bit n b) turned ∙ bit-top b word below ∙ sym one)
+      ]
+
+  pub bits_with_none : value b ≡ false → (k : ℕ) → k < b + 1 → bit word k ≡ value k
+  bits_with_none none k within =
+      elim (cases_lt k b) [
+        | inl lower ↦ bits k lower
+        | inr here ↦
+            let same : b ≡ k = omega arith in
+            subst (λ (n : ℕ). bit word n ≡ value n) same (bit-above b word below ∙ sym none)
+      ]
 
 -- lists of the same values at so many places
 pub same_map : (f g : ℕ → Bool) (n : ℕ) → ((k : ℕ) → k < n → f k ≡ g k) → map f (range_with_len 0 n) ≡ map g (range_with_len 0 n)
