@@ -1,7 +1,7 @@
 //! The order in which the rows of a state are gone through: that of their cubes.
 //!
 //! So states whose rows have the same cubes, in whatever order the file has them, have them at the same places.
-ghost use Rattle.std.specs.Prelude.{ℕ, ◌≡◌, ◌↔◌, All, Contains, IfOk, length};
+ghost use Rattle.std.specs.Prelude.{ℕ, ◌↔◌, Contains, IfOk, length};
 ghost use Rattle.machine_table.specs.Inner.Places.{ArePlaces, ListRows};
 
 use hs_list::Items;
