@@ -1,7 +1,7 @@
 #!/usr/bin/env bash
 # Times the listings of pairs on inputs and on outputs from outside, beside `pairs` of the same machine and `check`,
 # which only reads it. The machine of n inputs goes from state s at symbol x to s xor x, which is also its output, so
-# that each listing has a pair for each space of vectors of n bits. Each time is the least of three runs.
+# that each listing has a pair for each space of vectors of n bits, as the numbers show. Each time is the least of three runs.
 set -eu
 . "$(dirname "$0")/timing.sh"
 use_program hsdec --version
@@ -24,14 +24,20 @@ timed() {
     least_of 3 "$program" "$@" | awk '{ printf "%.1f\n", $1 / 1000 }'
 }
 
-printf '%-7s %8s %10s %10s %10s %10s\n' inputs listed 'check' 'pairs' 'ispairs' 'sopairs'
+# the pairs that a command lists: those lines that are not outputs
+listed() {
+    "$program" "$@" --limit 10000 | grep -vc '^output'
+}
+
+printf '%-7s %20s %10s %10s %10s %10s\n' inputs 'listed by each' check pairs ispairs sopairs
 for inputs in 4 5 6; do
     echo "machine of $inputs inputs" >&2
-    xor_machine "$inputs" >"$room/xor$inputs"
-    listed=$("$program" ispairs "$room/xor$inputs" --limit 10000 | wc -l)
-    printf '%-7s %8s %10s' "$inputs" "$listed" "$(timed check "$room/xor$inputs")"
+    machine=$room/xor$inputs
+    xor_machine "$inputs" >"$machine"
+    counts="$(listed pairs "$machine") $(listed ispairs "$machine") $(listed sopairs "$machine")"
+    printf '%-7s %20s %10s' "$inputs" "$counts" "$(timed check "$machine")"
     for command in pairs ispairs sopairs; do
-        printf ' %10s' "$(timed "$command" "$room/xor$inputs" --limit 10000)"
+        printf ' %10s' "$(timed "$command" "$machine" --limit 10000)"
     done
     echo
 done
