@@ -10,9 +10,13 @@ use Rattle.kiss2.specs.declared.kiss_file.KissRow.{KissRow}
 use Rattle.machine_table.specs.declared.missing.Missing.{Missing}
 use Rattle.machine_table.specs.Said.{IsSaid, Says}
 use Rattle.machine_table.specs.Table.{IsTable}
-use Rattle.machine_table.specs.Inner.OpenSymbol.{AreCubesOf, IsFirstOf}
+use Rattle.machine_table.specs.Said.{place_of}
+use Rattle.machine_table.specs.declared.missing.Missing.TheVariants.{Next, Output}
+use Rattle.machine_table.specs.Inner.Asked.{IsOfState}
+use Rattle.machine_table.specs.Inner.OpenSymbol.{AreCubesOf, AreFullCubes, IsFirstOf, IsFull, IsSaidEverywhere}
 use Rattle.machine_table.specs.Inner.Places.{IsNumberOf}
 use Rattle.machine_table.proofs.Asking.{is_row_at, lawful_row, looked_at, number_of_row}
+use Rattle.machine_table.proofs.Sought.{at_from_held}
 
 only_one : {X : Type 0} (x y : X) → Contains (x ∷ []) y → y ≡ x
 only_one x y (zero, lt, e) = sym e
@@ -89,3 +93,28 @@ module _ (F : KissFile) (s : ℕ) (part : Missing) (cubes : List Cube) (width : 
       → IfOk answer (λ gap. IfNone gap (HoldsEach cubes width)) → IfOk answer (IsFirstOf F s part)
   first_from_gap (Ok found) some none = first_of_gap found some none
   first_from_gap (Err wanting) some none = tt
+
+-- what a row says that names a next state and gives each of so many outputs
+pub full_says : (outputs : ℕ) (row : KissRow) → IsFull outputs row → (part : Missing) → place_of part < outputs + 1 → Says part row
+full_says outputs row full Next counted = full.0
+full_says outputs row full (Output b) counted = full.1 b (omega arith)
+
+module _ (F : KissFile) (s : ℕ) (cubes : List Cube) (known : AreFullCubes F s cubes) where
+  pub with_full_cube : (row : KissRow) → IsOfState F s row → IsFull F.outputs row → AreFullCubes F s (cubes ++ row.cube ∷ [])
+  with_full_cube row of_state full cube among =
+      elim (Contains-append_cases cubes (row.cube ∷ []) cube among) [
+        | inl before ↦ known cube before
+        | inr last ↦ (row, of_state, full, sym (only_one row.cube cube last))
+      ]
+
+  -- where they hold each symbol, each part is said
+  pub said_by_full : IsTable F → (width : ℕ) → width ≡ F.inputs → HoldsEach cubes width → IsSaidEverywhere F s (F.outputs + 1)
+  said_by_full table width same each number part within counted =
+      let held = each number (subst (λ (w : ℕ). number < 2 ^ w) (sym same) within) in
+      let found = of_held held in
+      (found.0, at_from_held F table s number found.0 found.1 found.3, full_says F.outputs found.0 found.2 part counted)
+    where
+      of_held : IsHeld cubes number → (row : KissRow) × IsOfState F s row × IsFull F.outputs row × HoldsNumber row.cube number
+      of_held (k, cube, inside, is, held) =
+          let row = known (get_or cubes k cube) (Contains-get_or cubes k cube inside) in
+          (row.0, row.1, row.2, subst (λ (c : Cube). HoldsNumber c number) (sym (row.3 ∙ is)) held)

@@ -44,7 +44,8 @@ impl From<AllocError> for BuildFail {
 }
 
 impl Machine {
-    /// The machine of a file. A conflict is looked for first, and with `Fill::Refuse` then an open entry.
+    /// The machine of a file. A conflict is looked for first, and then an open entry. With `Fill::Hold` a
+    /// machine that has none is known to be complete.
     pub fn build(alloc: Global, file: &KissFile, fill: Fill) -> Result<Machine, BuildFail>
         requires table { IsTable file.now }
         requires numbered { Conflicting file.now → length file.now.rows < 2 ^ 32 }
@@ -53,11 +54,11 @@ impl Machine {
         ensures caused { IfErr result (Caused file.now fill) }
     {
         let machine = Machine::of_rows(alloc, file)?;
-        match fill {
-            Fill::Hold => Ok(machine),
-            Fill::Refuse => match machine.first_open(alloc)? {
-                None => Ok(machine.completed()),
-                Some(entry) => Err(BuildFail::Unspecified {
+        match machine.first_open(alloc)? {
+            None => Ok(machine.completed()),
+            Some(entry) => match fill {
+                Fill::Hold => Ok(machine),
+                Fill::Refuse => Err(BuildFail::Unspecified {
                     state: entry.state,
                     symbol: entry.symbol,
                     part: entry.part,

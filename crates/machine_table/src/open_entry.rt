@@ -3,7 +3,8 @@ ghost use Rattle.std.specs.Prelude.{ℕ, ◌+◌, ◌-◌, ◌≡◌, ◌<◌, �
 ghost use Rattle.cubes.specs.Gap.{IsHeld};
 ghost use Rattle.kiss2.specs.declared.kiss_file.KissFile.{KissFile};
 ghost use Rattle.machine_table.specs.declared.missing.Missing.{Missing};
-ghost use Rattle.machine_table.specs.Inner.OpenSymbol.{IsFirstAmong, IsFirstOf, SaysAll};
+ghost use Rattle.machine_table.specs.Inner.OpenSymbol.{AreFullCubes, IsFirstAmong, IsFirstOf, IsFull, IsSaidEverywhere, SaysAll};
+ghost use Rattle.machine_table.specs.Table.{IsTable};
 ghost use Rattle.machine_table.specs.Said.{IsEntry, IsFirstOpen, IsSaid, Says, place_of};
 
 use crate::machine::given;
@@ -43,6 +44,17 @@ pub(crate) fn all_outputs(outputs: u8) -> u64
     }
 }
 
+/// Whether the row names a next state and gives each of so many outputs.
+fn is_full(row: &KissRow, outputs: u8) -> bool
+    requires { outputs ≤ 64 }
+    ensures { IsTrue result → IsFull outputs row.now }
+{
+    if row.to.is_none() || row.care != all_outputs(outputs) {
+        return false;
+    }
+    true
+}
+
 /// The earlier of two open parts: the one of the lesser symbol, and the first where they are at one symbol.
 fn earlier(first: Option<(u32, Missing)>, gap: Option<u32>, part: Missing) -> Option<(u32, Missing)>
     ensures { (F : KissFile) (s : ℕ) → IsFirstAmong F s (place_of part) first → IsFirstOf F s part gap → IsFirstAmong F s (place_of part + 1) result }
@@ -80,6 +92,9 @@ impl Machine {
         requires { s < length self.now.states }
         ensures { IfOk result (IsFirstAmong self.now s (self.now.outputs + 1)) }
     {
+        if self.is_full_everywhere(alloc, s)? {
+            return Ok(None);
+        }
         let gap = self.first_open_of(alloc, s, Missing::Next)?;
         let mut first = earlier(None, gap, Missing::Next);
         if self.says_all(s) {
@@ -100,11 +115,38 @@ impl Machine {
     {
         for number in self.numbers_of(s) {
             let row = self.row(*number);
-            if row.to.is_none() || row.care != all_outputs(self.outputs()) {
+            if !is_full(row, self.outputs()) {
                 return false;
             }
         }
         true
+    }
+
+    /// Whether each symbol is held by a row of the state that says all.
+    fn is_full_everywhere(&self, alloc: Global, s: usize) -> Result<bool, AllocError>
+        requires { s < length self.now.states }
+        ensures { IfOk result (λ full. IsTrue full → IsSaidEverywhere self.now s (self.now.outputs + 1)) }
+    {
+        let cubes = self.full_cubes(alloc, s)?;
+        let gap = first_gap(alloc, &cubes, self.inputs())?;
+        Ok(gap.is_none())
+    }
+
+    /// The cubes of the rows of a state that say all.
+    fn full_cubes(&self, alloc: Global, s: usize) -> Result<Vec<Cube>, AllocError>
+        requires { s < length self.now.states }
+        ensures widths { IfOk result (λ cubes. All (λ c. c.width ≡ self.now.inputs) cubes.items) }
+        ensures full { IfOk result (λ cubes. AreFullCubes self.now s cubes.items) }
+        ensures table { IsTable self.now }
+    {
+        let mut cubes = Vec::new(alloc);
+        for number in self.numbers_of(s) {
+            let row = self.row(*number);
+            if is_full(row, self.outputs()) {
+                cubes.push(row.cube)?;
+            }
+        }
+        Ok(cubes)
     }
 
     /// The first symbol at which no row of the state says the part.

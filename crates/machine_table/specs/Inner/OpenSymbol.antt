@@ -7,6 +7,7 @@ use Rattle.kiss2.specs.declared.kiss_file.KissRow.{KissRow}
 use Rattle.kiss2.specs.Machine.{given_bit}
 use Rattle.machine_table.specs.declared.missing.Missing.{Missing}
 use Rattle.machine_table.specs.Said.{IsSaid, Says, place_of}
+use Rattle.machine_table.specs.Inner.Asked.{IsOfState}
 use Rattle.machine_table.specs.Inner.Places.{IsNumberOf}
 
 -- at each symbol each part at the first places is said
@@ -36,9 +37,17 @@ abbrev pub IsFirstOf : KissFile → (s : ℕ) → Missing → Option ℕ → Typ
 IsFirstOf F s part found =
     MatchOption found ((number : ℕ) → number < 2 ^ F.inputs → IsSaid F s number part) (IsFirstOpenOf F s part)
 
--- each row of the state names a next state and gives each output
+-- the row names a next state and gives each of so many outputs
+abbrev pub IsFull : ℕ → KissRow → Type 0
+IsFull outputs row = IsSome row.to × ((b : ℕ) → b < outputs → IsSome (given_bit b row))
+
+-- each row of the state does
 abbrev pub SaysAll : KissFile → ℕ → Type 0
-SaysAll F s = (row : KissRow) → Contains F.rows row → row.from ≡ s → IsSome row.to × ((b : ℕ) → b < F.outputs → IsSome (given_bit b row))
+SaysAll F s = (row : KissRow) → Contains F.rows row → row.from ≡ s → IsFull F.outputs row
+
+-- each of the cubes is that of a row of the state that does
+abbrev pub AreFullCubes : KissFile → ℕ → List Cube → Type 0
+AreFullCubes F s cubes = (cube : Cube) → Contains cubes cube → (row : KissRow) × IsOfState F s row × IsFull F.outputs row × (row.cube ≡ cube)
 
 -- the cubes are those of the rows at these numbers that say the part
 pub record AreCubesOf (F : KissFile) (s : ℕ) (part : Missing) (numbers : List ℕ) (count : ℕ) (cubes : List Cube) : Type 0 where

@@ -9,17 +9,17 @@ use Rattle.machine_table.proofs.machine.Machine.build.Goals as goal
 pub returns-in-None-clause-accepted : goal.returns-in-None-clause-accepted
 returns-in-None-clause-accepted c =
     let said = subst (λ (found : Option Entry). IfNone found ((s number : ℕ) (part : Missing) → IsEntry c.in_ok-machine.machine s number part → IsSaid c.in_ok-machine.machine s number part))
-    c.in-None.is c.in_ok-first_open-in-Refuse.ensures.none in
+    c.in-None.is c.in_ok-first_open.ensures.none in
     record {
       no_conflict = c.in_ok-machine.ensures.no_conflict;
       filled = inl (specified c.args.file.now
           (subst (λ (F : KissFile). (s number : ℕ) (part : Missing) → IsEntry F s number part → IsSaid F s number part) c.in_ok-machine.ensures.machine said));
     }
 
-pub returns-in-Some-clause-caused : goal.returns-in-Some-clause-caused
-returns-in-Some-clause-caused c =
+pub returns-in-Refuse-clause-caused : goal.returns-in-Refuse-clause-caused
+returns-in-Refuse-clause-caused c =
     let first = subst (λ (found : Option Entry). IfSome found (λ entry. IsFirstOpen c.in_ok-machine.machine entry.state entry.symbol entry.part))
-    c.in-Some.is c.in_ok-first_open-in-Refuse.ensures.some in
+    c.in-Some.is c.in_ok-first_open.ensures.some in
     record {
       refused = c.in-Refuse.is;
       no_conflict = c.in_ok-machine.ensures.no_conflict;
@@ -29,5 +29,5 @@ returns-in-Some-clause-caused c =
 pub completed-requires : goal.completed-requires
 completed-requires c =
     let said = subst (λ (found : Option Entry). IfNone found ((s number : ℕ) (part : Missing) → IsEntry c.in_ok-machine.machine s number part → IsSaid c.in_ok-machine.machine s number part))
-    c.in-None.is c.in_ok-first_open-in-Refuse.ensures.none in
+    c.in-None.is c.in_ok-first_open.ensures.none in
     specified c.in_ok-machine.machine said

@@ -1,8 +1,8 @@
-use Rattle.std.proofs.Common.{ℕ, ◌<◌, ◌≡◌, ◌-◌, ◌^◌, IsSome, Some, get_or, slice_get}
+use Rattle.std.proofs.Common.{ℕ, ◌<◌, ◌≡◌, Some, get_or, slice_get}
 use Rattle.kiss2.specs.declared.kiss_file.KissRow.{KissRow}
+use Rattle.machine_table.specs.Inner.OpenSymbol.{IsFull}
 use Rattle.machine_table.proofs.machine.Machine.says_all.Given as goal
 
 abbrev pub invariant-loop-number : goal.invariant-loop-number
 invariant-loop-number l =
-    (k d : ℕ) (row : KissRow) → k < l.number-index → slice_get l.self.rows (get_or l.number-items k d) ≡ Some row
-    → IsSome row.to × (row.care ≡ 2 ^ l.self.outputs - 1)
+    (k d : ℕ) (row : KissRow) → k < l.number-index → slice_get l.self.rows (get_or l.number-items k d) ≡ Some row → IsFull l.self.outputs row
