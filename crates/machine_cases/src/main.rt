@@ -99,7 +99,9 @@ fn add_answer(
         "cover" => covers::add_cover(alloc, words, m, text),
         "latch_reads" | "output_reads" => codes::add_reads(alloc, call, words, m, text),
         "least_code" => codes::add_least_code(alloc, m, text),
-        "mm_least" | "mm_join" | "mm_before" => worlds::add_in_mm_world(alloc, call, words, m, text),
+        "mm_least" | "mm_join" | "mm_before" => worlds::add_in_mm_world(
+            alloc, call, words, m, text,
+        ),
         _ => pairs::add_answer(alloc, call, words, m, text),
     }
 }

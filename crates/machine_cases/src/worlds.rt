@@ -117,8 +117,16 @@ fn add_of_two<P: Sided, W: JoinWorld<Item = P>>(
 {
     match call {
         "input_least" | "output_least" | "mm_least" => add_pair(alloc, &world.bottom(alloc)?, text),
-        "input_join" | "output_join" | "mm_join" => add_pair(alloc, &world.join(alloc, x, y)?, text),
-        "input_before" | "output_before" | "mm_before" => add_debug(alloc, &world.before(x, y), text),
+        "input_join" | "output_join" | "mm_join" => add_pair(
+            alloc,
+            &world.join(alloc, x, y)?,
+            text,
+        ),
+        "input_before" | "output_before" | "mm_before" => add_debug(
+            alloc,
+            &world.before(x, y),
+            text,
+        ),
         _ => add(text, "no such call"),
     }
 }
