@@ -1,7 +1,7 @@
 #!/usr/bin/env bash
 # Times whole runs of the program on machines whose form is hard for a program that counts on the order of rows or on
 # chance, each beside a plain machine of the same size. It prints processor seconds and the peak of memory in MiB, of one
-# run each. A run is cut off at 60 seconds of processor time.
+# run each. A run is cut off at 20 seconds of processor time.
 set -eu
 . "$(dirname "$0")/timing.sh"
 use_program hsdec --version
@@ -116,10 +116,10 @@ symbols() {
 measured() {
     python3 - "$program" "$@" <<'PYTHON'
 import resource, subprocess, sys
-limit = lambda: resource.setrlimit(resource.RLIMIT_CPU, (60, 60))
+limit = lambda: resource.setrlimit(resource.RLIMIT_CPU, (20, 20))
 status = subprocess.run(sys.argv[1:], stdout=subprocess.DEVNULL, stderr=subprocess.DEVNULL, preexec_fn=limit).returncode
 used = resource.getrusage(resource.RUSAGE_CHILDREN)
-seconds = "over 60" if status < 0 else f"{used.ru_utime + used.ru_stime:.2f}"
+seconds = "over 20" if status < 0 else f"{used.ru_utime + used.ru_stime:.2f}"
 print(f"{seconds:>9} {used.ru_maxrss / 1024:>7.0f}")
 PYTHON
 }
