@@ -3,7 +3,7 @@ use Rattle.std.proofs.Common.{◌≡◌, ℕ, ◌+◌, ◌<◌, ◌≤◌, ◌�
 use Rattle.std.proofs.lemmas.Bool.{cases_eq}
 use Rattle.kiss2.specs.declared.kiss_file.KissFile.{KissFile}
 use Rattle.machine_table.specs.Staying.{NeverLeaves}
-use Rattle.partition.specs.Partition.{blocks_of, IsPartition, Together, Le, zero_of}
+use Rattle.partition.specs.Partition.{IsPartition, Le, Lt, Together, blocks_of, zero_of}
 use Rattle.partition.specs.MeetAndJoin.{IsJoin, IsMeet}
 use Rattle.partition.specs.Laws.Chains.{chain_keeps, chain_link, chain_within, join_is_least, together_turned}
 use Rattle.partition.specs.Laws.Extremes.{zero_of_is_partition}
@@ -11,7 +11,7 @@ use Rattle.partition.specs.Laws.Labels.{IsPartition-of}
 use Rattle.pair_operators.specs.Growth.{TakesPair}
 use Rattle.closed_lattice.specs.Closed.{IsPrincipal}
 use Rattle.closed_lattice.specs.Inner.Growing.{IsSettled, NeverHolds}
-use Rattle.closed_lattice.specs.Limits.{HoldsApart, IsStrictlyBelow, MeetInZero}
+use Rattle.closed_lattice.specs.Limits.{HoldsApart, MeetInZero}
 use Rattle.closed_lattice.proofs.Blocks.{fewer_blocks}
 use Rattle.closed_lattice.proofs.Conditions.{never_below_zero, zero_strictly_below}
 use Rattle.closed_lattice.proofs.Existing.{join_stands, principal_stands}
@@ -65,11 +65,11 @@ settled_taken F Meets p s t next settled takes = elim takes.taken [
 ]
 
 -- a partition strictly below top holds no two states together that are apart in top
-pub not_within_top : (top p : List ℕ) (s t : ℕ) → (Together top s t → ⊥) → NeverHolds (IsStrictlyBelow top) p s t
+pub not_within_top : (top p : List ℕ) (s t : ℕ) → (Together top s t → ⊥) → NeverHolds (λ p. Lt p top) p s t
 not_within_top top p s t apart q lawful above held (below, strict) = apart (below s t held)
 
 -- and with one block more than top no partition grows
-pub no_block_between : (top p : List ℕ) (s t : ℕ) → IsPartition (length p) p → IsPartition (length p) top → s < length p → t < length p → (Together p s t → ⊥) → blocks_of p ≤ blocks_of top + 1 → NeverHolds (IsStrictlyBelow top) p s t
+pub no_block_between : (top p : List ℕ) (s t : ℕ) → IsPartition (length p) p → IsPartition (length p) top → s < length p → t < length p → (Together p s t → ⊥) → blocks_of p ≤ blocks_of top + 1 → NeverHolds (λ p. Lt p top) p s t
 no_block_between top p s t lawful top_lawful in_s in_t apart few q q_lawful above held (below, strict) =
     let fewer = fewer_blocks p q lawful.numbered q_lawful.numbered q_lawful.length above s t in_s in_t apart held in
     omega (arith, few, fewer, strictly_fewer (length p) q top q_lawful top_lawful below strict)
@@ -96,7 +96,7 @@ meet_has_all p other r is = (
 )
 
 -- it is settled whether zero is strictly below a partition
-pub below_settled : (n : ℕ) (top : List ℕ) → IsPartition n top → IsStrictlyBelow top (zero_of n) ⊎ (IsStrictlyBelow top (zero_of n) → ⊥)
+pub below_settled : (n : ℕ) (top : List ℕ) → IsPartition n top → Lt (zero_of n) top ⊎ (Lt (zero_of n) top → ⊥)
 below_settled n top lawful =
     let zero' = zero_of_is_partition n lawful.count in
     elim (cases_eq (blocks_of top) n) [

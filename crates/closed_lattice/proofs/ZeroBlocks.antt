@@ -3,7 +3,7 @@ use Rattle.std.proofs.Common.{◌≡◌, ℕ, zero, suc, ◌<◌, ◌≤◌, inl
 use Rattle.std.proofs.lemmas.List.{take_all}
 use Rattle.std.proofs.lemmas.Bool.{cases_eq, cases_lt}
 use Rattle.partition.specs.Partition.{blocks_of, IsPartition, IsZero, Together, Le, zero_of}
-use Rattle.partition.specs.Laws.Extremes.{zero_of_is_zero, zero_of_is_partition}
+use Rattle.partition.specs.Laws.Extremes.{zero_of_below, zero_of_is_zero, zero_of_is_partition}
 use Rattle.partition.specs.Laws.Labels.{blocks_of-take-suc, new_label}
 use Rattle.closed_lattice.proofs.Blocks.{fewer_blocks}
 use Rattle.closed_lattice.proofs.Growing.{together_itself}
@@ -20,18 +20,13 @@ pub zero_blocks : (n : ℕ) (p : List ℕ) → IsPartition n p → IsZero p → 
 zero_blocks n p lawful none =
     ap blocks_of (sym (take_all (length p) p (omega arith))) ∙ first_blocks p n lawful none (length p) (omega arith) ∙ lawful.length
 
--- zero is below each partition
-pub zero_le : (n : ℕ) (p : List ℕ) → IsPartition n p → Le (zero_of n) p
-zero_le n p lawful s t held =
-    subst (λ (u : ℕ). Together p s u) (zero_of_is_zero n s t held) (together_itself p s (omega (arith, held.0, (zero_of_is_partition n lawful.count).length, lawful.length)))
-
 pub zero_by_blocks : (n : ℕ) (p : List ℕ) → IsPartition n p → blocks_of p ≡ n → IsZero p
 zero_by_blocks n p lawful all s t held =
     let least : IsPartition n (zero_of n) = zero_of_is_partition n lawful.count in
     elim (cases_eq s t) [
       | inl same ↦ same
       | inr other ↦
-          let fewer = fewer_blocks (zero_of n) p least.numbered lawful.numbered (lawful.length ∙ sym least.length) (zero_le n p lawful) s t
+          let fewer = fewer_blocks (zero_of n) p least.numbered lawful.numbered (lawful.length ∙ sym least.length) (zero_of_below n p lawful) s t
           (omega (arith, held.0, lawful.length, least.length)) (omega (arith, held.1, lawful.length, least.length)) (λ together. other (zero_of_is_zero n s t together)) held in
           absurd (omega (arith, fewer, all, zero_blocks n (zero_of n) least (zero_of_is_zero n)))
     ]

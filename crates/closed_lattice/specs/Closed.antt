@@ -20,7 +20,7 @@ pub record IsPrincipal (F : KissFile) (s t : ℕ) (p : List ℕ) : Type 0 where
 abbrev pub IsPrincipalWithin : KissFile → List ℕ → List ℕ → Type 0
 IsPrincipalWithin F top p = (s : ℕ) × (t : ℕ) × (s < t) × Together top s t × IsPrincipal F s t p
 
--- the least closed partition that holds the two states together stands in the list
+-- the least closed partition that holds the two states together is in the list
 abbrev pub HasPrincipal : KissFile → List (List ℕ) → (s t : ℕ) → Type 0
 HasPrincipal F found s t = (p : List ℕ) × Contains found p × IsPrincipal F s t p
 

@@ -5,7 +5,7 @@ use Rattle.closed_lattice.specs.declared.known.Item.{Item}
 use Rattle.closed_lattice.specs.declared.known.Principals.{Principals}
 use Rattle.closed_lattice.specs.Closed.{IsPrincipal}
 
--- the least closed partition of this machine that holds the two states together which stand with it
+-- the partition is the least closed one of this machine that holds the two states beside it together
 abbrev pub IsPrincipalItem : KissFile → Item → Type 0
 IsPrincipalItem F item = IsPrincipal F item.s item.t item.least
 

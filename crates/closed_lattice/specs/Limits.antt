@@ -4,10 +4,6 @@ use Rattle.kiss2.specs.declared.kiss_file.KissFile.{KissFile}
 use Rattle.partition.specs.Partition.{Le, Together}
 use Rattle.closed_lattice.specs.Closed.{IsClosedPartition}
 
--- p is below top and not equal to it
-abbrev pub IsStrictlyBelow : List ℕ → List ℕ → Type 0
-IsStrictlyBelow top p = Le p top × (Le top p → ⊥)
-
 -- no two states are together in both
 abbrev pub MeetInZero : List ℕ → List ℕ → Type 0
 MeetInZero other p = (s t : ℕ) → Together p s t → Together other s t → s ≡ t
@@ -16,7 +12,7 @@ MeetInZero other p = (s t : ℕ) → Together p s t → Together other s t → s
 abbrev pub HoldsApart : ℕ → ℕ → List ℕ → Type 0
 HoldsApart s t p = Together p s t → ⊥
 
--- a closed partition above start that meets the condition, and no closed partition strictly above it does
+-- p is a closed partition above start that meets the condition, and no closed partition strictly above p meets it
 pub record IsGreatestGrown (F : KissFile) (Meets : List ℕ → Type 0) (start p : List ℕ) : Type 0 where
   pub closed : IsClosedPartition F p
   pub above : Le start p

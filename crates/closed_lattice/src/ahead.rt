@@ -1,9 +1,8 @@
 //! Pairs of states that two states lead to.
 //!
 //! The least closed partition of two states is above those of the pairs that they go to. Where these are known, it
-//! is made by a join with each, and no chain of pairs has to be followed. So what lies ahead of two states is learnt
-//! before their own. What is followed here is advice: no partition rests on it, and where it leads nowhere, it costs
-//! time and memory alone.
+//! is made by a join with each, without following a chain of pairs. So the partitions of the pairs ahead are made
+//! first. The list of these pairs is advice: no result depends on it, and a useless pair only costs time and memory.
 
 ghost use Rattle.std.specs.Prelude.{◌≡◌, ◌<◌, IfOk, IfSome, length};
 ghost use Rattle.closed_lattice.specs.Inner.Waiting.{AreStates};
@@ -12,10 +11,10 @@ use crate::known::{Principals, number_of};
 use machine_table::Machine;
 use std::alloc::{AllocError, Global};
 
-/// How many pairs are followed at most.
+/// The most pairs that are followed.
 const MOST_AHEAD: usize = 256;
 
-/// The number of a state, of which there are at most 256.
+/// The number of a state. There are at most 256.
 pub(crate) fn numbered(m: &Machine, s: usize) -> u16
     requires { s < length m.now.states }
     ensures { result ≡ s }
@@ -23,8 +22,8 @@ pub(crate) fn numbered(m: &Machine, s: usize) -> u16
     s.min(m.states() - 1) as u16
 }
 
-/// Two states that the two go to at one of the first symbols: not the two again, and none whose least closed
-/// partition is known.
+/// Two states that the two go to at one of the first symbols, other than the two themselves, and whose least closed
+/// partition is not known.
 fn pair_ahead(m: &Machine, known: &Principals, s: u16, t: u16) -> Option<(u16, u16)>
     requires s { s < length m.now.states }
     requires t { t < length m.now.states }
@@ -40,8 +39,7 @@ fn pair_ahead(m: &Machine, known: &Principals, s: u16, t: u16) -> Option<(u16, u
     None
 }
 
-/// The pairs ahead of the two states, one after another, as far as they are not known and the two do not come again,
-/// and 256 at most.
+/// The pairs ahead of the two states, one after another, at most 256, up to one that is known or to the two again.
 pub(crate) fn pairs_ahead(
     alloc: Global,
     m: &Machine,

@@ -1,10 +1,10 @@
 //! The least closed partition that holds two states together.
 //!
-//! Pairs of states wait to be put together, at first the two alone. One that is still apart is taken, its
-//! blocks become one, and the pairs of next states of the two wait too. Each pair that ever waits is
-//! together in each closed partition that holds the first two, so nothing is put together without need;
-//! and where no pair is apart any more, next states of states that are together are together. Where the least
-//! closed partition of a pair that waits is known already, it is joined at once.
+//! A list holds pairs of states that have to be together, at first only the two. A pair whose states are still in
+//! two blocks is taken from it, the two blocks are merged, and the pairs of next states of the two are added.
+//! Each pair in the list is together in every closed partition that holds the first two, so no merge is needless.
+//! When the list is empty, next states of states that are together are together. Where the least closed partition
+//! of a listed pair is already known, it is joined at once.
 
 ghost use Rattle.std.specs.Prelude.{ℕ, ◌≡◌, ◌<◌, Contains, IfNone, IfOk, IfSome, OnOk, length};
 ghost use Rattle.closed_lattice.specs.Closed.{IsPrincipal};
@@ -21,7 +21,7 @@ use machine_table::Machine;
 use partition::Partition;
 use std::alloc::{AllocError, Global};
 
-/// Takes pairs off the end up to one that the partition holds apart.
+/// Takes pairs off the end, up to one whose states are in two blocks of the partition.
 fn next_apart(p: &Partition, waiting: &mut Vec<(u16, u16)>) -> Option<(usize, usize)>
     requires { AreStates (length p.now) waiting.old.items }
     ensures apart { IfSome result (λ pair. TakesApart p.now waiting.old.items pair.0 pair.1 waiting.new.items) }
@@ -36,8 +36,8 @@ fn next_apart(p: &Partition, waiting: &mut Vec<(u16, u16)>) -> Option<(usize, us
     None
 }
 
-/// The join, made from the side with fewer blocks: a join takes a number for each block of its first side, and goes
-/// through them for each tie of two.
+/// The join, with the side that has fewer blocks as the first. A join keeps a number for each block of its first
+/// side, and goes through these for each merge.
 pub(crate) fn joined(alloc: Global, p: &Partition, q: &Partition) -> Result<Partition, AllocError>
     requires { length q.now ≡ length p.now }
     ensures { IfOk result (IsJoin p.now q.now) }
@@ -49,7 +49,7 @@ pub(crate) fn joined(alloc: Global, p: &Partition, q: &Partition) -> Result<Part
     }
 }
 
-/// Joins the partition with the known one of two states, if there is one, unless they are together.
+/// Joins the partition with the known one of two states, if there is one and the two are not together.
 #[tactic(auto, using(crate::proofs::Joining::joins_none))]
 fn join_one(
     alloc: Global,
@@ -152,7 +152,7 @@ pub fn principal(alloc: Global, m: &Machine, s: usize, t: usize) -> Result<Parti
     principal_beside(alloc, m, &Principals::none(alloc), s, t)
 }
 
-/// Makes the least closed partition that holds s and t together, which is known from then on.
+/// Makes the least closed partition that holds s and t together, and keeps it as known.
 fn make_known(
     alloc: Global,
     m: &Machine,
@@ -191,8 +191,7 @@ fn learn_pairs(
     Ok(())
 }
 
-/// The least closed partition that holds s and t together, which is known from then on, as are those of the pairs
-/// ahead of them.
+/// The least closed partition that holds s and t together. It is kept as known, like those of the pairs ahead.
 pub(crate) fn learn(
     alloc: Global,
     m: &Machine,

@@ -15,7 +15,7 @@ use machine_table::Machine;
 use partition::{PartWorld, Partition};
 use std::alloc::{AllocError, Global};
 
-/// Adds the least closed partitions of the state and those before it that are together with it in top.
+/// Adds the least closed partitions of the state and each smaller state that is together with it in top.
 fn add_principals(
     alloc: Global,
     m: &Machine,
@@ -72,7 +72,7 @@ fn collected(
 /// The least closed partitions of the pairs of states that are together in top, each once, in ascending order,
 /// or more of them than the limit.
 ///
-/// Where there are more than the limit, which ones are given is left open.
+/// Where there are more than the limit, any limit + 1 of them may be given.
 pub fn principals_within(
     alloc: Global,
     m: &Machine,

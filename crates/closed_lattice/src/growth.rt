@@ -1,9 +1,9 @@
 //! Closed partitions that grow as far as a condition lets them.
 //!
-//! Each condition that a partition meets, each smaller one meets too. So a pair whose least closed partition
-//! could not be joined once cannot be joined later, and one pass over the pairs is enough. A pair that is together
-//! already adds nothing, and one that no partition which meets the condition holds together is passed over: for
-//! neither is a partition made.
+//! Where a partition meets a condition, so does each smaller one. So a pair whose least closed partition could not be
+//! joined cannot be joined later, and one pass over the pairs is enough. A pair that is already together adds
+//! nothing. A pair that no partition which meets the condition holds together is passed over. No partition is made
+//! for either.
 
 ghost use Rattle.std.specs.Prelude.{ℕ, ◌≡◌, ◌+◌, ◌<◌, ◌↔◌, IfOk, IsTrue, List, OnOk, length};
 ghost use Rattle.closed_lattice.specs.Closed.{IsClosedPartition, IsPrincipal};
@@ -11,8 +11,8 @@ ghost use Rattle.closed_lattice.specs.Kept.{ArePrincipalsOf};
 ghost use Rattle.closed_lattice.specs.Inner.Growing.{IsSettled, NeverHolds};
 ghost use Rattle.machine_table.specs.Staying.{NeverLeaves};
 ghost use Rattle.pair_operators.specs.Growth.{GrowsOver, IsGrowth, TakesPair, pairs_from};
-ghost use Rattle.closed_lattice.specs.Limits.{HoldsApart, IsGreatestGrown, IsStrictlyBelow, MeetInZero};
-ghost use Rattle.partition.specs.Partition.{blocks_of, IsPartition, IsZero, Together, zero_of};
+ghost use Rattle.closed_lattice.specs.Limits.{HoldsApart, IsGreatestGrown, MeetInZero};
+ghost use Rattle.partition.specs.Partition.{IsPartition, IsZero, Lt, Together, blocks_of, zero_of};
 
 use crate::closing::{joined, learn};
 use crate::known::Principals;
@@ -22,19 +22,19 @@ use std::alloc::{AllocError, Global};
 
 /// How far partitions grow.
 trait Condition {
-    /// What it asks makes sense of partitions of so many states.
+    /// The condition fits partitions of this many states.
     ghost suits: { Self → ℕ → Type 0 };
 
-    /// The partition meets it.
+    /// The partition meets the condition.
     ghost meets: { Self → List ℕ → Type 0 };
 
-    /// Whether a partition meets it.
+    /// Whether a partition meets the condition.
     fn is_met(&self, alloc: Global, p: &Partition) -> Result<bool, AllocError>
         requires { suits self.now (length p.now) }
         ensures { IfOk result (λ met. IsTrue met ↔ meets self.now p.now) };
 
-    /// Whether it bars two states that are apart here: no partition above this one that meets it holds them together.
-    /// It may say no where that is so. Takes no memory.
+    /// Whether the condition bars two states in two blocks: no partition above this one that meets it holds them
+    /// together. It may answer no where that is so. Takes no memory.
     fn bars(&self, p: &Partition, s: usize, t: usize) -> bool
         requires suits { suits self.now (length p.now) }
         requires s { s < length p.now }
@@ -43,7 +43,7 @@ trait Condition {
         ensures { IsTrue result → NeverHolds (meets self.now) p.now s t };
 }
 
-/// How often two blocks are put together to make the partition of zero.
+/// The number of merges of two blocks that lead from zero to the partition.
 fn rank(p: &Partition) -> usize
     ensures rank { result + blocks_of p.now ≡ length p.now }
     ensures lawful { IsPartition (length p.now) p.now }
@@ -51,7 +51,7 @@ fn rank(p: &Partition) -> usize
     p.len() - p.blocks()
 }
 
-/// The partition stays strictly below this one, which has the rank.
+/// The partition stays strictly below this one, which has this rank.
 #[derive(Drop)]
 struct StrictlyBelow<'a> {
     top: &'a Partition,
@@ -61,7 +61,7 @@ struct StrictlyBelow<'a> {
 impl Condition for StrictlyBelow<'_> {
     ghost suits = { λ c n. IsPartition n c.top.now × (c.rank + blocks_of c.top.now ≡ n) };
 
-    ghost meets = { λ c p. IsStrictlyBelow c.top.now p };
+    ghost meets = { λ c p. Lt p c.top.now };
 
     fn is_met(&self, _alloc: Global, p: &Partition) -> Result<bool, AllocError> {
         Ok(p.le(self.top) && !self.top.le(p))
@@ -123,7 +123,7 @@ impl Condition for InTwoBlocks {
     }
 }
 
-/// The growth by the least closed partition of two states, which is not made where it adds nothing.
+/// The growth by the least closed partition of two states. It is not made where it would add nothing.
 fn grow_by<C: Condition>(
     alloc: Global,
     m: &Machine,
@@ -205,7 +205,7 @@ fn grow<C: Condition>(
 }
 
 impl Principals {
-    /// The growth of zero strictly below a partition, which is zero below zero, made with what is kept.
+    /// The growth of zero strictly below a partition, with the partitions that are kept. Below zero it is zero.
     pub fn below(
         &mut self,
         alloc: Global,
@@ -215,10 +215,10 @@ impl Principals {
         requires kept { ArePrincipalsOf m.now self.old }
         requires states { length top.now ≡ length m.now.states }
         ensures kept { OnOk result (ArePrincipalsOf m.now self.new) }
-        ensures growth { IfOk result (IsGrowth (IsPrincipal m.now) (IsStrictlyBelow top.now)
+        ensures growth { IfOk result (IsGrowth (IsPrincipal m.now) (λ p. Lt p top.now)
             (length m.now.states) (zero_of (length m.now.states))) }
         ensures greatest { IfOk result (λ p. (IsZero top.now → ⊥)
-            → IsGreatestGrown m.now (IsStrictlyBelow top.now) (zero_of (length m.now.states)) p) }
+            → IsGreatestGrown m.now (λ p. Lt p top.now) (zero_of (length m.now.states)) p) }
         ensures zero { IfOk result (λ p. IsZero top.now → p ≡ zero_of (length m.now.states)) }
     {
         let zero = Partition::zero(alloc, m.states())?;
@@ -226,7 +226,7 @@ impl Principals {
         grow(alloc, m, self, zero, &StrictlyBelow { top, rank })
     }
 
-    /// The growth of a closed partition that meets another one in zero, as far as it does, made with what is kept.
+    /// The growth of a closed partition as long as it meets another one in zero, with the partitions that are kept.
     pub fn apart(
         &mut self,
         alloc: Global,
@@ -247,7 +247,7 @@ impl Principals {
         grow(alloc, m, self, copy, &MeetsInZero { other })
     }
 
-    /// The growth of zero as far as two states stay apart, made with what is kept.
+    /// The growth of zero as long as two states are in two blocks, with the partitions that are kept.
     pub fn separating(
         &mut self,
         alloc: Global,
@@ -269,19 +269,19 @@ impl Principals {
     }
 }
 
-/// The growth of zero strictly below a partition, which is zero below zero.
+/// The growth of zero strictly below a partition. Below zero it is zero.
 pub fn below(alloc: Global, m: &Machine, top: &Partition) -> Result<Partition, AllocError>
     requires { length top.now ≡ length m.now.states }
-    ensures growth { IfOk result (IsGrowth (IsPrincipal m.now) (IsStrictlyBelow top.now)
+    ensures growth { IfOk result (IsGrowth (IsPrincipal m.now) (λ p. Lt p top.now)
         (length m.now.states) (zero_of (length m.now.states))) }
     ensures greatest { IfOk result (λ p. (IsZero top.now → ⊥)
-        → IsGreatestGrown m.now (IsStrictlyBelow top.now) (zero_of (length m.now.states)) p) }
+        → IsGreatestGrown m.now (λ p. Lt p top.now) (zero_of (length m.now.states)) p) }
     ensures zero { IfOk result (λ p. IsZero top.now → p ≡ zero_of (length m.now.states)) }
 {
     Principals::new(alloc)?.below(alloc, m, top)
 }
 
-/// The growth of a closed partition that meets another one in zero, as far as it does.
+/// The growth of a closed partition as long as it meets another one in zero.
 pub fn apart(
     alloc: Global,
     m: &Machine,
@@ -298,7 +298,7 @@ pub fn apart(
     Principals::new(alloc)?.apart(alloc, m, start, other)
 }
 
-/// The growth of zero as far as two states stay apart.
+/// The growth of zero as long as two states are in two blocks.
 pub fn separating(alloc: Global, m: &Machine, s: usize, t: usize) -> Result<Partition, AllocError>
     requires order { s < t }
     requires t { t < length m.now.states }

@@ -16,12 +16,12 @@ pub struct Item {
     least: Partition,
 }
 
-/// Least closed partitions of pairs of states of one machine, kept from one growth to the next, so that each is made
-/// once.
+/// Least closed partitions of pairs of states of one machine. They are kept from one growth to the next, so that each
+/// is made once.
 #[derive(Drop)]
 pub struct Principals {
     items: Vec<Item>,
-    /// For each two states the place where theirs would stand.
+    /// For each two states the place of their partition, if it is known.
     places: Vec<usize>,
 }
 
@@ -31,7 +31,7 @@ pub(crate) fn number_of(s: u16, t: u16) -> usize {
 }
 
 impl Principals {
-    /// None, and none will be found.
+    /// No partitions, and no places for any.
     pub(crate) fn none(alloc: Global) -> Principals
         ensures { (F : KissFile) → ArePrincipalsOf F result }
     {
@@ -41,7 +41,7 @@ impl Principals {
         }
     }
 
-    /// None so far.
+    /// No partitions yet.
     pub fn new(alloc: Global) -> Result<Principals, AllocError>
         ensures { IfOk result (λ kept. (F : KissFile) → ArePrincipalsOf F kept) }
     {

@@ -1,4 +1,4 @@
-//! What follows of the definitions, for the crates above. Each law is the contract of a function that does
+//! What follows from the definitions, for the crates above. Each law is the contract of a function that does
 //! nothing.
 
 ghost use Rattle.std.specs.Prelude.{ℕ, ◌≡◌, ◌<◌, All, Contains, List, length};
@@ -14,7 +14,7 @@ pub fn one_is_principal()
     ensures { (F : KissFile) (s t : ℕ) (p q : List ℕ) → IsPrincipal F s t p → IsPrincipal F s t q → p ≡ q }
 {}
 
-/// Joins of closed partitions are closed. And where the least closed partition of each two states is among
+/// Joins of closed partitions are closed. Where the least closed partition of each two states is among
 /// the generators, and these have joins, each closed partition is a join of generators.
 pub fn closed_are_joins()
     ensures closed { (F : KissFile) (generators : List (List ℕ)) (p : List ℕ) → NeverLeaves F → IsStateCount (length F.states)

@@ -5,16 +5,16 @@
 //! partitions in order, as the joins of these least ones, and [`atoms`] the least of them other than zero.
 //! [`principals_within`] gives the least ones of the pairs of states that another partition holds together.
 //! [`below`], [`apart`] and [`separating`] join the least ones of pairs of states, one pair after another, as
-//! far as a condition lets them; one pass is enough, since each condition that a partition meets, each
-//! smaller one meets too. [`Principals`] keeps the least ones over several such growths of one machine.
+//! far as a condition allows. One pass is enough: where a partition meets a condition, so does each smaller one.
+//! [`Principals`] keeps the least ones over several such growths of one machine.
 //!
 //! That joins of closed partitions are closed, and that each closed partition is such a join, are the clauses
 //! of [`closed_are_joins`].
 //!
 //! `specs/Closed` says what a closed partition is and which one is the least that holds two states together,
 //! `specs/Limits` how far closed partitions grow and what a growth is for: no closed partition
-//! strictly above it meets the condition, and `specs/Kept` what is kept over growths. What stands in
-//! `specs/Inner` serves private functions alone.
+//! strictly above it meets the condition. `specs/Kept` says what is kept over growths. `specs/Inner` is only
+//! for private functions.
 #![tactic(auto)]
 
 mod ahead;

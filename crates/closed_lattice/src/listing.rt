@@ -1,8 +1,8 @@
 //! All closed partitions, and the least of them other than zero, in order.
 //!
 //! Joins of closed partitions are closed, and each closed partition is the join of the least closed
-//! partitions of its pairs of states. So the joins of these least ones are all of them. Each closed
-//! partition other than zero is above one of them too, so the least of these are the least of all.
+//! partitions of its pairs of states. So the closed partitions are the joins of these least ones. Each closed
+//! partition other than zero is above one of them, so the least of these are the least of all.
 
 ghost use Rattle.std.specs.Prelude.{ℕ, ◌≡◌, ◌↔◌, ◌≤◌, All, AllPairs, IfOk, IsTrue, List, length};
 ghost use Rattle.closed_lattice.specs.Closed.{IsAtom, IsClosedPartition};
@@ -53,7 +53,7 @@ fn joins_of(
 
 /// The closed partitions in ascending order, or where there are more than the limit, limit + 1 of them.
 ///
-/// Which ones stand as evidence is left open.
+/// Any limit + 1 of them may be given as evidence.
 pub fn all(alloc: Global, m: &Machine, limit: usize) -> Result<Listing<BitPart>, AllocError>
     requires positive { 1 ≤ limit }
     requires bounded { limit ≤ 10000 }
@@ -74,8 +74,8 @@ pub fn all(alloc: Global, m: &Machine, limit: usize) -> Result<Listing<BitPart>,
     joins_of(alloc, m, partitions, limit)
 }
 
-/// Whether no partition of the list is strictly below this one. One that is has more blocks, and those with more
-/// blocks come first.
+/// Whether no partition of the list is strictly below this one. Such a partition has more blocks, and partitions
+/// with more blocks come first.
 fn is_least(found: &[Partition], p: &Partition) -> bool
     requires lawful { IsPartition (length p.now) p.now }
     requires found { All (IsPartition (length p.now)) found.now }
@@ -93,7 +93,7 @@ fn is_least(found: &[Partition], p: &Partition) -> bool
     true
 }
 
-/// The least closed partitions other than zero, all, in ascending order.
+/// All least closed partitions other than zero, in ascending order.
 pub fn atoms(alloc: Global, m: &Machine) -> Result<Vec<Partition>, AllocError>
     ensures { IfOk result (λ list. Lists Before (IsAtom m.now) list.items) }
 {

@@ -15,7 +15,7 @@ use Rattle.partition.specs.Laws.Labels.{IsPartition-of, label-lt-blocks_of-take}
 use Rattle.state_codes.specs.declared.split.Part.{Part}
 use Rattle.state_codes.specs.Split.{IsPart}
 use Rattle.state_codes.specs.Kinds.{IsOwnCarrier, PartsMeetInZero}
-use Rattle.state_codes.specs.Laws.InnerLabels.{inside_tells}
+use Rattle.state_codes.specs.Laws.InnerLabels.{complement_apart}
 use Rattle.cover_split.specs.Cover.{IsBlock, IsCover, block_at}
 use Rattle.cover_split.specs.Expansion.{IsExpansion, IsPair, IsTarget, pairs_of}
 use Rattle.cover_split.specs.Parts.{IsByBlock, IsClosedFront, IsLongest, IsSplitByBlock, own_part}
@@ -122,13 +122,6 @@ closed_front F E blocks p is expansion i k x held width =
     one_target F blocks other.0 x goes.0 goes_too.0 (subst (λ (j : ℕ). IsTarget F blocks j x goes.0) same goes.1) goes_too.1 in
     (is.together (next E i x) goes.0 (next F one.1 x) (next E k x) goes_too.0 (next F other.1 x) goes.2 goes_too.2).1 targets
 
--- zero is below each partition
-zero_below : (n : ℕ) (p : List ℕ) → IsPartition n p → Le (zero_of n) p
-zero_below n p lawful s t held =
-    let zero : IsPartition n (zero_of n) = zero_of_is_partition n lawful.count in
-    let same : s ≡ t = zero_of_is_zero n s t held in
-    (omega (arith, held.0, zero.length, lawful.length), omega (arith, held.1, zero.length, lawful.length), ap (λ (k : ℕ). get_or p k 0) same)
-
 -- ---- the two parts
 module _ (blocks : List (List ℕ)) (first second : List ℕ) (parts : List Part) (two : parts ≡ own_part first [] ∷ own_part second (0 ∷ []) ∷ []) where
   lone : (P : Part → Type 0) → P (own_part first []) → P (own_part second (0 ∷ [])) → All P parts
@@ -142,11 +135,7 @@ module _ (blocks : List (List ℕ)) (first second : List ℕ) (parts : List Part
       let both : All P (own_part first [] ∷ own_part second (0 ∷ []) ∷ []) = subst (All P) two all in
       let held : Together first s t = All-head P (own_part first []) (own_part second (0 ∷ []) ∷ []) both in
       let inner : Together second s t = All-head P (own_part second (0 ∷ [])) [] (All-tail P (own_part first []) (own_part second (0 ∷ []) ∷ []) both) in
-      let n = length (pairs_of blocks) in
-      let zero : IsPartition n (zero_of n) = zero_of_is_partition n lawful.count in
-      let size : length (zero_of n) ≡ length first = zero.length ∙ sym lawful.length in
-      let label = inside_tells first (zero_of n) second (zero_below n first lawful) size (complement.inside (zero_of n) (IsPartition-of (sym lawful.length) zero) (zero_of_is_zero n)) s t held inner.2 in
-      zero_of_is_zero n s t (omega (arith, held.0, size), omega (arith, held.1, size), label)
+      complement_apart (length (pairs_of blocks)) first second lawful complement s t held inner
 
   pub split_by_block : IsByBlock blocks first → IsComplement first second → IsLargestSize first (blocks_of second) → IsNontrivial first → blocks_of first ≡ length blocks → IsLongest blocks (blocks_of second)
       → IsSplitByBlock blocks parts

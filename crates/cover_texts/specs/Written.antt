@@ -10,7 +10,7 @@ use Rattle.cover_split.specs.Parts.{IsLongest, IsSplitByBlock}
 use Rattle.cover_split.specs.Refusal.{IsTextOf}
 use Rattle.decomposition.specs.Decomposition.{HasGates}
 use Rattle.decomposition.specs.Named.{HasNames}
-use Rattle.decomposition.specs.OwnPairs.{OwnPairs, Reads}
+use Rattle.decomposition.specs.OwnPairs.{OwnPairs, ReadsLatch}
 use Rattle.decomposition.specs.Within.{IsBitOf, IsWithinParts}
 use Rattle.hs_io.specs.Spelling.{ended, IsComment}
 use Rattle.kiss2.specs.declared.kiss_file.KissFile.{KissFile}
@@ -54,7 +54,7 @@ StepsAsPairs F blocks codes N =
 abbrev pub FrontReadsFront : Network → List LatchNote → Type 0
 FrontReadsFront N notes =
     (i c : ℕ) (note : LatchNote) (gate : Gate) → slice_get notes i ≡ Some note → note.part ≡ 0 → slice_get N.gates i ≡ Some gate
-    → Reads N gate c → IsBitOf notes 0 c
+    → ReadsLatch N gate c → IsBitOf notes 0 c
 
 -- there are just as many latches as are needed to distinguish the blocks, and the states of the longest block
 pub record HasLatches (blocks : List (List ℕ)) (N : Network) : Type 0 where

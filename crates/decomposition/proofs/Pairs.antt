@@ -27,7 +27,7 @@ use Rattle.state_codes.specs.Laws.Codes.{carrier_bits_tell, owner-lt, part_bits_
 use Rattle.state_codes.specs.Split.{IsPart}
 use Rattle.decomposition.specs.Notes.{AreNotes, IsNoteOf}
 use Rattle.decomposition.specs.OwnPairs.{HasOwnPair, OwnPairs}
-use Rattle.decomposition.specs.OwnPairs.{Reads as ReadsBit}
+use Rattle.decomposition.specs.OwnPairs.{ReadsLatch}
 use Rattle.decomposition.specs.Within.{IsBitOf, IsCarrierBit, IsPartOf, IsWithinParts, MayRead}
 use Rattle.decomposition.proofs.Reading.{listed_read, read_listed}
 
@@ -74,11 +74,11 @@ module _ (W : KissFile) (parts : List Part) (codes : Codes) (sets : Reads) (name
       }
 
   -- its gate reads the latches of its set, and no others
-  reads_set : (i : ℕ) (note : LatchNote) (gate : Gate) (is : IsLatch i note gate) (c : ℕ) → ReadsBit N gate c → Contains (is.set).latches c
+  reads_set : (i : ℕ) (note : LatchNote) (gate : Gate) (is : IsLatch i note gate) (c : ℕ) → ReadsLatch N gate c → Contains (is.set).latches c
   reads_set i note gate is =
       read_listed W codes.bits codes.words names N is.set (next_value W codes.words i) (name_at names.latch_inputs i) gate made.counted made.distinct made.realised.latch_outputs is.within is.gated
 
-  set_read : (i : ℕ) (note : LatchNote) (gate : Gate) (is : IsLatch i note gate) (c : ℕ) → Contains (is.set).latches c → ReadsBit N gate c
+  set_read : (i : ℕ) (note : LatchNote) (gate : Gate) (is : IsLatch i note gate) (c : ℕ) → Contains (is.set).latches c → ReadsLatch N gate c
   set_read i note gate is =
       listed_read W codes.bits codes.words names N is.set (next_value W codes.words i) (name_at names.latch_inputs i) gate made.counted made.distinct made.realised.latch_outputs is.within is.gated
 

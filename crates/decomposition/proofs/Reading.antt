@@ -15,7 +15,7 @@ use Rattle.realise.specs.Laws.{ArePairwiseDistinct}
 use Rattle.realise.specs.Realised.{AreCounted, IsGateFor, IsWithin, name_at}
 use Rattle.realise.proofs.Gates.{item_at}
 use Rattle.state_reduce.proofs.Members.{has_map, map_has}
-use Rattle.decomposition.specs.OwnPairs.{Reads}
+use Rattle.decomposition.specs.OwnPairs.{ReadsLatch}
 
 -- a name that stands at two places stands twice
 twice : (names : List (List ℕ)) (i j : ℕ) → i < j → j < length names → get_or names i [] ≡ get_or names j [] → 2 ≤ times (get_or names j []) names
@@ -70,7 +70,7 @@ module _ (F : KissFile) (bits : ℕ) (words : List ℕ) (names : SignalNames) (N
       ∙ ap (λ (list : List (List ℕ)). get_or list c []) outputs
 
   -- a latch that is read is one of the set
-  pub read_listed : (c : ℕ) → Reads N gate c → Contains set.latches c
+  pub read_listed : (c : ℕ) → ReadsLatch N gate c → Contains set.latches c
   read_listed c reads =
       let latch : Latch = reads.0 in
       let in_c : c < bits = omega (arith, slice_get_within N.latches c latch reads.1, count) in
@@ -92,7 +92,7 @@ module _ (F : KissFile) (bits : ℕ) (words : List ℕ) (names : SignalNames) (N
       ]
 
   -- and each of the set is read
-  pub listed_read : (c : ℕ) → Contains set.latches c → Reads N gate c
+  pub listed_read : (c : ℕ) → Contains set.latches c → ReadsLatch N gate c
   listed_read c listed =
       let in_c : c < bits = All-contains (λ d. d < bits) set.latches c within.latches_within listed in
       let found = item_at N.latches c (omega (arith, in_c, count)) in (

@@ -14,14 +14,14 @@ use Rattle.pair_operators.specs.Pair.{Pair}
 use Rattle.dependence.specs.Permits.{AgreeOn, Permits}
 
 -- a gate reads state bit c: the output of latch c is among its inputs
-abbrev pub Reads : Network → Gate → ℕ → Type 0
-Reads N gate c = (latch : Latch) × (slice_get N.latches c ≡ Some latch) × Contains gate.inputs latch.output
+abbrev pub ReadsLatch : Network → Gate → ℕ → Type 0
+ReadsLatch N gate c = (latch : Latch) × (slice_get N.latches c ≡ Some latch) × Contains gate.inputs latch.output
 
 -- the meet of the partitions of the bits that a gate reads: two states are together exactly where their codes agree
 -- on all of these bits, so that the partition is one where the gate reads none
 pub record IsReadPartition (states : ℕ) (N : Network) (gate : Gate) (words p : List ℕ) : Type 0 where
   pub lawful : IsPartition states p
-  pub together : (s t : ℕ) → s < states → t < states → Together p s t ↔ AgreeOn words (Reads N gate) s t
+  pub together : (s t : ℕ) → s < states → t < states → Together p s t ↔ AgreeOn words (ReadsLatch N gate) s t
 
 -- the note of latch i is the pair of what its gate reads and what its bit codes
 pub record HasOwnPair (W : KissFile) (N : Network) (words : List ℕ) (i : ℕ) (note : LatchNote) (gate : Gate) : Type 0 where
@@ -39,4 +39,4 @@ pub record OwnPairs (W : KissFile) (N : Network) (words : List ℕ) (notes : Lis
 -- the bits that the gate of a latch reads permit the latch's bit
 abbrev pub OwnPairsPermit : Type 0
 OwnPairsPermit =
-    (W : KissFile) (N : Network) (words : List ℕ) (i : ℕ) (note : LatchNote) (gate : Gate) → NeverLeaves W → HasOwnPair W N words i note gate → Permits W words (Reads N gate) i
+    (W : KissFile) (N : Network) (words : List ℕ) (i : ℕ) (note : LatchNote) (gate : Gate) → NeverLeaves W → HasOwnPair W N words i note gate → Permits W words (ReadsLatch N gate) i

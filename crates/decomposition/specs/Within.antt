@@ -9,7 +9,7 @@ use Rattle.partition.specs.Partition.{Together}
 use Rattle.state_codes.specs.declared.split.Part.{Part}
 use Rattle.state_codes.specs.Agreement.{CodesAgreeAt}
 use Rattle.state_codes.specs.Split.{IsPart}
-use Rattle.decomposition.specs.OwnPairs.{Reads}
+use Rattle.decomposition.specs.OwnPairs.{ReadsLatch}
 
 -- bit c of the codes is a bit of part j
 abbrev pub IsBitOf : List LatchNote → ℕ → ℕ → Type 0
@@ -35,4 +35,4 @@ MayRead words notes parts j part c =
 pub record IsWithinParts (W : KissFile) (N : Network) (words : List ℕ) (notes : List LatchNote) (parts : List Part) : Type 0 where
   pub parts_told : (j : ℕ) (part : Part) → slice_get parts j ≡ Some part → IsPartOf (length W.states) words notes j part
   pub owned : All (λ note. note.part < length parts) notes
-  pub reads : (i c : ℕ) (note : LatchNote) (gate : Gate) (part : Part) → slice_get notes i ≡ Some note → slice_get N.gates i ≡ Some gate → slice_get parts note.part ≡ Some part → Reads N gate c → MayRead words notes parts note.part part c
+  pub reads : (i c : ℕ) (note : LatchNote) (gate : Gate) (part : Part) → slice_get notes i ≡ Some note → slice_get N.gates i ≡ Some gate → slice_get parts note.part ≡ Some part → ReadsLatch N gate c → MayRead words notes parts note.part part c

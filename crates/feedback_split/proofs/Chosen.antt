@@ -42,12 +42,6 @@ rights_are_one F s t p q one other =
 firsts_are_one : (F : KissFile) (p q : List ℕ) → IsRightGrowth F p → IsRightGrowth F q → p ≡ q
 firsts_are_one F p q one other = grown_once (IsRightOf F) IsBelowOne (rights_are_one F) (zero_of (length F.states)) p q (pairs_of (length F.states)) one other
 
-complements_are_one : (p r other : List ℕ) → IsComplement p r → IsComplement p other → r ≡ other
-complements_are_one p r other one two =
-    let zero : List ℕ = zero_of (length p) in
-    let lawful = zero_of_is_partition (length p) one.lawful.count in
-    inside_once p zero r other (one.inside zero lawful (zero_of_is_zero (length p))) (two.inside zero lawful (zero_of_is_zero (length p)))
-
 carriers_are_one : (F : KissFile) (own start c d : List ℕ) → IsCarrierGrowth F own start c → IsCarrierGrowth F own start d → c ≡ d
 carriers_are_one F own start c d one other =
     grown_once (IsHold (length F.states)) (Suffices F own) (holds_are_one (length F.states)) start c d (pairs_of (length F.states)) one other
@@ -74,7 +68,7 @@ module _ (F : KissFile) (one other : List Part) (choice : IsFeedbackChoice F one
   first_same = firsts_are_one F choice.first other_choice.first choice.grown other_choice.grown
 
   second_same : choice.second ≡ other_choice.second
-  second_same = complements_are_one other_choice.first choice.second other_choice.second (subst (λ (p : List ℕ). IsComplement p choice.second) first_same choice.complement) other_choice.complement
+  second_same = inside_once other_choice.first (zero_of (length other_choice.first)) choice.second other_choice.second (subst (λ (p : List ℕ). IsComplement p choice.second) first_same choice.complement) other_choice.complement
 
   first_carrier_same : choice.first_carrier ≡ other_choice.first_carrier
   first_carrier_same =

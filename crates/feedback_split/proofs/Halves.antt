@@ -6,24 +6,14 @@ use Rattle.partition.specs.Partition.{IsPartition, IsZero, Together, zero_of}
 use Rattle.partition.specs.Inside.{IsComplement}
 use Rattle.partition.specs.Laws.Extremes.{zero_of_is_partition, zero_of_is_zero}
 use Rattle.partition.specs.Laws.Labels.{IsPartition-of}
-use Rattle.mm_lattice.specs.Laws.{zero_below}
 use Rattle.mm_lattice.specs.Top.{IsGreatestRight}
 use Rattle.state_codes.specs.declared.split.Part.{Part}
 use Rattle.state_codes.specs.Kinds.{PartsMeetInZero}
-use Rattle.state_codes.specs.Laws.InnerLabels.{inside_tells}
+use Rattle.state_codes.specs.Laws.InnerLabels.{complement_apart}
 use Rattle.feedback_split.specs.Best.{IsBestFeedback}
 use Rattle.feedback_split.specs.Inner.Parts.{AreHalves, part_reading}
 use Rattle.feedback_split.specs.Kind.{IsFeedback}
 use Rattle.feedback_split.proofs.Sufficing.{greatest_breaks}
-
--- a partition and its complement meet in zero
-pub complement_apart : (n : ℕ) (first second : List ℕ) → IsPartition n first → IsComplement first second → (s t : ℕ) → Together first s t → Together second s t → s ≡ t
-complement_apart n first second lawful complement s t held inner =
-    let zero : IsPartition n (zero_of n) = zero_of_is_partition n lawful.count in
-    let size : length (zero_of n) ≡ length first = zero.length ∙ sym lawful.length in
-    let inside = complement.inside (zero_of n) (IsPartition-of (sym lawful.length) zero) (zero_of_is_zero n) in
-    let label = inside_tells first (zero_of n) second (zero_below n first lawful) size inside s t held inner.2 in
-    zero_of_is_zero n s t (omega (arith, held.0, size), omega (arith, held.1, size), label)
 
 module _ (F : KissFile) (first : List ℕ) (parts : List Part) (lawful : IsPartition (length F.states) first) (halves : AreHalves F first parts) where
   in_zero : PartsMeetInZero parts

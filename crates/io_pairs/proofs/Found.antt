@@ -7,14 +7,14 @@ use Rattle.partition.specs.Partition.{IsPartition, Le, zero_of}
 use Rattle.partition.specs.Laws.Labels.{IsPartition-of}
 use Rattle.io_pairs.specs.Inner.Collected.{AreRights, HasRight, HaveRights, IsRight, IsRightOf}
 use Rattle.io_pairs.specs.Inner.Families.{Ties}
-use Rattle.io_pairs.specs.Laws.{zero_below}
+use Rattle.partition.specs.Laws.Extremes.{zero_of_below}
 
 -- what begins with zero and holds what two members go to
 pub right_tied : (values : ℕ) (functions : List (List ℕ)) (x y : ℕ) (zeros right : List ℕ) → IsPartition values zeros → zeros ≡ zero_of values → Ties functions x y zeros right → IsRightOf values functions x y right
 right_tied values functions x y zeros right lawful is ties = record {
   lawful = IsPartition-of lawful.length ties.lawful;
   has = ties.go;
-  least = λ other fits go. ties.least other (subst (λ (r : List ℕ). Le r other) (sym is) (zero_below values other fits)) go;
+  least = λ other fits go. ties.least other (subst (λ (r : List ℕ). Le r other) (sym is) (zero_of_below values other fits)) go;
 }
 
 module _ (members values : ℕ) (functions : List (List ℕ)) where

@@ -8,7 +8,7 @@ use Rattle.partition.specs.Laws.Labels.{IsPartition-of}
 use Rattle.partition.specs.Laws.World.{join_fits}
 use Rattle.io_pairs.specs.Inner.Collected.{IsFamilyMm, IsReached, IsRightOf}
 use Rattle.io_pairs.specs.Inner.Families.{IsParted}
-use Rattle.io_pairs.specs.Laws.{zero_below}
+use Rattle.partition.specs.Laws.Extremes.{zero_of_below}
 use Rattle.io_pairs.proofs.Going.{go_above}
 use Rattle.io_pairs.proofs.Parting.{parted_greatest}
 
@@ -16,7 +16,7 @@ module _ (members values : ℕ) (functions : List (List ℕ)) where
   pub reached_zero : IsStateCount values → IsReached members values functions (zero_of values)
   reached_zero count = record {
     lawful = zero_of_is_partition values count;
-    least = λ other lawful above. zero_below values other lawful;
+    least = λ other lawful above. zero_of_below values other lawful;
   }
 
   -- the right side of two members itself

@@ -7,7 +7,7 @@ use Rattle.partition.specs.Laws.Labels.{IsPartition-of}
 use Rattle.partition.specs.Laws.Merging.{merged_above, merged_held, merged_least}
 use Rattle.partition.specs.Merging.{IsMerged}
 use Rattle.io_pairs.specs.Inner.Families.{FamilyPair, Go, Ties, TiesBelow, value_at}
-use Rattle.io_pairs.specs.Laws.{zero_below}
+use Rattle.partition.specs.Laws.Extremes.{zero_of_below}
 use Rattle.io_pairs.specs.Partners.{IsLeastWith}
 use Rattle.io_pairs.proofs.Going.{go_above, go_by_least, go_more, least_holds}
 
@@ -41,7 +41,7 @@ pub least_none : (values : ℕ) (functions : List (List ℕ)) (p q : List ℕ) �
 least_none values functions p q lawful is = record {
   lawful = lawful;
   go = λ y within. absurd (omega arith);
-  least = λ other fits pair. subst (λ (r : List ℕ). Le r other) (sym is) (zero_below values other fits);
+  least = λ other fits pair. subst (λ (r : List ℕ). Le r other) (sym is) (zero_of_below values other fits);
 }
 
 pub least_more : (values : ℕ) (functions : List (List ℕ)) (p : List ℕ) (y : ℕ) (q r : List ℕ) → y < length p → IsLeastSoFar values functions p y q → Ties functions (least_of p y) y q r → IsLeastSoFar values functions p (y + 1) r

@@ -6,7 +6,7 @@ use Rattle.kiss2.specs.declared.kiss_file.KissFile.{KissFile}
 use Rattle.partition.specs.Partition.{IsPartition, Together, Le, zero_of}
 use Rattle.partition.specs.MeetAndJoin.{IsLeastAbove}
 use Rattle.partition.specs.Laws.Chains.{join_is_least}
-use Rattle.partition.specs.Laws.Extremes.{zero_of_is_zero, zero_of_is_partition}
+use Rattle.partition.specs.Laws.Extremes.{zero_of_below, zero_of_is_zero, zero_of_is_partition}
 use Rattle.partition.specs.Laws.Labels.{IsPartition-of, same_labels}
 use Rattle.partition.specs.Laws.World.{join_fits, join_once, join_commutes, join_associates, join_repeats, join_zero, before_never, before_chains, before_decides}
 use Rattle.io_pairs.specs.Inputs.{InPair}
@@ -23,12 +23,6 @@ in_pairs_grow F p q smaller greater below above pair x y held s within = above _
 
 pub out_pairs_grow : (F : KissFile) → Grow (OutPair F)
 out_pairs_grow F p q smaller greater below above pair s t held x within = above _ _ (pair s t (below s t held) x within)
-
--- zero is below each partition
-pub zero_below : (n : ℕ) (q : List ℕ) → IsPartition n q → Le (zero_of n) q
-zero_below n q lawful s t held =
-    let inside : s < length q = omega (arith, held.0, (zero_of_is_partition n lawful.count).length, lawful.length) in
-    subst (λ (u : ℕ). Together q s u) (zero_of_is_zero n s t held) (inside, inside, refl)
 
 module _ (left right : ℕ) (Pairs : List ℕ → List ℕ → Type 0) (grow : Grow Pairs) where
   -- there is one greatest partner
@@ -52,7 +46,7 @@ module _ (left right : ℕ) (Pairs : List ℕ → List ℕ → Type 0) (grow : G
     low = record {
       lawful = is.lawful;
       has = is.high.has;
-      least = λ other lawful pair. subst (λ (r : List ℕ). Le r other) (sym is.zero) (zero_below right other lawful);
+      least = λ other lawful pair. subst (λ (r : List ℕ). Le r other) (sym is.zero) (zero_of_below right other lawful);
     };
     high = is.high;
   }

@@ -14,7 +14,7 @@ use Rattle.partition.proofs.Relabelling.{relabelled_merged}
 use Rattle.pair_operators.proofs.Going.{goes_each, goes_in_pair, goes_itself, goes_turned}
 use Rattle.pair_operators.specs.Inner.Going.{Goes, HoldsNext}
 use Rattle.mm_lattice.specs.Generators.{IsRightOf}
-use Rattle.mm_lattice.specs.Laws.{zero_below}
+use Rattle.partition.specs.Laws.Extremes.{zero_of_below}
 
 zero_own : (n k : ℕ) → IsStateCount n → k < n → get_or (zero_of n) k 0 ≡ k
 zero_own n k count within = own n k within
@@ -83,7 +83,7 @@ right_held F s t zeros right stays count order within is next =
         pair = λ u v x held width. goes_each F right u v (goes found.0 found.1 u v held) x width;
         least = λ other other_lawful pair.
             next.least other (IsPartition-of (sym size) other_lawful)
-            (λ u v held. zero_below (length F.states) other other_lawful u v (subst (λ (p : List ℕ). Together p u v) is held))
+            (λ u v held. zero_of_below (length F.states) other other_lawful u v (subst (λ (p : List ℕ). Together p u v) is held))
             (goes_in_pair F found.0 other s t pair found.1.held);
       };
     }

@@ -11,12 +11,12 @@ use Rattle.pair_operators.specs.Extremes.{IsHigh, MmPair}
 use Rattle.pair_operators.specs.Laws.Pairs.{pair_monotone}
 use Rattle.mm_lattice.specs.Generators.{IsRightOf}
 use Rattle.mm_lattice.specs.Inner.Collected.{IsReached}
-use Rattle.mm_lattice.specs.Laws.{zero_below}
+use Rattle.partition.specs.Laws.Extremes.{zero_of_below}
 
 pub reached_zero : (F : KissFile) → IsStateCount (length F.states) → IsReached F (zero_of (length F.states))
 reached_zero F count = record {
   lawful = zero_of_is_partition (length F.states) count;
-  least = λ other lawful above. zero_below (length F.states) other lawful;
+  least = λ other lawful above. zero_of_below (length F.states) other lawful;
 }
 
 -- the right side of two states itself

@@ -5,7 +5,7 @@ use Rattle.kiss2.specs.declared.kiss_file.KissFile.{KissFile}
 use Rattle.partition.specs.Partition.{IsPartition, Together, Le, zero_of}
 use Rattle.partition.specs.MeetAndJoin.{IsLeastAbove}
 use Rattle.partition.specs.Laws.Chains.{join_is_least}
-use Rattle.partition.specs.Laws.Extremes.{zero_of_is_zero, zero_of_is_partition}
+use Rattle.partition.specs.Laws.Extremes.{zero_of_below, zero_of_is_zero, zero_of_is_partition}
 use Rattle.partition.specs.Laws.Labels.{IsPartition-of}
 use Rattle.partition.specs.Laws.World.{join_fits, join_once, join_commutes, join_associates, join_repeats, join_zero, before_never, before_chains, before_decides}
 use Rattle.pair_operators.specs.Extremes.{IsHigh}
@@ -20,18 +20,12 @@ same_right F (p, q) (a, b) one two same =
     let moved : IsHigh F q a = subst (λ (r : List ℕ). IsHigh F r a) (sym same) two in
     ap (λ (l : List ℕ). (l, q)) (high_once F q p a one moved) ∙ ap (λ (r : List ℕ). (a, r)) same
 
--- zero is below each partition of the states
-pub zero_below : (n : ℕ) (q : List ℕ) → IsPartition n q → Le (zero_of n) q
-zero_below n q lawful s t held =
-    let inside : s < length q = omega (arith, held.0, (zero_of_is_partition n lawful.count).length, lawful.length) in
-    subst (λ (u : ℕ). Together q s u) (zero_of_is_zero n s t held) (inside, inside, refl)
-
 pub mm_least_fits : (F : KissFile) (x : Sides) → IsLeastMmPair F x → IsMmPair F x
 mm_least_fits F (p, q) (zero, high) = record {
   low = record {
     lawful = subst (IsPartition (length F.states)) (sym zero) (zero_of_is_partition (length F.states) high.lawful.count);
     pair = high.pair;
-    least = λ other lawful pair. subst (λ (r : List ℕ). Le r other) (sym zero) (zero_below (length F.states) other lawful);
+    least = λ other lawful pair. subst (λ (r : List ℕ). Le r other) (sym zero) (zero_of_below (length F.states) other lawful);
   };
   high = high;
 }

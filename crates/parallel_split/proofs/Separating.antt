@@ -1,9 +1,9 @@
 -- What is known of a greatest closed partition that holds two states apart.
 use Rattle.std.proofs.Common.{ℕ, ◌<◌, List, length, subst, arith}
 use Rattle.kiss2.specs.declared.kiss_file.KissFile.{KissFile}
-use Rattle.partition.specs.Partition.{IsNontrivial, IsPartition, IsZero, Le, Together, zero_of}
+use Rattle.partition.specs.Partition.{IsNontrivial, IsPartition, IsZero, Le, Lt, Together, zero_of}
 use Rattle.closed_lattice.specs.Closed.{IsClosedPartition}
-use Rattle.closed_lattice.specs.Limits.{HoldsApart, IsGreatestGrown, IsStrictlyBelow}
+use Rattle.closed_lattice.specs.Limits.{HoldsApart, IsGreatestGrown}
 use Rattle.closed_lattice.proofs.Growing.{together_itself}
 use Rattle.parallel_split.specs.Kind.{HasNoneInParallel}
 use Rattle.parallel_split.specs.Best.{IsNoMeetOfTwo}
@@ -16,7 +16,7 @@ below_all n p q p_lawful q_lawful zero s t held =
 
 module _ (F : KissFile) (s t : ℕ) (p : List ℕ) (greatest : IsGreatestGrown F (HoldsApart s t) (zero_of (length F.states)) p) where
   -- a closed partition that is above it and not below it holds the two states together
-  above_holds : (q : List ℕ) → IsClosedPartition F q → IsStrictlyBelow q p → HoldsApart s t q → ⊥
+  above_holds : (q : List ℕ) → IsClosedPartition F q → Lt p q → HoldsApart s t q → ⊥
   above_holds q closed above apart = above.1 (greatest.maximal q closed above.0 apart)
 
   -- so it is not the meet of two of these

@@ -1,4 +1,4 @@
--- Which parallel split: told as steps, since that decides which of several right ones is given (source: this project).
+-- Which parallel split, as steps, since these decide which of several right ones is given (source: this project).
 use Rattle.std.specs.Prelude.{◌≡◌, ℕ, ◌<◌, ◌⊎◌, All, AllPairs, List, [], ◌∷◌, ◌++◌, length, map}
 use Rattle.std.specs.List.Sorted.{IsPermutation}
 use Rattle.kiss2.specs.declared.kiss_file.KissFile.{KissFile}
@@ -17,12 +17,12 @@ pub record IsFirstHeld (c : List ℕ) (s t : ℕ) : Type 0 where
   pub first : (u v : ℕ) → u < s → u < v → Together c u v → ⊥
   pub least : (v : ℕ) → s < v → v < t → Together c s v → ⊥
 
--- p is the growth of zero as far as s and t stay apart, over the least closed partitions of pairs of states
+-- p is the growth of zero as long as s and t are in two blocks, over the least closed partitions of pairs of states
 abbrev pub IsSeparating : KissFile → ℕ → ℕ → List ℕ → Type 0
 IsSeparating F s t p = IsGrowth (IsPrincipal F) (HoldsApart s t) (length F.states) (zero_of (length F.states)) p
 
--- As long as c is not zero, what separates the first two states that are together in c is a member, and c becomes
--- its meet with that; d is left at the end.
+-- As long as c is not zero, the partition that separates the first two states together in c is a member, and c
+-- becomes its meet with that member. At the end it is d.
 abbrev pub SeparatesTo : KissFile → List ℕ → List (List ℕ) → List ℕ → Type 0
 SeparatesTo F c [] d = c ≡ d
 SeparatesTo F c (p ∷ members) d =
@@ -32,8 +32,8 @@ SeparatesTo F c (p ∷ members) d =
 abbrev pub AllMeetInZero : ℕ → List (List ℕ) → Type 0
 AllMeetInZero n members = (s t : ℕ) → s < n → t < n → All (λ p. Together p s t) members → s ≡ t
 
--- From first to last, a member is left out where the meet of the others that remain is zero. Those in `kept` stay, those
--- in the second list are still to be asked, and the last list is what remains.
+-- From first to last, a member is left out where the meet of the others that remain is zero. Those in `kept` stay,
+-- those in the second list are still to be judged, and the last list is what remains.
 abbrev pub LeavesOut : ℕ → List (List ℕ) → List (List ℕ) → List (List ℕ) → Type 0
 LeavesOut n kept [] remaining = kept ≡ remaining
 LeavesOut n kept (p ∷ members) remaining =

@@ -1,4 +1,4 @@
-//! What follows of the definitions.
+//! What follows from the definitions.
 
 ghost use Rattle.parallel_split.specs.Laws.{ChoiceIsOne};
 

@@ -1,4 +1,4 @@
-//! Greatest closed partitions that hold two states apart, until their meet is zero.
+//! Greatest closed partitions that have two states in two blocks, until their meet is zero.
 
 ghost use Rattle.std.specs.Prelude.{ℕ, ◌<◌, IfNone, IfOk, IfSome, List, length};
 ghost use Rattle.parallel_split.specs.Choice.{IsFirstHeld};
@@ -28,7 +28,7 @@ fn first_partner(p: &Partition, s: usize) -> Option<usize>
     None
 }
 
-/// The first two states, by the one and then by the other, that are together.
+/// The first two states that are together, by the smaller one and then by the other.
 fn first_held(p: &Partition) -> Option<(usize, usize)>
     ensures some { IfSome result (λ pair. IsFirstHeld p.now pair.0 pair.1) }
     ensures none { IfNone result (IsZero p.now) }
@@ -41,8 +41,8 @@ fn first_held(p: &Partition) -> Option<(usize, usize)>
     None
 }
 
-/// For the first two states that are together in the meet so far, a greatest closed partition that holds them
-/// apart, and so on until the meet is zero; in ascending order. None where one of them is zero.
+/// For the first two states that are together in the meet so far, a greatest closed partition that has them in two
+/// blocks, and so on until the meet is zero. In ascending order. None where one of these partitions is zero.
 pub(crate) fn members(alloc: Global, m: &Machine) -> Result<Option<Vec<Partition>>, AllocError>
     ensures some { IfOk result (λ found. IfSome found (λ list. (zero : List ℕ) × IsZero zero × AreMembers m.now zero list.items)) }
     ensures none { IfOk result (λ found. IfNone found (HasNoneInParallel m.now)) }

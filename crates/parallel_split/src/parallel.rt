@@ -13,7 +13,7 @@ use partition::Partition;
 use state_codes::{Kind, Part, PartNumbers, Parts, Split};
 use std::alloc::{AllocError, Global};
 
-/// Parts that are their own carriers and read nothing else.
+/// Parts that are their own carriers and read no other part.
 fn lone_parts(alloc: Global, partitions: Vec<Partition>) -> Result<Parts, AllocError>
     ensures { IfOk result (λ parts. parts ≡ map lone_part partitions.items) }
 {
@@ -26,8 +26,8 @@ fn lone_parts(alloc: Global, partitions: Vec<Partition>) -> Result<Parts, AllocE
     Ok(parts)
 }
 
-/// Closed partitions whose meet is zero, none of which can be left out; no part reads another. None where no two
-/// nontrivial closed partitions meet in zero.
+/// Nontrivial closed partitions whose meet is zero, none of which can be left out. No part reads another. None where
+/// no two nontrivial closed partitions meet in zero.
 pub fn split(alloc: Global, m: &Machine) -> Result<Option<Split>, AllocError>
     ensures none { IfOk result (λ found. IsNone found ↔ HasNoneInParallel m.now) }
 

@@ -1,4 +1,4 @@
-//! Members that can be spared.
+//! Members that can be left out.
 
 ghost use Rattle.std.specs.Prelude.{ℕ, ◌<◌, ◌↔◌, All, IfOk, IsTrue, OnOk, [], length};
 ghost use Rattle.std.specs.List.{remove};

@@ -3,17 +3,15 @@ use Rattle.std.proofs.Common.{◌≡◌, ℕ, zero, suc, ◌+◌, ◌-◌, ◌<�
 use Rattle.std.proofs.lemmas.Bool.{cases_eq, eq-eqb, ne_eqb}
 use Rattle.std.proofs.lemmas.List.{take_all}
 use Rattle.std.proofs.lemmas.List.Sums.{count_by_more_yes, count_by_more_no}
-use Rattle.partition.specs.Partition.{blocks_of, IsPartition, IsZero}
+use Rattle.partition.specs.Partition.{blocks_of, IsPartition, IsZero, zero_of}
 use Rattle.partition.specs.Inside.{least_of, blocks_below, size_of, IsInside, IsComplement, IsLargestSize}
 use Rattle.partition.specs.Laws.Labels.{blocks_of-take-more, label-lt-blocks_of, block_stands}
-use Rattle.partition.specs.Laws.Extremes.{zero_once}
+use Rattle.partition.specs.Laws.Extremes.{zero_of_is_partition, zero_of_is_zero, zero_once}
 use Rattle.partition.proofs.Nesting.{least_of-first, blocks_below-least}
 
 pub inside_zero_is_complement : (p zero' r : List ℕ) → IsPartition (length p) zero' → IsZero zero' → IsInside p zero' r → IsComplement p r
-inside_zero_is_complement p zero' r lawful is inside = record {
-  lawful = inside.lawful;
-  inside = λ other other_lawful other_is. subst (λ (z : List ℕ). IsInside p z r) (zero_once (length p) zero' other lawful other_lawful is other_is) inside;
-}
+inside_zero_is_complement p zero' r lawful is inside =
+    subst (λ (z : List ℕ). IsInside p z r) (zero_once (length p) zero' (zero_of (length p)) lawful (zero_of_is_partition (length p) lawful.count) is (zero_of_is_zero (length p))) inside
 
 -- in zero each state is its own least
 zero_least : (n : ℕ) (zero' : List ℕ) → IsPartition n zero' → IsZero zero' → (s : ℕ) → s < n → least_of zero' s ≡ s

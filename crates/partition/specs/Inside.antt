@@ -1,7 +1,7 @@
 -- The blocks of one partition inside the blocks of another.
 use Rattle.std.specs.Prelude.{◌≡◌, ℕ, zero, suc, ◌+◌, ◌<◌, ◌≤◌, ◌==◌, ◌&&◌, if◌then◌else◌, List, length, slice_index, count_by}
 use Rattle.std.specs.List.{position_or_len}
-use Rattle.partition.specs.Partition.{IsPartition, IsZero}
+use Rattle.partition.specs.Partition.{IsPartition, zero_of}
 
 -- the least state that is together with s
 abbrev pub least_of : List ℕ → ℕ → ℕ
@@ -21,9 +21,8 @@ pub record IsInside (p q r : List ℕ) : Type 0 where
 
 -- the numbering inside p where each state is a block of its own: each state has the number of the smaller states
 -- that are together with it
-pub record IsComplement (p r : List ℕ) : Type 0 where
-  pub lawful : IsPartition (length p) r
-  pub inside : (zero : List ℕ) → IsPartition (length p) zero → IsZero zero → IsInside p zero r
+abbrev pub IsComplement : List ℕ → List ℕ → Type 0
+IsComplement p r = IsInside p (zero_of (length p)) r
 
 -- the number of states of a block
 abbrev pub size_of : List ℕ → ℕ → ℕ

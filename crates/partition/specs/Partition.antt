@@ -29,6 +29,10 @@ Together p s t = (s < length p) × (t < length p) × (slice_index p s ≡ slice_
 abbrev pub Le : List ℕ → List ℕ → Type 0
 Le p q = (s t : ℕ) → Together p s t → Together q s t
 
+-- p is below q, and q is not below p
+abbrev pub Lt : List ℕ → List ℕ → Type 0
+Lt p q = Le p q × (Le q p → ⊥)
+
 -- the two have the same states together
 abbrev pub SameTogether : List ℕ → List ℕ → Type 0
 SameTogether p q = (s t : ℕ) → Together p s t ↔ Together q s t

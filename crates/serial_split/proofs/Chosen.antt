@@ -4,12 +4,11 @@ use Rattle.std.specs.List.{range_with_len, slice_get}
 use Rattle.std.proofs.lemmas.List.Elements.{All-head, All-tail}
 use Rattle.std.proofs.lemmas.Option.{none-some, same_Some}
 use Rattle.kiss2.specs.declared.kiss_file.KissFile.{KissFile}
-use Rattle.partition.specs.Partition.{IsZero, zero_of}
+use Rattle.partition.specs.Partition.{IsZero, Lt, zero_of}
 use Rattle.partition.specs.Inside.{IsComplement, IsInside}
 use Rattle.pair_operators.specs.Laws.Growth.{grown_once}
 use Rattle.pair_operators.specs.Growth.{pairs_of}
 use Rattle.closed_lattice.specs.Closed.{IsPrincipal}
-use Rattle.closed_lattice.specs.Limits.{IsStrictlyBelow}
 use Rattle.closed_lattice.proofs.Generating.{principals_are_one}
 use Rattle.state_codes.specs.declared.split.Part.{Part}
 use Rattle.state_codes.specs.Kinds.{IsOwnCarrier}
@@ -18,11 +17,10 @@ use Rattle.serial_split.specs.Choice.{IsBelow, IsCascadeChoice, IsSerialChoice, 
 use Rattle.serial_split.specs.Kind.{IsCascade, IsSerial}
 use Rattle.serial_split.specs.Laws.{CascadeChoiceIsOne, SerialChoiceIsOne}
 use Rattle.serial_split.proofs.Greatest.{ones_are_one}
-use Rattle.serial_split.proofs.Once.{complements_are_one}
 
 below_once : (F : KissFile) (top p other : List ℕ) → IsBelow F top p → IsBelow F top other → p ≡ other
 below_once F top p other one two =
-    grown_once (IsPrincipal F) (IsStrictlyBelow top) (principals_are_one F) (zero_of (length F.states)) p other (pairs_of (length F.states)) one two
+    grown_once (IsPrincipal F) (λ p. Lt p top) (principals_are_one F) (zero_of (length F.states)) p other (pairs_of (length F.states)) one two
 
 -- each part reads those before it, where so many stand ahead of the list
 abbrev ReadFrom : ℕ → List Part → Type 0
@@ -68,7 +66,7 @@ serial_partitions : (F : KissFile) (parts others : List Part) → IsSerialChoice
 serial_partitions F parts others one two =
     let top : one.one ≡ two.one = ones_are_one (length F.states) one.one two.one one.one_lawful one.one_is two.one_lawful two.one_is in
     let first : one.first ≡ two.first = below_once F two.one one.first two.first (subst (λ (c : List ℕ). IsBelow F c one.first) top one.grown) two.grown in
-    let second : one.second ≡ two.second = complements_are_one two.first one.second two.second (subst (λ (p : List ℕ). IsComplement p one.second) first one.complement) two.complement in
+    let second : one.second ≡ two.second = inside_once two.first (zero_of (length two.first)) one.second two.second (subst (λ (p : List ℕ). IsComplement p one.second) first one.complement) two.complement in
     one.partitions ∙ ap (λ (p : List ℕ). p ∷ one.second ∷ []) first ∙ ap (λ (p : List ℕ). two.first ∷ p ∷ []) second ∙ sym two.partitions
 
 pub serial_choice_is_one : SerialChoiceIsOne

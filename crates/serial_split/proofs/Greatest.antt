@@ -2,9 +2,9 @@
 use Rattle.std.proofs.Common.{◌≡◌, ℕ, ◌⊎◌, inl, inr, List, length, sym, ◌∙◌, subst, arith}
 use Rattle.std.proofs.lemmas.Bool.{cases_eq}
 use Rattle.kiss2.specs.declared.kiss_file.KissFile.{KissFile}
-use Rattle.partition.specs.Partition.{IsNontrivial, IsOne, IsPartition, IsZero, Le, Together, zero_of}
+use Rattle.partition.specs.Partition.{IsNontrivial, IsOne, IsPartition, IsZero, Le, Lt, Together, zero_of}
 use Rattle.partition.specs.Laws.Labels.{same_labels}
-use Rattle.closed_lattice.specs.Limits.{IsGreatestGrown, IsStrictlyBelow}
+use Rattle.closed_lattice.specs.Limits.{IsGreatestGrown}
 use Rattle.closed_lattice.proofs.Growing.{together_itself}
 use Rattle.serial_split.specs.Kind.{HasNoneNontrivial}
 use Rattle.serial_split.specs.Best.{NothingBetween}
@@ -31,7 +31,7 @@ pub none_of_one_state : (F : KissFile) (one : List ℕ) → IsPartition (length 
 none_of_one_state F one lawful is zero p closed nontrivial =
     nontrivial.0 (λ s t held. zero s t (one_above (length F.states) one p lawful is closed.0 s t held))
 
-module _ (F : KissFile) (one next : List ℕ) (lawful : IsPartition (length F.states) one) (is : IsOne one) (greatest : IsGreatestGrown F (IsStrictlyBelow one) (zero_of (length F.states)) next) where
+module _ (F : KissFile) (one next : List ℕ) (lawful : IsPartition (length F.states) one) (is : IsOne one) (greatest : IsGreatestGrown F (λ p. Lt p one) (zero_of (length F.states)) next) where
   -- where the greatest is zero, there is none but one and zero
   pub none_above_zero : IsZero next → HasNoneNontrivial F
   none_above_zero zero p closed nontrivial =
@@ -45,5 +45,5 @@ module _ (F : KissFile) (one next : List ℕ) (lawful : IsPartition (length F.st
   greatest_nontrivial other = (other, (λ all. greatest.meets.1 (λ s t held. all s t (omega (arith, held.0, lawful.length, greatest.closed.0.length)) (omega (arith, held.1, lawful.length, greatest.closed.0.length)))))
 
 -- no closed partition stands strictly between what grew strictly below top and top
-pub nothing_between : (F : KissFile) (top next : List ℕ) → IsGreatestGrown F (IsStrictlyBelow top) (zero_of (length F.states)) next → NothingBetween F next top
+pub nothing_between : (F : KissFile) (top next : List ℕ) → IsGreatestGrown F (λ p. Lt p top) (zero_of (length F.states)) next → NothingBetween F next top
 nothing_between F top next greatest q closed above below = above.1 (greatest.maximal q closed above.0 below)

@@ -4,17 +4,16 @@ use Rattle.std.specs.List.{slice_get}
 use Rattle.std.proofs.lemmas.List.Elements.{All-nil, All-cons, All-head, All-tail}
 use Rattle.std.proofs.lemmas.Option.{same_Some}
 use Rattle.kiss2.specs.declared.kiss_file.KissFile.{KissFile}
-use Rattle.partition.specs.Partition.{IsNontrivial, IsOne, IsPartition, Together, blocks_of, zero_of}
+use Rattle.partition.specs.Partition.{IsNontrivial, IsOne, IsPartition, Lt, Together, blocks_of, zero_of}
 use Rattle.partition.specs.Inside.{IsComplement, IsLargestSize}
 use Rattle.partition.specs.Laws.Extremes.{zero_of_is_zero, zero_of_is_partition}
 use Rattle.partition.specs.Laws.Labels.{IsPartition-of}
 use Rattle.closed_lattice.specs.Closed.{IsClosedPartition}
-use Rattle.closed_lattice.specs.Limits.{IsGreatestGrown, IsStrictlyBelow}
-use Rattle.closed_lattice.proofs.ZeroBlocks.{zero_le}
+use Rattle.closed_lattice.specs.Limits.{IsGreatestGrown}
 use Rattle.state_codes.specs.declared.split.Part.{Part}
 use Rattle.state_codes.specs.Split.{IsPart}
 use Rattle.state_codes.specs.Kinds.{IsOwnCarrier, PartsMeetInZero}
-use Rattle.state_codes.specs.Laws.InnerLabels.{inside_tells}
+use Rattle.state_codes.specs.Laws.InnerLabels.{complement_apart}
 use Rattle.serial_split.specs.Kind.{IsSerial}
 use Rattle.serial_split.specs.Best.{IsBestSerial}
 use Rattle.serial_split.specs.Inner.Chain.{part_after}
@@ -31,11 +30,7 @@ module _ (F : KissFile) (first second : List ℕ) (parts : List Part) (two : par
       let both : All P (part_after first 0 ∷ part_after second 1 ∷ []) = subst (All P) two all in
       let held : Together first s t = All-head P (part_after first 0) (part_after second 1 ∷ []) both in
       let inner : Together second s t = All-head P (part_after second 1) [] (All-tail P (part_after first 0) (part_after second 1 ∷ []) both) in
-      let n = length F.states in
-      let zero : IsPartition n (zero_of n) = zero_of_is_partition n lawful.count in
-      let size : length (zero_of n) ≡ length first = zero.length ∙ sym lawful.length in
-      let label = inside_tells first (zero_of n) second (zero_le n first lawful) size (complement.inside (zero_of n) (IsPartition-of (sym lawful.length) zero) (zero_of_is_zero n)) s t held inner.2 in
-      zero_of_is_zero n s t (omega (arith, held.0, size), omega (arith, held.1, size), label)
+      complement_apart (length F.states) first second lawful complement s t held inner
 
   pub serial_parts : IsClosedPartition F first → IsNontrivial first → IsComplement first second → IsLargestSize first (blocks_of second) → IsSerial F parts
   serial_parts closed nontrivial complement blocks = record {
@@ -56,8 +51,8 @@ module _ (F : KissFile) (first second : List ℕ) (parts : List Part) (two : par
       let inner : IsPartition (length F.states) second = IsPartition-of lawful.length complement.lawful in
       lone (IsPart (length F.states)) (record { partition = lawful; carrier = lawful; above = λ s t held. held }) (record { partition = inner; carrier = inner; above = λ s t held. held })
 
-  pub serial_best : (one : List ℕ) → IsPartition (length F.states) one → IsOne one → IsGreatestGrown F (IsStrictlyBelow one) (zero_of (length F.states)) first → IsBestSerial F parts
+  pub serial_best : (one : List ℕ) → IsPartition (length F.states) one → IsOne one → IsGreatestGrown F (λ p. Lt p one) (zero_of (length F.states)) first → IsBestSerial F parts
   serial_best one lawful is greatest part other at other_lawful other_is q closed above below =
       let same : part_after first 0 ≡ part = same_Some (part_after first 0) part (subst (λ (list : List Part). slice_get list 0 ≡ Some part) two at) in
-      nothing_between F one first greatest q closed (subst (λ (p : Part). IsStrictlyBelow q p.partition) (sym same) above)
-      (subst (λ (top : List ℕ). IsStrictlyBelow top q) (ones_are_one (length F.states) other one other_lawful other_is lawful is) below)
+      nothing_between F one first greatest q closed (subst (λ (p : Part). Lt p.partition q) (sym same) above)
+      (subst (λ (top : List ℕ). Lt q top) (ones_are_one (length F.states) other one other_lawful other_is lawful is) below)

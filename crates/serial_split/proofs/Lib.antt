@@ -2,5 +2,4 @@ pub mod Numbers
 pub mod Greatest
 pub mod Steps
 pub mod Halves
-pub mod Once
 pub mod Chosen

@@ -1,17 +1,16 @@
--- Which serial split and which cascade: told as steps, since that decides which of several right ones is given (source:
+-- Which serial split and which cascade, as steps, since these decide which of several right ones is given (source:
 -- this project).
 use Rattle.std.specs.Prelude.{◌≡◌, ℕ, List, [], ◌∷◌, length, map}
 use Rattle.kiss2.specs.declared.kiss_file.KissFile.{KissFile}
-use Rattle.partition.specs.Partition.{IsOne, IsPartition, IsZero, zero_of}
+use Rattle.partition.specs.Partition.{IsOne, IsPartition, IsZero, Lt, zero_of}
 use Rattle.partition.specs.Inside.{IsComplement, IsInside}
 use Rattle.closed_lattice.specs.Closed.{IsPrincipal}
 use Rattle.pair_operators.specs.Growth.{IsGrowth}
-use Rattle.closed_lattice.specs.Limits.{IsStrictlyBelow}
 use Rattle.state_codes.specs.declared.split.Part.{Part}
 
 -- p is the growth of zero strictly below top, over the least closed partitions of pairs of states
 abbrev pub IsBelow : KissFile → List ℕ → List ℕ → Type 0
-IsBelow F top p = IsGrowth (IsPrincipal F) (IsStrictlyBelow top) (length F.states) (zero_of (length F.states)) p
+IsBelow F top p = IsGrowth (IsPrincipal F) (λ p. Lt p top) (length F.states) (zero_of (length F.states)) p
 
 -- the partitions of the parts
 abbrev pub partitions_of : List Part → List (List ℕ)
@@ -28,7 +27,7 @@ pub record IsSerialChoice (F : KissFile) (parts : List Part) : Type 0 where
   pub complement : IsComplement first second
   pub partitions : partitions_of parts ≡ first ∷ second ∷ []
 
--- As long as c is not zero, what grows strictly below it comes next, and what lies inside c of that is a part.
+-- As long as c is not zero, the growth strictly below it comes next, and the numbering of its blocks inside c is a part.
 abbrev pub StepsDown : KissFile → List ℕ → List (List ℕ) → List ℕ → Type 0
 StepsDown F c [] d = c ≡ d
 StepsDown F c (p ∷ partitions) d =

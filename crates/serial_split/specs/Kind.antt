@@ -2,11 +2,10 @@
 use Rattle.std.specs.Prelude.{◌≡◌, ℕ, ◌≤◌, All, List, [], ◌∷◌, Some, length, slice_get}
 use Rattle.std.specs.List.{range_with_len}
 use Rattle.kiss2.specs.declared.kiss_file.KissFile.{KissFile}
-use Rattle.partition.specs.Partition.{IsNontrivial, IsOne, IsPartition, IsZero, blocks_of}
+use Rattle.partition.specs.Partition.{IsNontrivial, IsOne, IsPartition, IsZero, Lt, blocks_of}
 use Rattle.partition.specs.MeetAndJoin.{IsMeet}
 use Rattle.partition.specs.Inside.{IsLargestSize}
 use Rattle.closed_lattice.specs.Closed.{IsClosedPartition}
-use Rattle.closed_lattice.specs.Limits.{IsStrictlyBelow}
 use Rattle.state_codes.specs.declared.split.Part.{Part}
 use Rattle.state_codes.specs.Kinds.{IsOwnCarrier, PartsMeetInZero}
 
@@ -14,7 +13,7 @@ use Rattle.state_codes.specs.Kinds.{IsOwnCarrier, PartsMeetInZero}
 abbrev pub HasNoneNontrivial : KissFile → Type 0
 HasNoneNontrivial F = (p : List ℕ) → IsClosedPartition F p → IsNontrivial p → ⊥
 
--- a closed partition, and one that tells apart the states of each of its blocks, with no more blocks than that
+-- a closed partition, and one that distinguishes the states of each of its blocks, with no more blocks than that
 -- needs; the second part reads the first
 pub record IsSerial (F : KissFile) (parts : List Part) : Type 0 where
   pub first : Part
@@ -33,7 +32,7 @@ pub record IsSerial (F : KissFile) (parts : List Part) : Type 0 where
 abbrev pub Descends : KissFile → List ℕ → List Part → List ℕ → Type 0
 Descends F c [] d = c ≡ d
 Descends F c (part ∷ parts) d =
-    (next : List ℕ) × IsMeet c part.partition next × IsClosedPartition F next × IsStrictlyBelow c next × Descends F next parts d
+    (next : List ℕ) × IsMeet c part.partition next × IsClosedPartition F next × Lt next c × Descends F next parts d
 
 -- the meets of the first parts are closed and lead from one down to zero; each part reads those before it
 pub record IsCascade (F : KissFile) (parts : List Part) : Type 0 where

@@ -1,4 +1,4 @@
--- What follows of the definitions alone.
+-- What follows from the definitions alone.
 use Rattle.std.specs.Prelude.{◌≡◌, List}
 use Rattle.kiss2.specs.declared.kiss_file.KissFile.{KissFile}
 use Rattle.state_codes.specs.declared.split.Part.{Part}

@@ -33,8 +33,8 @@ fn chain(alloc: Global, m: &Machine) -> Result<Parts, AllocError>
     Ok(parts)
 }
 
-/// What lies inside each closed partition of a chain of the next one. Each part reads those before it. None
-/// where there is no nontrivial closed partition.
+/// A part for each step of a chain of closed partitions: the blocks of the next one, numbered inside the blocks of
+/// the one before. Each part reads those before it. None where no closed partition is nontrivial.
 pub fn cascade(alloc: Global, m: &Machine) -> Result<Option<Split>, AllocError>
     ensures none { IfOk result (λ found. IsNone found ↔ HasNoneNontrivial m.now) }
 

@@ -1,4 +1,4 @@
-//! What follows of the definitions.
+//! What follows from the definitions.
 
 ghost use Rattle.serial_split.specs.Laws.{CascadeChoiceIsOne, SerialChoiceIsOne};
 

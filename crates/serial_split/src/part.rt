@@ -8,7 +8,7 @@ use partition::Partition;
 use state_codes::{Part, PartNumbers};
 use std::alloc::{AllocError, Global};
 
-/// The part that is its own carrier and reads so many parts before it.
+/// The part that is its own carrier and reads this many parts before it.
 pub(crate) fn part_after(
     alloc: Global,
     partition: Partition,

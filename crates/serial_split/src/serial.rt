@@ -13,8 +13,8 @@ use partition::Partition;
 use state_codes::{Kind, Parts, Split};
 use std::alloc::{AllocError, Global};
 
-/// A greatest closed partition other than one, and its complement, which reads it. None where there is no
-/// nontrivial closed partition.
+/// A greatest closed partition other than one, and its complement, which reads it. None where no closed partition is
+/// nontrivial.
 pub fn split(alloc: Global, m: &Machine) -> Result<Option<Split>, AllocError>
     ensures none { IfOk result (λ found. IsNone found ↔ HasNoneNontrivial m.now) }
 

@@ -7,8 +7,8 @@ use Rattle.kiss2.specs.declared.kiss_file.KissFile.{KissFile}
 use Rattle.machine_table.specs.Staying.{NeverLeaves}
 use Rattle.pair_operators.specs.Extremes.{IsHigh}
 use Rattle.partition.specs.Laws.Labels.{blocks_of-le, label-lt-blocks_of, same_labels}
-use Rattle.partition.specs.Partition.{IsPartition, IsZero, Le, blocks_of}
-use Rattle.shift_real.specs.Chain.{IsChain, IsStrictlyBelow, TellsAfter}
+use Rattle.partition.specs.Partition.{IsPartition, IsZero, Le, Lt, blocks_of}
+use Rattle.shift_real.specs.Chain.{IsChain, TellsAfter}
 use Rattle.shift_real.specs.Inner.Rising.{IsRising, IsRisingTo}
 use Rattle.shift_real.proofs.Telling.{high_tells, tells_below, zero_tells}
 
@@ -72,11 +72,13 @@ module _ (F : KissFile) (members : List (List ℕ)) (last next : List ℕ) (stay
   pub last_below : Le last next
   last_below = tells_below F (length members) last next last_tells.0 last_tells.1 next_tells
 
+  above_last : (next ≡ last → ⊥) → Le next last → ⊥
+  above_last other above = other (same_labels next last so_far.high.lawful.numbered last_tells.0.numbered (so_far.high.lawful.length ∙ sym last_tells.0.length) (λ s t. (above s t, last_below s t)))
+
   -- fewer blocks, where it is another
   pub fewer : (next ≡ last → ⊥) → blocks_of next < blocks_of last
   fewer other =
-      strictly_fewer (length F.states) last next last_tells.0 so_far.high.lawful last_below (λ above.
-      other (same_labels next last so_far.high.lawful.numbered last_tells.0.numbered (so_far.high.lawful.length ∙ sym last_tells.0.length) (λ s t. (above s t, last_below s t))))
+      strictly_fewer (length F.states) last next last_tells.0 so_far.high.lawful last_below (above_last other)
 
   count : length all ≡ length members + 1
   count = omega (arith, length-append members (last ∷ []))
@@ -97,8 +99,8 @@ module _ (F : KissFile) (members : List (List ℕ)) (last next : List ℕ) (stay
               let place : j ≡ length members = (let e = there.0 in omega (arith, count, e)) in
               let old : slice_get all j ≡ Some p = before_last all next p j (omega (arith, place, count)) at in
               let is_last : last ≡ p = same_item all (length members) last p (last_there members last) (ap (slice_get all) (sym place) ∙ old) in
-              subst (λ (r : List ℕ). IsHigh F r q × IsStrictlyBelow r q) is_last
-              (subst (λ (r : List ℕ). IsHigh F last r × IsStrictlyBelow last r) there.1 (so_far.high, (last_below, λ same. other (sym same))))
+              subst (λ (r : List ℕ). IsHigh F r q × Lt r q) is_last
+              (subst (λ (r : List ℕ). IsHigh F last r × Lt last r) there.1 (so_far.high, (last_below, above_last other)))
         ];
     tell = λ j p at.
         elim (one_of all next p j at) [

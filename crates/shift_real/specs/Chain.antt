@@ -2,18 +2,14 @@
 use Rattle.std.specs.Prelude.{◌≡◌, ◌≢◌, ℕ, ◌+◌, ◌-◌, ◌<◌, ◌↔◌, List, Some, length, slice_get}
 use Rattle.kiss2.specs.declared.kiss_file.KissFile.{KissFile}
 use Rattle.pair_operators.specs.Extremes.{IsHigh}
-use Rattle.partition.specs.Partition.{IsPartition, IsZero, Le, Together}
+use Rattle.partition.specs.Partition.{IsPartition, IsZero, Le, Lt, Together}
 use Rattle.shift_real.specs.Words.{MeetAfter}
-
--- p and q are different partitions, and states that are together in p are together in q
-abbrev pub IsStrictlyBelow : List ℕ → List ℕ → Type 0
-IsStrictlyBelow p q = Le p q × (p ≢ q)
 
 -- The first member is zero. Each other member is M of the member before it and strictly above it. M leaves the
 -- last member as it is.
 pub record IsChain (F : KissFile) (members : List (List ℕ)) : Type 0 where
   pub first : (p : List ℕ) × (slice_get members 0 ≡ Some p) × IsPartition (length F.states) p × IsZero p
-  pub each : (j : ℕ) (p q : List ℕ) → slice_get members j ≡ Some p → slice_get members (j + 1) ≡ Some q → IsHigh F p q × IsStrictlyBelow p q
+  pub each : (j : ℕ) (p q : List ℕ) → slice_get members j ≡ Some p → slice_get members (j + 1) ≡ Some q → IsHigh F p q × Lt p q
   pub last : (p : List ℕ) × (slice_get members (length members - 1) ≡ Some p) × IsHigh F p p
 
 -- states are together in a partition exactly where every word of j symbols brings them to one state

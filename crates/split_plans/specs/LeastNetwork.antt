@@ -2,7 +2,7 @@
 use Rattle.std.specs.Prelude.{◌≡◌, ◌↔◌, ◌⊎◌, ℕ, ◌+◌, ◌<◌, Bool, Contains, List, Some, length, slice_get}
 use Rattle.answers.specs.declared.refusals.Refusal.TheVariants.{StateCount}
 use Rattle.answers.specs.Cause.{Cause}
-use Rattle.decomposition.specs.OwnPairs.{Reads}
+use Rattle.decomposition.specs.OwnPairs.{ReadsLatch}
 use Rattle.dependence.specs.Candidates.{IsBitOfCode}
 use Rattle.dependence.specs.Permits.{next_value, output_value}
 use Rattle.kiss2.specs.declared.kiss_file.KissFile.{KissFile}
@@ -22,7 +22,7 @@ HasOtherCount W refusal = (refusal ≡ StateCount (length W.states)) × ((length
 -- list.
 pub record ReadsLeast (W : KissFile) (codes : Codes) (N : Network) (value : ℕ → List Bool → Bool) (gate : Gate) : Type 0 where
   pub bits : List ℕ
-  pub reads : (c : ℕ) → Reads N gate c ↔ Contains bits c
+  pub reads : (c : ℕ) → ReadsLatch N gate c ↔ Contains bits c
   pub least : AreLeastReads W codes.words (IsBitOfCode codes) value bits
 
 -- The codes are the least code, with as few bits as the states need. The gates of latches come first, then those of

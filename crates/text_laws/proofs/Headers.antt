@@ -5,7 +5,7 @@ use Rattle.std.proofs.lemmas.Option.{slice_get_within}
 use Rattle.blif_out.specs.declared.header.Header.{Header}
 use Rattle.blif_out.specs.declared.header.LatchNote.{LatchNote}
 use Rattle.decomposition.specs.Decomposition.{PrintsCodes}
-use Rattle.decomposition.specs.OwnPairs.{HasOwnPair, OwnPairs, Reads}
+use Rattle.decomposition.specs.OwnPairs.{HasOwnPair, OwnPairs, ReadsLatch}
 use Rattle.decomposition.specs.Work.{AreClasses}
 use Rattle.dependence.specs.Permits.{AgreeOn}
 use Rattle.kiss2.specs.declared.kiss_file.KissFile.{KissFile}
@@ -64,7 +64,7 @@ same_note : (a b : ℕ) (c d e f : List ℕ) → a ≡ b → c ≡ d → e ≡ f
 same_note a b c d e f p q r = cc
 
 -- gates with the same inputs, in networks with the same latches, read the same bits
-same_bits : (N M : Network) (gate other : Gate) → N.latches ≡ M.latches → gate.inputs ≡ other.inputs → (c : ℕ) → Reads N gate c → Reads M other c
+same_bits : (N M : Network) (gate other : Gate) → N.latches ≡ M.latches → gate.inputs ≡ other.inputs → (c : ℕ) → ReadsLatch N gate c → ReadsLatch M other c
 same_bits N M gate other latches inputs c (latch, there, is) = (
   latch,
   subst (λ (list : List Latch). slice_get list c ≡ Some latch) latches there,
@@ -75,7 +75,7 @@ same_bits N M gate other latches inputs c (latch, there, is) = (
 module _ (W : KissFile) (codes : Codes) (N M : Network) (latches : N.latches ≡ M.latches) (gates : (i : ℕ) (gate other : Gate) → slice_get N.gates i ≡ Some gate → slice_get M.gates i ≡ Some other → gate.inputs ≡ other.inputs) where
   from_once : (i : ℕ) (note more : LatchNote) (gate other : Gate) → gate.inputs ≡ other.inputs → HasOwnPair W N codes.words i note gate → HasOwnPair W M codes.words i more other → note.from ≡ more.from
   from_once i note more gate other inputs one also =
-      partition_once (length W.states) note.from more.from (AgreeOn codes.words (Reads N gate)) one.from.lawful also.from.lawful one.from.together
+      partition_once (length W.states) note.from more.from (AgreeOn codes.words (ReadsLatch N gate)) one.from.lawful also.from.lawful one.from.together
       (λ s t in_s in_t. (
         (λ held c reads. (also.from.together s t in_s in_t).0 held c (same_bits N M gate other latches inputs c reads)),
         (λ agree. (also.from.together s t in_s in_t).1 (λ c reads. agree c (same_bits M N other gate (sym latches) (sym inputs) c reads))),

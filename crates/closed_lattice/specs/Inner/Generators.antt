@@ -5,7 +5,7 @@ use Rattle.partition.specs.Partition.{Le, Together}
 use Rattle.partition.specs.Before.{Before}
 use Rattle.closed_lattice.specs.Closed.{HasPrincipal, HoldsSome, IsClosedPartition}
 
--- those of each two of the first states that are together in top stand in the list
+-- the list has the least closed partition of each two of the first states that are together in top
 abbrev pub HavePrincipals : KissFile → List ℕ → ℕ → List (List ℕ) → Type 0
 HavePrincipals F top count found = (s t : ℕ) → s < t → t < count → Together top s t → HasPrincipal F found s t
 

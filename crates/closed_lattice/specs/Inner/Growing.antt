@@ -4,7 +4,7 @@ use Rattle.kiss2.specs.declared.kiss_file.KissFile.{KissFile}
 use Rattle.partition.specs.Partition.{IsPartition, Le, Together}
 use Rattle.closed_lattice.specs.Closed.{IsClosedPartition}
 
--- a closed partition of which it is settled whether it meets the condition
+-- a closed partition that either meets the condition or does not
 abbrev pub IsSettled : KissFile → (List ℕ → Type 0) → List ℕ → Type 0
 IsSettled F Meets p = IsClosedPartition F p × (Meets p ⊎ (Meets p → ⊥))
 

@@ -1,11 +1,11 @@
--- Joins with least closed partitions that are known.
+-- Joins with known least closed partitions.
 use Rattle.std.specs.Prelude.{ℕ, List, length}
 use Rattle.kiss2.specs.declared.kiss_file.KissFile.{KissFile}
 use Rattle.partition.specs.Partition.{IsPartition, Le}
 use Rattle.pair_operators.specs.Pair.{Pair}
 use Rattle.closed_lattice.specs.Closed.{IsClosedPartition}
 
--- r is p joined with closed partitions that are below each closed one above p of which the condition holds
+-- r is p joined with closed partitions that are below each closed one above p that meets the condition
 pub record Joins (F : KissFile) (Holds : List ℕ → Type 0) (p r : List ℕ) : Type 0 where
   pub lawful : IsPartition (length F.states) r
   pub above : Le p r

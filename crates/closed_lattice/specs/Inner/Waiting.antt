@@ -12,12 +12,12 @@ AreStates count pairs = (u v : ℕ) → Contains pairs (u, v) → (u < count) ×
 abbrev pub AreTogether : List ℕ → List (ℕ × ℕ) → Type 0
 AreTogether p pairs = (u v : ℕ) → Contains pairs (u, v) → Together p u v
 
--- what was taken off is together in p
+-- each pair that was taken off is together in p
 pub record LeavesOut (p : List ℕ) (old new : List (ℕ × ℕ)) : Type 0 where
   pub kept : (u v : ℕ) → Contains new (u, v) → Contains old (u, v)
   pub taken : (u v : ℕ) → Contains old (u, v) → Contains new (u, v) ⊎ Together p u v
 
--- a pair that p holds apart was taken off, and before it pairs that are together
+-- a pair in two blocks of p was taken off, and before it pairs that are together
 pub record TakesApart (p : List ℕ) (old : List (ℕ × ℕ)) (s t : ℕ) (new : List (ℕ × ℕ)) : Type 0 where
   pub among : Contains old (s, t)
   pub apart : Together p s t → ⊥

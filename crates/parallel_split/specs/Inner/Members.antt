@@ -7,7 +7,7 @@ use Rattle.partition.specs.Before.{Before}
 use Rattle.closed_lattice.specs.Limits.{HoldsApart, IsGreatestGrown}
 use Rattle.parallel_split.specs.Choice.{SeparatesTo}
 
--- a greatest closed partition that holds two states apart, and which is not zero
+-- a greatest closed partition that has two states in two blocks and is not zero
 pub record IsMember (F : KissFile) (p : List ℕ) : Type 0 where
   pub s : ℕ
   pub t : ℕ

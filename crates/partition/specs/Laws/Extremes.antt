@@ -3,7 +3,7 @@ use Rattle.std.proofs.Common.{◌≡◌, ℕ, zero, suc, subst, add-one, ◌+◌
 use Rattle.std.proofs.lemmas.List.{ext_get_or, length_push, get_or_append_left, get_or_push, get_or-replicate, length-replicate}
 use Rattle.std.proofs.lemmas.List.Recursion.{max_least}
 use Rattle.std.proofs.lemmas.Bool.{cases_eq}
-use Rattle.partition.specs.Partition.{blocks_of, IsNumbered, IsPartition, IsStateCount, SameTogether, IsZero, IsOne, IsHold, zero_of}
+use Rattle.partition.specs.Partition.{blocks_of, IsNumbered, IsPartition, IsStateCount, Le, SameTogether, Together, IsZero, IsOne, IsHold, zero_of}
 use Rattle.partition.specs.Laws.Labels.{same_labels, blocks_of-push, label-lt-blocks_of, IsNumbered-none, IsNumbered-push}
 
 -- the labels are the numbers below s, in order
@@ -92,6 +92,12 @@ zero_of_is_zero n = count_is_zero (zero_of n) n (zero_count n)
 
 pub zero_of_is_partition : (n : ℕ) → IsStateCount n → IsPartition n (zero_of n)
 zero_of_is_partition n states = record { count = states; length = (zero_count n).size; numbered = (zero_count n).numbered }
+
+-- zero is below each partition
+pub zero_of_below : (n : ℕ) (p : List ℕ) → IsPartition n p → Le (zero_of n) p
+zero_of_below n p lawful s t held =
+    let within : s < length p = omega (arith, held.0, (zero_count n).size, lawful.length) in
+    subst (λ (u : ℕ). Together p s u) (zero_of_is_zero n s t held) (within, within, refl)
 
 -- there is only one such list
 pub count_once : (xs ys : List ℕ) (n : ℕ) → IsCount xs n → IsCount ys n → xs ≡ ys

@@ -2,15 +2,15 @@
 use Rattle.std.specs.Prelude.{◌≡◌, ℕ, ◌+◌, ◌≤◌, List, [], ◌∷◌, Some, length, slice_get}
 use Rattle.std.specs.List.{range_with_len}
 use Rattle.kiss2.specs.declared.kiss_file.KissFile.{KissFile}
-use Rattle.partition.specs.Partition.{IsOne, IsPartition, IsZero, blocks_of, zero_of}
+use Rattle.partition.specs.Partition.{IsOne, IsPartition, IsZero, Lt, blocks_of, zero_of}
 use Rattle.partition.specs.Inside.{IsInside}
-use Rattle.closed_lattice.specs.Limits.{IsGreatestGrown, IsStrictlyBelow}
+use Rattle.closed_lattice.specs.Limits.{IsGreatestGrown}
 use Rattle.state_codes.specs.declared.split.Part.{Part}
 use Rattle.state_codes.specs.Kinds.{IsOwnCarrier}
 use Rattle.state_codes.specs.Split.{own_part}
 use Rattle.serial_split.specs.Choice.{IsBelow}
 
--- the part that has this partition for its own carrier and reads so many parts before it
+-- the part that is its own carrier and reads this many parts before it
 abbrev pub part_after : List ℕ → ℕ → Part
 part_after partition number = own_part partition (range_with_len 0 number)
 
@@ -18,7 +18,7 @@ part_after partition number = own_part partition (range_with_len 0 number)
 pub record IsStep (F : KissFile) (c : List ℕ) (part : Part) (next : List ℕ) : Type 0 where
   pub not_zero : IsZero c → ⊥
   pub grown : IsBelow F c next
-  pub greatest : IsGreatestGrown F (IsStrictlyBelow c) (zero_of (length F.states)) next
+  pub greatest : IsGreatestGrown F (λ p. Lt p c) (zero_of (length F.states)) next
   pub inside : IsInside c next part.partition
   pub own : IsOwnCarrier part
 

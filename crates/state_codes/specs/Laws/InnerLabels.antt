@@ -3,9 +3,11 @@ use Rattle.std.proofs.Common.{◌≡◌, ℕ, zero, suc, ◌+◌, ◌<◌, ◌�
 use Rattle.std.proofs.lemmas.Bool.{cases_eq, cases_order, eq-eqb, eqb-true}
 use Rattle.std.proofs.lemmas.List.{ext_get_or}
 use Rattle.std.proofs.lemmas.List.Sums.{passes_at_first}
-use Rattle.partition.specs.Partition.{Together, Le}
+use Rattle.partition.specs.Partition.{IsPartition, Le, Together, zero_of}
+use Rattle.partition.specs.Laws.Extremes.{zero_of_below, zero_of_is_partition, zero_of_is_zero}
+use Rattle.partition.specs.Laws.Labels.{IsPartition-of}
 use Rattle.partition.proofs.Nesting.{least_of-le, least_of-same}
-use Rattle.partition.specs.Inside.{least_of, blocks_below, IsInside}
+use Rattle.partition.specs.Inside.{least_of, blocks_below, IsComplement, IsInside}
 
 -- the least state of a block has its label
 least_of-label : (q : List ℕ) (s : ℕ) → s < length q → get_or q (least_of q s) 0 ≡ get_or q s 0
@@ -48,6 +50,14 @@ inside_tells p q r le size inside s t held same =
         | inr after ↦ absurd (omega (arith, turned, counted_before p q t s le in_t after))
       ]
     ]
+
+-- a partition and its complement meet in zero
+pub complement_apart : (n : ℕ) (p r : List ℕ) → IsPartition n p → IsComplement p r → (s t : ℕ) → Together p s t → Together r s t → s ≡ t
+complement_apart n p r lawful complement s t held inner =
+    let own : IsPartition (length p) p = IsPartition-of (sym lawful.length) lawful in
+    let zero : IsPartition (length p) (zero_of (length p)) = zero_of_is_partition (length p) own.count in
+    let label = inside_tells p (zero_of (length p)) r (zero_of_below (length p) p own) zero.length complement s t held inner.2 in
+    zero_of_is_zero (length p) s t (omega (arith, held.0, zero.length), omega (arith, held.1, zero.length), label)
 
 -- states in one block of q have the same label inside p
 pub inside_same : (p q r : List ℕ) → Le q p → length q ≡ length p → IsInside p q r → (s t : ℕ) → Together q s t → get_or r s 0 ≡ get_or r t 0

@@ -1,5 +1,5 @@
 use Rattle.std.proofs.Common.{length}
-use Rattle.feedback_split.proofs.Halves.{complement_apart}
+use Rattle.state_codes.specs.Laws.InnerLabels.{complement_apart}
 use Rattle.feedback_split.proofs.feedback.two_parts.Goals as goal
 
 pub carrier-requires-clause-in_zero : goal.carrier-requires-clause-in_zero

@@ -1,9 +1,9 @@
 use Rattle.std.proofs.Common.{◌≡◌, ℕ, inl, inr, List, [], ◌∷◌, ◌++◌, length, refl, ap, sym, ◌∙◌, subst, arith}
 use Rattle.std.proofs.lemmas.Bool.{false≢true}
 use Rattle.kiss2.specs.declared.kiss_file.KissFile.{KissFile}
-use Rattle.partition.specs.Partition.{IsNontrivial, IsOne, IsPartition, IsStateCount, IsZero, blocks_of, zero_of}
+use Rattle.partition.specs.Partition.{IsNontrivial, IsOne, IsPartition, IsStateCount, IsZero, Lt, blocks_of, zero_of}
 use Rattle.partition.specs.Laws.Extremes.{zero_of_is_zero, zero_of_is_partition}
-use Rattle.closed_lattice.specs.Limits.{IsGreatestGrown, IsStrictlyBelow}
+use Rattle.closed_lattice.specs.Limits.{IsGreatestGrown}
 use Rattle.closed_lattice.proofs.ZeroBlocks.{zero_blocks, zero_by_blocks}
 use Rattle.state_codes.specs.declared.split.Part.{Part}
 use Rattle.serial_split.specs.Kind.{HasNoneNontrivial}
@@ -14,7 +14,7 @@ use Rattle.serial_split.proofs.serial.split.Goals as goal
 
 -- what is known of the growth below one
 abbrev IsGreatest : KissFile → List ℕ → List ℕ → Type 0
-IsGreatest F one first = IsGreatestGrown F (IsStrictlyBelow one) (zero_of (length F.states)) first
+IsGreatest F one first = IsGreatestGrown F (λ p. Lt p one) (zero_of (length F.states)) first
 
 -- the two parts, pushed one after the other
 two : (none some all : List Part) (one other : Part) (first second : List ℕ) → none ≡ [] → some ≡ none ++ one ∷ [] → all ≡ some ++ other ∷ [] → one ≡ part_after first 0 → other ≡ part_after second 1
