@@ -136,7 +136,7 @@ module _ (F : KissFile) (work : WorkMachine) (codes : Codes) (lawful : IsLawful 
             head = head;
             lawful = header_lawful F W is.class split codes (net.sets).latches notes work.classes H lawful (image reduce is) code parts few header.reads net.by_rule.latch_count header noted printed reduce is.classes;
             denotes = denotes;
-            behind = λ comments are. subst (λ (bytes : List ℕ). Denotes (flat_map ended comments ++ bytes) N) (sym whole) (whole_denotes N H comments net_writable states_written are);
+            after_comments = λ comments are. subst (λ (bytes : List ℕ). Denotes (flat_map ended comments ++ bytes) N) (sym whole) (whole_denotes N H comments net_writable states_written are);
             sound = net.sound;
             starts = net.starts;
             answers = carried_answers F N (words_by work.classes codes.words) lawful.reset stays_of_file carries;

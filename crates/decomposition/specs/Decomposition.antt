@@ -53,15 +53,19 @@ pub record HasGates (F W : KissFile) (parts : List Part) (codes : Codes) (N : Ne
 -- - The codes are those that the parts give to the states of the work machine W.
 -- - Each gate of a latch reads only what its own pair and its part permit.
 --
--- The header is the only lawful one that the text has, as HeadOnce of blif_out says.
+-- The header is the only lawful one that the text has, as HeadOnce of blif_out says. Four fields say again, in the
+-- words of a reader of the text, what follows from others, as the line above each of them says.
 pub record IsDecomposition (reduce : Bool) (F W : KissFile) (class : ℕ → ℕ) (codes : Codes) (text : List ℕ) (N : Network) (H : Header) : Type 0 where
   pub whole : text ≡ net_text_of H N
+  -- follows from `whole`
   pub head : Head text H
   pub lawful : IsLawfulHeader H
   pub denotes : Denotes text N
-  pub behind : (comments : List (List ℕ)) → AllByRecursion IsComment comments → Denotes (flat_map ended comments ++ text) N
+  pub after_comments : (comments : List (List ℕ)) → AllByRecursion IsComment comments → Denotes (flat_map ended comments ++ text) N
   pub sound : Sound N
+  -- follows from the starts of `carries`
   pub starts : HasKnownStarts N
+  -- follows from `carries`, as CarriedAnswers of realise says
   pub answers : AnswersAs F N
   pub named : Named F N H
   pub classes : AreClasses reduce F H.classes
@@ -70,6 +74,7 @@ pub record IsDecomposition (reduce : Bool) (F W : KissFile) (class : ℕ → ℕ
   pub codes_of_parts : IsCode (length W.states) H.parts codes
   pub printed : PrintsCodes F class codes H
   pub pairs : OwnPairs W N codes.words H.latches
+  -- that the bits of a part tell its blocks follows from `codes_of_parts` and `printed`
   pub within : IsWithinParts W N codes.words H.latches H.parts
   pub gates : HasGates F W H.parts codes N
 

@@ -64,7 +64,7 @@ planned_by_kind W split planned = ([], subst (λ (kind : Kind). IsPlanned kind [
 whole_denotes : (F : KissFile) (parts : List Part) (figures : TrialFigures) (rest : List ℕ) → IsTextOf false F F Parallel parts rest → (N : Network) → Denotes rest N → Denotes (trial_text figures ++ rest) N
 unfolding IsTextOf
 whole_denotes F parts figures rest (class, codes, M, H, work, kind, parts_are, is) N denotes =
-    subst (Denotes (trial_text figures ++ rest)) (denotes_one rest M N is.denotes denotes) (is.behind (trial_lines figures) (trial_lines_are_comments figures))
+    subst (Denotes (trial_text figures ++ rest)) (denotes_one rest M N is.denotes denotes) (is.after_comments (trial_lines figures) (trial_lines_are_comments figures))
 
 -- the whole text
 pub trial_whole : (seed a b k : ℕ) (F : KissFile) (work : WorkMachine) (split : Split) (parts : List Part) (figures : TrialFigures) (rest : List ℕ) → IsWork false F work → IsPlanned Parallel [] work.machine split → parts ≡ split.parts
