@@ -1,10 +1,12 @@
 //! Cases and the files that they load.
 
 use crate::differences::difference;
+use crate::given::GivenArguments;
 use crate::texts::{number, number_and_text};
 use anyhow::{Context, bail, ensure};
 use hs_io::{MemShelf, MemSink, Name};
 use hsdec_core::run;
+use hsdec_program::{SystemArguments, status};
 use job_words::Words;
 use std::alloc::{AllocError, Global};
 
@@ -68,13 +70,15 @@ pub struct Wanted {
     pub told: Vec<u8>,
 }
 
-/// A case of `run`.
+/// A case of `status`, or of `run`.
 #[derive(Drop)]
 pub struct Case {
     alloc: Global,
     /// The number of the first line of the case.
     pub number: usize,
     pub words: Words,
+    /// The words go to `run`, and not to `status` as arguments.
+    direct: bool,
     load: Option<u32>,
     out: Option<(u32, usize)>,
     err: Option<(u32, usize)>,
@@ -96,6 +100,7 @@ impl Case {
             alloc,
             number,
             words,
+            direct: false,
             load: None,
             out: None,
             err: None,
@@ -115,6 +120,7 @@ impl Case {
     /// Takes a line of the case.
     pub fn take(&mut self, word: &str, rest: &str) -> anyhow::Result<()> {
         match word {
+            "direct" => self.direct = true,
             "load" => self.load = Some(rest.parse::<u32>().context("a number is missing")?),
             "out" => self.out = Some(failing(rest)?),
             "err" => self.err = Some(failing(rest)?),
@@ -150,21 +156,28 @@ impl Case {
         if let Some((call, take)) = self.err {
             err.fail_at(u64::from(call.max(1)), take);
         }
-        ensure!(self.words.count() < 1000, "too many words");
-        let answer = run(alloc, &self.words, &mut shelf, &mut out, &mut err);
-        let found = difference(
-            alloc,
-            &self.wanted,
-            texts,
-            answer.code(),
-            out.bytes(),
-            err.bytes(),
-        )?;
+        let code = self.answer(&mut shelf, &mut out, &mut err)?;
+        let found = difference(alloc, &self.wanted, texts, code, out.bytes(), err.bytes())?;
         if let Some(name) = &self.kept {
             let name = Name::new(alloc, name.bytes())?;
             texts.add(name, Vec::from_slice(alloc, out.bytes())?)?;
         }
         Ok(found)
+    }
+
+    /// The exit status, or the number of the answer of `run`.
+    fn answer(
+        &self,
+        shelf: &mut MemShelf,
+        out: &mut MemSink,
+        err: &mut MemSink,
+    ) -> anyhow::Result<u8> {
+        if self.direct {
+            ensure!(self.words.count() < 1000, "too many words");
+            return Ok(run(self.alloc, &self.words, shelf, out, err).code());
+        }
+        let arguments = SystemArguments::new(GivenArguments { words: &self.words });
+        Ok(status(self.alloc, &arguments, shelf, out, err))
     }
 }
 

@@ -1,6 +1,7 @@
 //! Runs the cases of the files that its words name, and prints for each file how many of its cases agree. For a
-//! case that differs it prints the line and the first difference. [`run`](hsdec_core::run) answers each case,
-//! over a shelf and two sinks in memory, so a new case is some lines in a file of `data/` and needs no proof.
+//! case that differs it prints the line and the first difference. [`status`](hsdec_program::status) answers each
+//! case, over arguments, a shelf and two sinks in memory, so a new case is some lines in a file of `data/` and needs
+//! no proof. The word `-` names no file: it tries the shelf over standard input.
 //!
 //! A file of cases is read line by line. Empty lines and lines that begin with `#` are skipped. A line is a
 //! word and the text after the first space.
@@ -10,11 +11,12 @@
 //! | `file NAME` | the text below is the file NAME of the cases that follow, instead of an earlier one |
 //! | `case WORDS` | a case with these words, cut at each space; `case` alone has none |
 //! | `word` | one more word of the case, which is the text below |
+//! | `direct` | the words go to [`run`](hsdec_core::run), and not to `status` as arguments |
 //! | `load N` | load N fails, counted from 1 |
 //! | `out N K` | put N to out takes K bytes and fails |
 //! | `err N K` | the same for err |
 //! | `room N` | out has room for N bytes; without this line it is 8,388,608 |
-//! | `status N` | the number of the answer; without this line it is 0 |
+//! | `status N` | the exit status, or of `run` the number of the answer; without this line it is 0 |
 //! | `text` | out is given the text below; without this line nothing |
 //! | `front` | out is given a text that begins with the text below |
 //! | `lines N START` | N of its lines begin with START |
@@ -42,6 +44,8 @@
 
 mod cases;
 mod differences;
+mod given;
+mod input;
 mod script;
 mod texts;
 
@@ -51,10 +55,20 @@ use std::env;
 fn main(rt: HostRuntime) -> anyhow::Result<()> {
     let mut differ = false;
     for name in env::args(&rt)?.skip(1) {
-        if !script::agrees(&rt, name.as_str())? {
+        if !agrees(&rt, name.as_str())? {
             differ = true;
         }
     }
     ensure!(!differ, "there are differences");
     Ok(())
+}
+
+/// Whether all that a word names agrees.
+fn agrees(rt: &HostRuntime, word: &str) -> anyhow::Result<bool> {
+    if word != "-" {
+        return script::agrees(rt, word);
+    }
+    let once = input::is_read_once(rt)?;
+    println!(rt; "standard input is read once: {once}")?;
+    Ok(once)
 }

@@ -1,7 +1,0 @@
-use Rattle.std.proofs.Common.{refl}
-use Rattle.hsdec.specs.Pages.{answers_text}
-use Rattle.hsdec.proofs.help.answers.Goals as goal
-
-pub returns : goal.returns
-unfolding answers_text
-returns c = refl

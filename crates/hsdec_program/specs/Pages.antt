@@ -1,0 +1,110 @@
+-- The pages of `--help` and `--version`, and which words ask for them.
+use Rattle.std.specs.Prelude.{ℕ, if◌then◌else◌, List, [], ◌∷◌, ◌++◌, Option, Some, None, codes}
+use Rattle.std.specs.List.{flat_map}
+use Rattle.std.specs.Option.{option_map}
+use Rattle.std.specs.Str.{bytes_eq}
+use Rattle.hs_io.specs.Spelling.{ended, spaced}
+use Rattle.job_words.specs.declared.table.CommandOption.{CommandOption}
+use Rattle.job_words.specs.declared.table.CommandOption.TheVariants.{Limit, Reduce, Start, Fill}
+use Rattle.job_words.specs.declared.table.OperandKind.{OperandKind}
+use Rattle.job_words.specs.declared.table.OperandKind.TheVariants.{File, Net, Part, Parts, Symbols, Cover, Seed, A, B, K}
+use Rattle.job_words.specs.Command.{command_word}
+use Rattle.job_words.specs.Job.{row_named}
+use Rattle.job_words.specs.Table.{Row, built}
+use Rattle.hsdec_program.specs.Phrases.{example_of, operand_note, operand_word, option_note, option_words, phrase_of}
+
+-- a line for each operand, and for each option
+abbrev pub operand_lines : List OperandKind → List ℕ
+operand_lines operands = flat_map (λ kind. ended (operand_note kind)) operands
+
+abbrev pub option_lines : List CommandOption → List ℕ
+option_lines options = flat_map (λ option. ended (option_note option)) options
+
+-- the words of a command: its own, its operands and its options
+abbrev pub form_words : Row → List ℕ
+form_words row =
+    codes "  hsdec " ++ command_word row.command ++ flat_map (λ kind. spaced (operand_word kind)) row.operands
+    ++ flat_map (λ option. spaced (option_words option)) row.options
+
+-- two lines of a command: its words, and what it does
+abbrev pub form_lines : Row → List ℕ
+form_lines row = form_words row ++ 10 ∷ codes "      " ++ ended (phrase_of row.command)
+
+-- the line of an example
+abbrev pub example_line : List ℕ → List ℕ
+example_line words = codes "  hsdec " ++ ended words
+
+-- the page about a command: its lines, what its operands and options are, and an example
+abbrev pub command_page : Row → List ℕ
+command_page row =
+    form_lines row ++ ended [] ++ operand_lines row.operands ++ option_lines row.options ++ ended [] ++ ended (codes "Example:")
+    ++ example_line (example_of row.command)
+
+-- how the program is called, and the answers with what to do, line by line
+unfoldable pub usage_text : List ℕ
+usage_text =
+    flat_map ended (
+    codes "Usage:"
+    ∷ codes "  hsdec COMMAND OPERAND.. OPTION.."
+    ∷ codes "  hsdec --help"
+    ∷ codes "  hsdec --help COMMAND"
+    ∷ codes "  hsdec --version"
+    ∷ []
+    ∷ codes "Commands:"
+    ∷ []
+    )
+
+unfoldable pub answers_text : List ℕ
+answers_text =
+    flat_map ended (
+    []
+    ∷ codes "Exit status, and what to do:"
+    ∷ codes "  0   the text was written whole"
+    ∷ codes "  1   the machine has no decomposition of that kind: another kind may exist"
+    ∷ codes "  2   the words are refused; word 1 is the command: see hsdec --help COMMAND"
+    ∷ codes "  3   the text of the machine is refused, at the line that is named"
+    ∷ codes "  4   two rows of the machine conflict; rows are counted from 1"
+    ∷ codes "  5   the machine leaves something open: --fill hold fills it"
+    ∷ codes "  7   there are more than the limit: --limit takes up to 10,000"
+    ∷ codes "  8   a partition is refused, or two states are together in all; parts and"
+    ∷ codes "      labels are counted from 0"
+    ∷ codes "  9   the codes have more than 64 bits: serial or cascade often need fewer"
+    ∷ codes "      than parallel; or a register more than 12"
+    ∷ codes "  10  the text of the network is refused, at the line that is named"
+    ∷ codes "  11  a start or a symbol is refused: --start gives the latches first values"
+    ∷ codes "  12  a file cannot be read"
+    ∷ codes "  13  a file is longer than 4,194,304 bytes"
+    ∷ codes "  14  the text could not be written whole"
+    ∷ codes "  15  memory ran out"
+    ∷ codes "  17  least needs a machine of 3 to 8 states: --reduce may leave fewer"
+    ∷ codes "  18  the cover is refused; blocks, and places within one, are counted from 0"
+    ∷ codes "  19  the machine is not definite: two states that show it are named"
+    ∷ codes "  20  no word of as many symbols as the order ends in the reset state: --reduce"
+    ∷ codes "      can help"
+    ∷ codes "  21  the machine has more than 8 inputs"
+    ∷ codes "  22  more than 256 outputs occur"
+    ∷ []
+    )
+
+-- a page about commands, operands and options
+abbrev pub help_page_of : List Row → List OperandKind → List CommandOption → List ℕ
+help_page_of rows operands options =
+    usage_text ++ flat_map form_lines rows ++ ended [] ++ ended (codes "Operands and options:") ++ operand_lines operands
+    ++ option_lines options ++ answers_text
+
+-- the page about the program: every command that is built, and their operands and options
+unfoldable pub help_page : List ℕ
+help_page = help_page_of built (File ∷ Net ∷ Symbols ∷ Part ∷ Parts ∷ Cover ∷ Seed ∷ A ∷ B ∷ K ∷ []) (Limit ∷ Reduce ∷ Start ∷ Fill ∷ [])
+
+-- the page of the version
+abbrev pub version_page : List ℕ
+version_page = ended (codes "hsdec 0.1.0")
+
+-- the page that words ask for: one word alone asks for the page about the program or for its version, and two words
+-- for the page about a command that is built
+abbrev pub page_asked : List (List ℕ) → Option (List ℕ)
+page_asked [] = None
+page_asked (word ∷ []) =
+    if bytes_eq word (codes "--help") then Some help_page else (if bytes_eq word (codes "--version") then Some version_page else None)
+page_asked (word ∷ command ∷ []) = if bytes_eq word (codes "--help") then option_map command_page (row_named built command) else None
+page_asked (word ∷ command ∷ more ∷ words) = None
