@@ -2,8 +2,8 @@
 
 ghost use Rattle.std.specs.Prelude.{◌<◌, IfOk};
 
-use anyhow::{Context, bail};
-use std::alloc::{AllocError, Global};
+use anyhow::bail;
+use std::alloc::Global;
 
 /// The bytes of a text: `\n`, `\r` and `\t` are one byte each, and so is `\x` with two hexadecimal digits.
 pub fn unescaped(alloc: Global, text: &str) -> anyhow::Result<Vec<u8>> {
@@ -45,28 +45,4 @@ fn digit(byte: u8) -> anyhow::Result<u8>
         b'a'..=b'f' => Ok(byte - b'a' + 10),
         _ => bail!("no hexadecimal digit"),
     }
-}
-
-/// The text, with escapes, that says these bytes.
-pub fn escaped(alloc: Global, bytes: &[u8]) -> anyhow::Result<String> {
-    let mut text = Vec::new(alloc);
-    for byte in bytes {
-        append_byte(alloc, &mut text, *byte)?;
-    }
-    String::from_utf8(text).ok().context("no text")
-}
-
-/// Appends the text that says a byte.
-fn append_byte(alloc: Global, text: &mut Vec<u8>, byte: u8) -> Result<(), AllocError> {
-    match byte {
-        b'\n' => text.extend_from_slice(b"\\n")?,
-        b'\r' => text.extend_from_slice(b"\\r")?,
-        b'\t' => text.extend_from_slice(b"\\t")?,
-        b' '..=b'[' | b']'..=b'~' => text.push(byte)?,
-        _ => {
-            let code = format!(in alloc; "\\x{byte:02x}")?;
-            text.extend_from_slice(code.as_bytes())?;
-        }
-    }
-    Ok(())
 }

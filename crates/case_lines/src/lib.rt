@@ -6,7 +6,8 @@
 //!
 //! A program of cases says in its [`Calls`] what a call of its libraries answers, as a text. For each call,
 //! [`agree`] prints `CALL: N cases` if all of its cases agree. It prints each case that differs, with the
-//! number of bytes before the first difference. This crate serves such programs alone, and promises nothing.
+//! number of bytes before the first difference. The program `hsdec_cases`, whose cases have
+//! more lines, takes numbers and escapes from here. This crate is only for programs of cases, and promises nothing.
 #![tactic(auto)]
 
 ghost use Rattle.std.specs.Prelude.{◌≤◌, IfOk};
@@ -14,7 +15,7 @@ ghost use Rattle.std.specs.Prelude.{◌≤◌, IfOk};
 mod escapes;
 
 use anyhow::{Context, bail};
-pub use escapes::{escaped, unescaped};
+pub use escapes::unescaped;
 use std::fs;
 use std::rt::Files;
 
@@ -105,11 +106,6 @@ fn agrees<C: Calls, R: Files + AllocGlobal + Print>(
 /// The number of bytes before the first difference.
 fn first_difference(found: &[u8], wanted: &[u8]) -> usize {
     found.iter().zip(wanted).take_while(|(a, b)| a == b).count()
-}
-
-/// A word, and the words after it.
-pub fn first(words: &str) -> anyhow::Result<(&str, &str)> {
-    words.split_once(' ').context("a word is missing")
 }
 
 /// The number that a word says.

@@ -2,8 +2,9 @@
 
 use crate::differences::difference;
 use crate::given::GivenArguments;
-use crate::texts::{number, number_and_text};
+use crate::texts::number_and_text;
 use anyhow::{Context, bail, ensure};
+use case_lines::number;
 use hs_io::{MemShelf, MemSink, Name};
 use hsdec_core::run;
 use hsdec_program::{SystemArguments, status};

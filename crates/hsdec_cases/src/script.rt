@@ -1,10 +1,9 @@
 //! Files of cases.
 
 use crate::cases::{Case, Texts};
-use crate::texts::{
-    append_each, append_times, append_to_length, number, number_and_text, unescaped,
-};
+use crate::texts::{append_each, append_times, append_to_length, number_and_text};
 use anyhow::{Context, bail};
+use case_lines::{number, unescaped};
 use hs_io::Name;
 use std::alloc::Global;
 use std::rt::Files;
