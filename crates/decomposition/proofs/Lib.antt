@@ -6,7 +6,6 @@ pub mod Pairs
 pub mod Carrying
 pub mod Writable
 pub mod LawfulHeader
-pub mod Refused
 pub mod Unrefused
 pub mod Networks
 pub mod Whole

@@ -6,7 +6,7 @@ ghost use Rattle.dependence.specs.Permits.{AgreeOn, InWord};
 ghost use Rattle.decomposition.specs.Inner.Labelled.{AreLabelled, IsSeenAt};
 ghost use Rattle.decomposition.specs.Notes.{IsPartitionOn};
 
-use partition::{PartFail, Partition};
+use partition::Partition;
 use std::alloc::{AllocError, Global};
 
 /// The partition in which two states are together exactly where their code words agree on the bits of a set.
@@ -15,7 +15,7 @@ pub fn agreeing(alloc: Global, words: &[u64], set: u64) -> Result<Partition, All
     ensures { IfOk result (IsPartitionOn words.now (InWord set)) }
 {
     let labels = labels_by(alloc, words, set)?;
-    partition_of(alloc, labels.as_slice())
+    Partition::of_lawful(alloc, labels.as_slice())
 }
 
 /// The labels of the states by a set of bits: a state has the label of the first state that has the same bits
@@ -56,21 +56,6 @@ fn first_of(seen: &[u64], value: u64) -> usize
         }
     }
     seen.len()
-}
-
-/// The partition with these labels.
-fn partition_of(alloc: Global, labels: &[u16]) -> Result<Partition, AllocError>
-    requires { IsPartition (length labels.now) labels.now }
-    ensures { IfOk result (λ p. p ≡ labels.now) }
-{
-    match Partition::from_labels(alloc, labels) {
-        Ok(p) => Ok(p),
-        Err(PartFail::NoMemory) => Err(AllocError),
-        Err(PartFail::Empty) => unreachable!(),
-        Err(PartFail::NotCanonical { .. }) => unreachable!(),
-        Err(PartFail::BadText { .. }) => unreachable!(),
-        Err(PartFail::WrongLength { .. }) => unreachable!(),
-    }
 }
 
 /// The set of these bits as a word.

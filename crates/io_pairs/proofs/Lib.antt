@@ -2,7 +2,6 @@ pub mod Going
 pub mod Tying
 pub mod Marking
 pub mod Parting
-pub mod Refused
 pub mod Found
 pub mod Reached
 pub mod Generating

@@ -9,7 +9,7 @@ ghost use Rattle.partition.specs.Partition.{IsPartition};
 
 use crate::family::Family;
 use crate::marks::{Mark, numbered};
-use partition::{PartFail, Partition};
+use partition::Partition;
 use std::alloc::{AllocError, Global};
 
 /// For each member, a number that combines its class with the label of its value.
@@ -36,21 +36,6 @@ fn splits(
     Ok(numbers)
 }
 
-/// The partition with these labels.
-fn partition_of(alloc: Global, labels: &[u16]) -> Result<Partition, AllocError>
-    requires { IsPartition (length labels.now) labels.now }
-    ensures { IfOk result (λ p. p ≡ labels.now) }
-{
-    match Partition::from_labels(alloc, labels) {
-        Ok(p) => Ok(p),
-        Err(PartFail::NoMemory) => Err(AllocError),
-        Err(PartFail::Empty) => unreachable!(),
-        Err(PartFail::NotCanonical { .. }) => unreachable!(),
-        Err(PartFail::BadText { .. }) => unreachable!(),
-        Err(PartFail::WrongLength { .. }) => unreachable!(),
-    }
-}
-
 /// The greatest partition of the members that makes a pair with q: two are together exactly where they go together.
 pub(crate) fn greatest_partner(
     alloc: Global,
@@ -70,5 +55,5 @@ pub(crate) fn greatest_partner(
         let numbers = splits(alloc, classes.as_slice(), function, q)?;
         classes = numbered(alloc, marks, k as u16 + 1, numbers.as_slice())?;
     }
-    partition_of(alloc, classes.as_slice())
+    Partition::of_lawful(alloc, classes.as_slice())
 }

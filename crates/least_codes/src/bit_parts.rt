@@ -5,7 +5,7 @@ ghost use Rattle.std.specs.Int.{bit_at};
 ghost use Rattle.least_codes.specs.Inner.Parts.{AreBitLabels, bit_labels};
 ghost use Rattle.partition.specs.Partition.{IsPartition, IsStateCount};
 
-use partition::{PartFail, Partition};
+use partition::Partition;
 use std::alloc::{AllocError, Global};
 
 /// Bit i of a word, as a label.
@@ -28,21 +28,6 @@ fn labels_by(alloc: Global, words: &[u64], i: u32) -> Result<Vec<u16>, AllocErro
     Ok(labels)
 }
 
-/// The partition with these labels.
-fn partition_of(alloc: Global, labels: &[u16]) -> Result<Partition, AllocError>
-    requires { IsPartition (length labels.now) labels.now }
-    ensures { IfOk result (λ p. p ≡ labels.now) }
-{
-    match Partition::from_labels(alloc, labels) {
-        Ok(p) => Ok(p),
-        Err(PartFail::NoMemory) => Err(AllocError),
-        Err(PartFail::Empty) => unreachable!(),
-        Err(PartFail::NotCanonical { .. }) => unreachable!(),
-        Err(PartFail::BadText { .. }) => unreachable!(),
-        Err(PartFail::WrongLength { .. }) => unreachable!(),
-    }
-}
-
 /// The partition of each bit. The bits of state 0 are 0, so the label of a state is its bit.
 pub(crate) fn bit_partitions(
     alloc: Global,
@@ -57,7 +42,7 @@ pub(crate) fn bit_partitions(
     let mut partitions = Vec::new(alloc);
     for i in 0..bits {
         let labels = labels_by(alloc, words, i)?;
-        partitions.push(partition_of(alloc, labels.as_slice())?)?;
+        partitions.push(Partition::of_lawful(alloc, labels.as_slice())?)?;
     }
     Ok(partitions)
 }

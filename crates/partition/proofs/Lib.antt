@@ -6,6 +6,7 @@ pub mod Merging
 pub mod Numerals
 pub mod Pieces
 pub mod Reading
+pub mod Refused
 pub mod Faults
 pub mod Nesting
 pub mod Sizes

@@ -37,6 +37,21 @@ impl Partition {
         }
     }
 
+    /// The partition with these labels, which are known to be those of one.
+    pub fn of_lawful(alloc: Global, labels: &[u16]) -> Result<Partition, AllocError>
+        requires { IsPartition (length labels.now) labels.now }
+        ensures { IfOk result (λ p. p ≡ labels.now) }
+    {
+        match Partition::from_labels(alloc, labels) {
+            Ok(p) => Ok(p),
+            Err(PartFail::NoMemory) => Err(AllocError),
+            Err(PartFail::Empty) => unreachable!(),
+            Err(PartFail::NotCanonical { .. }) => unreachable!(),
+            Err(PartFail::BadText { .. }) => unreachable!(),
+            Err(PartFail::WrongLength { .. }) => unreachable!(),
+        }
+    }
+
     /// The partition of n states with this text: labels in decimal digits, joined by commas.
     pub fn parse(alloc: Global, text: &[u8], n: usize) -> Result<Partition, PartFail>
         requires { IsStateCount n }

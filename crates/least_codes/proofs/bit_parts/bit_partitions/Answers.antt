@@ -6,8 +6,8 @@ use Rattle.least_codes.specs.Inner.Parts.{AreBitLabels, bit_labels}
 use Rattle.least_codes.proofs.BitParts.{labels_lawful, labels_length, labels_more}
 use Rattle.least_codes.proofs.bit_parts.bit_partitions.Goals as goal
 
-pub partition_of-requires : goal.partition_of-requires
-partition_of-requires c =
+pub of_lawful-requires : goal.of_lawful-requires
+of_lawful-requires c =
     let words : List ℕ = c.args.words.now in
     let is : c.as_slice.result.now ≡ bit_labels c.loop-i.i words = c.as_slice.ensures.value ∙ c.in_ok-labels.ensures in
     let lawful : IsPartition (length words) (bit_labels c.loop-i.i words) = labels_lawful (length words) words c.loop-i.i c.requires.states refl (ap (λ (word : ℕ). bit_at word c.loop-i.i) c.requires.zero ∙ bit_at-zero c.loop-i.i) in
@@ -16,4 +16,4 @@ partition_of-requires c =
 pub loop-i-preserved : goal.loop-i-preserved
 loop-i-preserved c =
     subst (AreBitLabels (c.loop-i.i + 1) c.args.words.now) (sym c.in_ok-push.ensures.items)
-    (labels_more c.args.words.now c.loop-i.i c.loop-i.partitions.items _ c.loop-i.invariant (c.in_ok-partition_of.ensures ∙ c.as_slice.ensures.value ∙ c.in_ok-labels.ensures))
+    (labels_more c.args.words.now c.loop-i.i c.loop-i.partitions.items _ c.loop-i.invariant (c.in_ok-of_lawful.ensures ∙ c.as_slice.ensures.value ∙ c.in_ok-labels.ensures))

@@ -1,6 +1,6 @@
 use Rattle.std.proofs.Common.{Err, ap, ◌∙◌}
-use Rattle.least_codes.proofs.Refused.{never_refused}
-use Rattle.least_codes.proofs.bit_parts.partition_of.Goals as goal
+use Rattle.partition.proofs.Refused.{never_refused}
+use Rattle.partition.proofs.Partition.of_lawful.Goals as goal
 
 pub unreachable-requires : goal.unreachable-requires
 unreachable-requires c =
