@@ -4,4 +4,5 @@ pub mod ShelfState
 pub mod SinkState
 pub mod Lines
 pub mod Spelling
+pub mod Worked
 pub mod Inner

@@ -10,10 +10,12 @@
 //!
 //! Three forms of text are read as lines of fields. [`cut_lines`] gives all lines of a text at once.
 //! [`first_line`], [`content_of`], [`is_clean`] and [`first_field`] read them one after another without memory.
-//! `specs/Lines.antt` says what the lines of a text are.
+//! `specs/Lines.antt` says what the lines of a text are, and the functions of `laws` say what it comes to for
+//! small texts.
 #![tactic(auto)]
 
 mod file_shelf;
+mod laws;
 mod lines;
 mod memory_shelf;
 mod memory_sink;
@@ -23,6 +25,7 @@ mod sink;
 mod std_sink;
 
 pub use file_shelf::FileShelf;
+pub use laws::{worked_bytes, worked_comments, worked_fields, worked_lines, worked_returns};
 pub use lines::{Fields, Line, content_of, cut_lines, first_field, first_line, is_clean};
 pub use memory_shelf::MemShelf;
 pub use memory_sink::MemSink;
