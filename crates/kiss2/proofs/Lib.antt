@@ -16,6 +16,7 @@ pub mod Exact
 pub mod ReadLawful
 pub mod Written
 pub mod Scanning
+pub mod Worked
 pub mod ReadBack
 pub mod Header
 pub mod RowsBack

@@ -20,7 +20,7 @@ worked_lines =
     codes "# a machine"
     ∷ codes ".i 2 # inputs"
     ∷ codes ".o 02"
-    ∷ codes ".p 7"
+    ∷ codes ".p\t7"
     ∷ codes ".r b"
     ∷ codes ".ilb x y"
     ∷ []
@@ -31,7 +31,7 @@ worked_lines =
     ∷ codes "junk"
     ∷ []
 
--- a text with more rows and states than it says, whose states come in another order in the lines than by their columns
+-- a text with more rows and states than it says, whose states come in another order by lines than by columns
 abbrev pub passing_lines : List (List ℕ)
 passing_lines =
     codes ".s 1"
@@ -42,6 +42,32 @@ passing_lines =
     ∷ codes "0 a c 0"
     ∷ codes "1 b - 1"
     ∷ codes "- c d 1"
+    ∷ []
+
+-- a text without a reset state, with fewer rows and states than it says, whose first row stands twice
+abbrev pub unset_lines : List (List ℕ)
+unset_lines =
+    codes ".i 1"
+    ∷ codes ".o 1"
+    ∷ codes ".p 9"
+    ∷ codes ".s 9"
+    ∷ codes "0 b a 0"
+    ∷ codes "0 b a 0"
+    ∷ codes "1 a -- 1"
+    ∷ []
+
+-- a text with words between its rows and after them
+abbrev pub words_last_lines : List (List ℕ)
+words_last_lines =
+    codes ".i 1"
+    ∷ codes ".o 1"
+    ∷ codes "0 a b 0"
+    ∷ codes ".ob a"
+    ∷ codes ".p 2"
+    ∷ codes "- b a 1"
+    ∷ codes ".ilb b"
+    ∷ codes ".s 2"
+    ∷ codes ".r b"
     ∷ []
 
 -- a row to a state of that name, whose output field has a bad character

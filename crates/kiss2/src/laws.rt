@@ -10,7 +10,7 @@ ghost use Rattle.kiss2.specs.declared.fault.KissKind.TheVariants.{AnyState, BadB
 ghost use Rattle.kiss2.specs.declared.fault.KissLimit.TheVariants.{Inputs, NameBytes, Outputs, Rows, States};
 ghost use Rattle.kiss2.specs.Standing.{inputs_said, outputs_said, row_lines};
 ghost use Rattle.kiss2.specs.Written.{WrittenIsRead};
-ghost use Rattle.kiss2.specs.Worked.{IsRefused, bad_cube_line, bad_output_line, lines_of_256_states, long_state_line, passing_lines, row_to, state_line, text, three_fields_line, worked_lines};
+ghost use Rattle.kiss2.specs.Worked.{IsRefused, bad_cube_line, bad_output_line, lines_of_256_states, long_state_line, passing_lines, row_to, state_line, text, three_fields_line, unset_lines, words_last_lines, worked_lines};
 ghost use Rattle.kiss2.specs.Machine.{NextIsAState, RowsDecide};
 
 /// Bytes say one machine or have one first fault, and never both.
@@ -68,6 +68,8 @@ pub fn worked_limits()
     ensures many_outputs { IsRefused (codes ".i 1" ∷ codes ".o 65" ∷ []) 2 (OverLimit Outputs 65) }
     ensures long_name { IsRefused (codes ".i 1" ∷ codes ".o 1" ∷ row_to (replicate 64 97) ∷ []) 3 BadOutput }
     ensures longer_name { IsRefused (codes ".i 1" ∷ codes ".o 1" ∷ row_to (replicate 65 97) ∷ []) 3 (OverLimit NameBytes 65) }
+    ensures long_current_name { IsRefused (codes ".i 1" ∷ codes ".o 1" ∷ (codes "0 " ++ (replicate 64 97 ++ codes " a 2")) ∷ []) 3 BadOutput }
+    ensures long_input_name { IsRefused (codes ".i 1" ∷ (codes ".ilb " ++ replicate 64 97) ∷ []) 0 NoRows }
     ensures longer_reset { IsRefused ((codes ".r " ++ replicate 65 97) ∷ []) 1 (OverLimit NameBytes 65) }
     ensures longer_before_shared { IsRefused (codes ".i 3" ∷ (codes ".ilb a a a" ++ replicate 64 97) ∷ []) 2 (OverLimit NameBytes 65) }
     ensures rows { (states : List (List ℕ)) → length states ≤ 256
@@ -87,7 +89,11 @@ pub fn worked_words()
     ensures nine_digits { IsRefused (codes ".i 000000001" ∷ []) 0 NoRows }
     ensures whole_count { IsRefused (codes ".i 999999999" ∷ []) 1 (OverLimit Inputs 999999999) }
     ensures row_count_of_no_digits { IsRefused (codes ".p -1" ∷ []) 1 BadNumber }
+    ensures row_count_alone { IsRefused (codes ".p" ∷ []) 1 BadFields }
+    ensures row_counts { IsRefused (codes ".p x y" ∷ []) 1 BadFields }
     ensures state_counts { IsRefused (codes ".s 1 2" ∷ []) 1 BadFields }
+    ensures state_count_of_ten_digits { IsRefused (codes ".s 0000000001" ∷ []) 1 BadNumber }
+    ensures counts_of_nine_digits { IsRefused (codes ".p 999999999" ∷ codes ".s 999999999" ∷ []) 0 NoRows }
     ensures counts_of_none { IsRefused (codes ".p 0" ∷ codes ".s 0" ∷ []) 0 NoRows }
     ensures outputs_again { IsRefused (codes ".o 1" ∷ codes ".o 1" ∷ []) 2 Repeated }
     ensures row_count_again { IsRefused (codes ".p 1" ∷ codes ".p 1" ∷ []) 2 Repeated }
@@ -100,9 +106,11 @@ pub fn worked_words()
     ensures no_rows_before_reset { IsRefused (codes ".r a" ∷ []) 0 NoRows }
     ensures capital_word { IsRefused (codes ".I 1" ∷ []) 1 UnknownWord }
     ensures longer_word { IsRefused (codes ".ends" ∷ []) 1 UnknownWord }
+    ensures dot_alone { IsRefused (codes ". 1" ∷ []) 1 UnknownWord }
     ensures byte_before_word { IsRefused (codes ".type \u{1}" ∷ []) 1 BadByte }
     ensures bad_end { IsRefused (codes ".end \u{1}" ∷ []) 1 BadByte }
     ensures short_end { IsRefused (codes ".i 1" ∷ codes ".e x" ∷ codes ".type" ∷ []) 0 NoRows }
+    ensures bytes_after_end { IsRefused (codes ".i 1" ∷ codes ".e" ∷ codes "\u{1}" ∷ []) 0 NoRows }
     ensures blank_lines_are_numbered { IsRefused (codes "# a" ∷ [] ∷ codes "  # b" ∷ codes ".i 0" ∷ []) 4 BadNumber }
 {}
 
@@ -122,6 +130,7 @@ pub fn worked_names()
     ensures long_name { IsRefused (codes ".o 1" ∷ (codes ".ob " ++ replicate 64 97) ∷ []) 0 NoRows }
     ensures longer_name { IsRefused (codes ".o 1" ∷ (codes ".ob " ++ replicate 65 97) ∷ []) 2 (OverLimit NameBytes 65) }
     ensures first_longer_name { IsRefused (codes ".i 2" ∷ (codes ".ilb " ++ (replicate 66 97 ++ codes " " ++ replicate 65 97)) ∷ []) 2 (OverLimit NameBytes 66) }
+    ensures marks_are_names { IsRefused (codes ".i 3" ∷ codes ".ilb * - .e" ∷ []) 0 NoRows }
     ensures twice { IsRefused (codes ".i 2" ∷ codes ".ilb a a" ∷ []) 2 Repeated }
     ensures output_twice { IsRefused (codes ".o 2" ∷ codes ".ob a a" ∷ []) 2 Repeated }
     ensures shared_name { IsRefused (codes ".i 1" ∷ codes ".o 1" ∷ codes ".ilb a" ∷ codes ".ob a" ∷ []) 4 Repeated }
@@ -135,6 +144,11 @@ pub fn worked_rows()
     ensures five_fields { IsRefused (codes ".i 1" ∷ codes ".o 1" ∷ codes "0 a a 0 0" ∷ []) 3 BadFields }
     ensures wide_cube { IsRefused (codes ".i 1" ∷ codes ".o 1" ∷ codes "00 a a 0" ∷ []) 3 BadCube }
     ensures narrow_output { IsRefused (codes ".i 1" ∷ codes ".o 2" ∷ codes "0 a a 0" ∷ []) 3 BadOutput }
+    ensures marks_in_names { IsRefused (codes ".i 1" ∷ codes ".o 1" ∷ codes "0 .a a\\ 2" ∷ []) 3 BadOutput }
+    ensures marks_twice { IsRefused (codes ".i 1" ∷ codes ".o 1" ∷ codes "0 -- ** 2" ∷ []) 3 BadOutput }
+    ensures counts_after_a_row { IsRefused (codes "0 a a 0" ∷ codes ".i 1" ∷ codes ".o 1" ∷ []) 1 MissingCounts }
+    ensures again_after_a_row { IsRefused (codes ".i 1" ∷ codes ".o 1" ∷ codes "0 a a 0" ∷ codes ".i 1" ∷ []) 4 Repeated }
+    ensures number_after_a_row { IsRefused (codes ".i 1" ∷ codes ".o 1" ∷ codes "0 a a 0" ∷ codes ".p x" ∷ []) 4 BadNumber }
     ensures dash_state { IsRefused (codes ".i 1" ∷ codes ".o 1" ∷ codes "0 - a 0" ∷ []) 3 AnyState }
     ensures state_before_long { IsRefused (codes ".i 1" ∷ codes ".o 1" ∷ (codes "0 * " ++ (replicate 65 97 ++ codes " 0")) ∷ []) 3 AnyState }
     ensures longer_state { IsRefused (codes ".i 1" ∷ codes ".o 1" ∷ (codes "0 " ++ (replicate 65 97 ++ codes " a 0")) ∷ []) 3 (OverLimit NameBytes 65) }
@@ -155,6 +169,24 @@ pub fn worked_counts()
     ensures reset { (F : KissFile) → Kiss (text passing_lines) F → F.reset ≡ 3 }
     ensures from { (F : KissFile) → Kiss (text passing_lines) F → map (λ row. row.from) F.rows ≡ 0 ∷ 1 ∷ 2 ∷ [] }
     ensures to { (F : KissFile) → Kiss (text passing_lines) F → map (λ row. row.to) F.rows ≡ Some 2 ∷ None ∷ Some 3 ∷ [] }
+{}
+
+/// A text without `.r`: its first row's current state is the reset state. It gives more rows and states than it
+/// has, and a row that stands twice is two rows.
+pub fn worked_start()
+    ensures said { (F : KissFile) × Kiss (text unset_lines) F }
+    ensures states { (F : KissFile) → Kiss (text unset_lines) F → F.states ≡ codes "b" ∷ codes "a" ∷ codes "--" ∷ [] }
+    ensures reset { (F : KissFile) → Kiss (text unset_lines) F → F.reset ≡ 0 }
+    ensures from { (F : KissFile) → Kiss (text unset_lines) F → map (λ row. row.from) F.rows ≡ 0 ∷ 0 ∷ 1 ∷ [] }
+    ensures to { (F : KissFile) → Kiss (text unset_lines) F → map (λ row. row.to) F.rows ≡ Some 1 ∷ Some 1 ∷ Some 2 ∷ [] }
+{}
+
+/// Words after rows, and names of inputs and outputs that are names of states too.
+pub fn worked_ends()
+    ensures said { (F : KissFile) × Kiss (text words_last_lines) F }
+    ensures states { (F : KissFile) → Kiss (text words_last_lines) F → F.states ≡ codes "a" ∷ codes "b" ∷ [] }
+    ensures reset { (F : KissFile) → Kiss (text words_last_lines) F → F.reset ≡ 1 }
+    ensures names { (F : KissFile) → Kiss (text words_last_lines) F → (F.input_names ≡ Some (codes "b" ∷ [])) × (F.output_names ≡ Some (codes "a" ∷ [])) }
 {}
 
 /// What a text says.

@@ -1,16 +1,14 @@
-//! KISS2 files: the machine that a text says, and the text of a machine.
+//! KISS2 files, read and written.
 //!
-//! A [`KissFile`] is what a text says: the numbers of inputs and outputs, the names of the states, the rows,
-//! the reset state, and the names of inputs and outputs where the text gives them. [`read()`] answers it, or the
-//! first fault of the text with its line and kind; [`write`] gives its text.
+//! A [`KissFile`] is the content of a text: the numbers of inputs and outputs, the names of the states, the rows,
+//! the reset state, and the names of inputs and outputs if the text gives them. [`read()`] returns it, or the
+//! first fault of the text with its line and kind. [`write`] returns the text of a record.
 //!
-//! The grammar stands apart from the reader, one line at a time: `specs/Words` says what a line is,
-//! `specs/Standing` what stands in the lines before it, `specs/Faults` which fault comes first, and
-//! `specs/Kiss` what a text says as a whole, with the laws that it says one machine or has one first fault.
-//! `specs/Written` is the text of a record. `specs/Lawful` says which records a text may say, and
-//! `specs/Machine` what the machine of a file is: its next state and outputs at each state and symbol, its
-//! answers to words, and which files have one. The functions of `laws` state what follows from these
-//! definitions; `specs/Inner` is for proofs alone.
+//! The grammar is defined line by line. `specs/Words` says what a line is, `specs/Standing` what the lines before
+//! it say, `specs/Faults` which fault comes first, and `specs/Kiss` what a text says as a whole. `specs/Written`
+//! is the text of a record. `specs/Lawful` says which records a text can have, and `specs/Machine` is the machine
+//! of a file: its next states and outputs, its answers to words, and which files have one. The functions of
+//! `laws` state what follows from these definitions, and what they say of small texts.
 #![tactic(auto)]
 
 mod fault;
@@ -30,8 +28,9 @@ pub use fault::{KissFail, KissFault, KissKind, KissLimit};
 pub use fill::Fill;
 pub use kiss_file::{KissFile, KissRow, Rows};
 pub use laws::{
-    next_is_a_state, read_is_lawful, read_once, rows_decide, worked_faults, worked_limits,
-    worked_orders, worked_text, written_is_read,
+    next_is_a_state, read_is_lawful, read_once, rows_decide, worked_counts, worked_ends,
+    worked_faults, worked_limits, worked_names, worked_orders, worked_rows, worked_start,
+    worked_text, worked_words, written_is_read,
 };
 pub use reader::read;
 pub use state_names::StateNames;

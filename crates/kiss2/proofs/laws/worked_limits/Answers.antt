@@ -34,3 +34,11 @@ returns-clause-longer_reset c = scanned [] _ _ faultless_none refl
 pub returns-clause-longer_before_shared : goal.returns-clause-longer_before_shared
 unfolding lines_read fault_in kind_of_field state_names each_once
 returns-clause-longer_before_shared c = scanned [] _ _ faultless_none refl
+
+pub returns-clause-long_current_name : goal.returns-clause-long_current_name
+unfolding lines_read fault_in kind_of_field state_names each_once
+returns-clause-long_current_name c = scanned [] _ _ faultless_none refl
+
+pub returns-clause-long_input_name : goal.returns-clause-long_input_name
+unfolding lines_read fault_in kind_of_field state_names each_once
+returns-clause-long_input_name c = scanned [] _ _ faultless_none refl

@@ -82,3 +82,7 @@ returns-clause-again_before_fields c = scanned [] _ _ faultless_none refl
 pub returns-clause-outputs_again_before_fields : goal.returns-clause-outputs_again_before_fields
 unfolding lines_read fault_in kind_of_field state_names each_once
 returns-clause-outputs_again_before_fields c = scanned [] _ _ faultless_none refl
+
+pub returns-clause-marks_are_names : goal.returns-clause-marks_are_names
+unfolding lines_read fault_in kind_of_field state_names each_once
+returns-clause-marks_are_names c = scanned [] _ _ faultless_none refl

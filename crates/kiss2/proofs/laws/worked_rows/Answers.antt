@@ -1,6 +1,5 @@
 use Rattle.std.proofs.Common.{◌≡◌, ℕ, List, [], ◌∷◌, ◌++◌, Some, refl, ◌∙◌, ap}
 use Rattle.std.specs.Prelude.{Option, length}
-use Rattle.hs_io.specs.declared.lines.Line.{Line}
 use Rattle.kiss2.specs.declared.fault.KissKind.TheVariants.{OverLimit}
 use Rattle.kiss2.specs.declared.fault.KissLimit.TheVariants.{Rows}
 use Rattle.kiss2.specs.Faults.{fault_in, first_of, row_fault}
@@ -62,3 +61,23 @@ pub returns-clause-rows_counted : goal.returns-clause-rows_counted
 unfolding fault_in kind_of_field
 returns-clause-rows_counted c before i o r =
     ap (λ found. first_of (found ∷ [])) (one_more (inputs_said before) (outputs_said before) (length (row_lines before)) (state_names (before ++ bad_cube_line ∷ [])) i o r)
+
+pub returns-clause-marks_in_names : goal.returns-clause-marks_in_names
+unfolding lines_read fault_in kind_of_field state_names each_once
+returns-clause-marks_in_names c = scanned [] _ _ faultless_none refl
+
+pub returns-clause-marks_twice : goal.returns-clause-marks_twice
+unfolding lines_read fault_in kind_of_field state_names each_once
+returns-clause-marks_twice c = scanned [] _ _ faultless_none refl
+
+pub returns-clause-counts_after_a_row : goal.returns-clause-counts_after_a_row
+unfolding lines_read fault_in kind_of_field state_names each_once
+returns-clause-counts_after_a_row c = scanned [] _ _ faultless_none refl
+
+pub returns-clause-again_after_a_row : goal.returns-clause-again_after_a_row
+unfolding lines_read fault_in kind_of_field state_names each_once
+returns-clause-again_after_a_row c = scanned [] _ _ faultless_none refl
+
+pub returns-clause-number_after_a_row : goal.returns-clause-number_after_a_row
+unfolding lines_read fault_in kind_of_field state_names each_once
+returns-clause-number_after_a_row c = scanned [] _ _ faultless_none refl

@@ -106,3 +106,27 @@ returns-clause-short_end c = scanned [] _ _ faultless_none refl
 pub returns-clause-blank_lines_are_numbered : goal.returns-clause-blank_lines_are_numbered
 unfolding lines_read fault_in kind_of_field state_names each_once
 returns-clause-blank_lines_are_numbered c = scanned [] _ _ faultless_none refl
+
+pub returns-clause-row_count_alone : goal.returns-clause-row_count_alone
+unfolding lines_read fault_in kind_of_field state_names each_once
+returns-clause-row_count_alone c = scanned [] _ _ faultless_none refl
+
+pub returns-clause-row_counts : goal.returns-clause-row_counts
+unfolding lines_read fault_in kind_of_field state_names each_once
+returns-clause-row_counts c = scanned [] _ _ faultless_none refl
+
+pub returns-clause-state_count_of_ten_digits : goal.returns-clause-state_count_of_ten_digits
+unfolding lines_read fault_in kind_of_field state_names each_once
+returns-clause-state_count_of_ten_digits c = scanned [] _ _ faultless_none refl
+
+pub returns-clause-counts_of_nine_digits : goal.returns-clause-counts_of_nine_digits
+unfolding lines_read fault_in kind_of_field state_names each_once
+returns-clause-counts_of_nine_digits c = scanned [] _ _ faultless_none refl
+
+pub returns-clause-dot_alone : goal.returns-clause-dot_alone
+unfolding lines_read fault_in kind_of_field state_names each_once
+returns-clause-dot_alone c = scanned [] _ _ faultless_none refl
+
+pub returns-clause-bytes_after_end : goal.returns-clause-bytes_after_end
+unfolding lines_read fault_in kind_of_field state_names each_once
+returns-clause-bytes_after_end c = scanned [] _ _ faultless_none refl
