@@ -1,5 +1,5 @@
 -- The faults of a line of a KISS2 text, in the order in which they are looked for (source: SIS manual, KISS2, narrowed to
--- this product's profile). Limits stand here as numbers.
+-- this product's profile). The limits are written as numbers.
 use Rattle.std.specs.Prelude.{ℕ, ◌==◌, Bool, false, not, ◌||◌, nat_lt, if◌then◌else◌, List, [], ◌∷◌, ◌++◌, Option, Some, None, filter, find, length, slice_index_or, unwrap_or}
 use Rattle.std.specs.Option.{is_none, option_map}
 use Rattle.std.specs.List.{list_any}
@@ -14,7 +14,7 @@ use Rattle.kiss2.specs.declared.fault.KissLimit.TheVariants.{Rows, States, Input
 use Rattle.kiss2.specs.Words.{current_field, has_backslash, input_field, is_character_field, is_name, is_decimal, is_open, line_kind_of, next_field, decimal_value, operands, output_field}
 use Rattle.kiss2.specs.Standing.{has_stood, inputs_said, names_said, outputs_said, row_lines, state_names}
 
--- a fault where the test gives true
+-- a fault if the test is true
 abbrev pub fault_where : Bool → KissKind → Option KissKind
 fault_where test kind = if test then Some kind else None
 
@@ -28,7 +28,7 @@ first_of (Some fault ∷ faults) = Some fault
 abbrev pub long_name : List (List ℕ) → Option KissKind
 long_name names = option_map (λ name. OverLimit NameBytes (length name)) (find (λ name. nat_lt 64 (length name)) names)
 
--- some name stands twice
+-- some name occurs twice
 abbrev pub has_twice : List (List ℕ) → Bool
 has_twice [] = false
 has_twice (name ∷ names) = list_any (bytes_eq name) names || has_twice names
@@ -66,7 +66,7 @@ reset_fault fields =
     ∷ long_name fields
     ∷ [])
 
--- `.ilb` and `.ob`, given the number of what is named, if it has stood, and the names of the other word
+-- `.ilb` and `.ob`, given the number of inputs or outputs, if it was said, and the names of the other word
 abbrev pub names_fault : Option ℕ → List (List ℕ) → List (List ℕ) → Option KissKind
 names_fault count others names =
     first_of
@@ -76,7 +76,7 @@ names_fault count others names =
     ∷ fault_where (has_twice (others ++ names)) Repeated
     ∷ [])
 
--- a row, given the numbers of inputs and outputs, the number of rows before it, and the names of states with its own
+-- a row, given the numbers of inputs and outputs, the number of rows before it, and the names of the states up to it
 abbrev pub row_fault : Option ℕ → Option ℕ → ℕ → List (List ℕ) → Line → Option KissKind
 row_fault inputs outputs rows states line =
     first_of
@@ -90,7 +90,7 @@ row_fault inputs outputs rows states line =
     ∷ fault_where (not (is_character_field (unwrap_or outputs 0) (output_field line))) BadOutput
     ∷ [])
 
--- the fault of a line that is not bad and on which no word stands again, after the lines before it
+-- the fault of a line that is not bad and repeats no word, after the lines before it
 abbrev pub form_fault : LineKind → List Line → Line → Option KissKind
 form_fault Blank before line = None
 form_fault End before line = None
@@ -104,7 +104,7 @@ form_fault OutputNames before line = names_fault (outputs_said before) (unwrap_o
 form_fault Unknown before line = Some UnknownWord
 form_fault Row before line = row_fault (inputs_said before) (outputs_said before) (length (row_lines before)) (state_names (before ++ line ∷ [])) line
 
--- a word that may stand once, and has stood
+-- a word that is allowed once, and was there before
 abbrev pub stands_again : LineKind → List Line → Bool
 stands_again Blank before = false
 stands_again End before = false

@@ -1,3 +1,3 @@
--- Definitions that private functions and proofs need. What is promised cites none of them.
+-- Definitions that private functions and proofs need. No public contract cites them.
 pub mod Judging
 pub mod Good

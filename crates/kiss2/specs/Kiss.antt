@@ -17,7 +17,7 @@ use Rattle.kiss2.specs.Lawful.{IsLawful}
 use Rattle.kiss2.specs.Standing.{inputs_said, line_with, names_said, outputs_said, reset_name, row_lines, state_names}
 use Rattle.kiss2.specs.Words.{care_in, current_field, is_ending, field_at, input_field, is_open, next_field, output_field, value_in}
 
--- the lines before the ending word, or all where there is none
+-- the lines before the ending word, or all lines if there is none
 abbrev pub before_end : List Line → List Line
 before_end lines = take_while (λ line. not (is_ending line)) lines
 
@@ -29,7 +29,7 @@ lines_read bytes = before_end (lines_of bytes)
 abbrev pub HaveNoFault : List Line → Type 0
 HaveNoFault lines = (place : ℕ) (line : Line) → slice_get lines place ≡ Some line → fault_in (take place lines) line ≡ None
 
--- the fault of the lines as a whole, where no line has one: there is no row, or the name of `.r` is no state
+-- the fault of the lines as a whole, if no line has one: there is no row, or the name of `.r` is no state
 abbrev pub reset_unknown : List (List ℕ) → Option Line → Option KissFault
 reset_unknown states None = None
 reset_unknown states (Some line) =
@@ -39,7 +39,7 @@ abbrev pub closing_fault : List Line → Option KissFault
 closing_fault lines =
     if length (row_lines lines) == 0 then Some (record { line = 0; kind = NoRows }) else reset_unknown (state_names lines) (line_with Reset lines)
 
--- a line with a fault, before which there is none
+-- a line with a fault, and no line before it has one
 pub record IsFirstFault (lines : List Line) (place : ℕ) (line : Line) (kind : KissKind) : Type 0 where
   pub stands : slice_get lines place ≡ Some line
   pub fault : fault_in (take place lines) line ≡ Some kind
@@ -53,7 +53,7 @@ abbrev pub IsFaultOf : List Line → ℕ → KissKind → Type 0
 IsFaultOf lines number kind =
     IsLineFault lines number kind ⊎ (HaveNoFault lines × (closing_fault lines ≡ Some (record { line = number; kind = kind })))
 
--- the next state that a field names, if it does
+-- the next state that a field names, if it names one
 abbrev pub IsNextOf : List (List ℕ) → List ℕ → Option ℕ → Type 0
 IsNextOf states field None = is_open field ≡ true
 IsNextOf states field (Some state) = (is_open field ≡ false) × (slice_get states state ≡ Some field)

@@ -13,7 +13,7 @@ pub record IsGivenName (name : List ℕ) : Type 0 where
   pub visible : All IsNameByte name
   pub no_backslash : All (λ byte. byte ≢ 92) name
 
--- where names are given, there are as many as what they name
+-- if names are given, there are as many as inputs or outputs
 abbrev pub AreGiven : ℕ → Option (List (List ℕ)) → Type 0
 AreGiven count names = IfSome names (λ given. (length given ≡ count) × All IsGivenName given)
 
@@ -21,7 +21,7 @@ AreGiven count names = IfSome names (λ given. (length given ≡ count) × All I
 abbrev pub given_names : KissFile → List (List ℕ)
 given_names F = unwrap_or F.input_names [] ++ unwrap_or F.output_names []
 
--- a row of a file with so many inputs, outputs and states: a bit is given only where there is an output
+-- a row of a file with these numbers of inputs, outputs and states; a bit is given only for an output
 pub record IsLawfulRow (inputs outputs states : ℕ) (row : KissRow) : Type 0 where
   pub width : row.cube.width ≡ inputs
   pub from : row.from < states
@@ -39,7 +39,7 @@ pub record AreNumbered (F : KissFile) : Type 0 where
   pub in_order : (place s : ℕ) → place < length (appearances F) → s < slice_index (appearances F) place
       → Contains (take place (appearances F)) s
 
--- the record is one that a text of the profile may have
+-- the record is one that a text of the profile can have
 pub record IsLawful (F : KissFile) : Type 0 where
   pub some_input : 1 ≤ F.inputs
   pub inputs : F.inputs ≤ 32

@@ -1,11 +1,11 @@
 -- Names of states.
 use Rattle.std.specs.Prelude.{ℕ, ◌≢◌, ◌<◌, ◌≤◌, All, AllPairs, List, [], codes, length, slice_index_or}
 
--- no name stands twice
+-- no name occurs twice
 abbrev pub AreDistinct : List (List ℕ) → Type 0
 AreDistinct names = AllPairs (λ a b. a ≢ b) names
 
--- the name at a place, and no bytes past the end
+-- the name at a place, or no bytes past the end
 abbrev pub name_of : List (List ℕ) → ℕ → List ℕ
 name_of names place = slice_index_or names place []
 

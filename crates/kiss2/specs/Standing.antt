@@ -1,4 +1,4 @@
--- What stands in lines of a KISS2 text (source: SIS manual, KISS2).
+-- What lines of a KISS2 text say (source: SIS manual, KISS2).
 use Rattle.std.specs.Prelude.{ℕ, Bool, not, List, [], ◌∷◌, ◌++◌, Option, filter, find, map, slice_get}
 use Rattle.std.specs.Option.{is_some, option_map, option_or}
 use Rattle.std.specs.Str.{bytes_eq}
@@ -7,7 +7,7 @@ use Rattle.kiss2.specs.declared.line_kind.LineKind.{LineKind}
 use Rattle.kiss2.specs.declared.line_kind.LineKind.TheVariants.{InputCount, OutputCount, Reset, Row}
 use Rattle.kiss2.specs.Words.{current_field, field_at, is_name, is_of_kind, decimal_value, operands}
 
--- the line of that kind among them, the first where there are several
+-- the first line of that kind
 abbrev pub line_with : LineKind → List Line → Option Line
 line_with kind lines = find (is_of_kind kind) lines
 
@@ -29,17 +29,17 @@ names_said kind lines = option_map operands (line_with kind lines)
 abbrev pub row_lines : List Line → List Line
 row_lines lines = filter (is_of_kind Row) lines
 
--- names, each once, in the order in which they come first
+-- the names, each once, in the order of their first appearance
 unfoldable pub each_once : List (List ℕ) → List (List ℕ)
 each_once [] = []
 each_once (name ∷ names) = name ∷ filter (λ other. not (bytes_eq other name)) (each_once names)
 
--- the names of states that stand at that place of rows
+-- the names of states at that place of the rows
 abbrev pub names_in_column : ℕ → List Line → List (List ℕ)
 names_in_column place rows = filter is_name (map (field_at place) rows)
 
 -- the names of the states in the order of their numbers: those of the current-state column, by first appearance there,
--- and then those that stand in the next-state column alone, by first appearance there
+-- and then those of the next-state column alone, by first appearance there
 unfoldable pub state_names : List Line → List (List ℕ)
 state_names lines = each_once (names_in_column 1 (row_lines lines) ++ names_in_column 2 (row_lines lines))
 

@@ -12,7 +12,7 @@ use Rattle.kiss2.specs.declared.line_kind.LineKind.TheVariants.{Blank, End, Inpu
 abbrev pub is_dotted : List ℕ → Bool
 is_dotted field = slice_index field 0 == 46
 
--- what a line is whose first field this is
+-- what a line with this first field is
 unfoldable pub kind_of_field : List ℕ → LineKind
 kind_of_field field =
     if bytes_eq field (codes ".e") || bytes_eq field (codes ".end") then End
@@ -52,11 +52,11 @@ same_kind _ _ = false
 abbrev pub is_of_kind : LineKind → Line → Bool
 is_of_kind kind line = same_kind kind (line_kind_of line)
 
--- the ending word stands on it, and it is not bad
+-- its first field is the ending word, and it is not bad
 abbrev pub is_ending : Line → Bool
 is_ending line = not line.bad && is_of_kind End line
 
--- the field at a place; place 0 has the word, or the input field of a row
+-- the field at a place; place 0 is the word, or the input field of a row
 abbrev pub field_at : ℕ → Line → List ℕ
 field_at place line = slice_index_or line.fields place []
 
@@ -85,7 +85,7 @@ is_decimal field = (nat_le 1 (length field) && nat_le (length field) 9) && list_
 abbrev pub decimal_value : List ℕ → ℕ
 decimal_value field = digits_value 10 field
 
--- a `*` or a `-` in the place of a state
+-- a `*` or a `-` instead of the name of a state
 abbrev pub is_open : List ℕ → Bool
 is_open field = bytes_eq field (codes "*") || bytes_eq field (codes "-")
 
@@ -99,16 +99,16 @@ has_backslash name = list_any (λ byte. byte == 92) name
 abbrev pub is_character : ℕ → Bool
 is_character byte = byte == 48 || (byte == 49 || byte == 45)
 
--- so many characters
+-- a field of that many characters
 abbrev pub is_character_field : ℕ → List ℕ → Bool
 is_character_field count field = length field == count && list_all is_character field
 
--- the outputs of which an output field says something: output b at 2 ^ b, the first character that of output 0
+-- the outputs that an output field specifies; output b is the bit 2 ^ b, and the first character is that of output 0
 unfoldable pub care_in : List ℕ → ℕ
 care_in [] = 0
 care_in (byte ∷ field) = (if byte == 45 then 0 else 1) + 2 * care_in field
 
--- the outputs that it gives as 1
+-- the outputs that it specifies as 1
 unfoldable pub value_in : List ℕ → ℕ
 value_in [] = 0
 value_in (byte ∷ field) = (if byte == 49 then 1 else 0) + 2 * value_in field

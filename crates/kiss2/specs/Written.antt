@@ -11,7 +11,7 @@ use Rattle.kiss2.specs.Kiss.{Kiss}
 use Rattle.kiss2.specs.Lawful.{IsLawful, appearances}
 use Rattle.kiss2.specs.Names.{name_of}
 
--- the name of a next state, and a dash where there is none
+-- the name of a next state, or a dash if there is none
 abbrev pub next_name : List (List ℕ) → Option ℕ → List ℕ
 next_name names None = codes "-"
 next_name names (Some state) = name_of names state
@@ -24,12 +24,12 @@ output_characters outputs row = map (λ b. byte_of (character row.care row.value
 abbrev pub fields_of_row : List (List ℕ) → ℕ → KissRow → List (List ℕ)
 fields_of_row names outputs row = text_of row.cube ∷ name_of names row.from ∷ next_name names row.to ∷ output_characters outputs row ∷ []
 
--- a line of given names, where there are some
+-- a line of given names, if there are any
 abbrev pub given_line : List ℕ → Option (List (List ℕ)) → List (List (List ℕ))
 given_line word None = []
 given_line word (Some names) = (word ∷ names) ∷ []
 
--- how many states stand in the rows
+-- the number of states in the rows
 abbrev pub states_standing : KissFile → ℕ
 states_standing F = count_by (λ s. list_any (λ t. t == s) (appearances F)) (range_with_len 0 (length F.states))
 

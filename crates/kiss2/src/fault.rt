@@ -2,7 +2,7 @@
 
 use std::alloc::AllocError;
 
-/// What a text has too many of, or too long.
+/// The limits of a text.
 #[derive(Clone, Copy, Debug, PartialEq, Eq)]
 pub enum KissLimit {
     /// More than 65,536 rows.
@@ -22,31 +22,31 @@ pub enum KissLimit {
 pub enum KissKind {
     /// The line has a byte outside its comment that is neither a tab nor printable ASCII.
     BadByte,
-    /// A first field with a dot is none of the words.
+    /// The first field begins with a dot and is none of the words.
     UnknownWord,
-    /// An operand is no number, or is 0 where inputs or outputs are counted.
+    /// The operand is not a number, or it is 0 as a count of inputs or outputs.
     BadNumber,
-    /// A word stands again, or a name stands twice among those of inputs and outputs.
+    /// A word occurs a second time, or a name occurs twice among those of inputs and outputs.
     Repeated,
-    /// What the line needs has not stood before it: `.i` or `.o`.
+    /// The line needs `.i` or `.o` before it, and that is missing.
     MissingCounts,
-    /// The line has another number of fields than its form, or a name with a backslash.
+    /// The line has the wrong number of fields, or a name in it has a backslash.
     BadFields,
-    /// An input field is not as many characters `0`, `1`, `-` as there are inputs.
+    /// The input field is not made of one `0`, `1` or `-` for each input.
     BadCube,
-    /// An output field is not as many characters `0`, `1`, `-` as there are outputs.
+    /// The output field is not made of one `0`, `1` or `-` for each output.
     BadOutput,
-    /// A row's current state is `*` or `-`.
+    /// The current state of the row is `*` or `-`.
     AnyState,
-    /// The name of `.r` is no state.
+    /// The name after `.r` is not the name of a state.
     ResetUnknown,
     /// There is no row.
     NoRows,
-    /// There is more than the limit: the number that goes over it, or the length of a name.
+    /// A limit is exceeded. `found` is the number that exceeds it, or the length of the name.
     OverLimit { what: KissLimit, found: u32 },
 }
 
-/// The first fault of a text: the number of its line, counted from 1, or 0 where it is of no line.
+/// The first fault of a text: the number of its line, counted from 1, or 0 if it belongs to no line.
 #[derive(Clone, Copy, Debug, PartialEq, Eq)]
 pub struct KissFault {
     pub line: u32,
@@ -56,9 +56,9 @@ pub struct KissFault {
 /// Why a text was not read.
 #[derive(Clone, Copy, Debug, PartialEq, Eq)]
 pub enum KissFail {
-    /// It is refused for this fault.
+    /// It has this fault.
     Refused(KissFault),
-    /// There is no memory left.
+    /// Memory ran out.
     NoMemory,
 }
 

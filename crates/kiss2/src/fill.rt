@@ -1,4 +1,4 @@
-/// What becomes of a next state or an output that no row says.
+/// What becomes of a next state or an output that no row specifies.
 #[derive(Clone, Copy, Debug, PartialEq, Eq)]
 pub enum Fill {
     /// The file is refused.

@@ -1,4 +1,4 @@
-//! Judges a line after the lines before it.
+//! Judges the operands of a line.
 ghost use Rattle.std.specs.Prelude.{ℕ, ◌≡◌, ◌+◌, ◌<◌, ◌≤◌, ◌^◌, All, List, [], ◌∷◌, ◌++◌, false, true, not, filter, nat_lt, IfErr, IfOk, IfNone, IfSome, MatchResult, None, OnOk, Some, length, unwrap_or};
 ghost use Rattle.std.specs.List.{list_any};
 ghost use Rattle.hs_io.specs.declared.lines.Line.{Line};
@@ -19,7 +19,7 @@ use std::alloc::{AllocError, Global};
 pub(crate) enum LineFail {
     /// It has this fault.
     Fault(KissKind),
-    /// There is no memory left.
+    /// Memory ran out.
     NoMemory,
 }
 
@@ -75,7 +75,7 @@ pub(crate) fn count_said(fields: &[Name], what: KissLimit, limit: u8) -> Result<
     Ok(number as u8)
 }
 
-/// The number of `.p` or `.s`, which is compared with nothing.
+/// Judges the number of `.p` or `.s`. Its value is not compared with anything.
 pub(crate) fn judge_number(fields: &[Name]) -> Result<(), KissKind>
     ensures { MatchResult result (λ _. number_fault fields.now ≡ None) (λ kind. number_fault fields.now ≡ Some kind) }
 {
@@ -113,14 +113,14 @@ pub(crate) fn reset_said(fields: &[Name]) -> Result<&[u8], KissKind>
     Ok(name)
 }
 
-/// Whether a backslash stands in some name.
+/// Whether some name has a backslash.
 fn some_backslash(names: &[Name]) -> bool
     ensures { result ≡ list_any has_backslash names.now }
 {
     names.iter().any(|name| holds_backslash(name.bytes()))
 }
 
-/// Adds names to others, and says whether each was new. Where one was not, not all are added.
+/// Adds names to others, and says whether each was new. If one was not, some are left out.
 fn add_new(seen: &mut StateNames, names: &[Name]) -> Result<bool, AllocError>
     requires few { length seen.old + length names.now < 65535 }
     requires distinct { AreDistinct seen.old }
@@ -138,7 +138,7 @@ fn add_new(seen: &mut StateNames, names: &[Name]) -> Result<bool, AllocError>
     Ok(true)
 }
 
-/// Whether some name stands twice in two lists.
+/// Whether some name occurs twice in two lists together.
 fn stands_twice(alloc: Global, first: &[Name], second: &[Name]) -> Result<bool, AllocError>
     requires { length first.now + length second.now < 65535 }
     ensures { IfOk result (λ twice. twice ≡ has_twice (first.now ++ second.now)) }
@@ -151,7 +151,7 @@ fn stands_twice(alloc: Global, first: &[Name], second: &[Name]) -> Result<bool, 
     Ok(!new)
 }
 
-/// The names of `.ilb` or `.ob`, given how many things they name, and the names of the other word.
+/// The names of `.ilb` or `.ob`, given the number of inputs or outputs and the names of the other word.
 pub(crate) fn names_said(
     alloc: Global,
     count: Option<u8>,
@@ -176,7 +176,7 @@ pub(crate) fn names_said(
     Ok(copied_names(alloc, fields)?)
 }
 
-/// Names that may be given, as a list.
+/// The names, or none where none are given.
 pub(crate) fn given(names: &Option<Names>) -> &[Name]
     ensures { result.now ≡ unwrap_or names.now [] }
 {

@@ -3,18 +3,18 @@ use cubes::Cube;
 use hs_io::Names;
 use hs_list::Items;
 
-/// A row: where the machine is in a state and the symbol is in a cube, where it goes and what it puts out.
+/// A row: the next state and the outputs in one state at the symbols of one cube.
 #[derive(Clone, Copy, Debug, PartialEq, Eq)]
 pub struct KissRow {
-    /// The symbols that the row speaks of.
+    /// The symbols of the row.
     pub cube: Cube,
     /// The number of the current state.
     pub from: u16,
     /// The number of the next state, if the row names one.
     pub to: Option<u16>,
-    /// The outputs that the row gives, output b at 2^b.
+    /// The outputs that the row specifies. Output b is the bit 2^b.
     pub care: u64,
-    /// Their bits.
+    /// The values of these outputs. The other bits are 0.
     pub value: u64,
 }
 
@@ -34,8 +34,8 @@ pub struct KissFile {
     pub states: StateNames,
     /// The rows in the order of the text.
     pub rows: Rows,
-    /// The names of the inputs, where the text gives them.
+    /// The names of the inputs, if the text gives them.
     pub input_names: Option<Names>,
-    /// The names of the outputs, where the text gives them.
+    /// The names of the outputs, if the text gives them.
     pub output_names: Option<Names>,
 }

@@ -15,9 +15,9 @@ pub(crate) enum LineKind {
     InputCount,
     /// `.o`: the number of outputs.
     OutputCount,
-    /// `.p`: a number of rows, which is compared with nothing.
+    /// `.p`: a number of rows, which is not compared with the rows.
     RowCount,
-    /// `.s`: a number of states, which is compared with nothing.
+    /// `.s`: a number of states, which is not compared with the states.
     StateCount,
     /// `.r`: the name of the reset state.
     Reset,
@@ -25,9 +25,9 @@ pub(crate) enum LineKind {
     InputNames,
     /// `.ob`: the names of the outputs.
     OutputNames,
-    /// Another word with a dot.
+    /// Another field that begins with a dot.
     Unknown,
-    /// A row: no dot stands first.
+    /// A row: the first field does not begin with a dot.
     Row,
 }
 
@@ -55,7 +55,7 @@ pub(crate) fn ends(line: &Line) -> bool
     !line.bad && line_kind(line) == LineKind::End
 }
 
-/// What a line is whose first field this is.
+/// What a line with this first field is.
 #[tactic(auto, unfolding(crate::specs::Words::kind_of_field))]
 fn first_field_kind(field: &[u8]) -> LineKind
     ensures { result ≡ kind_of_field field.now }

@@ -57,7 +57,7 @@ fn states_of(alloc: Global, lines: &[Line]) -> Result<StateNames, AllocError>
     Ok(names)
 }
 
-/// Adds the names that stand at a place of rows.
+/// Adds the names at a place of the rows.
 fn add_column(names: &mut StateNames, lines: &[Line], place: usize) -> Result<(), AllocError>
     requires few { length (once_after names.old (names_in_column place (row_lines lines.now))) ≤ 256 }
     requires long { All (λ line. length line.fields ≡ 4) (row_lines lines.now) }
@@ -142,7 +142,7 @@ fn number_in(states: &StateNames, name: &[u8]) -> u16
     }
 }
 
-/// The number of the next state, where the field names one.
+/// The number of the next state, if the field names one.
 fn next_of(states: &StateNames, field: &[u8]) -> Option<u16>
     requires few { length states.now ≤ 256 }
     requires known { is_open field.now ≡ false → Contains states.now field.now }
@@ -154,7 +154,7 @@ fn next_of(states: &StateNames, field: &[u8]) -> Option<u16>
     Some(number_in(states, field))
 }
 
-/// The number of the reset state: of the state that `.r` names, and without it of the first row's current state.
+/// The number of the reset state: the state that `.r` names, or without `.r` the first row's current state.
 fn reset_of(reset: &Option<ResetLine>, states: &StateNames, rows: &[KissRow]) -> u16
     requires few { length states.now ≤ 256 }
     requires known { IfSome reset.now (λ line. Contains states.now line.name) }

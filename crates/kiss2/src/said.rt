@@ -1,4 +1,4 @@
-//! What has stood in the lines so far, and one line more.
+//! What the lines so far have said, and one line more.
 ghost use Rattle.std.specs.Prelude.{ℕ, ◌≡◌, ◌≢◌, ◌+◌, ◌<◌, ◌≤◌, ◌^◌, ◌↔◌, ◌||◌, All, Contains, Err, List, [], ◌∷◌, ◌++◌, false, true, not, filter, nat_lt, IfErr, IfOk, IfSome, MatchOption, MatchResult, None, OnErr, OnOk, Ok, Some, length, take, unwrap_or};
 ghost use Rattle.std.specs.Option.{is_none};
 ghost use Rattle.hs_io.specs.declared.lines.Line.{Line};
@@ -24,21 +24,21 @@ pub(crate) struct ResetLine {
     pub name: Name,
 }
 
-/// What has stood in the lines so far.
+/// What the lines so far have said.
 #[derive(Drop)]
 pub(crate) struct Said {
     pub inputs: Option<u8>,
     pub outputs: Option<u8>,
-    /// Whether `.p` has stood.
+    /// Whether there was a `.p`.
     pub row_word: bool,
-    /// Whether `.s` has stood.
+    /// Whether there was a `.s`.
     pub state_word: bool,
     pub reset: Option<ResetLine>,
     pub input_names: Option<Names>,
     pub output_names: Option<Names>,
     /// The number of rows.
     pub rows: u32,
-    /// The names of states, in the order in which they came.
+    /// The names of the states, in the order in which they came.
     pub states: StateNames,
 }
 
@@ -61,7 +61,7 @@ impl Said {
         }
     }
 
-    /// Judges a line after those before it, and takes it where it has no fault.
+    /// Judges a line after those before it, and takes it if it has no fault.
     pub fn take_line(&mut self, alloc: Global, line: &Line) -> Result<(), LineFail>
         requires short { All (λ field. length field < 2 ^ 32) line.now.fields }
         requires small { IsSmall self.old }
@@ -228,7 +228,7 @@ impl Said {
         Ok(())
     }
 
-    /// Judges a row up to its names, and gives the number of outputs.
+    /// Judges a row up to its names, and returns the number of outputs.
     fn judge_front(&self, line: &Line) -> Result<u8, KissKind>
         requires { All (λ field. length field < 2 ^ 32) line.now.fields }
         ensures outputs { IfOk result (λ outputs. self.now.outputs ≡ Some outputs) }
@@ -278,7 +278,7 @@ fn judge_length(name: &[u8]) -> Result<(), KissKind>
     Ok(())
 }
 
-/// Adds the name of a state, where the field is one.
+/// Adds the name of a state, if the field is one.
 pub(crate) fn add_name(names: &mut StateNames, field: &[u8]) -> Result<(), AllocError>
     requires { length names.old ≤ 257 }
     ensures { OnOk result (names.new ≡ once_after names.old (filter is_name (field.now ∷ []))) }

@@ -34,7 +34,7 @@ impl StateNames {
         }
     }
 
-    /// The number of the name. A name that is there keeps its number, and a new one goes last.
+    /// Adds a name, and returns its number. A name that is there keeps its number, and a new one goes last.
     pub fn add(&mut self, name: &[u8]) -> Result<u16, AllocError>
         requires { length self.old < 65535 }
         ensures number { IfOk result (λ number. slice_get self.new number ≡ Some name.now) }

@@ -24,7 +24,7 @@ pub(crate) fn field_of(line: &Line, place: usize) -> &[u8]
     line.fields.as_slice()[place].bytes()
 }
 
-/// The number that the field is, if it has one to nine digits and nothing else.
+/// The value of the field, if it is a number: one to nine digits.
 pub(crate) fn number_in(field: &[u8]) -> Option<u32>
     ensures some { IfSome result (λ number. (is_decimal field.now ≡ true) × (number ≡ decimal_value field.now)) }
     ensures none { IfNone result (is_decimal field.now ≡ false) }
@@ -42,7 +42,7 @@ fn are_digits(field: &[u8]) -> bool
     field.iter().all(|byte| byte.is_ascii_digit())
 }
 
-/// The number that the digits write.
+/// The number with these digits.
 fn value_of_digits(field: &[u8]) -> u32
     requires short { length field.now ≤ 9 }
     requires digits { list_all is_ascii_digit field.now ≡ true }
@@ -55,14 +55,14 @@ fn value_of_digits(field: &[u8]) -> u32
     number
 }
 
-/// Whether the field stands for no state, in the place of one.
+/// Whether the field is a `*` or a `-`, which is no name of a state.
 pub(crate) fn is_open_field(field: &[u8]) -> bool
     ensures { result ≡ is_open field.now }
 {
     field == b"*".as_slice() || field == b"-".as_slice()
 }
 
-/// Whether a backslash stands in it.
+/// Whether the name has a backslash.
 pub(crate) fn holds_backslash(name: &[u8]) -> bool
     ensures { result ≡ has_backslash name.now }
 {
@@ -76,21 +76,21 @@ fn is_field_character(byte: u8) -> bool
     byte == b'0' || byte == b'1' || byte == b'-'
 }
 
-/// Whether each byte is one.
+/// Whether each byte is a character of such a field.
 fn are_characters(field: &[u8]) -> bool
     ensures { result ≡ list_all is_character field.now }
 {
     field.iter().all(|byte| is_field_character(*byte))
 }
 
-/// Whether the field has so many characters, and nothing else.
+/// Whether the field is made of `count` characters.
 pub(crate) fn has_characters(field: &[u8], count: u8) -> bool
     ensures { result ≡ is_character_field count field.now }
 {
     field.len() == usize::from(count) && are_characters(field)
 }
 
-/// The outputs of which an output field says something, and those that it gives as 1: output b at 2^b.
+/// The outputs that an output field specifies, and those of them that are 1. Output b is the bit 2^b.
 pub(crate) fn outputs_in_field(field: &[u8]) -> (u64, u64)
     requires { length field.now ≤ 64 }
     ensures care { result.0 ≡ care_in field.now }

@@ -66,7 +66,7 @@ fn append_names(text: &mut Vec<u8>, names: &[Name]) -> Result<(), AllocError>
     Ok(())
 }
 
-/// Appends a word and names as a line, where there are names.
+/// Appends a word and names as a line, if there are names.
 fn append_given(text: &mut Vec<u8>, word: &[u8], names: &Option<Names>) -> Result<(), AllocError>
     ensures { OnOk result (text.new.items ≡ text.old.items ++ spelled (given_line word.now names.now)) }
 {
@@ -78,7 +78,7 @@ fn append_given(text: &mut Vec<u8>, word: &[u8], names: &Option<Names>) -> Resul
     Ok(text.push(b'\n')?)
 }
 
-/// The name of a state, or no bytes where there is no such state.
+/// The name of a state, or no bytes if there is no such state.
 fn name_at(names: &StateNames, state: u16) -> &[u8]
     ensures { result.now ≡ name_of names.now state }
 {
@@ -185,7 +185,7 @@ fn output_byte(row: &KissRow, output: u32) -> u8
     }
 }
 
-/// How many states stand in the rows.
+/// The number of states in the rows.
 fn count_states(alloc: Global, file: &KissFile) -> Result<usize, AllocError>
     ensures { IfOk result (λ count. count ≡ states_standing file.now) }
 {
@@ -193,7 +193,7 @@ fn count_states(alloc: Global, file: &KissFile) -> Result<usize, AllocError>
     Ok(count_standing(&mut standing, file.rows.as_slice()))
 }
 
-/// How many states stand in rows, given a place for each.
+/// The number of states in the rows, given a mark for each state.
 fn count_standing(standing: &mut [bool], rows: &[KissRow]) -> usize
     requires { standing.old ≡ replicate (length standing.old) false }
     ensures { result ≡ count_by (λ s. list_any (λ t. t == s) (map (λ row. row.from) rows.now ++ filter_map (λ row. row.to) rows.now)) (range_with_len 0 (length standing.old)) }
@@ -202,7 +202,7 @@ fn count_standing(standing: &mut [bool], rows: &[KissRow]) -> usize
     count_marked(standing)
 }
 
-/// Marks the states that stand in rows.
+/// Marks the states in the rows.
 fn mark_states(standing: &mut [bool], rows: &[KissRow])
     ensures { (s : ℕ) → s < length standing.new → slice_index_or standing.new s false ≡ (slice_index_or standing.old s false || list_any (λ t. t == s) (map (λ row. row.from) rows.now ++ filter_map (λ row. row.to) rows.now)) }
 {
@@ -210,7 +210,7 @@ fn mark_states(standing: &mut [bool], rows: &[KissRow])
     mark_nexts(standing, rows);
 }
 
-/// Marks the current states of rows.
+/// Marks the current states of the rows.
 fn mark_currents(standing: &mut [bool], rows: &[KissRow])
     ensures { (s : ℕ) → s < length standing.new → slice_index_or standing.new s false ≡ (slice_index_or standing.old s false || list_any (λ t. t == s) (map (λ row. row.from) rows.now)) }
 {
@@ -219,7 +219,7 @@ fn mark_currents(standing: &mut [bool], rows: &[KissRow])
     }
 }
 
-/// Marks the next states of rows.
+/// Marks the next states of the rows.
 fn mark_nexts(standing: &mut [bool], rows: &[KissRow])
     ensures { (s : ℕ) → s < length standing.new → slice_index_or standing.new s false ≡ (slice_index_or standing.old s false || list_any (λ t. t == s) (filter_map (λ row. row.to) rows.now)) }
 {
@@ -237,7 +237,7 @@ fn mark_next(standing: &mut [bool], state: Option<u16>)
     }
 }
 
-/// Marks a state, where it is one.
+/// Marks a state, if there is a mark for it.
 fn mark(standing: &mut [bool], state: u16)
     ensures { (s : ℕ) → s < length standing.new → slice_index_or standing.new s false ≡ (slice_index_or standing.old s false || state == s) }
 {
@@ -246,7 +246,7 @@ fn mark(standing: &mut [bool], state: u16)
     }
 }
 
-/// How many are marked.
+/// The number of marks that are set.
 fn count_marked(standing: &[bool]) -> usize
     ensures { result ≡ count_by (λ stands. stands) standing.now }
 {

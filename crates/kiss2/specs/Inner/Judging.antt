@@ -1,4 +1,4 @@
--- What the reader keeps while it judges line after line. No public contract cites it.
+-- What the reader keeps while it judges line after line.
 use Rattle.std.specs.Prelude.{◌≡◌, ℕ, ◌<◌, ◌≤◌, ◌^◌, All, List, [], ◌∷◌, Option, Some, None, ◌++◌, Result, Ok, Err, filter, if◌then◌else◌, length, unwrap_or}
 use Rattle.std.specs.Option.{option_map}
 use Rattle.std.specs.List.{flat_map, list_any}
@@ -31,7 +31,7 @@ abbrev pub Judges : {T : Type 0} → Result T LineFail → Option KissKind → (
 Judges (Ok value) fault P = (fault ≡ None) × P value
 Judges (Err fail) fault P = FailsWith fault fail
 
--- names, and others after them where they are new
+-- names, and after them those others that are new
 abbrev pub once_after : List (List ℕ) → List (List ℕ) → List (List ℕ)
 once_after names [] = names
 once_after names (other ∷ others) = once_after (if list_any (bytes_eq other) names then names else names ++ other ∷ []) others
@@ -66,6 +66,6 @@ pub record IsSmall (said : Said) : Type 0 where
   pub input_names : length (unwrap_or said.input_names []) < 256
   pub output_names : length (unwrap_or said.output_names []) < 256
 
--- the fields are short enough to be measured
+-- the fields are short enough for their lengths to be 32-bit numbers
 abbrev pub HasShortFields : Line → Type 0
 HasShortFields line = All (λ field. length field < 2 ^ 32) line.fields
