@@ -1,14 +1,13 @@
 -- A text is cut piece by piece.
-use Rattle.std.proofs.Common.{◌≡◌, ℕ, ◌+◌, ◌<◌, ◌≤◌, inl, inr, Bool, false, eqb, List, [], ◌∷◌, ◌++◌, length, take, drop, append-nil, append_assoc, sym, ◌∙◌, refl, ap, arith}
+use Rattle.std.proofs.Common.{◌≡◌, ℕ, ◌+◌, ◌<◌, ◌≤◌, inl, inr, Bool, List, [], ◌∷◌, ◌++◌, length, take, drop, append-nil, sym, ◌∙◌, refl, ap, arith}
 use Rattle.std.specs.List.{slice_split, position_or_len}
 use Rattle.std.proofs.lemmas.Bool.{cases_lt}
 use Rattle.std.proofs.lemmas.Bool.Decides.{nat_tests}
-use Rattle.std.proofs.lemmas.List.{take_all, drop_all, length_push}
+use Rattle.std.proofs.lemmas.List.{take_all, drop_all}
 use Rattle.std.proofs.lemmas.List.Splits.{slice_split_none, slice_split_first, length-slice_split}
 use Rattle.std.proofs.lemmas.List.Sums.{fails_before_first}
 use Rattle.std.proofs.lemmas.List.Elements.{filter-append}
-use Rattle.hs_io.specs.Lines.{fields_in, fields_of, is_field, is_blank, ends_line, line_of, lines_from, lines_of, lines_of_pieces, physical_lines}
-use Rattle.hs_io.specs.declared.lines.Line.{Line}
+use Rattle.hs_io.specs.Lines.{fields_in, fields_of, is_field, is_blank, ends_line, lines_of_pieces, physical_lines}
 
 -- where no byte cuts it, the text is one piece
 pub slice_split_uncut : (p : ℕ → Bool) (xs : List ℕ) → length xs ≤ position_or_len p xs → slice_split p xs ≡ xs ∷ []
@@ -72,33 +71,3 @@ past_blank text end rest place none is =
     ∙ (ap (λ (n : ℕ). fields_in (take n text ∷ []) ++ fields_of (drop (n + 1) text)) (sym place)
     ∙ (ap (λ fs. fs ++ fields_of (drop (end + 1) text)) (fields_in_none (take end text) none)
     ∙ ap fields_of (sym is)))
-
--- the fields of a text after its last one
-pub fields_done :
-    (fields more : List (List ℕ)) (field rest text : List ℕ) →
-    fields ++ field ∷ fields_of rest ≡ fields_of text → more ≡ fields ++ field ∷ [] → fields_of rest ≡ [] → more ≡ fields_of text
-fields_done fields more field rest text so_far is_more none =
-    is_more ∙ (ap (λ fs. fields ++ field ∷ fs) (sym none) ∙ so_far)
-
--- the fields of a text after one more that is not the last
-pub fields_more :
-    (fields more : List (List ℕ)) (field rest next after text : List ℕ) →
-    fields ++ field ∷ fields_of rest ≡ fields_of text → more ≡ fields ++ field ∷ [] → fields_of rest ≡ next ∷ fields_of after → more ++ next ∷ fields_of after ≡ fields_of text
-fields_more fields more field rest next after text so_far is_more some =
-    ap (λ fs. fs ++ next ∷ fields_of after) is_more
-    ∙ (append_assoc fields (field ∷ []) (next ∷ fields_of after)
-    ∙ (ap (λ fs. fields ++ field ∷ fs) (sym some) ∙ so_far))
-
--- the lines of a text after one more line
-pub lines_more :
-    (lines more : List Line) (bytes rest line after : List ℕ) (read : Line) →
-    lines ++ lines_from (length lines + 1) (physical_lines rest) ≡ lines_of bytes →
-    physical_lines rest ≡ line ∷ physical_lines after → read ≡ line_of (length lines + 1) line → more ≡ lines ++ read ∷ [] →
-    more ++ lines_from (length more + 1) (physical_lines after) ≡ lines_of bytes
-lines_more lines more bytes rest line after read so_far first is_read is_more =
-    let n : length (lines ++ read ∷ []) ≡ length lines + 1 = length_push lines read in
-    rw (is_more, n, is_read) (append_assoc lines _ _ ∙ (ap (λ ls. lines ++ lines_from (length lines + 1) ls) (sym first) ∙ so_far))
-
--- what is not empty has a length
-pub some_from_test : (n : ℕ) → eqb n 0 ≡ false → 0 < n
-some_from_test n test = grind (arith, nat_tests)

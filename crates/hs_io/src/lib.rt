@@ -8,8 +8,9 @@
 //! Contracts know the bytes of [`MemShelf`] and [`MemSink`], which serve tests and fail only where they are
 //! made to. [`FileShelf`] and [`StdSink`] are built on the system, and contracts do not know their bytes.
 //!
-//! Three forms of text are read as lines of fields. [`cut_lines`] gives all lines of a text at once.
-//! [`first_line`], [`content_of`], [`is_clean`] and [`first_field`] read them one after another without memory.
+//! Three forms of text are read as lines of fields. [`cut_lines`] gives all lines of a text at once, and a
+//! [`LineReader`] one after another. [`first_line`], [`content_of`], [`is_clean`] and [`first_field`] read them
+//! without memory.
 //! `specs/Lines.antt` says what the lines of a text are, and the functions of `laws` say what it comes to for
 //! small texts.
 #![tactic(auto)]
@@ -26,7 +27,9 @@ mod std_sink;
 
 pub use file_shelf::FileShelf;
 pub use laws::{worked_bytes, worked_comments, worked_fields, worked_lines, worked_returns};
-pub use lines::{Fields, Line, content_of, cut_lines, first_field, first_line, is_clean};
+pub use lines::{
+    Fields, Line, LineReader, content_of, cut_lines, first_field, first_line, is_clean,
+};
 pub use memory_shelf::MemShelf;
 pub use memory_sink::MemSink;
 pub use name::{Name, Names, copied_names};

@@ -2,10 +2,12 @@
 
 mod fields;
 mod line_list;
+mod line_reader;
 mod line_text;
 
 pub use fields::Fields;
 pub use line_list::cut_lines;
+pub use line_reader::LineReader;
 pub use line_text::{content_of, first_field, first_line, is_clean};
 
 /// A line of a text.

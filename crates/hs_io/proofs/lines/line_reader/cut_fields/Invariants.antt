@@ -1,6 +1,6 @@
 use Rattle.std.proofs.Common.{◌≡◌, ◌+◌, ◌<◌, ◌∷◌, ◌++◌, length}
 use Rattle.hs_io.specs.Lines.{fields_of}
-use Rattle.hs_io.proofs.lines.line_list.cut_fields.Given as goal
+use Rattle.hs_io.proofs.lines.line_reader.cut_fields.Given as goal
 
 abbrev pub invariant-loop-field : goal.invariant-loop-field
 invariant-loop-field l = record {
