@@ -1,21 +1,24 @@
 -- The lines before the ending word, and faults among them.
-use Rattle.std.proofs.Common.{◌≡◌, ℕ, zero, suc, ◌+◌, ◌<◌, true, false, not, List, [], ◌∷◌, ◌++◌, length, get_or, take, Some, None, ap, sym, ◌∙◌, refl, subst, inl, inr, arith}
+use Rattle.std.proofs.Common.{◌≡◌, ℕ, zero, suc, ◌+◌, ◌<◌, ◌≤◌, ◌^◌, true, false, not, List, [], ◌∷◌, ◌++◌, length, get_or, take, drop, drop-cons, length-drop, add-one, Some, None, ap, sym, ◌∙◌, refl, subst, inl, inr, arith}
 use Rattle.std.specs.Prelude.{slice_get}
 use Rattle.std.specs.List.{prefix_len}
 use Rattle.std.proofs.lemmas.Bool.{cases_lt, false≢true, not_from_false, not_from_true}
-use Rattle.std.proofs.lemmas.List.{get_or_read, get_or-take, length-take-le, length_push, take-append-le, take-take, take_all, take_at}
+use Rattle.std.proofs.lemmas.List.{get_or_read, get_or-take, length-take-le, length_push, take-append-le, take_more, take-take, take_all, take_at}
 use Rattle.std.proofs.lemmas.List.Sums.{prefix_len-le-length, prefix_len_is, prefix_len_stops}
 use Rattle.std.proofs.lemmas.Option.{none-some, same_Some, slice_get-get_or, slice_get_within}
+use Rattle.std.proofs.lemmas.List.Elements.{All-weaker}
 use Rattle.hs_io.specs.declared.lines.Line.{Line}
+use Rattle.hs_io.specs.Lines.{lines_of}
 use Rattle.kiss2.specs.declared.fault.KissFault.{KissFault}
 use Rattle.kiss2.specs.declared.fault.KissFail.TheVariants.{Refused}
 use Rattle.kiss2.specs.declared.judging.LineFail.{LineFail}
 use Rattle.kiss2.specs.declared.judging.LineFail.TheVariants.{Fault, NoMemory}
 use Rattle.kiss2.specs.declared.said.Said.{Said}
 use Rattle.kiss2.specs.Faults.{fault_in}
-use Rattle.kiss2.specs.Kiss.{HaveNoFault, IsLineFault, before_end}
-use Rattle.kiss2.specs.Inner.Judging.{FailsWith, IsSmall, Stands, fail_at}
+use Rattle.kiss2.specs.Kiss.{HaveNoFault, IsLineFault, before_end, lines_read}
+use Rattle.kiss2.specs.Inner.Judging.{FailsWith, HasShortFields, Keeps, fail_at}
 use Rattle.kiss2.specs.Words.{is_ending}
+use Rattle.kiss2.proofs.FieldBytes.{HasGoodFields, fields_good}
 
 -- no line of the first ones ends the text
 abbrev pub GoesOn : List Line → ℕ → Type 0
@@ -95,12 +98,21 @@ faultless_push before line none here place other stands =
 pub faultless_none : HaveNoFault []
 faultless_none place line stands = absurd (none-some line stands)
 
--- what is kept after some lines, none of which ends the text
-pub record Judged (said : Said) (lines : List Line) (count : ℕ) : Type 0 where
-  pub stands : Stands said (take count lines)
-  pub small : IsSmall said
-  pub going : GoesOn lines count
-  pub faultless : HaveNoFault (take count lines)
+-- the first of the lines that are left
+pub left_first : (lines : List Line) (count : ℕ) (line : Line) (more : List Line) → drop count lines ≡ line ∷ more → (count < length lines) × (line ≡ get_or lines count line) × (drop (count + 1) lines ≡ more)
+left_first lines count line more is =
+    let inside : count < length lines = omega (arith, length-drop count lines, ap length is) in
+    let step : drop count lines ≡ get_or lines count line ∷ drop (suc count) lines = drop-cons lines count line inside in
+    let next : drop (count + 1) lines ≡ drop (suc count) lines = ap (λ (n : ℕ). drop n lines) (add-one count) in
+    let both : line ∷ more ≡ get_or lines count line ∷ drop (suc count) lines = sym is ∙ step in
+    let first : line ≡ get_or lines count line = cc in
+    let rest : drop (suc count) lines ≡ more = cc in (inside, first, next ∙ rest)
+
+-- no line is left
+pub left_none : (lines : List Line) (count : ℕ) → drop count lines ≡ [] → GoesOn lines count → (take count lines ≡ lines) × (before_end lines ≡ lines)
+left_none lines count is going =
+    let all : length lines ≤ count = omega (arith, length-drop count lines, ap length is) in
+    (take_all count lines all, no_end lines (λ k d lt. going k d (omega arith)))
 
 same_fault : (f g : KissFault) → Refused f ≡ Refused g → f ≡ g
 same_fault f g e = cc
@@ -122,3 +134,42 @@ line_fault lines i line (Fault kind) fault inside here before passes faultless f
       sym (ap (λ f. f.line) is),
     )
 line_fault lines i line NoMemory fault inside here before passes faultless fails same = absurd (cc)
+
+-- where the reader is in the lines of a text: it has taken the first ones, none of which ends the text, and the rest is left
+pub record HasCome (lines : List Line) (said : Said) (kept left : List Line) (count : ℕ) : Type 0 where
+  pub left_is : drop count lines ≡ left
+  pub going : GoesOn lines count
+  pub keeps : Keeps said kept (take count lines)
+
+pub not_begun : (lines : List Line) (said : Said) (kept left : List Line) → Keeps said kept [] → left ≡ lines → HasCome lines said kept left 0
+not_begun lines said kept left keeps is = record { left_is = sym is; going = λ k d lt. absurd (omega arith); keeps = keeps }
+
+pub all_read : (bytes : List ℕ) (said : Said) (kept : List Line) (count : ℕ) → HasCome (lines_of bytes) said kept [] count → Keeps said kept (lines_read bytes)
+unfolding lines_read
+all_read bytes said kept count come =
+    let none = left_none (lines_of bytes) count come.left_is come.going in
+    subst (Keeps said kept) (none.0 ∙ sym none.1) come.keeps
+
+module _ (bytes : List ℕ) (said : Said) (kept : List Line) (line : Line) (more : List Line) (count : ℕ) (come : HasCome (lines_of bytes) said kept (line ∷ more) count) where
+  first : (count < length (lines_of bytes)) × (line ≡ get_or (lines_of bytes) count line) × (drop (count + 1) (lines_of bytes) ≡ more)
+  first = left_first (lines_of bytes) count line more come.left_is
+
+  pub ended_here : is_ending line ≡ true → Keeps said kept (lines_read bytes)
+  unfolding lines_read
+  ended_here ends = subst (Keeps said kept) (sym (end_at (lines_of bytes) count line first.0 first.1 come.going ends)) come.keeps
+
+  pub fault_here : (fail : LineFail) (fault : KissFault) → is_ending line ≡ false → FailsWith (fault_in (take count (lines_of bytes)) line) fail → fail_at line.number fail ≡ Refused fault
+      → IsLineFault (lines_read bytes) fault.line fault.kind
+  unfolding lines_read
+  fault_here fail fault passes fails same = line_fault (lines_of bytes) count line fail fault first.0 first.1 come.going passes come.keeps.faultless fails same
+
+  pub goes_on : (after : Said) (rows : List Line) → is_ending line ≡ false → Keeps after rows (take count (lines_of bytes) ++ line ∷ []) → HasCome (lines_of bytes) after rows more (count + 1)
+  goes_on after rows passes keeps =
+      let taken : take (count + 1) (lines_of bytes) ≡ take count (lines_of bytes) ++ line ∷ [] =
+      take_more (lines_of bytes) count line first.0 ∙ ap (λ l. take count (lines_of bytes) ++ l ∷ []) (sym first.1) in
+      record { left_is = first.2; going = goes_more (lines_of bytes) count line first.0 first.1 passes come.going; keeps = subst (Keeps after rows) (sym taken) keeps }
+
+  pub short_here : length bytes < 2 ^ 32 → HasShortFields line
+  short_here few =
+      let good : HasGoodFields (length bytes) line = subst (HasGoodFields (length bytes)) (sym first.1) (fields_good bytes count line first.0) in
+      All-weaker (λ field. length field ≤ length bytes) (λ field. length field < 2 ^ 32) (λ field short. omega arith) line.fields good.short

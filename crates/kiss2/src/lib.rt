@@ -14,6 +14,7 @@
 mod fault;
 mod fill;
 mod judging;
+mod kept;
 mod kiss_file;
 mod laws;
 mod line_kind;

@@ -1,19 +1,20 @@
 //! Reads a KISS2 text.
-ghost use Rattle.std.specs.Prelude.{ℕ, ◌≡◌, ◌≢◌, ◌<◌, ◌^◌, ◌⊎◌, All, Err, List, IfErr, IfOk, IfSome, MatchResult, None, OnOk, Some, length};
+ghost use Rattle.std.specs.Prelude.{ℕ, ◌≡◌, ◌≢◌, ◌<◌, ◌^◌, ◌⊎◌, Err, List, IfErr, IfOk, MatchResult, Some, length};
 ghost use Rattle.hs_io.specs.declared.lines.Line.{Line};
 ghost use Rattle.kiss2.specs.declared.fault.KissFault.{KissFault};
 ghost use Rattle.kiss2.specs.declared.kiss_file.KissFile.{KissFile};
 ghost use Rattle.kiss2.specs.declared.fault.KissFail.TheVariants.{NoMemory, Refused};
-ghost use Rattle.kiss2.specs.Kiss.{HaveNoFault, IsFaultOf, IsKissFault, IsLineFault, IsReadAs, Kiss, before_end, closing_fault};
-ghost use Rattle.kiss2.specs.Inner.Judging.{HasShortFields, IsSmall, Stands, fail_at};
+ghost use Rattle.kiss2.specs.Kiss.{IsKissFault, IsLineFault, Kiss, closing_fault, lines_read};
+ghost use Rattle.kiss2.specs.Inner.Judging.{IsSmall, Keeps, Stands, fail_at};
 
 use crate::KissFile;
 use crate::fault::{KissFail, KissFault, KissKind};
 use crate::judging::LineFail;
+use crate::kept::Kept;
 use crate::line_kind::ends;
 use crate::record::record_of;
 use crate::said::Said;
-use hs_io::{Line, cut_lines};
+use hs_io::LineReader;
 use std::alloc::Global;
 
 /// The machine that a KISS2 text says, or its first fault.
@@ -24,53 +25,49 @@ pub fn read(alloc: Global, bytes: &[u8]) -> Result<KissFile, KissFail>
     ensures never_refused { (file : KissFile) → Kiss bytes.now file → MatchResult result (λ read. read ≡ file) (λ fail. fail ≡ KissFail.NoMemory) }
     ensures never_read { (fault : KissFault) → IsKissFault bytes.now fault.line fault.kind → MatchResult result (λ _. ⊥) (λ fail. (fail ≡ KissFail.Refused fault) ⊎ (fail ≡ KissFail.NoMemory)) }
 {
-    let lines = cut_lines(alloc, bytes)?;
-    read_lines(alloc, &lines)
+    read_text(alloc, bytes)
 }
 
-/// The machine that lines say, up to the ending word.
-fn read_lines(alloc: Global, lines: &[Line]) -> Result<KissFile, KissFail>
-    requires { All HasShortFields lines.now }
-    ensures read { IfOk result (λ file. IsReadAs (before_end lines.now) file) }
-    ensures refused { (fault : KissFault) → result ≡ Err (KissFail.Refused fault) → IsFaultOf (before_end lines.now) fault.line fault.kind }
+/// The machine, or the first fault.
+fn read_text(alloc: Global, bytes: &[u8]) -> Result<KissFile, KissFail>
+    requires { length bytes.now < 2 ^ 32 }
+    ensures read { IfOk result (λ file. Kiss bytes.now file) }
+    ensures refused { (fault : KissFault) → result ≡ Err (KissFail.Refused fault) → IsKissFault bytes.now fault.line fault.kind }
 {
-    let said = judge(alloc, lines)?;
+    let Kept { said, rows } = judge(alloc, bytes)?;
     if let Some(fault) = closing(&said) {
         return Err(KissFail::Refused(fault));
     }
-    Ok(record_of(alloc, lines_before_end(lines), said)?)
+    Ok(record_of(alloc, rows.as_slice(), said)?)
 }
 
 /// What the lines before the ending word say, or the first fault of a line.
-fn judge(alloc: Global, lines: &[Line]) -> Result<Said, KissFail>
-    requires { All HasShortFields lines.now }
-    ensures stands { IfOk result (λ said. Stands said (before_end lines.now)) }
-    ensures small { IfOk result IsSmall }
-    ensures faultless { OnOk result (HaveNoFault (before_end lines.now)) }
-    ensures refused { (fault : KissFault) → result ≡ Err (KissFail.Refused fault) → IsLineFault (before_end lines.now) fault.line fault.kind }
+fn judge(alloc: Global, bytes: &[u8]) -> Result<Kept, KissFail>
+    requires { length bytes.now < 2 ^ 32 }
+    ensures kept { IfOk result (λ kept. Keeps kept.said kept.rows.items (lines_read bytes.now)) }
+    ensures refused { (fault : KissFault) → result ≡ Err (KissFail.Refused fault) → IsLineFault (lines_read bytes.now) fault.line fault.kind }
 {
-    let mut said = Said::new(alloc);
-    for line in lines {
-        if ends(line) {
-            return Ok(said);
+    let mut reader = LineReader::new(bytes);
+    let mut kept = Kept::new(alloc);
+    while let Some(line) = reader.next_line(alloc)? {
+        if ends(&line) {
+            return Ok(kept);
         }
-        match said.take_line(alloc, line) {
+        let number = line.number;
+        match kept.take_line(alloc, line) {
             Ok(()) => {}
-            Err(fail) => return Err(fail_of(line, fail)),
+            Err(fail) => return Err(fail_of(number, fail)),
         }
     }
-    Ok(said)
+    Ok(kept)
 }
 
-/// The failure at a line.
-fn fail_of(line: &Line, fail: LineFail) -> KissFail
-    ensures { result ≡ fail_at line.now.number fail }
+/// The failure at the line of that number.
+fn fail_of(line: u32, fail: LineFail) -> KissFail
+    ensures { result ≡ fail_at line fail }
 {
     match fail {
-        LineFail::Fault(kind) => KissFail::Refused(KissFault {
-            line: line.number,
-            kind,
-        }),
+        LineFail::Fault(kind) => KissFail::Refused(KissFault { line, kind }),
         LineFail::NoMemory => KissFail::NoMemory,
     }
 }
@@ -96,16 +93,4 @@ fn closing(said: &Said) -> Option<KissFault>
         line: reset.number,
         kind: KissKind::ResetUnknown,
     })
-}
-
-/// The lines before the ending word.
-fn lines_before_end(lines: &[Line]) -> &[Line]
-    ensures { result.now ≡ before_end lines.now }
-{
-    for (place, line) in lines.iter().enumerate() {
-        if ends(line) {
-            return &lines[..place];
-        }
-    }
-    lines
 }

@@ -1,16 +1,15 @@
-//! The record of lines without a fault.
+//! The record of lines without a fault, by the lines of their rows.
 ghost use Rattle.std.specs.Prelude.{ℕ, ◌≡◌, ◌+◌, ◌<◌, ◌≤◌, ◌^◌, All, Contains, List, IfNone, IfOk, IfSome, None, OnOk, Some, false, true, length, slice_get, slice_index_or};
 ghost use Rattle.kiss2.specs.declared.kiss_file.KissRow.{KissRow};
 ghost use Rattle.std.specs.List.{AllZip};
 ghost use Rattle.cubes.specs.Cube.{text_of};
 ghost use Rattle.hs_io.specs.declared.lines.Line.{Line};
-ghost use Rattle.kiss2.specs.Kiss.{HaveNoFault, IsNextOf, IsRecordOf, IsRowOf, closing_fault};
-ghost use Rattle.kiss2.specs.Standing.{names_in_column, reset_name, row_lines, state_names};
+ghost use Rattle.kiss2.specs.Kiss.{IsNextOf, IsRecordOf, IsRowOf, closing_fault};
+ghost use Rattle.kiss2.specs.Standing.{names_in_column, reset_name};
 ghost use Rattle.kiss2.specs.Words.{current_field, is_character_field, is_open, next_field};
 ghost use Rattle.kiss2.specs.Inner.Good.{IsGoodRow, IsKnownRow};
-ghost use Rattle.kiss2.specs.Inner.Judging.{Stands, once_after};
+ghost use Rattle.kiss2.specs.Inner.Judging.{Keeps, names_in_columns, once_after};
 
-use crate::line_kind::is_row;
 use crate::said::{ResetLine, Said, add_name};
 use crate::words::{field_of, is_open_field, outputs_in_field};
 use crate::{KissFile, KissRow, Rows, StateNames};
@@ -18,12 +17,10 @@ use cubes::Cube;
 use hs_io::Line;
 use std::alloc::{AllocError, Global};
 
-/// The record that lines without a fault give.
+/// The record that lines without a fault give, by what is kept of them.
 pub(crate) fn record_of(alloc: Global, lines: &[Line], said: Said) -> Result<KissFile, AllocError>
-    requires stands { Stands said lines.now }
-    requires faultless { HaveNoFault lines.now }
-    requires closed { closing_fault lines.now ≡ None }
-    ensures { IfOk result (λ file. IsRecordOf lines.now file) }
+    requires { (all : List Line) × Keeps said lines.now all × (closing_fault all ≡ None) }
+    ensures { (all : List Line) → Keeps said lines.now all → closing_fault all ≡ None → IfOk result (λ file. IsRecordOf all file) }
 {
     let Some(inputs) = said.inputs else {
         unreachable!()
@@ -47,9 +44,9 @@ pub(crate) fn record_of(alloc: Global, lines: &[Line], said: Said) -> Result<Kis
 
 /// The names of the states in the order of their numbers.
 fn states_of(alloc: Global, lines: &[Line]) -> Result<StateNames, AllocError>
-    requires few { length (state_names lines.now) ≤ 256 }
-    requires long { All (λ line. length line.fields ≡ 4) (row_lines lines.now) }
-    ensures { IfOk result (λ names. names ≡ state_names lines.now) }
+    requires few { length (names_in_columns lines.now) ≤ 256 }
+    requires long { All (λ line. length line.fields ≡ 4) lines.now }
+    ensures { IfOk result (λ names. names ≡ names_in_columns lines.now) }
 {
     let mut names = StateNames::new(alloc);
     add_column(&mut names, lines, 1)?;
@@ -59,15 +56,13 @@ fn states_of(alloc: Global, lines: &[Line]) -> Result<StateNames, AllocError>
 
 /// Adds the names at a place of the rows.
 fn add_column(names: &mut StateNames, lines: &[Line], place: usize) -> Result<(), AllocError>
-    requires few { length (once_after names.old (names_in_column place (row_lines lines.now))) ≤ 256 }
-    requires long { All (λ line. length line.fields ≡ 4) (row_lines lines.now) }
+    requires few { length (once_after names.old (names_in_column place lines.now)) ≤ 256 }
+    requires long { All (λ line. length line.fields ≡ 4) lines.now }
     requires place { place < 4 }
-    ensures { OnOk result (names.new ≡ once_after names.old (names_in_column place (row_lines lines.now))) }
+    ensures { OnOk result (names.new ≡ once_after names.old (names_in_column place lines.now)) }
 {
     for line in lines {
-        if is_row(line) {
-            add_name(names, field_of(line, place))?;
-        }
+        add_name(names, field_of(line, place))?;
     }
     Ok(())
 }
@@ -82,15 +77,13 @@ fn rows_of(
     requires some_input { 1 ≤ inputs }
     requires inputs { inputs ≤ 32 }
     requires states { length states.now ≤ 256 }
-    requires good { (outputs : ℕ) × (outputs ≤ 64) × All (IsGoodRow inputs outputs) (row_lines lines.now) }
-    requires known { All (IsKnownRow states.now) (row_lines lines.now) }
-    ensures { IfOk result (λ rows. AllZip (IsRowOf states.now) (row_lines lines.now) rows) }
+    requires good { (outputs : ℕ) × (outputs ≤ 64) × All (IsGoodRow inputs outputs) lines.now }
+    requires known { All (IsKnownRow states.now) lines.now }
+    ensures { IfOk result (λ rows. AllZip (IsRowOf states.now) lines.now rows) }
 {
     let mut rows = Rows::new(alloc);
     for line in lines {
-        if is_row(line) {
-            rows.push(row_of(line, states, inputs))?;
-        }
+        rows.push(row_of(line, states, inputs))?;
     }
     Ok(rows)
 }

@@ -14,7 +14,8 @@ use Rattle.kiss2.specs.declared.said.ResetLine.{ResetLine}
 use Rattle.kiss2.specs.declared.said.Said.{Said}
 use Rattle.kiss2.specs.declared.line_kind.LineKind.TheVariants.{InputNames, OutputNames, Reset, RowCount, StateCount}
 use Rattle.kiss2.specs.Words.{current_field, field_at, is_name, next_field}
-use Rattle.kiss2.specs.Standing.{each_once, has_stood, inputs_said, line_with, names_said, outputs_said, row_lines}
+use Rattle.kiss2.specs.Kiss.{HaveNoFault}
+use Rattle.kiss2.specs.Standing.{each_once, has_stood, inputs_said, line_with, names_in_column, names_said, outputs_said, row_lines}
 
 -- a failure names the fault, unless memory ran out
 abbrev pub FailsWith : Option KissKind → LineFail → Type 0
@@ -65,6 +66,17 @@ pub record IsSmall (said : Said) : Type 0 where
   pub states : length said.states ≤ 256
   pub input_names : length (unwrap_or said.input_names []) < 256
   pub output_names : length (unwrap_or said.output_names []) < 256
+
+-- what is kept of lines without a fault: what they say, and the lines of their rows
+pub record Keeps (said : Said) (kept lines : List Line) : Type 0 where
+  pub stands : Stands said lines
+  pub small : IsSmall said
+  pub rows : kept ≡ row_lines lines
+  pub faultless : HaveNoFault lines
+
+-- the names of the states on these rows
+unfoldable pub names_in_columns : List Line → List (List ℕ)
+names_in_columns rows = each_once (names_in_column 1 rows ++ names_in_column 2 rows)
 
 -- the fields are short enough for their lengths to be 32-bit numbers
 abbrev pub HasShortFields : Line → Type 0

@@ -1,7 +1,7 @@
 use Rattle.std.proofs.Common.{◌≡◌, take}
 use Rattle.kiss2.specs.Inner.Judging.{once_after}
-use Rattle.kiss2.specs.Standing.{names_in_column, row_lines}
+use Rattle.kiss2.specs.Standing.{names_in_column}
 use Rattle.kiss2.proofs.record.add_column.Given as goal
 
 abbrev pub invariant-loop-line : goal.invariant-loop-line
-invariant-loop-line l = l.names ≡ once_after l.initial.names (names_in_column l.place (row_lines (take l.line-index l.lines)))
+invariant-loop-line l = l.names ≡ once_after l.initial.names (names_in_column l.place (take l.line-index l.lines))
