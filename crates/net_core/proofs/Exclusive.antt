@@ -42,7 +42,7 @@ not_again : (names : List (List ℕ)) (name : List ℕ) → AreOnce names → Is
 not_again names name once first =
     twice bytes_eq bytes_eq-Decides first.earlier name first.later first.again (subst AreOnce first.is once)
 
--- a name of the ring reads a name of the ring
+-- a name of the cycle reads a name of the cycle
 reads_next : (N : Network) (name : List ℕ) (others : List (List ℕ)) (last n : List ℕ) → ReadsAlong N name others last → Contains (name ∷ others) n → (m : List ℕ) × Contains (others ++ last ∷ []) m × GateReads N n m
 reads_next N name [] last n reads among =
     elim (Contains-cons name n [] among) [

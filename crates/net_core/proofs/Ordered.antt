@@ -1,4 +1,4 @@
--- A sequence of numbered gates puts the gates of the network in order, and a ring of them is a cycle.
+-- A sequence of numbered gates puts the gates of the network in order, and a cycle of them is a cycle.
 use Rattle.std.proofs.Common.{◌≡◌, ℕ, zero, suc, ◌+◌, ◌<◌, ◌≤◌, List, [], ◌∷◌, ◌++◌, get_or, length, length-append, map, take, drop, All, Contains, Some, slice_get, option_map, inl, inr, sym, ◌∙◌, refl, ap, subst, arith, nat_eq}
 use Rattle.std.specs.List.{AllZip}
 use Rattle.std.specs.List.Sorted.{IsPermutation}
@@ -14,7 +14,7 @@ use Rattle.net_core.specs.declared.ordering.NumberedGate.{NumberedGate}
 use Rattle.net_core.specs.Causes.{AreOnce, GateReads, ReadsAlong, IsCycle}
 use Rattle.net_core.specs.Order.{AreAt, IsNumbered}
 use Rattle.net_core.specs.Sound.{IsOrdered, driven_by, drivers_of}
-use Rattle.net_core.specs.Inner.Walk.{read_by, reads_of, Needs, NeedsAlong, StandOnce, IsBehind, IsRing, IsSequence}
+use Rattle.net_core.specs.Inner.Walk.{read_by, reads_of, Needs, NeedsAlong, StandOnce, IsBehind, IsGateCycle, IsSequence}
 use Rattle.net_core.proofs.Counted.{once_apart, once_place, once_right, counted-cons, counted_none, cond_of}
 use Rattle.net_core.proofs.Members.{Contains-cons, Contains-here, Contains-none, Contains-there}
 use Rattle.net_core.proofs.Numbered.{stands_at, zip_lengths}
@@ -162,10 +162,10 @@ module _ (N : Network) (numbered : List NumberedGate) (once : AreOnce (drivers_o
   reads_along g (h ∷ others) z name (n ∷ names) last is (here, at) is_last (needs, along) =
       (reads_from g h name n is here needs, reads_along h others z n names last here at is_last along)
 
-  -- the names of a ring are a cycle
-  pub cycle_from_ring : (ring : List ℕ) (names : List (List ℕ)) → IsRing (length N.inputs + length N.latches) (reads_of numbered) ring → AreAt (driven_by N.gates) ring names → IsCycle N names
-  cycle_from_ring ring [] r at = absurd (subst (λ places. AreAt (driven_by N.gates) places []) r.is at)
-  cycle_from_ring ring (n ∷ ns) r at =
+  -- the names of a cycle are a cycle
+  pub named_cycle : (cycle : List ℕ) (names : List (List ℕ)) → IsGateCycle (length N.inputs + length N.latches) (reads_of numbered) cycle → AreAt (driven_by N.gates) cycle names → IsCycle N names
+  named_cycle cycle [] r at = absurd (subst (λ places. AreAt (driven_by N.gates) places []) r.is at)
+  named_cycle cycle (n ∷ ns) r at =
       let driven = driven_by N.gates in
       let split : AreAt driven (r.first ∷ r.others) (n ∷ ns) = subst (λ places. AreAt driven places (n ∷ ns)) r.is at in
       let within : r.first < length N.gates = omega (arith, slice_get_within driven r.first n split.0, length-map N.gates (λ gate. gate.output)) in
@@ -173,7 +173,7 @@ module _ (N : Network) (numbered : List NumberedGate) (once : AreOnce (drivers_o
         first = n;
         others = ns;
         is = refl;
-        once = once_items driven ring (n ∷ ns) once_driven at r.once;
+        once = once_items driven cycle (n ∷ ns) once_driven at r.once;
         reads = reads_along r.first r.others r.first n ns n split.0 split.1 split.0 r.needs;
         stands_first = elim (slice_get_cases N.gates r.first).1 [
           | inl inside ↦ (
@@ -184,8 +184,8 @@ module _ (N : Network) (numbered : List NumberedGate) (once : AreOnce (drivers_o
             same_Some inside.0.output n (sym (name_at r.first inside.0 inside.2) ∙ split.0),
             λ k d lt among.
                 let name = get_or (n ∷ ns) k d in
-                let found = place_among driven ring (n ∷ ns) name at (Contains-get_or (n ∷ ns) k d lt) in
-                let least : r.first ≤ found.0 = All-contains (λ g. r.first ≤ g) ring found.0 r.least found.1 in
+                let found = place_among driven cycle (n ∷ ns) name at (Contains-get_or (n ∷ ns) k d lt) in
+                let least : r.first ≤ found.0 = All-contains (λ g. r.first ≤ g) cycle found.0 r.least found.1 in
                 let early : Contains (take r.first driven) name = subst (λ list. Contains list name) (sym (take-map (λ gate. gate.output) r.first N.gates)) among in
                 let bound = length-take r.first driven in
                 let here : slice_get driven early.0 ≡ Some name =

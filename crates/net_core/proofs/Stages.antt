@@ -11,7 +11,7 @@ use Rattle.net_core.specs.declared.walking.Walk.{Walk}
 use Rattle.net_core.specs.declared.walking.Stop.{Stop}
 use Rattle.net_core.specs.declared.walking.Look.{Look}
 use Rattle.net_core.specs.declared.walking.Look.TheVariants.{Whole, Settled, New, Open}
-use Rattle.net_core.specs.Inner.Walk.{read_by, reads_of, Needs, IsPath, IsBehind, IsWalk, IsLook, IsStanding, IsSequence, TellsRing, last_stage}
+use Rattle.net_core.specs.Inner.Walk.{read_by, reads_of, Needs, IsPath, IsBehind, IsWalk, IsLook, IsStanding, IsSequence, TellsCycle, last_stage}
 use Rattle.net_core.proofs.Members.{Contains-cons, Contains-here, Contains-none, Contains-there}
 use Rattle.net_core.proofs.Counted.{once_left, once_push, twice}
 
@@ -259,6 +259,6 @@ module _ (base : ℕ) (reads : List (List ℕ)) where
       }
 
   -- what a walk tells at its exit
-  pub ring_exit : {T : Type 0} (r : Result T Stop) (stop : Stop) → IsErrAnd r (λ e. e ≡ stop) → TellsRing base reads stop → IfErr r (TellsRing base reads)
-  ring_exit (Ok x) stop is told = tt
-  ring_exit (Err e) stop is told = subst (TellsRing base reads) (sym is) told
+  pub cycle_exit : {T : Type 0} (r : Result T Stop) (stop : Stop) → IsErrAnd r (λ e. e ≡ stop) → TellsCycle base reads stop → IfErr r (TellsCycle base reads)
+  cycle_exit (Ok x) stop is told = tt
+  cycle_exit (Err e) stop is told = subst (TellsCycle base reads) (sym is) told

@@ -1,10 +1,10 @@
--- The ring at the end of a path.
+-- The cycle at the end of a path.
 use Rattle.std.proofs.Common.{◌≡◌, ℕ, zero, suc, ◌+◌, ◌-◌, ◌<◌, ◌≤◌, List, [], ◌∷◌, ◌++◌, get_or, length, take, drop, All, Some, slice_get, sym, ◌∙◌, ap, subst, arith, nat_eq}
 use Rattle.std.proofs.lemmas.Bool.Decides.{Decides-eqb}
 use Rattle.std.proofs.lemmas.List.{append-nil, drop_more, drop-append-le, take-append-drop}
 use Rattle.std.proofs.lemmas.List.Elements.{All-append, All-drop, All-take, Contains-get_or}
-use Rattle.net_core.specs.Inner.Ring.{IsTurned}
-use Rattle.net_core.specs.Inner.Walk.{Needs, NeedsAlong, StandOnce, IsPath, IsRing, IsWalk}
+use Rattle.net_core.specs.Inner.Cycle.{IsTurned}
+use Rattle.net_core.specs.Inner.Walk.{Needs, NeedsAlong, StandOnce, IsPath, IsGateCycle, IsWalk}
 use Rattle.net_core.proofs.Counted.{once_right, once_turned}
 use Rattle.net_core.proofs.Stages.{path_push, split_last}
 
@@ -30,7 +30,7 @@ module _ (base : ℕ) (reads : List (List ℕ)) where
   along_join [] m x a z to_x from_x = (to_x, from_x)
   along_join (y ∷ b) m x a z (needs, to_x) from_x = (needs, along_join b y x a z to_x from_x)
 
-  -- a ring that is turned is a ring
+  -- a cycle that is turned is a cycle
   turned : (x : ℕ) (xs : List ℕ) (turn : ℕ) → turn < length (x ∷ xs) → NeedsAlong base reads x xs x
       → (others : List ℕ) × (drop turn (x ∷ xs) ++ take turn (x ∷ xs) ≡ get_or (x ∷ xs) turn 0 ∷ others) × NeedsAlong base reads (get_or (x ∷ xs) turn 0) others (get_or (x ∷ xs) turn 0)
   turned x xs zero within along = (xs, append-nil (x ∷ xs), along)
@@ -41,8 +41,8 @@ module _ (base : ℕ) (reads : List (List ℕ)) where
       let parts = along_split (take n xs) x m (drop (n + 1) xs) x (subst (λ list. NeedsAlong base reads x list x) whole along) in
       (drop (n + 1) xs ++ x ∷ take n xs, ap (λ list. list ++ x ∷ take n xs) rest, along_join (drop (n + 1) xs) m x (take n xs) m parts.1 parts.0)
 
-  pub ring_from_path : (S P Q : List ℕ) (top next : ℕ) (ring : List ℕ) → IsWalk base reads S P Q → slice_get P (length P - 1) ≡ Some top → Needs base reads top next → IsTurned P next ring → IsRing base reads ring
-  ring_from_path S P Q top next ring w last needs t =
+  pub cycle_from_path : (S P Q : List ℕ) (top next : ℕ) (cycle : List ℕ) → IsWalk base reads S P Q → slice_get P (length P - 1) ≡ Some top → Needs base reads top next → IsTurned P next cycle → IsGateCycle base reads cycle
+  cycle_from_path S P Q top next cycle w last needs t =
       let split = split_last P top last in
       let front = take (length P - 1) P in
       let back = drop t.from P in
@@ -57,14 +57,14 @@ module _ (base : ℕ) (reads : List (List ℕ)) where
       let turn_within : t.turn < length (next ∷ rest) = subst (λ list. t.turn < length list) starts t.turn_within in
       let made = turned next rest t.turn turn_within along in
       let first = get_or (next ∷ rest) t.turn 0 in
-      let ring_is : ring ≡ first ∷ made.0 = t.is ∙ (ap (λ list. drop t.turn list ++ take t.turn list) starts ∙ made.1) in
+      let cycle_is : cycle ≡ first ∷ made.0 = t.is ∙ (ap (λ list. drop t.turn list ++ take t.turn list) starts ∙ made.1) in
       let inside : All (λ g. g < length reads) back = All-drop (λ g. g < length reads) t.from P (λ k d lt. (w.path_are (get_or P k d) (Contains-get_or P k d lt)).0) in
       let once : StandOnce back = once_right nat_eq Decides-eqb (take t.from P) back (subst StandOnce (sym (take-append-drop t.from P)) w.path_once) in
       let least : All (λ g. first ≤ g) back = subst (λ list. All (λ g. get_or list t.turn 0 ≤ g) back) starts t.least in
       record {
         first = first;
         others = made.0;
-        is = ring_is;
+        is = cycle_is;
         within = subst (All (λ g. g < length reads)) (sym t.is)
             (All-append (λ g. g < length reads) (drop t.turn back) (take t.turn back) (All-drop (λ g. g < length reads) t.turn back inside) (All-take (λ g. g < length reads) t.turn back inside));
         once = subst StandOnce (sym t.is) (once_turned nat_eq Decides-eqb (take t.turn back) (drop t.turn back) (subst StandOnce (sym (take-append-drop t.turn back)) once));

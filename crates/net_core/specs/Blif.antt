@@ -1,4 +1,4 @@
--- The BLIF texts that this product takes: they denote a sound network, within limits.
+-- The BLIF texts that this product accepts: they denote a sound network, within limits.
 use Rattle.std.specs.Prelude.{◌≡◌, ℕ, ◌≤◌, Option, Some, None, List, [], ◌∷◌, All, length}
 use Rattle.std.specs.Option.{option_to_list}
 use Rattle.std.specs.List.{flat_map}
@@ -7,7 +7,7 @@ use Rattle.net_core.specs.Statements.{Statement, Inputs, Outputs, Clock, LatchLi
 use Rattle.net_core.specs.Denotes.{Denotes}
 use Rattle.net_core.specs.Sound.{Sound}
 
--- the names on a latch's line: its input and its output, and its control behind a type
+-- the names on a latch's line: its input, its output, and its control if it has a type
 abbrev pub latch_names : Option LatchParts → List (List ℕ)
 latch_names None = []
 latch_names (Some parts) = parts.input ∷ parts.output ∷ option_to_list parts.control
@@ -21,7 +21,7 @@ names_in (LatchLine operands) = latch_names (latch_parts operands)
 names_in (Names names) = names
 names_in _ = []
 
--- the text and its network are no larger than what is taken
+-- the text and its network are within the limits
 pub record IsWithinLimits (bytes : List ℕ) (N : Network) : Type 0 where
   pub names : All (λ name. length name ≤ 64) (flat_map names_in (said_in bytes))
   pub inputs : length N.inputs ≤ 256

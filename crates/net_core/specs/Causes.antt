@@ -1,4 +1,4 @@
--- Why a network is refused: a name that is driven again, a name that is used and not driven, a cycle of gates.
+-- Why a network is refused: a name that is driven twice, a name that is used and not driven, or a cycle of gates.
 use Rattle.std.specs.Prelude.{◌≡◌, ℕ, ◌≤◌, ⊤, Ok, Err, Result, List, [], ◌∷◌, ◌++◌, map, count_by, All, Contains}
 use Rattle.std.specs.List.{flat_map}
 use Rattle.std.specs.Str.{bytes_eq}
@@ -9,7 +9,7 @@ use Rattle.net_core.specs.declared.failing.NetFail.TheVariants.{TwoDrivers, Undr
 use Rattle.net_core.specs.declared.ordering.Order.{Order}
 use Rattle.net_core.specs.Sound.{Sound, driven_by, drivers_of}
 
--- no name stands twice
+-- no name occurs twice
 abbrev pub AreOnce : List (List ℕ) → Type 0
 AreOnce names = (name : List ℕ) → count_by (bytes_eq name) names ≤ 1
 
@@ -17,7 +17,7 @@ AreOnce names = (name : List ℕ) → count_by (bytes_eq name) names ≤ 1
 abbrev pub uses_of : Network → List (List ℕ)
 uses_of N = N.outputs ++ (map (λ latch. latch.input) N.latches ++ flat_map (λ gate. gate.inputs) N.gates)
 
--- the first name of a list that has stood before
+-- the first name of a list that has occurred before
 pub record IsFirstAgain (names : List (List ℕ)) (name : List ℕ) : Type 0 where
   pub earlier : List (List ℕ)
   pub later : List (List ℕ)
@@ -37,13 +37,13 @@ pub record IsFirstOutside (these names : List (List ℕ)) (name : List ℕ) : Ty
 abbrev pub GateReads : Network → List ℕ → List ℕ → Type 0
 GateReads N name other = (gate : Gate) × Contains N.gates gate × (gate.output ≡ name) × Contains gate.inputs other
 
--- the gate of each name has the next one among its inputs, from the name through the others to the last
+-- the gate of each name has the next name among its inputs: from the first name through the others to the last
 abbrev pub ReadsAlong : Network → List ℕ → List (List ℕ) → List ℕ → Type 0
 ReadsAlong N name [] last = GateReads N name last
 ReadsAlong N name (next ∷ others) last = GateReads N name next × ReadsAlong N next others last
 
--- Distinct outputs of gates, each of which reads the next, and the last the first. The gates before that of the first
--- name drive none of them.
+-- Distinct outputs of gates. The gate of each name reads the next name, and that of the last name reads the first. No
+-- gate before that of the first name drives any of them.
 pub record IsCycle (N : Network) (names : List (List ℕ)) : Type 0 where
   pub first : List ℕ
   pub others : List (List ℕ)
@@ -59,17 +59,17 @@ IsCause N (Undriven name) = AreOnce (drivers_of N) × IsFirstOutside (drivers_of
 IsCause N (Cycle names) = AreOnce (drivers_of N) × All (Contains (drivers_of N)) (uses_of N) × IsCycle N names
 IsCause N NoMemory = ⊤
 
--- the answer tells of the network, not of memory
+-- the failure is of the network, not of memory
 abbrev pub IsOfNetwork : NetFail → Type 0
 IsOfNetwork NoMemory = ⊥
 IsOfNetwork _ = ⊤
 
--- it accepts, or memory is wanting
+-- it is an order, or memory ran out
 abbrev pub AcceptsSound : Result Order NetFail → Type 0
 AcceptsSound (Ok order) = ⊤
 AcceptsSound (Err fail) = fail ≡ NoMemory
 
--- two refusals are of one kind, and but for cycles of one name
+-- two refusals are of one kind and, except for cycles, of one name
 abbrev pub AreAlike : NetFail → NetFail → Type 0
 AreAlike (TwoDrivers name) (TwoDrivers other) = name ≡ other
 AreAlike (Undriven name) (Undriven other) = name ≡ other

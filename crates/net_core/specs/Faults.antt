@@ -1,5 +1,5 @@
--- The faults of a BLIF text's statements (source: the SIS manual, narrowed to this product's profile). Each is a fact of
--- one statement and of those before it, which stand in a list that begins with the last one.
+-- The faults of the statements of a BLIF text (source: the SIS manual, narrowed to this product's profile). Each is a
+-- property of a statement and of the list of those before it, which begins with the last one.
 use Rattle.std.specs.Prelude.{◌≡◌, ℕ, ◌==◌, Bool, true, false, not, ◌&&◌, ◌||◌, nat_le, ⊤, Option, Some, None, is_none, List, [], ◌∷◌, length}
 use Rattle.std.specs.List.{flat_map, list_all, list_any}
 use Rattle.std.specs.Str.{bytes_eq}
@@ -15,18 +15,18 @@ pub data StatementFault : Type 0 where
   LatchKind : StatementFault
   Clocks : StatementFault
 
--- the first statement is another than a model's
+-- the first statement is not `.model`
 abbrev pub lacks_model : List Statement → Statement → Bool
 lacks_model [] statement = not (is_model statement)
 lacks_model (_ ∷ _) statement = false
 
--- a second model, or a word that is not read
+-- a second model, or a word that is not supported
 abbrev pub is_unsupported : List Statement → Statement → Bool
 is_unsupported earlier (Model names) = list_any is_model earlier
 is_unsupported earlier Other = true
 is_unsupported earlier _ = false
 
--- The number of fields is wrong, or the start of a latch says none. No row stands but behind the names of a gate.
+-- The number of fields is wrong, the start of a latch is no start, or a row does not come after a gate.
 abbrev pub has_bad_fields : List Statement → Statement → Bool
 has_bad_fields earlier (Model names) = not (nat_le (length names) 1)
 has_bad_fields earlier (Clock names) = not (length names == 1)
@@ -35,7 +35,7 @@ has_bad_fields earlier (Names names) = length names == 0
 has_bad_fields earlier (Row fields) = is_none (open_gate earlier)
 has_bad_fields earlier _ = false
 
--- a row of a gate with so many inputs: a plane with a character for each input and an output bit, or the bit alone
+-- a row of a gate with this number of inputs: a plane with a character for each input, and an output bit; only the bit
 -- where there are no inputs
 abbrev pub is_row_for : ℕ → List (List ℕ) → Bool
 is_row_for inputs (bit ∷ []) = inputs == 0 && is_bit bit
@@ -62,7 +62,7 @@ abbrev pub mixes_cover_of : Option OpenGate → Bool → Bool
 mixes_cover_of None bit = false
 mixes_cover_of (Some gate) bit = differs_from gate.bit bit
 
--- the output bit of a row is another than that of its gate's first row
+-- the output bit of a row differs from that of its gate's first row
 abbrev pub mixes_cover : List Statement → Statement → Bool
 mixes_cover earlier (Row fields) = mixes_cover_of (open_gate earlier) (bit_of fields)
 mixes_cover earlier _ = false
@@ -71,12 +71,12 @@ abbrev pub has_other_kind : Option LatchParts → Bool
 has_other_kind None = false
 has_other_kind (Some parts) = is_other_kind parts.kind
 
--- a latch of a type that is not read
+-- a latch of a type that is not supported
 abbrev pub is_bad_latch : Statement → Bool
 is_bad_latch (LatchLine operands) = has_other_kind (latch_parts operands)
 is_bad_latch _ = false
 
--- a name that is none of these stands there
+-- some name differs from a known one
 abbrev pub names_another : List (List ℕ) → List (List ℕ) → Bool
 names_another known names = list_any (λ name. list_any (λ other. not (bytes_eq name other)) known) names
 
@@ -85,7 +85,7 @@ abbrev pub brings_clock : List Statement → Statement → Bool
 brings_clock earlier statement =
     names_another (flat_map clocks_in earlier) (clocks_in statement) || (is_clock statement && list_any is_clock earlier)
 
--- the statement has the fault, behind those before it
+-- the statement has the fault, given those before it
 abbrev pub has_fault : StatementFault → List Statement → NumberedStatement → Bool
 has_fault BadByte earlier statement = statement.bad
 has_fault NoModel earlier statement = lacks_model earlier statement.says
@@ -99,7 +99,7 @@ has_fault Clocks earlier statement = brings_clock earlier statement.says
 abbrev pub IsFaultless : List Statement → NumberedStatement → Type 0
 IsFaultless earlier statement = (fault : StatementFault) → has_fault fault earlier statement ≡ false
 
--- each of the statements, behind those before it, has no fault
+-- none of the statements has a fault, given those before it
 abbrev pub AreFaultless : List Statement → List NumberedStatement → Type 0
 AreFaultless earlier [] = ⊤
 AreFaultless earlier (statement ∷ statements) = IsFaultless earlier statement × AreFaultless (statement.says ∷ earlier) statements

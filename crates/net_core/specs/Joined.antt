@@ -1,4 +1,4 @@
--- The lines of a BLIF text, where a backslash at a line's end joins the next one to it (source: the SIS manual).
+-- The lines of a BLIF text, where a backslash at the end of a line joins it with the next one (source: the SIS manual).
 use Rattle.std.specs.Prelude.{ℕ, ◌-◌, ◌==◌, Bool, false, not, ◌||◌, ◌&&◌, if◌then◌else◌, List, [], ◌∷◌, ◌++◌, length, filter, take, take_while, slice_index, slice_index_or}
 use Rattle.std.specs.List.{list_any}
 use Rattle.std.specs.Str.{bytes_eq}
@@ -18,7 +18,7 @@ is_continued [] = false
 is_continued (field ∷ []) = ends_in_backslash field
 is_continued (field ∷ next ∷ more) = is_continued (next ∷ more)
 
--- the fields without that backslash; a field of a backslash alone is none
+-- the fields without that backslash; where it is a field of its own, that field is dropped
 abbrev pub without_backslash : List (List ℕ) → List (List ℕ)
 without_backslash [] = []
 without_backslash (field ∷ []) = filter is_field (take (length field - 1) field ∷ [])
@@ -27,12 +27,12 @@ without_backslash (field ∷ next ∷ more) = field ∷ without_backslash (next 
 abbrev pub read_fields : List (List ℕ) → List (List ℕ)
 read_fields fields = if is_continued fields then without_backslash fields else fields
 
--- what a physical line gives to a joined one; a backslash elsewhere makes it bad
+-- the part of a joined line that a physical line gives; a backslash elsewhere makes it bad
 abbrev pub part_of : Line → Line
 part_of line =
     record { number = line.number; fields = read_fields line.fields; bad = line.bad || list_any (list_any is_backslash) (read_fields line.fields) }
 
--- a part in front of a joined line, or alone at the end of the text
+-- a part before a joined line, or alone at the end of the text
 abbrev pub in_front : Line → List Line → List Line
 in_front part [] = part ∷ []
 in_front part (line ∷ lines) =

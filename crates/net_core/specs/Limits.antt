@@ -1,5 +1,5 @@
--- The limits of a BLIF text, statement by statement. Each is a fact of one statement and of those before it, which stand in
--- a list that begins with the last one.
+-- The limits of a BLIF text, statement by statement. Each is a property of a statement and of the list of those before it,
+-- which begins with the last one.
 use Rattle.std.specs.Prelude.{◌≡◌, ℕ, ◌-◌, ◌↔◌, Bool, false, true, nat_lt, ⊤, List, [], ◌∷◌, count_by, length}
 use Rattle.std.specs.List.{filter_map, flat_map, list_any}
 use Rattle.net_core.specs.declared.Network.{Network}
@@ -24,7 +24,7 @@ abbrev pub reads_too_many : Statement → Bool
 reads_too_many (Names names) = nat_lt 256 (length names - 1)
 reads_too_many _ = false
 
--- a name of the statement is too long, or with the statement there is more than is taken
+-- a name of the statement is too long, or the statement brings a count over its limit
 abbrev pub goes_over : StatementLimit → List Statement → Statement → Bool
 goes_over NameBytes earlier statement = list_any (λ name. nat_lt 64 (length name)) (names_in statement)
 goes_over InputCount earlier statement = nat_lt 256 (length (flat_map inputs_in (statement ∷ earlier)))
@@ -33,7 +33,7 @@ goes_over LatchCount earlier statement = nat_lt 256 (length (filter_map latch_in
 goes_over GateCount earlier statement = nat_lt 65536 (count_by is_names (statement ∷ earlier))
 goes_over GateInputs earlier statement = reads_too_many statement
 
--- none of the statements goes over the limit, behind those before it
+-- none of the statements goes over the limit, given those before it
 abbrev pub KeepsLimit : StatementLimit → List Statement → List Statement → Type 0
 KeepsLimit limit earlier [] = ⊤
 KeepsLimit limit earlier (statement ∷ statements) = (goes_over limit earlier statement ≡ false) × KeepsLimit limit (statement ∷ earlier) statements

@@ -7,7 +7,7 @@ use Rattle.net_core.specs.declared.ordering.NumberedGate.{NumberedGate}
 use Rattle.net_core.specs.declared.ordering.Order.{Order}
 use Rattle.net_core.specs.Sound.{IsOrdered, driven_by, drivers_of}
 
--- the items stand at these places of the list
+-- the items are those at these places of the list
 abbrev pub AreAt : {X : Type 0} → List X → List ℕ → List X → Type 0
 AreAt list places items = AllZip (λ place item. slice_get list place ≡ Some item) places items
 
@@ -17,8 +17,8 @@ pub record IsNumbered (drivers : List (List ℕ)) (gate : Gate) (numbered : Numb
   pub rows : numbered.rows ≡ gate.rows
   pub on : numbered.on ≡ gate.on
 
--- Signals are numbered as they are driven: inputs, latch outputs, gate outputs. The sequence puts the gates in an order in
--- which each input that gates drive is driven by an earlier gate.
+-- Signals are numbered in the order inputs, latch outputs, gate outputs. The sequence puts the gates in an order in which
+-- each input that gates drive is driven by an earlier gate.
 pub record IsOrderOf (N : Network) (order : Order) : Type 0 where
   pub inputs : order.input_count ≡ length N.inputs
   pub latches : order.latch_count ≡ length N.latches

@@ -11,8 +11,8 @@ use Rattle.net_core.specs.Joined.{read_lines}
 use Rattle.net_core.specs.Start.{start_digit}
 use Rattle.net_core.specs.Words.{model_word, inputs_word, outputs_word, clock_word, latch_word, names_word, rising_edge, no_control}
 
--- What a line says, by its first field, with the fields behind it. A row has all its fields. Any other word that begins
--- with a dot says nothing that is read.
+-- What a line says, by its first field, with the fields after it. A row has all its fields. `Other` is any other word that
+-- begins with a dot.
 pub data Statement : Type 0 where
   Model : List (List ℕ) → Statement
   Inputs : List (List ℕ) → Statement
@@ -39,7 +39,7 @@ statement_of (word ∷ operands) =
     else if is_word word then Other
     else Row (word ∷ operands)
 
--- a statement, with the number of its line and whether that is bad
+-- a statement, with the number of its line and whether the line is bad
 pub record NumberedStatement : Type 0 where
   pub number : ℕ
   pub bad : Bool
@@ -84,7 +84,7 @@ pub record LatchParts : Type 0 where
   pub control : Option (List ℕ)
   pub start : Option (List ℕ)
 
--- two to five operands are these
+-- the two to five operands by what they mean
 abbrev pub latch_parts : List (List ℕ) → Option LatchParts
 latch_parts (input ∷ output ∷ []) = Some (record { input = input; output = output; kind = None; control = None; start = None })
 latch_parts (input ∷ output ∷ start ∷ []) =
@@ -104,7 +104,7 @@ start_of field =
     else if bytes_eq field (start_digit Unknown ∷ []) then Some Unknown
     else None
 
--- a missing start is not known
+-- a missing start is unknown
 abbrev pub start_said : Option (List ℕ) → Option Start
 start_said None = Some Unknown
 start_said (Some field) = start_of field
@@ -113,7 +113,7 @@ abbrev pub latch_from : LatchParts → Option Start → Option Latch
 latch_from parts None = None
 latch_from parts (Some start) = Some (record { input = parts.input; output = parts.output; start = start })
 
--- the latch of so many operands with such a start, whatever its type
+-- the latch of these operands, whatever its type, if their number and its start are right
 abbrev pub latch_of : Option LatchParts → Option Latch
 latch_of None = None
 latch_of (Some parts) = latch_from parts (start_said parts.start)
@@ -122,12 +122,12 @@ abbrev pub latch_in : Statement → Option Latch
 latch_in (LatchLine operands) = latch_of (latch_parts operands)
 latch_in _ = None
 
--- a type is another than the one that is read
+-- a type is not the one that is supported
 abbrev pub is_other_kind : Option (List ℕ) → Bool
 is_other_kind None = false
 is_other_kind (Some kind) = not (bytes_eq kind rising_edge)
 
--- a control names a clock, but for the word that says that there is none
+-- a control names a clock, unless it is the word for no control
 abbrev pub clock_named : Option (List ℕ) → List (List ℕ)
 clock_named None = []
 clock_named (Some control) = if bytes_eq control no_control then [] else control ∷ []
@@ -164,7 +164,7 @@ bit_of (bit ∷ []) = is_one bit
 bit_of (plane ∷ bit ∷ []) = is_one bit
 bit_of _ = false
 
--- the rows at the front: as long as nothing else comes
+-- the rows before any other statement
 abbrev pub rows_of : List Statement → List (List (List ℕ))
 rows_of (Row fields ∷ statements) = fields ∷ rows_of statements
 rows_of _ = []
@@ -184,13 +184,13 @@ gate_from names rows =
       on = lists_on rows;
     }
 
--- the gates, each at the statement of its names, with the rows behind it
+-- the gates, each with the rows after its names
 abbrev pub gates_of : List Statement → List Gate
 gates_of [] = []
 gates_of (Names names ∷ statements) = gate_from names (rows_of statements) ∷ gates_of statements
 gates_of (_ ∷ statements) = gates_of statements
 
--- what a gate asks of its next row: a character for each input, and the output bit of its first row, if it has one
+-- what the next row of a gate has to match: its number of inputs, and the output bit of its first row, if it has one
 pub record OpenGate : Type 0 where
   pub inputs : ℕ
   pub bit : Option Bool
@@ -199,7 +199,7 @@ abbrev pub with_row : List (List ℕ) → Option OpenGate → Option OpenGate
 with_row fields None = None
 with_row fields (Some gate) = Some (record { inputs = gate.inputs; bit = option_or gate.bit (Some (bit_of fields)) })
 
--- the gate that stands last, with nothing but rows behind it; the statements begin with the last one
+-- the last gate, if only rows come after it; the statements begin with the last one
 abbrev pub open_gate : List Statement → Option OpenGate
 open_gate (Names names ∷ earlier) = Some (record { inputs = length names - 1; bit = None })
 open_gate (Row fields ∷ earlier) = with_row fields (open_gate earlier)

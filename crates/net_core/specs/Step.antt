@@ -7,7 +7,7 @@ use Rattle.net_core.specs.declared.Network.{Network}
 use Rattle.net_core.specs.declared.Start.{Start}
 use Rattle.net_core.specs.declared.Start.TheVariants.{Zero, One, Free, Unknown}
 
--- a character of a row holds a bit: 0 and 1 the bit that they are, a dash both
+-- a character of a row holds a bit: 0 holds 0, 1 holds 1, a dash holds both
 abbrev pub character_holds : ℕ → Bool → Bool
 character_holds c bit = c == 45 || (if bit then c == 49 else c == 48)
 
@@ -50,7 +50,7 @@ bit_of_start One = Some true
 bit_of_start Free = None
 bit_of_start Unknown = None
 
--- the latch values before the first symbol are these: each start is known
+-- each start is known, and these are the latch values before the first symbol
 abbrev pub AreStarts : List Latch → List Bool → Type 0
 AreStarts latches bits = map (λ latch. bit_of_start latch.start) latches ≡ map Some bits
 

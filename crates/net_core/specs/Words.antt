@@ -22,7 +22,7 @@ names_word = codes ".names"
 abbrev pub end_word : List ℕ
 end_word = codes ".end"
 
--- the one type of latch that is read: it takes its input at the rising edge of its clock
+-- the only type of latch that is supported: it takes its input at the rising edge of its clock
 abbrev pub rising_edge : List ℕ
 rising_edge = codes "re"
 

@@ -12,8 +12,10 @@ use hs_io::{Name, Names};
 use std::alloc::{AllocError, Global};
 
 /// The gates of a sound network in an order of evaluation, or the first cause why it is not sound. A row
-/// that has not as many characters as its gate has inputs holds nothing, and is no fault here. The work grows with the number of gates and of
-/// their inputs.
+/// with fewer or more characters than its gate has inputs holds nothing, and is no fault here.
+///
+/// The time grows with the number of gates and of their inputs, and with the logarithm of the number of
+/// names, whatever the names are.
 pub fn check(alloc: Global, net: &Network) -> Result<Order, NetFail>
     ensures sound { IfOk result (λ order. Sound net.now) }
     ensures order { IfOk result (IsOrderOf net.now) }
@@ -46,8 +48,8 @@ fn order_of(alloc: Global, net: &Network) -> Result<Order, NetFail>
             gates,
             sequence,
         }),
-        Err(Stop::Ring(ring)) => Err(NetFail::Cycle {
-            names: driven_at(alloc, net.gates.as_slice(), &ring)?,
+        Err(Stop::Cycle(cycle)) => Err(NetFail::Cycle {
+            names: driven_at(alloc, net.gates.as_slice(), &cycle)?,
         }),
         Err(Stop::NoMemory) => Err(NetFail::NoMemory),
     }

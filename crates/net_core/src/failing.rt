@@ -1,20 +1,20 @@
 use hs_io::{Name, Names};
 use std::alloc::AllocError;
 
-/// Why a network is not sound. The first cause in this order is answered.
+/// Why a network is not sound. Where several causes hold, the answer is the first in this order.
 #[derive(Debug, Drop)]
 pub enum NetFail {
-    /// The first name that is driven again, where inputs, latch outputs and gate outputs drive in this
-    /// order.
+    /// The first name that is driven a second time. The inputs come first, then the latch outputs, then
+    /// the gate outputs.
     TwoDrivers { name: Name },
-    /// The first name that is used and that nothing drives, where outputs, latch inputs and the inputs of
-    /// the gates use in this order.
+    /// The first name that is used and not driven. The outputs come first, then the latch inputs, then the
+    /// inputs of the gates.
     Undriven { name: Name },
-    /// Outputs of gates, each of which has the next one among its inputs, and the last the first. That
-    /// gate of theirs which stands first in the network is the first. Where there are several cycles, any of
-    /// them may be told.
+    /// Distinct outputs of gates that form a cycle. The gate of each name has the next name among its
+    /// inputs, and the gate of the last name has the first. Of these gates, that of the first name comes
+    /// first in the network. Where there are several cycles, it may be any of them.
     Cycle { names: Names },
-    /// There is no memory left.
+    /// There is not enough memory.
     NoMemory,
 }
 

@@ -2,19 +2,19 @@
 //!
 //! A [`Network`] is plain data: inputs and outputs, latches that keep a bit from one symbol to the next,
 //! and gates, each with the rows that its value is read from. The crates that write, read and run networks
-//! promise by the definitions that stand here:
+//! promise by the definitions of this crate:
 //!
 //! - What a text denotes: its joined lines (`specs/Joined.antt`), the statements on them
-//!   (`specs/Statements.antt`, `Start.antt`), the faults of a statement behind those before it
+//!   (`specs/Statements.antt`, `Start.antt`), the faults of a statement, given those before it
 //!   (`specs/Faults.antt`), and the network of a text without faults (`specs/Denotes.antt`).
-//! - What a reader takes: the limits (`specs/Limits.antt`), and texts within them that denote a sound network
+//! - What a reader accepts: the limits (`specs/Limits.antt`), and texts within them that denote a sound network
 //!   (`specs/Blif.antt`).
 //! - Which networks are sound, so that their signals are determined (`specs/Sound.antt`, `Flat.antt`), and
 //!   what a network does at a symbol and over words (`specs/Step.antt`).
 //!
-//! [`check`] answers for each network. Of a sound one it gives the gates in an order of evaluation
-//! (`specs/Order.antt`), and of any other one the first cause why it is not sound (`specs/Causes.antt`). What
-//! stands in `specs/Inner` serves private functions alone.
+//! [`check`] gives the gates of a sound network in an order of evaluation (`specs/Order.antt`), and for any
+//! other network the first cause why it is not sound (`specs/Causes.antt`). `specs/Inner` is for private
+//! functions only.
 //!
 //! The laws of these definitions, and small worked texts and networks, are contracts of functions that do
 //! nothing.
@@ -24,11 +24,11 @@ ghost use Rattle.std.specs.Prelude.{◌≡◌};
 ghost use Rattle.net_core.specs.Start.{start_digit};
 
 mod checking;
+mod cycle;
 mod failing;
 mod laws;
 mod numbering;
 mod ordering;
-mod ring;
 mod walking;
 mod worked;
 
@@ -53,12 +53,12 @@ pub enum Start {
     One,
     /// Either value.
     Free,
-    /// Not said.
+    /// Not given.
     Unknown,
 }
 
 impl Start {
-    /// The digit that stands for it in BLIF.
+    /// Its digit in BLIF.
     pub fn digit(self) -> u8
         ensures { result ≡ start_digit self }
     {
@@ -71,8 +71,8 @@ impl Start {
     }
 }
 
-/// A latch takes the value of its input signal at each symbol, and gives it on its output signal at the
-/// next.
+/// A latch. At each symbol it takes the value of its input signal, which is the value of its output signal at
+/// the next symbol.
 #[derive(Debug, Drop)]
 pub struct Latch {
     pub input: Name,
@@ -84,7 +84,7 @@ pub struct Latch {
 pub type Latches = Items<Latch>;
 
 /// A gate. Each row is a text over `0`, `1` and `-`, with a character for each input. The value of the
-/// gate is `on` where some row holds its inputs, and the contrary elsewhere.
+/// gate is `on` where some row holds its inputs, and the opposite elsewhere.
 #[derive(Debug, Drop)]
 pub struct Gate {
     pub inputs: Names,
@@ -105,7 +105,7 @@ pub struct Network {
     pub gates: Gates,
 }
 
-/// The names of a network's signals, latch by latch for the last two.
+/// The names of a network's signals. The last two lists have one name for each latch, in order.
 #[derive(Debug, Drop)]
 pub struct SignalNames {
     pub inputs: Names,

@@ -2,7 +2,7 @@ ghost use Rattle.std.specs.Prelude.{◌≡◌, ◌+◌, ◌<◌, length, All};
 
 use hs_io::Names;
 
-/// A gate whose signals are numbers. What it drives follows from its place: see [`Order`].
+/// A gate whose inputs are numbers of signals. Its place tells the signal that it drives: see [`Order`].
 #[derive(Debug, Drop)]
 pub struct NumberedGate {
     pub inputs: Vec<usize>,
@@ -12,10 +12,10 @@ pub struct NumberedGate {
 
 /// The gates of a network in an order of evaluation.
 ///
-/// Signals are numbered as they are driven: first the inputs, then the latch outputs, then the outputs of
-/// the gates, in the order of the network. So the gate at place `g` of `gates` drives the signal `input_count +
-/// latch_count + g`. Whoever gives bits to the inputs and the latch outputs, and then evaluates the gates as
-/// `sequence` names them, finds the bits of all inputs of a gate when its turn comes.
+/// Signals are numbered from 0: first the inputs, then the latch outputs, then the outputs of the gates, in
+/// the order of the network. So the gate at place `g` of `gates` drives the signal `input_count + latch_count +
+/// g`. If the inputs and the latch outputs have their bits, and the gates are evaluated in the order of
+/// `sequence`, then each gate finds the bits of its inputs.
 #[derive(Debug, Drop)]
 pub struct Order {
     pub signal_count: usize,
@@ -25,9 +25,9 @@ pub struct Order {
     pub output_signals: Vec<usize>,
     /// The signals of the latch inputs.
     pub latch_signals: Vec<usize>,
-    /// The gates as they stand in the network.
+    /// The gates in the order of the network.
     pub gates: Vec<NumberedGate>,
-    /// Places of `gates`, each once.
+    /// The places of the gates in an order of evaluation, each once.
     pub sequence: Vec<usize>,
     pub ghost counted: { input_count + latch_count + length gates.items ≡ signal_count },
     pub ghost outputs_within: { All (λ s. s < signal_count) output_signals.items },

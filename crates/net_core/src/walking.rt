@@ -1,17 +1,18 @@
-//! An order of gates, or a ring of them: a walk goes from each gate to what it needs, and places it behind that.
+//! An order of gates, or a cycle of them: a walk goes from each gate to the gates that it needs, and places it
+//! after them.
 
 ghost use Rattle.std.specs.Prelude.{◌≡◌, ℕ, ◌+◌, ◌-◌, ◌<◌, ◌≤◌, ◌^◌, List, [], ◌∷◌, ◌++◌, All, Contains, IfErr, IfOk, OnOk, Some, length, map, slice_get, slice_set};
-ghost use Rattle.net_core.specs.Inner.Walk.{IsLook, IsPath, IsStanding, IsSequence, RisesAt, TellsRing, ReadsWithin, Walks, reads_of, last_stage, stage_of};
+ghost use Rattle.net_core.specs.Inner.Walk.{IsLook, IsPath, IsStanding, IsSequence, RisesAt, TellsCycle, ReadsWithin, Walks, reads_of, last_stage, stage_of};
 
+use crate::cycle::cycle_of;
 use crate::ordering::NumberedGate;
-use crate::ring::ring_of;
 use std::alloc::{AllocError, Global};
 
 /// Why a walk stops.
 #[derive(Debug, Drop)]
 pub(crate) enum Stop {
-    /// Gates that need one another, each the next and the last the first.
-    Ring(Vec<usize>),
+    /// A cycle: each gate needs the next one, and the last gate needs the first.
+    Cycle(Vec<usize>),
     NoMemory,
 }
 
@@ -26,22 +27,22 @@ impl From<AllocError> for Stop {
     }
 }
 
-/// What the walk finds at the gate that stands last on its path.
+/// What the walk finds at the last gate of its path.
 #[derive(Clone, Copy, Debug)]
 enum Look {
-    /// All inputs were looked at.
+    /// It has looked at all inputs.
     Whole,
-    /// The next input waits for no gate.
+    /// The next input has its value: no gate drives it, or one that is placed.
     Settled,
-    /// The walk has not come to the gate that drives the next input.
+    /// The walk has not reached the gate that drives the next input.
     New(usize),
-    /// The gate that drives the next input stands on the path.
+    /// The gate that drives the next input is on the path.
     Open(usize),
 }
 
-/// How far a walk has come. A gate's stage is 0 before the walk comes to it, one more than the number of
-/// its inputs that were looked at while it stands on the path, and two more than all of them when it is
-/// placed.
+/// The state of a walk. The stage of a gate is 0 before the walk reaches it. On the path it is one more than
+/// the number of its inputs that the walk has looked at. Once the gate is placed, it is two more than the
+/// number of its inputs.
 #[derive(Drop)]
 pub(crate) struct Walk {
     stages: Vec<usize>,
@@ -49,8 +50,8 @@ pub(crate) struct Walk {
     placed: Vec<usize>,
 }
 
-/// The places of the gates in an order of evaluation, or those of a ring. The gates drive the signals from
-/// `base` on.
+/// The places of the gates in an order of evaluation, or those of a cycle. The gates drive the signals from
+/// number `base` on.
 pub(crate) fn sequence(
     alloc: Global,
     base: usize,
@@ -58,7 +59,7 @@ pub(crate) fn sequence(
 ) -> Result<Vec<usize>, Stop>
     requires within { ReadsWithin (base + length gates.now) (reads_of gates.now) }
     ensures ok { IfOk result (λ places. IsSequence base (reads_of gates.now) places.items) }
-    ensures err { IfErr result (TellsRing base (reads_of gates.now)) }
+    ensures err { IfErr result (TellsCycle base (reads_of gates.now)) }
 {
     let mut walk = Walk::new(alloc, base, gates)?;
     for gate in 0..gates.len() {
@@ -79,7 +80,7 @@ impl Walk {
         })
     }
 
-    /// Places a gate behind all that it needs.
+    /// Places a gate after all gates that it needs.
     fn place(
         &mut self,
         alloc: Global,
@@ -95,7 +96,7 @@ impl Walk {
         ensures path { OnOk result (self.new.path.items ≡ []) }
         ensures started { OnOk result (0 < stage_of self.new gate) }
         ensures kept { OnOk result ((g : ℕ) → stage_of self.old g ≤ stage_of self.new g) }
-        ensures err { IfErr result (TellsRing base (reads_of gates.now)) }
+        ensures err { IfErr result (TellsCycle base (reads_of gates.now)) }
     {
         if self.stages[gate] == 0 {
             self.enter(base, gates, gate)?;
@@ -106,7 +107,7 @@ impl Walk {
         Ok(())
     }
 
-    /// One step at the gate that stands last on the path.
+    /// One step at the last gate of the path.
     fn step(
         &mut self,
         alloc: Global,
@@ -119,13 +120,13 @@ impl Walk {
         requires top { slice_get self.old.path.items (length self.old.path.items - 1) ≡ Some top }
         ensures walk { OnOk result (Walks base gates.now self.new) }
         ensures rises { OnOk result ((g : ℕ) × (g < length gates.now) × RisesAt g self.old self.new) }
-        ensures err { IfErr result (TellsRing base (reads_of gates.now)) }
+        ensures err { IfErr result (TellsCycle base (reads_of gates.now)) }
     {
         match self.look(base, gates, top) {
             Look::Whole => self.finish(base, gates, top)?,
             Look::Settled => self.advance(base, gates, top),
             Look::New(next) => self.enter(base, gates, next)?,
-            Look::Open(next) => return Err(Stop::Ring(ring_of(alloc, &self.path, next)?)),
+            Look::Open(next) => return Err(Stop::Cycle(cycle_of(alloc, &self.path, next)?)),
         }
         Ok(())
     }
@@ -150,7 +151,7 @@ impl Walk {
         self.standing(gates, signal - base)
     }
 
-    /// How the gate stands that drives an input.
+    /// How far the walk has come with the gate that drives an input.
     fn standing(&self, gates: &[NumberedGate], next: usize) -> Look
         requires count { length self.now.stages.items ≡ length gates.now }
         requires gate { next < length gates.now }
@@ -167,7 +168,7 @@ impl Walk {
         }
     }
 
-    /// Puts a gate that the walk comes to on the path.
+    /// Puts a new gate on the path.
     fn enter(&mut self, base: usize, gates: &[NumberedGate], gate: usize) -> Result<(), AllocError>
         requires walk { Walks base gates.now self.old }
         requires gate { gate < length gates.now }
@@ -181,7 +182,7 @@ impl Walk {
         Ok(())
     }
 
-    /// Passes the input that the last gate of the path looks at.
+    /// Goes on to the next input of the last gate of the path.
     fn advance(&mut self, base: usize, gates: &[NumberedGate], top: usize)
         requires walk { Walks base gates.now self.old }
         requires top { Contains self.old.path.items top }

@@ -1,17 +1,17 @@
--- What a part of the work tells where it fails.
+-- What the failures of the parts of `check` say.
 use Rattle.std.specs.Prelude.{ℕ, ⊤, List}
 use Rattle.net_core.specs.declared.failing.NetFail.{NetFail}
 use Rattle.net_core.specs.declared.failing.NetFail.TheVariants.{TwoDrivers, Undriven, Cycle, NoMemory}
 use Rattle.net_core.specs.Causes.{IsFirstAgain, IsFirstOutside}
 
--- of the drivers, that one comes again
+-- the name is the first driver that occurs twice, unless memory ran out
 abbrev pub TellsAgain : List (List ℕ) → NetFail → Type 0
 TellsAgain names (TwoDrivers name) = IsFirstAgain names name
 TellsAgain names (Undriven _) = ⊥
 TellsAgain names (Cycle _) = ⊥
 TellsAgain names NoMemory = ⊤
 
--- of the uses, that one is not driven
+-- the name is the first use that is not driven, unless memory ran out
 abbrev pub TellsOutside : List (List ℕ) → List (List ℕ) → NetFail → Type 0
 TellsOutside these names (TwoDrivers _) = ⊥
 TellsOutside these names (Undriven name) = IsFirstOutside these names name

@@ -1,11 +1,11 @@
--- Gates by their places, and how far a walk from gate to gate has come.
+-- Gates by their places, and the state of a walk from gate to gate.
 use Rattle.std.specs.Prelude.{◌≡◌, ℕ, ◌+◌, ◌-◌, ◌<◌, ◌≤◌, ◌==◌, ⊤, List, [], ◌∷◌, length, map, count_by, slice_index, slice_index_or, slice_set, All, Contains}
 use Rattle.net_core.specs.declared.ordering.NumberedGate.{NumberedGate}
 use Rattle.net_core.specs.declared.walking.Walk.{Walk}
 use Rattle.net_core.specs.declared.walking.Look.{Look}
 use Rattle.net_core.specs.declared.walking.Look.TheVariants.{Whole, Settled, New, Open}
 use Rattle.net_core.specs.declared.walking.Stop.{Stop}
-use Rattle.net_core.specs.declared.walking.Stop.TheVariants.{Ring, NoMemory}
+use Rattle.net_core.specs.declared.walking.Stop.TheVariants.{Cycle, NoMemory}
 
 -- the signals that a gate reads
 abbrev pub read_by : List (List ℕ) → ℕ → List ℕ
@@ -15,7 +15,7 @@ read_by reads g = slice_index_or reads g []
 abbrev pub Needs : ℕ → List (List ℕ) → ℕ → ℕ → Type 0
 Needs base reads g h = Contains (read_by reads g) (base + h)
 
--- no gate stands twice
+-- no gate occurs twice
 abbrev pub StandOnce : List ℕ → Type 0
 StandOnce places = (g : ℕ) → count_by (λ place. g == place) places ≤ 1
 
@@ -24,26 +24,26 @@ abbrev pub NeedsAlong : ℕ → List (List ℕ) → ℕ → List ℕ → ℕ →
 NeedsAlong base reads g [] last = Needs base reads g last
 NeedsAlong base reads g (next ∷ others) last = Needs base reads g next × NeedsAlong base reads next others last
 
--- each gate of the path needs the one behind it
+-- each gate of the path needs the next one
 abbrev pub IsPath : ℕ → List (List ℕ) → List ℕ → Type 0
 IsPath base reads [] = ⊤
 IsPath base reads (g ∷ []) = ⊤
 IsPath base reads (g ∷ next ∷ others) = Needs base reads g next × IsPath base reads (next ∷ others)
 
--- each gate stands behind those that it needs
+-- each gate comes after those that it needs
 abbrev pub IsBehind : ℕ → List (List ℕ) → List ℕ → List ℕ → Type 0
 IsBehind base reads earlier [] = ⊤
 IsBehind base reads earlier (g ∷ others) = ((h : ℕ) → Needs base reads g h → Contains earlier h) × IsBehind base reads (g ∷ earlier) others
 
--- all gates, each once, behind those that they need
+-- all gates, each once, after those that they need
 pub record IsSequence (base : ℕ) (reads : List (List ℕ)) (places : List ℕ) : Type 0 where
   pub within : All (λ g. g < length reads) places
   pub whole : (g : ℕ) → g < length reads → Contains places g
   pub once : StandOnce places
   pub behind : IsBehind base reads [] places
 
--- gates of which each needs the next, and the last the first, which stands before the others
-pub record IsRing (base : ℕ) (reads : List (List ℕ)) (places : List ℕ) : Type 0 where
+-- gates of which each needs the next one and the last needs the first, whose place is the least
+pub record IsGateCycle (base : ℕ) (reads : List (List ℕ)) (places : List ℕ) : Type 0 where
   pub first : ℕ
   pub others : List ℕ
   pub is : places ≡ first ∷ others
@@ -52,16 +52,17 @@ pub record IsRing (base : ℕ) (reads : List (List ℕ)) (places : List ℕ) : T
   pub needs : NeedsAlong base reads first others first
   pub least : All (λ g. first ≤ g) places
 
--- what a walk that stops tells
-abbrev pub TellsRing : ℕ → List (List ℕ) → Stop → Type 0
-TellsRing base reads (Ring places) = IsRing base reads places.items
-TellsRing base reads NoMemory = ⊤
+-- what a walk that stops says
+abbrev pub TellsCycle : ℕ → List (List ℕ) → Stop → Type 0
+TellsCycle base reads (Cycle places) = IsGateCycle base reads places.items
+TellsCycle base reads NoMemory = ⊤
 
 abbrev pub last_stage : List (List ℕ) → ℕ → ℕ
 last_stage reads g = length (read_by reads g) + 2
 
--- The stages of the gates, the gates on the path, and those that are placed. A stage is 0 before the walk comes to the gate,
--- one more than the inputs that were looked at while it is on the path, and two more than all of them when it is placed.
+-- The stages of the gates, the gates on the path, and those that are placed. The stage of a gate is 0 before the walk
+-- reaches it. On the path it is one more than the number of its inputs that the walk has looked at; once placed, it is two
+-- more than the number of its inputs.
 pub record IsWalk (base : ℕ) (reads : List (List ℕ)) (stages path placed : List ℕ) : Type 0 where
   pub count : length stages ≡ length reads
   pub bounded : (g : ℕ) → g < length reads → slice_index stages g ≤ last_stage reads g
@@ -100,7 +101,7 @@ IsLook base reads walk top Settled = (stage_of walk top + 1 < last_stage reads t
 IsLook base reads walk top (New next) = (next < length reads) × Needs base reads top next × (stage_of walk next ≡ 0)
 IsLook base reads walk top (Open next) = Needs base reads top next × Contains walk.path.items next
 
--- how a gate stands that drives an input
+-- how far the walk has come with the gate that drives an input
 abbrev pub IsStanding : List (List ℕ) → Walk → ℕ → Look → Type 0
 IsStanding reads walk next Whole = ⊥
 IsStanding reads walk next Settled = last_stage reads next ≤ stage_of walk next

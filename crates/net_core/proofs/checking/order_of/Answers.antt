@@ -7,10 +7,10 @@ use Rattle.net_core.specs.declared.ordering.NumberedGate.{NumberedGate}
 use Rattle.net_core.specs.Causes.{AreOnce, IsCause}
 use Rattle.net_core.specs.Order.{AreAt, IsNumbered}
 use Rattle.net_core.specs.Sound.{driven_by, drivers_of}
-use Rattle.net_core.specs.Inner.Walk.{IsRing, IsSequence, ReadsWithin, reads_of}
+use Rattle.net_core.specs.Inner.Walk.{IsGateCycle, IsSequence, ReadsWithin, reads_of}
 use Rattle.net_core.proofs.Checked.{at_moved, cause_cycle, cause_gates, cause_latches, cause_outputs, count_drivers, inputs_within, signals_within, sound_from_order, told_moved, zip_moved}
 use Rattle.net_core.proofs.Numbered.{all_within, at_exit, zip_lengths}
-use Rattle.net_core.proofs.Ordered.{cycle_from_ring, gates_in_order}
+use Rattle.net_core.proofs.Ordered.{named_cycle, gates_in_order}
 use Rattle.net_core.proofs.checking.order_of.Goals as goal
 use Rattle.net_core.proofs.checking.order_of.Goals.{In_ok-output_signals, In_ok-latch_signals, In_ok-gates, After-sequence}
 
@@ -135,33 +135,33 @@ pub driven_at-requires : goal.driven_at-requires
 driven_at-requires c =
     let N = c.args.net.now in
     let zip = gates_of (goal.at.driven_at-requires c).In_ok-gates in
-    let ring : IsRing (length c.as_slice-input_count.result.now + length c.as_slice-latch_count.result.now) (reads_of c.deref.result.now) c.in-Err-Ring.ring.items =
-    rw c.in-Err-Ring.field-0-is at c.in-Err-Ring.ensures.err in
-    let found : IsRing (length N.inputs + length N.latches) (reads_of c.in_ok-gates.gates.items) c.in-Err-Ring.ring.items =
-    at_network (goal.at.driven_at-requires c).After-sequence (λ base reads. IsRing base reads c.in-Err-Ring.ring.items) ring in
-    let within : All (λ g. g < length N.gates) c.in-Err-Ring.ring.items =
+    let cycle : IsGateCycle (length c.as_slice-input_count.result.now + length c.as_slice-latch_count.result.now) (reads_of c.deref.result.now) c.in-Err-Cycle.cycle.items =
+    rw c.in-Err-Cycle.field-0-is at c.in-Err-Cycle.ensures.err in
+    let found : IsGateCycle (length N.inputs + length N.latches) (reads_of c.in_ok-gates.gates.items) c.in-Err-Cycle.cycle.items =
+    at_network (goal.at.driven_at-requires c).After-sequence (λ base reads. IsGateCycle base reads c.in-Err-Cycle.cycle.items) cycle in
+    let within : All (λ g. g < length N.gates) c.in-Err-Cycle.cycle.items =
     λ k d lt. omega (
       arith,
       found.within k d lt,
       length-map c.in_ok-gates.gates.items (λ gate. gate.inputs.items),
       zip_lengths (IsNumbered (drivers_of N)) N.gates c.in_ok-gates.gates.items zip,
     ) in
-    subst (λ (gates : List Gate). All (λ g. g < length gates) c.deref-in-Err-Ring.result.now) (sym c.as_slice-in-Err-Ring.ensures)
-    (subst (λ (places : List ℕ). All (λ g. g < length N.gates) places) (sym c.deref-in-Err-Ring.ensures.value) within)
+    subst (λ (gates : List Gate). All (λ g. g < length gates) c.deref-in-Err-Cycle.result.now) (sym c.as_slice-in-Err-Cycle.ensures)
+    (subst (λ (places : List ℕ). All (λ g. g < length N.gates) places) (sym c.deref-in-Err-Cycle.ensures.value) within)
 
-pub returns-in-Err-Ring-clause-cause : goal.returns-in-Err-Ring-clause-cause
-returns-in-Err-Ring-clause-cause c =
+pub returns-in-Err-Cycle-clause-cause : goal.returns-in-Err-Cycle-clause-cause
+returns-in-Err-Cycle-clause-cause c =
     let N = c.args.net.now in
-    let at = (goal.at.returns-in-Err-Ring-clause-cause c).In_ok-gates in
-    let before = (goal.at.returns-in-Err-Ring-clause-cause c).In_ok-output_signals in
-    let latches = (goal.at.returns-in-Err-Ring-clause-cause c).In_ok-latch_signals in
-    let names = c.in_ok-driven_at-in-Err-Ring.field-0 in
-    let ring : IsRing (length c.as_slice-input_count.result.now + length c.as_slice-latch_count.result.now) (reads_of c.deref.result.now) c.in-Err-Ring.ring.items =
-    rw c.in-Err-Ring.field-0-is at c.in-Err-Ring.ensures.err in
-    let found : IsRing (length N.inputs + length N.latches) (reads_of c.in_ok-gates.gates.items) c.in-Err-Ring.ring.items =
-    at_network (goal.at.returns-in-Err-Ring-clause-cause c).After-sequence (λ base reads. IsRing base reads c.in-Err-Ring.ring.items) ring in
-    let named : AreAt (driven_by N.gates) c.in-Err-Ring.ring.items names =
-    subst (λ (gates : List Gate). AreAt (driven_by gates) c.in-Err-Ring.ring.items names) c.as_slice-in-Err-Ring.ensures
-    (subst (λ (places : List ℕ). AreAt (driven_by c.as_slice-in-Err-Ring.result.now) places names) c.deref-in-Err-Ring.ensures.value c.in_ok-driven_at-in-Err-Ring.ensures) in
+    let at = (goal.at.returns-in-Err-Cycle-clause-cause c).In_ok-gates in
+    let before = (goal.at.returns-in-Err-Cycle-clause-cause c).In_ok-output_signals in
+    let latches = (goal.at.returns-in-Err-Cycle-clause-cause c).In_ok-latch_signals in
+    let names = c.in_ok-driven_at-in-Err-Cycle.field-0 in
+    let cycle : IsGateCycle (length c.as_slice-input_count.result.now + length c.as_slice-latch_count.result.now) (reads_of c.deref.result.now) c.in-Err-Cycle.cycle.items =
+    rw c.in-Err-Cycle.field-0-is at c.in-Err-Cycle.ensures.err in
+    let found : IsGateCycle (length N.inputs + length N.latches) (reads_of c.in_ok-gates.gates.items) c.in-Err-Cycle.cycle.items =
+    at_network (goal.at.returns-in-Err-Cycle-clause-cause c).After-sequence (λ base reads. IsGateCycle base reads c.in-Err-Cycle.cycle.items) cycle in
+    let named : AreAt (driven_by N.gates) c.in-Err-Cycle.cycle.items names =
+    subst (λ (gates : List Gate). AreAt (driven_by gates) c.in-Err-Cycle.cycle.items names) c.as_slice-in-Err-Cycle.ensures
+    (subst (λ (places : List ℕ). AreAt (driven_by c.as_slice-in-Err-Cycle.result.now) places names) c.deref-in-Err-Cycle.ensures.value c.in_ok-driven_at-in-Err-Cycle.ensures) in
     cause_cycle N (once_of before) c.in_ok-output_signals.output_signals.items c.in_ok-latch_signals.latch_signals.items c.in_ok-gates.gates.items (outputs_of before) (latches_of latches) (gates_of at) names
-    (cycle_from_ring N c.in_ok-gates.gates.items (once_of before) (gates_of at) c.in-Err-Ring.ring.items names found named)
+    (named_cycle N c.in_ok-gates.gates.items (once_of before) (gates_of at) c.in-Err-Cycle.cycle.items names found named)

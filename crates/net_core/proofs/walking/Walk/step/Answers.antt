@@ -2,10 +2,10 @@ use Rattle.std.proofs.Common.{◌-◌, ◌++◌, ◌∷◌, [], ℕ, List, lengt
 use Rattle.std.proofs.lemmas.List.{length-map}
 use Rattle.net_core.specs.declared.walking.Walk.{Walk}
 use Rattle.net_core.specs.Inner.Walk.{IsPath, RisesAt, Walks, reads_of}
-use Rattle.net_core.specs.Inner.Ring.{IsTurned}
+use Rattle.net_core.specs.Inner.Cycle.{IsTurned}
 use Rattle.net_core.proofs.Numbered.{stands_at}
 use Rattle.net_core.proofs.Stages.{path_push, split_last}
-use Rattle.net_core.proofs.Turning.{ring_from_path}
+use Rattle.net_core.proofs.Turning.{cycle_from_path}
 use Rattle.net_core.proofs.walking.Walk.step.Goals as goal
 use Rattle.net_core.proofs.walking.Walk.step.Goals.{in-Whole+in_ok-finish-in-Whole, in-Settled, in-New+in_ok-enter-in-New}
 
@@ -20,8 +20,8 @@ enter-requires-clause-path c =
 pub returns-in-Open-clause-err : goal.returns-in-Open-clause-err
 returns-in-Open-clause-err c =
     let walk = c.args.self.now in
-    ring_from_path c.args.base (reads_of c.args.gates.now) walk.stages.items walk.path.items walk.placed.items c.args.top c.in-Open.next c.in_ok-ring_of-in-Open.field-0.items c.requires.walk c.requires.top c.in-Open.ensures.0
-    (subst (λ (path : List ℕ). IsTurned path c.in-Open.next c.in_ok-ring_of-in-Open.field-0.items) c.deref.ensures.value c.in_ok-ring_of-in-Open.ensures)
+    cycle_from_path c.args.base (reads_of c.args.gates.now) walk.stages.items walk.path.items walk.placed.items c.args.top c.in-Open.next c.in_ok-cycle_of-in-Open.field-0.items c.requires.walk c.requires.top c.in-Open.ensures.0
+    (subst (λ (path : List ℕ). IsTurned path c.in-Open.next c.in_ok-cycle_of-in-Open.field-0.items) c.deref.ensures.value c.in_ok-cycle_of-in-Open.ensures)
 
 pub look-requires-clause-gate : goal.look-requires-clause-gate
 look-requires-clause-gate c =

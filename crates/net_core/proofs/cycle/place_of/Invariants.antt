@@ -1,5 +1,5 @@
 use Rattle.std.proofs.Common.{◌≡◌, ℕ, ◌<◌, get_or}
-use Rattle.net_core.proofs.ring.place_of.Given as goal
+use Rattle.net_core.proofs.cycle.place_of.Given as goal
 
 abbrev pub invariant-loop-i : goal.invariant-loop-i
 invariant-loop-i l = (k : ℕ) → k < l.i → get_or l.path k 0 ≡ l.gate → ⊥

@@ -1,25 +1,25 @@
-//! The ring at the end of a path.
+//! The cycle at the end of a path.
 
 ghost use Rattle.std.specs.Prelude.{◌≡◌, ◌<◌, Contains, IfOk, length, nat_lt, slice_index};
 ghost use Rattle.std.specs.List.{IsFirstBest};
-ghost use Rattle.net_core.specs.Inner.Ring.{IsTurned};
+ghost use Rattle.net_core.specs.Inner.Cycle.{IsTurned};
 
 use std::alloc::{AllocError, Global};
 
-/// The path from the gate `next` on, turned so that the least place stands first.
-pub(crate) fn ring_of(alloc: Global, path: &[usize], next: usize) -> Result<Vec<usize>, AllocError>
+/// The path from the gate `next` on, rotated so that the least place comes first.
+pub(crate) fn cycle_of(alloc: Global, path: &[usize], next: usize) -> Result<Vec<usize>, AllocError>
     requires { Contains path.now next }
-    ensures { IfOk result (λ ring. IsTurned path.now next ring.items) }
+    ensures { IfOk result (λ cycle. IsTurned path.now next cycle.items) }
 {
     let from = place_of(path, next);
-    let ring = &path[from..];
-    let least = place_of_least(ring);
-    let mut turned = Vec::from_slice(alloc, &ring[least..])?;
-    turned.extend_from_slice(&ring[..least])?;
+    let cycle = &path[from..];
+    let least = place_of_least(cycle);
+    let mut turned = Vec::from_slice(alloc, &cycle[least..])?;
+    turned.extend_from_slice(&cycle[..least])?;
     Ok(turned)
 }
 
-/// The place where a gate stands on the path.
+/// The index of a gate on the path.
 fn place_of(path: &[usize], gate: usize) -> usize
     requires { Contains path.now gate }
     ensures within { result < length path.now }

@@ -1,6 +1,6 @@
 use Rattle.std.proofs.Common.{nat_lt}
 use Rattle.std.specs.List.{IsFirstBest}
-use Rattle.net_core.proofs.ring.place_of_least.Given as goal
+use Rattle.net_core.proofs.cycle.place_of_least.Given as goal
 
 abbrev pub invariant-loop-i : goal.invariant-loop-i
 invariant-loop-i l = IsFirstBest nat_lt l.numbers l.i l.least
