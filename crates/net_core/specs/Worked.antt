@@ -1,5 +1,5 @@
 -- Small networks, whose names are letters, and small BLIF texts.
-use Rattle.std.specs.Prelude.{ℕ, Bool, true, false, List, [], ◌∷◌, map, codes}
+use Rattle.std.specs.Prelude.{ℕ, Bool, true, false, List, [], ◌∷◌, map, codes, replicate}
 use Rattle.net_core.specs.declared.Gate.{Gate}
 use Rattle.net_core.specs.declared.Latch.{Latch}
 use Rattle.net_core.specs.declared.Network.{Network}
@@ -28,8 +28,15 @@ network inputs outputs latches gates = record { inputs = letters inputs; outputs
 abbrev pub empty_network : Network
 empty_network = network [] [] [] []
 
--- Comments, blank lines, a line that goes on behind a comment and a carriage return, one that goes on with a line
--- without fields, and one that goes on nowhere.
+-- a name of 65 bytes, and a network with this input
+abbrev pub long_name : List ℕ
+long_name = replicate 65 97
+
+abbrev pub one_input : List ℕ → Network
+one_input name = record { inputs = name ∷ []; outputs = []; latches = []; gates = [] }
+
+-- Comments, blank lines, and lines that end in a backslash: before a comment and a carriage return, before a line without
+-- fields, and at the end of the text.
 abbrev pub joined_text : List ℕ
 joined_text =
     codes "# \u{1}\n\n.model m # \u{1}\n.inputs a \\ # and\r\n\tb\\\n c\n.outputs z \\\n\n.names a b c z\n1-1 1\n.outputs y\\"
@@ -47,7 +54,7 @@ starts_network =
     (latch (codes "a") (codes "p") Zero ∷ latch (codes "a") (codes "q") One ∷ latch (codes "a") (codes "r") Free ∷ latch (codes "a") (codes "s") Unknown ∷ latch (codes "a") (codes "t") Unknown ∷ [])
     []
 
--- latches with a type and a control, with a start and without
+-- latches with a type and a control, and with or without a start
 abbrev pub controls_text : List ℕ
 controls_text = codes ".model m\n.inputs a c\n.latch a p re c 1\n.clock c\n.latch a q re c\n.latch a r re NIL 0\n.latch a s 1\n"
 
@@ -57,7 +64,7 @@ controls_network =
     (latch (codes "a") (codes "p") One ∷ latch (codes "a") (codes "q") Unknown ∷ latch (codes "a") (codes "r") Zero ∷ latch (codes "a") (codes "s") One ∷ [])
     []
 
--- gates that list their on-set and their off-set, without rows, and without inputs
+-- gates that list their on-set or their off-set, and gates without rows or without inputs
 abbrev pub gates_text : List ℕ
 gates_text =
     codes ".model m\n.inputs a b\n.names a b u\n1- 1\n-1 1\n.names b a v\n0- 0\n-0 0\n.names a w\n.names x\n.names y\n1\n.names z\n0\n"
@@ -73,7 +80,7 @@ gates_network =
     ∷ gate [] (codes "z") ([] ∷ []) false
     ∷ [])
 
--- the network gives nothing for these latch values and this symbol
+-- the network has no step for these latch values and this symbol
 abbrev pub HasNoStep : Network → List Bool → List Bool → Type 0
 HasNoStep N state symbol = (answer next : List Bool) → Step N state symbol answer next → ⊥
 
@@ -89,7 +96,7 @@ reads_later =
     network (codes "a") (codes "c") []
     (gate (codes "b") (codes "c") (codes "0" ∷ []) true ∷ gate (codes "a") (codes "b") (codes "1" ∷ []) true ∷ [])
 
--- a gate that is its own contrary, and one that is itself
+-- a gate that has the opposite of its own value, and one that has its own value
 abbrev pub own_contrary : Network
 own_contrary = network (codes "a") (codes "b") [] (gate (codes "b") (codes "b") (codes "0" ∷ []) true ∷ [])
 

@@ -1,14 +1,14 @@
-//! Small texts with what they denote, texts that denote nothing, and small networks with their steps, as
+//! Small texts with what they denote, texts that denote nothing, and small networks with their steps, as the
 //! contracts of functions that do nothing.
 
-ghost use Rattle.std.specs.Prelude.{◌≡◌, true, false, [], ◌∷◌, map, codes};
+ghost use Rattle.std.specs.Prelude.{◌≡◌, true, false, [], ◌∷◌, ◌++◌, map, codes};
 ghost use Rattle.net_core.specs.declared.Start.TheVariants.{Zero};
 ghost use Rattle.net_core.specs.Denotes.{Denotes};
 ghost use Rattle.net_core.specs.Statements.{statements_of};
 ghost use Rattle.net_core.specs.Step.{Step, gate_value};
-ghost use Rattle.net_core.specs.Worked.{DenotesNothing, HasNoStep, empty_network, gate, network, toggle, reads_later, own_contrary, own_value, joined_text, joined_network, starts_text, starts_network, controls_text, controls_network, gates_text, gates_network, latch};
+ghost use Rattle.net_core.specs.Worked.{DenotesNothing, HasNoStep, empty_network, gate, network, toggle, reads_later, own_contrary, own_value, joined_text, joined_network, starts_text, starts_network, controls_text, controls_network, gates_text, gates_network, latch, long_name, one_input};
 
-/// Lines that are joined, cut short, skipped, bad or behind the end.
+/// Lines that are joined, skipped, bad, or after the end of the text.
 pub fn worked_lines()
     ensures joined { Denotes joined_text joined_network }
     ensures numbers { map (λ s. s.number) (statements_of joined_text) ≡ 3 ∷ 4 ∷ 7 ∷ 9 ∷ 10 ∷ 11 ∷ [] }
@@ -17,10 +17,14 @@ pub fn worked_lines()
     ensures backslash_within { DenotesNothing (codes ".model m\n.inputs a\\b\n") }
     ensures bad_byte { DenotesNothing (codes ".model m\n.inputs \u{1}\n") }
     ensures bad_end { DenotesNothing (codes ".model m\n.end \u{1}\n") }
-    ensures bad_behind { DenotesNothing (codes ".model m\n.end \\\n\u{1}\n") }
+    ensures bad_part_after_end { DenotesNothing (codes ".model m\n.end \\\n\u{1}\n") }
+    ensures bad_first_part { DenotesNothing (codes ".model m\n.inputs \u{1}\\\na\n") }
+    ensures backslash_in_first_part { DenotesNothing (codes ".model m\n.inputs a\\b\\\nc\n") }
+    ensures ended_by_joined_line { Denotes (codes ".model m\n\\\n.end\n.model n\n") empty_network }
+    ensures joined_line_skipped { Denotes (codes "\\\n\n.model m\n") empty_network }
 {}
 
-/// The first statement, and words that are not read.
+/// The first statement, words that are not supported, and a name that is longer than the limit.
 pub fn worked_models()
     ensures alone { Denotes (codes ".model m") empty_network }
     ensures added_up { Denotes (codes ".model m\n.inputs a\n.outputs b\n.inputs c\n.outputs a c\n") (network (codes "ac") (codes "bac") [] []) }
@@ -30,6 +34,9 @@ pub fn worked_models()
     ensures second_model { DenotesNothing (codes ".model m\n.model m\n") }
     ensures two_names { DenotesNothing (codes ".model m n\n") }
     ensures other_word { DenotesNothing (codes ".model m\n.subckt n a=b\n") }
+    ensures longer_word { DenotesNothing (codes ".model m\n.ends\n") }
+    ensures no_names { Denotes (codes ".model\n.inputs\n.outputs\n") empty_network }
+    ensures long { Denotes (codes ".model m\n.inputs " ++ long_name) (one_input long_name) }
 {}
 
 /// Latches, and clocks.
@@ -47,6 +54,9 @@ pub fn worked_latches()
     ensures other_clock { DenotesNothing (codes ".model m\n.latch a p re c 0\n.clock d\n") }
     ensures second_clock { DenotesNothing (codes ".model m\n.clock c\n.clock c\n") }
     ensures two_clocks { DenotesNothing (codes ".model m\n.clock c d\n") }
+    ensures no_clock_name { DenotesNothing (codes ".model m\n.clock\n") }
+    ensures small_nil { DenotesNothing (codes ".model m\n.latch a p re nil 0\n.latch a q re c 0\n") }
+    ensures capital_type { DenotesNothing (codes ".model m\n.latch a p RE c 0\n") }
     ensures clock_of_gate { DenotesNothing (codes ".model m\n.clock c\n.names c\n1\n") }
     ensures clock_of_latch { DenotesNothing (codes ".model m\n.latch a p re p 0\n") }
 {}
@@ -62,12 +72,15 @@ pub fn worked_gates()
     ensures plane_of_none { DenotesNothing (codes ".model m\n.names z\n1 1\n") }
     ensures three_fields { DenotesNothing (codes ".model m\n.names a z\n1 1 1\n") }
     ensures row_alone { DenotesNothing (codes ".model m\n1 1\n") }
-    ensures row_behind_outputs { DenotesNothing (codes ".model m\n.names a z\n1 1\n.outputs z\n0 1\n") }
+    ensures row_after_outputs { DenotesNothing (codes ".model m\n.names a z\n1 1\n.outputs z\n0 1\n") }
     ensures no_names { DenotesNothing (codes ".model m\n.names\n") }
+    ensures mixed_constant { DenotesNothing (codes ".model m\n.names z\n1\n1\n0\n") }
+    ensures dash_of_none { DenotesNothing (codes ".model m\n.names z\n- 1\n") }
 {}
 
-/// Readings that are near at hand and wrong: a clock need not be an input, no type but the rising edge is read,
-/// a start is one digit, and blank lines and comments end no gate's rows where other statements do.
+/// Places where another reading comes to mind. A clock need not be an input. The only type of latch is the
+/// rising edge. A start is one digit. A blank line or a comment may come between the rows of a gate, and any
+/// other statement ends them.
 pub fn worked_readings()
     ensures clock_beside_inputs { Denotes (codes ".model m\n.inputs a\n.latch a p re c 0\n") (network (codes "a") [] (latch (codes "a") (codes "p") Zero ∷ []) []) }
     ensures clock_word_beside_inputs { Denotes (codes ".model m\n.inputs a\n.clock c\n") (network (codes "a") [] [] []) }
@@ -76,11 +89,11 @@ pub fn worked_readings()
     ensures asynchronous { DenotesNothing (codes ".model m\n.latch a p as c 0\n") }
     ensures two_digits { DenotesNothing (codes ".model m\n.latch a p 00\n") }
     ensures skipped_lines { Denotes (codes ".model m\n.inputs a\n.names a z\n\n# rows\n1 1\n") (network (codes "a") [] [] (gate (codes "a") (codes "z") (codes "1" ∷ []) true ∷ [])) }
-    ensures row_behind_latch { DenotesNothing (codes ".model m\n.names a z\n.latch a p\n1 1\n") }
-    ensures row_behind_clock { DenotesNothing (codes ".model m\n.names a z\n.clock c\n1 1\n") }
+    ensures row_after_latch { DenotesNothing (codes ".model m\n.names a z\n.latch a p\n1 1\n") }
+    ensures row_after_clock { DenotesNothing (codes ".model m\n.names a z\n.clock c\n1 1\n") }
 {}
 
-/// The values of gates: rows list the on-set or the off-set, and there may be none.
+/// The values of gates, whose rows list the on-set or the off-set, and of gates without rows.
 pub fn worked_values()
     ensures held { gate_value (gate (codes "ab") (codes "z") (codes "1-" ∷ codes "01" ∷ []) true) (false ∷ true ∷ []) ≡ true }
     ensures not_held { gate_value (gate (codes "ab") (codes "z") (codes "1-" ∷ codes "01" ∷ []) true) (false ∷ false ∷ []) ≡ false }
@@ -92,7 +105,7 @@ pub fn worked_values()
     ensures off_constant { gate_value (gate [] (codes "z") ([] ∷ []) false) [] ≡ false }
 {}
 
-/// Steps of networks, and networks that have none since no valuation fits or two differ.
+/// Steps of networks, and networks without a step: no valuation fits, or two valuations differ.
 pub fn worked_steps()
     ensures stays { Step toggle (true ∷ []) (false ∷ []) (true ∷ []) (true ∷ []) }
     ensures changes { Step toggle (true ∷ []) (true ∷ []) (false ∷ []) (false ∷ []) }

@@ -26,8 +26,14 @@ returns-clause-three_fields c = nothing_from_fault _ refl
 pub returns-clause-row_alone : goal.returns-clause-row_alone
 returns-clause-row_alone c = nothing_from_fault _ refl
 
-pub returns-clause-row_behind_outputs : goal.returns-clause-row_behind_outputs
-returns-clause-row_behind_outputs c = nothing_from_fault _ refl
+pub returns-clause-row_after_outputs : goal.returns-clause-row_after_outputs
+returns-clause-row_after_outputs c = nothing_from_fault _ refl
 
 pub returns-clause-no_names : goal.returns-clause-no_names
 returns-clause-no_names c = nothing_from_fault _ refl
+
+pub returns-clause-mixed_constant : goal.returns-clause-mixed_constant
+returns-clause-mixed_constant c = nothing_from_fault _ refl
+
+pub returns-clause-dash_of_none : goal.returns-clause-dash_of_none
+returns-clause-dash_of_none c = nothing_from_fault _ refl

@@ -47,3 +47,12 @@ returns-clause-clock_of_latch c =
 
 pub returns-clause-controls : goal.returns-clause-controls
 returns-clause-controls c = denotes_from_test controls_text controls_network (omega arith) refl refl refl refl refl refl refl
+
+pub returns-clause-no_clock_name : goal.returns-clause-no_clock_name
+returns-clause-no_clock_name c = nothing_from_fault _ refl
+
+pub returns-clause-small_nil : goal.returns-clause-small_nil
+returns-clause-small_nil c = nothing_from_fault _ refl
+
+pub returns-clause-capital_type : goal.returns-clause-capital_type
+returns-clause-capital_type c = nothing_from_fault _ refl

@@ -1,6 +1,4 @@
-use Rattle.std.proofs.Common.{refl, arith, codes, []}
-use Rattle.net_core.specs.declared.Start.TheVariants.{Zero}
-use Rattle.net_core.specs.Worked.{gate, latch, network}
+use Rattle.std.proofs.Common.{refl, arith}
 use Rattle.net_core.proofs.Judged.{denotes_from_test, nothing_from_fault}
 use Rattle.net_core.proofs.worked.worked_readings.Goals as goal
 
@@ -16,11 +14,11 @@ returns-clause-asynchronous c = nothing_from_fault _ refl
 pub returns-clause-two_digits : goal.returns-clause-two_digits
 returns-clause-two_digits c = nothing_from_fault _ refl
 
-pub returns-clause-row_behind_latch : goal.returns-clause-row_behind_latch
-returns-clause-row_behind_latch c = nothing_from_fault _ refl
+pub returns-clause-row_after_latch : goal.returns-clause-row_after_latch
+returns-clause-row_after_latch c = nothing_from_fault _ refl
 
-pub returns-clause-row_behind_clock : goal.returns-clause-row_behind_clock
-returns-clause-row_behind_clock c = nothing_from_fault _ refl
+pub returns-clause-row_after_clock : goal.returns-clause-row_after_clock
+returns-clause-row_after_clock c = nothing_from_fault _ refl
 
 pub returns-clause-clock_beside_inputs : goal.returns-clause-clock_beside_inputs
 returns-clause-clock_beside_inputs c = denotes_from_test _ _ (omega arith) refl refl refl refl refl refl refl
