@@ -13,3 +13,4 @@ pub mod Permuted
 pub mod Ordered
 pub mod Checked
 pub mod Exclusive
+pub mod Keyed

@@ -2,3 +2,4 @@
 pub mod Told
 pub mod Walk
 pub mod Cycle
+pub mod Keyed

@@ -12,26 +12,30 @@ use crate::ordering::NumberedGate;
 use crate::{Gate, Latch, Network};
 use hs_io::{Name, copied_names};
 use hs_list::Items;
-use indexmap::IndexSet;
 use std::alloc::{AllocError, Global};
+use std::collections::BTreeMap;
 use std::marker::Model;
 
-/// The signals of a network by their names, each once, numbered from 0 in the order in which they came.
+/// The names of the signals of a network, each once, numbered from 0 in the order in which they came. The
+/// numbers are in a map in the order of the names: a hash map with a fixed seed would be slow for names that
+/// are made to collide.
 #[derive(Drop)]
 pub(crate) struct Signals {
     alloc: Global,
-    names: IndexSet<Vec<u8>>,
+    names: Vec<Name>,
+    numbers: BTreeMap<Vec<u8>, usize>,
 }
 
 impl Model for Signals {
-    ghost use Rattle.std.specs.Prelude.{ℕ, List, map};
+    ghost use Rattle.std.specs.Prelude.{ℕ, List};
     ghost use Rattle.net_core.specs.Causes.{AreOnce};
+    ghost use Rattle.net_core.specs.Inner.Keyed.{AreKeyed};
 
     ghost Value = { List (List ℕ) };
 
-    ghost view = { λ s. map (λ name. name.items) s.names.keys };
+    ghost view = { λ s. s.names.items };
 
-    ghost invariant = { λ s. AreOnce (map (λ name. name.items) s.names.keys) };
+    ghost invariant = { λ s. AreOnce s.names.items × AreKeyed s.names.items s.numbers };
 }
 
 impl Signals {
@@ -40,7 +44,8 @@ impl Signals {
     {
         Signals {
             alloc,
-            names: IndexSet::new(alloc),
+            names: Vec::new(alloc),
+            numbers: BTreeMap::new(alloc),
         }
     }
 
@@ -57,7 +62,7 @@ impl Signals {
         ensures some { IfSome result (λ number. slice_get self.now number ≡ Some name.now) }
         ensures none { IfNone result (¬ Contains self.now name.now) }
     {
-        self.names.get_index_of(name)
+        self.numbers.get(name).copied()
     }
 
     /// Adds a signal that is driven.
@@ -79,9 +84,16 @@ impl Signals {
         requires { ¬ Contains self.old name.now }
         ensures { OnOk result (self.new ≡ self.old ++ name.now ∷ []) }
     {
+        let number = self.names.len();
         let key = Vec::from_slice(self.alloc, name)?;
-        self.names.insert_full(key)?;
-        Ok(())
+        self.names.push(Name::new(self.alloc, name)?)?;
+        match self.numbers.insert(key, number) {
+            Ok(_) => Ok(()),
+            Err(_) => {
+                self.names.pop();
+                Err(AllocError)
+            }
+        }
     }
 
     fn add_inputs(&mut self, names: &[Name]) -> Result<(), NetFail>

@@ -1,36 +1,37 @@
-use Rattle.std.proofs.Common.{◌≡◌, ◌++◌, ◌∷◌, [], sym, ◌∙◌, ap, subst, List, ℕ, map, Contains, Vec, Global}
+use Rattle.std.proofs.Common.{◌≡◌, ℕ, ◌-◌, List, [], ◌∷◌, ◌++◌, Some, length, length-append, take, Contains, nat_cmp, sym, ◌∙◌, ap, subst, arith}
 use Rattle.std.proofs.lemmas.Slice.Eq.{bytes_eq-Decides}
+use Rattle.std.specs.BTreeMap.{UpdatesBy}
+use Rattle.std.specs.Cmp.Lexicographic.{slice_cmp}
 use Rattle.std.specs.Str.{bytes_eq}
 use Rattle.net_core.specs.Causes.{AreOnce}
+use Rattle.net_core.specs.Inner.Keyed.{AreKeyed}
 use Rattle.net_core.proofs.Counted.{once_push}
-use Rattle.hs_io.proofs.Known.{names_with}
+use Rattle.net_core.proofs.Keyed.{front_taken, keyed_after, keyed_same}
 use Rattle.net_core.proofs.numbering.Signals.insert.Goals as goal
 
--- the bytes of a key
-items_of : Vec ℕ Global → List ℕ
-items_of v = v.items
+pub invariant_of-self-in_err-push : goal.invariant_of-self-in_err-push
+invariant_of-self-in_err-push c =
+    subst (λ (names : List (List ℕ)). AreOnce names × AreKeyed names c.self.inside.numbers) (sym c.in_err-push.ensures.items) c.self.invariant
 
--- a new name goes last
-names_after : (c : goal.In_ok-insert_full) → map items_of c.insert_full.new.self.keys ≡ c.args.self.now ++ c.args.name.now ∷ []
-unfolding items_of
-names_after c =
-    ap (map items_of) c.in_ok-insert_full.ensures.keys
-    ∙ names_with items_of c.args.name.now c.self.inside.names.keys c.in_ok-key.key c.in_ok-key.ensures.items
-    (λ h. c.requires (subst (λ (names : List (List ℕ)). Contains names c.args.name.now) c.self.view_is h))
-    ∙ ap (λ names. names ++ c.args.name.now ∷ []) c.self.view_is
+pub invariant_of-self-in-Ok : goal.invariant_of-self-in-Ok
+invariant_of-self-in-Ok c =
+    let names = c.self.inside.names.items in
+    let name = c.args.name.now in
+    let none : Contains names name → ⊥ = λ h. c.requires (subst (λ (list : List (List ℕ)). Contains list name) c.self.view_is h) in
+    let pushed : c.push.new.self.items ≡ names ++ name ∷ [] = c.in_ok-push.ensures.items ∙ ap (λ (n : List ℕ). names ++ n ∷ []) c.in_ok-new.ensures in
+    let updates : UpdatesBy (λ x y. slice_cmp nat_cmp x.items y.items) (λ y. slice_cmp nat_cmp name y.items) c.self.inside.numbers c.insert.new.self (Some (length names)) =
+    subst (λ (bytes : List ℕ). UpdatesBy (λ x y. slice_cmp nat_cmp x.items y.items) (λ y. slice_cmp nat_cmp bytes y.items) c.self.inside.numbers c.insert.new.self (Some (length names))) c.in_ok-key.ensures.items
+    (subst (λ (number : ℕ). UpdatesBy (λ x y. slice_cmp nat_cmp x.items y.items) (λ y. slice_cmp nat_cmp c.in_ok-key.key.items y.items) c.self.inside.numbers c.insert.new.self (Some number)) (c.len-number.ensures ∙ c.self.inside.names.ok.0) c.in-Ok.ensures.updates) in
+    subst (λ (list : List (List ℕ)). AreOnce list × AreKeyed list c.insert.new.self) (sym pushed)
+    (once_push bytes_eq bytes_eq-Decides names name c.self.invariant.0 none, keyed_after names c.self.inside.numbers c.self.invariant.1 name c.insert.new.self none updates)
 
-pub invariant_of-self : goal.invariant_of-self
-unfolding items_of
-invariant_of-self c =
-    subst (λ (keys : List (Vec ℕ Global)). AreOnce (map items_of keys)) (sym c.in_err-insert_full.ensures.err)
-    (subst AreOnce (sym c.self.view_is) (subst AreOnce c.self.view_is c.self.invariant))
-
-pub invariant_of-self-2 : goal.invariant_of-self-2
-unfolding items_of
-invariant_of-self-2 c =
-    subst AreOnce (sym (names_after c))
-    (once_push bytes_eq bytes_eq-Decides c.args.self.now c.args.name.now (subst AreOnce c.self.view_is c.self.invariant) c.requires)
-
-pub returns : goal.returns
-unfolding items_of
-returns c = names_after c
+pub invariant_of-self-in-Err : goal.invariant_of-self-in-Err
+invariant_of-self-in-Err c =
+    let names = c.self.inside.names.items in
+    let name = c.in_ok-new.field-0 in
+    let popped : c.pop.new.self.items ≡ names =
+    c.pop.ensures.rest
+    ∙ ap (λ n. take (n - 1) c.push.new.self.items) c.push.new.self.ok.0
+    ∙ (ap (λ (list : List (List ℕ)). take (length list - 1) list) c.in_ok-push.ensures.items ∙ (ap (λ n. take n (names ++ name ∷ [])) (omega (arith, length-append names (name ∷ []))) ∙ front_taken names name)) in
+    subst (λ (list : List (List ℕ)). AreOnce list × AreKeyed list c.insert.new.self) (sym popped)
+    (c.self.invariant.0, keyed_same names c.self.inside.numbers c.self.invariant.1 [] c.insert.new.self c.in-Err.ensures.err)
