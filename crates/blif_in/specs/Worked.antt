@@ -1,5 +1,5 @@
--- Worked texts, and what they are refused for.
-use Rattle.std.specs.Prelude.{ℕ, List, [], ◌∷◌, replicate}
+-- Worked texts, and the faults for which they are refused.
+use Rattle.std.specs.Prelude.{ℕ, List, [], ◌∷◌, codes, replicate}
 use Rattle.std.specs.List.{flat_map}
 use Rattle.hs_io.specs.Spelling.{ended}
 use Rattle.blif_in.specs.declared.fault.BlifKind.{BlifKind}
@@ -9,14 +9,18 @@ use Rattle.blif_in.specs.Text.{IsBlifFault}
 abbrev pub text : List (List ℕ) → List ℕ
 text lines = flat_map ended lines
 
--- the text is refused for a fault of that kind at that line
+-- the text is refused for a fault of this kind at this line
 abbrev pub IsRefused : List (List ℕ) → ℕ → BlifKind → Type 0
 IsRefused lines number kind = IsBlifFault (text lines) (record { line = number; kind = kind })
 
--- a name of so many bytes
+-- a name of n bytes
 abbrev pub long : ℕ → List ℕ
 long bytes = replicate bytes 97
 
--- so many names of one byte, each after a space
+-- n names of one byte, each after a space
 abbrev pub many : ℕ → List ℕ
 many names = flat_map (λ name. 32 ∷ name) (replicate names (97 ∷ []))
+
+-- three gates, each of which reads the next one, and the last the first
+abbrev pub cycle_lines : List (List ℕ)
+cycle_lines = codes ".model m" ∷ codes ".names b a" ∷ codes "1 1" ∷ codes ".names c b" ∷ codes "1 1" ∷ codes ".names a c" ∷ codes "1 1" ∷ []

@@ -27,3 +27,9 @@ returns-clause-bad_before_unsupported c = inl refl
 
 pub returns-clause-backslash_within : goal.returns-clause-backslash_within
 returns-clause-backslash_within c = inl refl
+
+pub returns-clause-other_word_first : goal.returns-clause-other_word_first
+returns-clause-other_word_first c = inl refl
+
+pub returns-clause-bad_end_first : goal.returns-clause-bad_end_first
+returns-clause-bad_end_first c = inl refl

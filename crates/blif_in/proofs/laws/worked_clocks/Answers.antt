@@ -39,3 +39,18 @@ returns-clause-driven_before_structure c = inl refl
 
 pub returns-clause-comment_backslash : goal.returns-clause-comment_backslash
 returns-clause-comment_backslash c = inl refl
+
+pub returns-clause-joined_bad_first : goal.returns-clause-joined_bad_first
+returns-clause-joined_bad_first c = inl refl
+
+pub returns-clause-joined_backslash : goal.returns-clause-joined_backslash
+returns-clause-joined_backslash c = inl refl
+
+pub returns-clause-joined_word_of_end : goal.returns-clause-joined_word_of_end
+returns-clause-joined_word_of_end c = inl refl
+
+pub returns-clause-joined_comment : goal.returns-clause-joined_comment
+returns-clause-joined_comment c = inl refl
+
+pub returns-clause-driven_before_it_is_named : goal.returns-clause-driven_before_it_is_named
+returns-clause-driven_before_it_is_named c = inl refl

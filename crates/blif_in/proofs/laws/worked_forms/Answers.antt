@@ -25,8 +25,8 @@ returns-clause-start_before_kind c = inl refl
 pub returns-clause-row_alone : goal.returns-clause-row_alone
 returns-clause-row_alone c = inl refl
 
-pub returns-clause-row_behind_inputs : goal.returns-clause-row_behind_inputs
-returns-clause-row_behind_inputs c = inl refl
+pub returns-clause-row_after_inputs : goal.returns-clause-row_after_inputs
+returns-clause-row_after_inputs c = inl refl
 
 pub returns-clause-latch_kind : goal.returns-clause-latch_kind
 returns-clause-latch_kind c = inl refl
@@ -51,3 +51,9 @@ returns-clause-type_alone c = inl refl
 
 pub returns-clause-active_high : goal.returns-clause-active_high
 returns-clause-active_high c = inl refl
+
+pub returns-clause-clock_names_before_long : goal.returns-clause-clock_names_before_long
+returns-clause-clock_names_before_long c = inl refl
+
+pub returns-clause-dot_alone : goal.returns-clause-dot_alone
+returns-clause-dot_alone c = inl refl

@@ -7,11 +7,8 @@ returns-clause-model_name c = inl refl
 pub returns-clause-name : goal.returns-clause-name
 returns-clause-name c = inl refl
 
-pub returns-clause-inputs : goal.returns-clause-inputs
-returns-clause-inputs c = inl refl
-
-pub returns-clause-outputs : goal.returns-clause-outputs
-returns-clause-outputs c = inl refl
+pub returns-clause-inputs_and_outputs : goal.returns-clause-inputs_and_outputs
+returns-clause-inputs_and_outputs c = inl refl
 
 pub returns-clause-latches : goal.returns-clause-latches
 returns-clause-latches c = inl refl

@@ -22,5 +22,5 @@ returns-clause-mixed_joined c = inl refl
 pub returns-clause-skipped_between : goal.returns-clause-skipped_between
 returns-clause-skipped_between c = inl refl
 
-pub returns-clause-row_behind_clock : goal.returns-clause-row_behind_clock
-returns-clause-row_behind_clock c = inl refl
+pub returns-clause-row_after_clock : goal.returns-clause-row_after_clock
+returns-clause-row_after_clock c = inl refl
