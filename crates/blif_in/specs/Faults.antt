@@ -1,5 +1,5 @@
--- The first fault of a statement of a BLIF text, behind those before it, which stand in a list that begins with the last
--- one (source: the SIS manual, narrowed to this product's profile). Limits stand here as the number that goes over them.
+-- The first fault of a statement of a BLIF text, given the list of those before it, which begins with the last one (source:
+-- the SIS manual, narrowed to this product's profile). The numbers here are the first ones above the limits.
 use Rattle.std.specs.Prelude.{ℕ, Bool, nat_lt, if◌then◌else◌, Option, Some, None, List, [], ◌∷◌, find, length}
 use Rattle.std.specs.Option.{option_map}
 use Rattle.net_core.specs.Blif.{names_in}
@@ -11,7 +11,7 @@ use Rattle.blif_in.specs.declared.fault.BlifKind.{BlifKind}
 use Rattle.blif_in.specs.declared.fault.BlifKind.TheVariants.{BadByte, Unsupported, BadFields, BadRow, MixedCover, LatchKind, Clocks, NoModel, OverLimit}
 use Rattle.blif_in.specs.declared.fault.NetLimit.TheVariants as over
 
--- a fault where the test gives true
+-- a fault if the test gives true
 abbrev pub fault_where : Bool → BlifKind → Option BlifKind
 fault_where test kind = if test then Some kind else None
 

@@ -1,4 +1,4 @@
--- Definitions that private functions and proofs need. What is promised cites none of them.
+-- Definitions that private functions and proofs need; no public contract cites them.
 pub mod Joining
 pub mod Saying
 pub mod Judging

@@ -17,7 +17,7 @@ use Rattle.blif_in.specs.declared.fault.BlifKind.{BlifKind}
 use Rattle.blif_in.specs.declared.fault.BlifKind.TheVariants.{Clocks, NoModel, Structure}
 use Rattle.blif_in.specs.Faults.{fault_in}
 
--- the number of the line and the kind of the first fault of statements, behind those before them
+-- the first fault of statements, with the number of its line, given the statements before them
 abbrev pub first_fault : List Statement → List NumberedStatement → Option BlifFault
 first_fault earlier [] = None
 first_fault earlier (statement ∷ statements) =
@@ -49,12 +49,12 @@ clock_fault N None = None
 clock_fault N (Some statement) =
     if list_any (λ clock. list_any (bytes_eq clock) (driven_within N)) (clocks_in statement.says) then Some (record { line = statement.number; kind = Clocks }) else None
 
--- the fault of the statements as a whole, where none of them has one: there are none, or the clock is driven
+-- the fault of the statements as a whole, if none of them has one: there is no statement, or the clock is driven
 abbrev pub closing_fault : List NumberedStatement → Option BlifFault
 closing_fault statements =
     if length statements == 0 then Some (record { line = 0; kind = NoModel }) else clock_fault (network_of (map (λ statement. statement.says) statements)) (find names_clock statements)
 
--- the first fault of a text other than that its network is not sound
+-- the first fault of a text, unless it is that the network is not sound
 abbrev pub text_fault : List NumberedStatement → Option BlifFault
 text_fault statements = option_or (first_fault [] statements) (closing_fault statements)
 
@@ -75,7 +75,7 @@ IsFaultOf statements fault =
 abbrev pub IsBlifFault : List ℕ → BlifFault → Type 0
 IsBlifFault bytes fault = IsFaultOf (statements_of bytes) fault
 
--- both tell why the network is not sound, and the causes are alike: where there are several cycles, any one may be told
+-- both say why the network is not sound, and the causes are alike: where there are several cycles, it may be any of them
 abbrev pub AreAlikeCauses : BlifKind → BlifKind → Type 0
 AreAlikeCauses (Structure fail) (Structure other) = AreAlike fail other
 AreAlikeCauses _ _ = ⊥
@@ -87,20 +87,20 @@ pub record AreFaultsAlike (fault other : BlifFault) : Type 0 where
   pub line : fault.line ≡ other.line
   pub kind : AreKindsAlike fault.kind other.kind
 
--- it tells of this fault, or memory is wanting
+-- it is this fault, or memory ran out
 abbrev pub TellsOf : BlifFault → BlifFail → Type 0
 TellsOf fault (Refused other) = AreFaultsAlike fault other
 TellsOf fault NoMemory = ⊤
 
--- a text is one of a network or has a fault, never both
+-- no text both is a BLIF text of a network and has a fault
 abbrev pub NeverBoth : Type 0
 NeverBoth = (bytes : List ℕ) (N : Network) (fault : BlifFault) → Blif bytes N → IsBlifFault bytes fault → ⊥
 
--- it has at most one first fault
+-- a text has at most one first fault
 abbrev pub OneFault : Type 0
 OneFault = (bytes : List ℕ) (fault other : BlifFault) → IsBlifFault bytes fault → IsBlifFault bytes other → AreFaultsAlike fault other
 
--- it denotes a network within the limits exactly where it has no other fault than that the network is not sound
+-- a text denotes a network within the limits exactly where it has no fault, unless it is that the network is not sound
 pub record IsFaultlessText (bytes : List ℕ) : Type 0 where
   pub denotes : text_fault (statements_of bytes) ≡ None → Denotes bytes (network_of (said_in bytes)) × IsWithinLimits bytes (network_of (said_in bytes))
   pub faultless : (N : Network) → Denotes bytes N → IsWithinLimits bytes N → text_fault (statements_of bytes) ≡ None

@@ -1,4 +1,4 @@
-//! The network that statements without a fault say.
+//! Builds the network of statements without a fault.
 ghost use Rattle.std.specs.Prelude.{◌≡◌, ◌++◌, IfOk, OnOk, map};
 ghost use Rattle.std.specs.Option.{option_to_list};
 ghost use Rattle.net_core.specs.Statements as said;
@@ -11,7 +11,7 @@ use hs_io::{Line, Name, Names};
 use net_core::{Gate, Gates, Latch, Latches, Network};
 use std::alloc::{AllocError, Global};
 
-/// The network that the statements in lines say.
+/// The network of the statements in lines.
 pub(crate) fn network_of(alloc: Global, lines: &[Line]) -> Result<Network, AllocError>
     ensures { IfOk result (λ net. net ≡ text.network_of (map says lines.now)) }
 {
@@ -27,7 +27,7 @@ pub(crate) fn network_of(alloc: Global, lines: &[Line]) -> Result<Network, Alloc
     Ok(net)
 }
 
-/// Adds what a statement says, given the lines behind it.
+/// Adds what a statement says, given the lines after it.
 fn add_statement(
     alloc: Global,
     net: &mut Network,
@@ -72,7 +72,7 @@ fn add_latch(alloc: Global, latches: &mut Latches, operands: &[Name]) -> Result<
     })
 }
 
-/// The gate of these names with the rows that stand behind them.
+/// The gate of these names with the rows after them.
 fn gate_of(alloc: Global, names: &[Name], behind: &[Line]) -> Result<Gate, AllocError>
     ensures { IfOk result (λ gate. gate ≡ said.gate_from names.now (said.rows_of (map says behind.now))) }
 {
@@ -90,7 +90,7 @@ fn gate_of(alloc: Global, names: &[Name], behind: &[Line]) -> Result<Gate, Alloc
     })
 }
 
-/// The planes of the rows at the front.
+/// The planes of the rows before any other statement.
 fn planes_of(alloc: Global, lines: &[Line]) -> Result<Names, AllocError>
     ensures { IfOk result (λ planes. planes ≡ map said.plane_of (said.rows_of (map says lines.now))) }
 {
@@ -114,7 +114,7 @@ fn plane_of(fields: &[Name]) -> &[u8]
     }
 }
 
-/// Whether the rows at the front list what gives 1: their output bit is 1, or there are none.
+/// Whether the rows before any other statement list the on-set: their output bit is 1, or there are none.
 fn lists_on_set(lines: &[Line]) -> bool
     ensures { result ≡ said.lists_on (said.rows_of (map says lines.now)) }
 {

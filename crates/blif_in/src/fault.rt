@@ -3,7 +3,7 @@
 use net_core::NetFail;
 use std::alloc::AllocError;
 
-/// What a text has too many of, or too long.
+/// The limits of a text.
 #[derive(Clone, Copy, Debug, PartialEq, Eq)]
 pub enum NetLimit {
     /// More than 256 inputs.
@@ -23,19 +23,19 @@ pub enum NetLimit {
 /// The kinds of fault.
 #[derive(Debug, Drop)]
 pub enum BlifKind {
-    /// The line has a byte outside its comments that is neither a tab nor printable ASCII, or a backslash
-    /// elsewhere than at its end.
+    /// Outside its comments the line has a byte that is neither a tab nor printable ASCII, or a backslash that is
+    /// not at its end.
     BadByte,
-    /// A second model, or a word that is not read.
+    /// A second model, or a word that is not supported.
     Unsupported,
-    /// The line has another number of fields than its form, a latch has a start that is none, or a row
-    /// stands behind no gate.
+    /// The number of fields is wrong, the start of a latch is not `0` to `3`, or a row does not come after a
+    /// gate.
     BadFields,
-    /// A row is no row of its gate.
+    /// A row does not have the form of its gate's rows.
     BadRow,
-    /// The output bit of a row is another than that of its gate's first row.
+    /// The output bit of a row differs from that of its gate's first row.
     MixedCover,
-    /// A latch is of another type than `re`.
+    /// The type of a latch is not `re`.
     LatchKind,
     /// There is a second clock, or a latch or a gate drives the clock.
     Clocks,
@@ -43,11 +43,11 @@ pub enum BlifKind {
     NoModel,
     /// The network is not sound.
     Structure(NetFail),
-    /// There is more than the limit: the number that goes over it, or the length of a name.
+    /// A limit is passed: `found` is the first number above it, or the length of the name.
     OverLimit { what: NetLimit, found: u32 },
 }
 
-/// The first fault of a text: the number of its line, counted from 1, or 0 where it is of no line.
+/// The first fault of a text, with the number of its line, counted from 1, or 0 if the fault is in no line.
 #[derive(Debug, Drop)]
 pub struct BlifFault {
     pub line: u32,
@@ -57,9 +57,9 @@ pub struct BlifFault {
 /// Why a text was not read.
 #[derive(Debug, Drop)]
 pub enum BlifFail {
-    /// It is refused for this fault.
+    /// Its first fault.
     Refused(BlifFault),
-    /// There is no memory left.
+    /// There is not enough memory.
     NoMemory,
 }
 

@@ -1,4 +1,4 @@
-//! Joins the lines that go on, and keeps those that are statements.
+//! Joins lines that end in a backslash with the next ones, and keeps the lines that are statements.
 ghost use Rattle.std.specs.Prelude.{◌≡◌, ◌++◌, ◌∷◌, ◌-◌, [], IfOk, OnOk, length, take};
 ghost use Rattle.std.specs.List.{list_any};
 ghost use Rattle.hs_io.specs.Lines.{fields_in};
@@ -10,7 +10,8 @@ ghost use Rattle.blif_in.specs.Inner.Joining.{behind, merged, statement_lines};
 use hs_io::{Fields, Line, Name};
 use std::alloc::{AllocError, Global};
 
-/// The joined lines that are statements, up to the one that ends the text. The lines that go on are copied.
+/// The joined lines that are statements, up to the one that ends the text. Lines that end in a backslash are
+/// copied.
 pub(crate) fn joined_statements(alloc: Global, lines: Vec<Line>) -> Result<Vec<Line>, AllocError>
     ensures { IfOk result (λ kept. kept.items ≡ statement_lines (joined lines.items)) }
 {
@@ -37,7 +38,7 @@ pub(crate) fn joined_statements(alloc: Global, lines: Vec<Line>) -> Result<Vec<L
     Ok(kept)
 }
 
-/// Whether the line that has these fields goes on.
+/// Whether the line with these fields ends in a backslash.
 fn is_joined_to_next(fields: &[Name]) -> bool
     ensures { result ≡ is_continued fields.now }
 {
@@ -74,7 +75,7 @@ fn is_blank(line: &Line) -> bool
     line.fields.as_slice().is_empty() && !line.bad
 }
 
-/// What a line gives, behind what it is joined to.
+/// The part of a joined line that a line gives, after the parts before it.
 fn line_behind(alloc: Global, front: Option<Line>, line: Line) -> Result<Line, AllocError>
     ensures { IfOk result (λ whole. whole ≡ behind front (part_of line)) }
 {
@@ -85,7 +86,7 @@ fn line_behind(alloc: Global, front: Option<Line>, line: Line) -> Result<Line, A
     }
 }
 
-/// The front with the fields of a part at its end.
+/// The front of a joined line with one more part.
 fn joined_part(alloc: Global, front: Line, part: &Line) -> Result<Line, AllocError>
     ensures { IfOk result (λ whole. whole ≡ merged front part.now) }
 {
@@ -112,7 +113,7 @@ fn add_fields(alloc: Global, fields: &mut Fields, names: &[Name]) -> Result<(), 
     Ok(())
 }
 
-/// What a line gives: its fields without the backslash at its end. A backslash elsewhere makes it bad.
+/// The part that a line gives: its fields without the backslash at its end. A backslash elsewhere makes it bad.
 fn own_part(alloc: Global, line: Line) -> Result<Line, AllocError>
     ensures { IfOk result (λ part. part ≡ part_of line) }
 {
@@ -141,7 +142,7 @@ fn read_fields(alloc: Global, fields: Fields) -> Result<Fields, AllocError>
     }
 }
 
-/// The fields without their last byte, a backslash. A field of a backslash alone is none.
+/// The fields without their last byte, a backslash. Where it is a field of its own, that field is dropped.
 fn shortened(alloc: Global, fields: &[Name]) -> Result<Fields, AllocError>
     ensures { IfOk result (λ short. short ≡ without_backslash fields.now) }
 {
@@ -154,7 +155,7 @@ fn shortened(alloc: Global, fields: &[Name]) -> Result<Fields, AllocError>
     Ok(short)
 }
 
-/// Adds a field without its last byte, where it has another one.
+/// Adds a field without its last byte, if that leaves a byte.
 fn add_shortened(alloc: Global, fields: &mut Fields, field: &[u8]) -> Result<(), AllocError>
     ensures { OnOk result (fields.new ≡ fields.old ++ fields_in (take (length field.now - 1) field.now ∷ [])) }
 {
@@ -164,14 +165,14 @@ fn add_shortened(alloc: Global, fields: &mut Fields, field: &[u8]) -> Result<(),
     }
 }
 
-/// Whether a backslash stands in some field.
+/// Whether some field holds a backslash.
 fn some_backslash(fields: &[Name]) -> bool
     ensures { result ≡ list_any (list_any is_backslash) fields.now }
 {
     fields.iter().any(|field| holds_backslash(field.bytes()))
 }
 
-/// Whether a backslash stands in the field.
+/// Whether the field holds a backslash.
 fn holds_backslash(field: &[u8]) -> bool
     ensures { result ≡ list_any is_backslash field.now }
 {

@@ -1,4 +1,4 @@
-//! Judges statements behind those before them.
+//! Finds the first fault of the statements.
 ghost use Rattle.std.specs.Prelude.{◌≡◌, ℕ, ◌^◌, ◌<◌, ◌≤◌, ◌==◌, ◌&&◌, [], ◌∷◌, ◌++◌, All, IfOk, List, MatchOption, MatchResult, None, Some, false, true, length, nat_le};
 ghost use Rattle.std.specs.List.{list_all};
 ghost use Rattle.std.specs.Option.{ForSome, option_copied, option_to_list};
@@ -15,7 +15,7 @@ use crate::fault::{BlifFault, BlifKind, NetLimit};
 use crate::statement::{LatchParts, Statement, clock_named, latch_parts, start_said, statement_of};
 use hs_io::{Line, Name};
 
-/// What a gate asks of its next row.
+/// What the next row of a gate has to match.
 #[derive(Clone, Copy)]
 pub(crate) struct OpenGate {
     /// The number of its inputs.
@@ -24,18 +24,18 @@ pub(crate) struct OpenGate {
     pub bit: Option<bool>,
 }
 
-/// What stands in the statements so far.
+/// What the statements so far have set.
 #[derive(Clone, Copy)]
 pub(crate) struct Standing<'a> {
-    /// Whether there is a statement.
+    /// Whether there was a statement.
     pub begun: bool,
-    /// Whether there is a model.
+    /// Whether there was a model.
     pub model: bool,
-    /// Whether there is a `.clock`.
+    /// Whether there was a `.clock`.
     pub clock_word: bool,
     /// The name of the clock.
     pub clock: Option<&'a Name>,
-    /// The gate that a row would belong to.
+    /// The gate to which a row belongs that comes next.
     pub gate: Option<OpenGate>,
     pub inputs: usize,
     pub outputs: usize,
@@ -43,7 +43,7 @@ pub(crate) struct Standing<'a> {
     pub gates: usize,
 }
 
-/// The first fault of a statement in lines.
+/// The first fault of the statements in lines.
 pub(crate) fn fault_of_statements(lines: &[Line]) -> Option<BlifFault>
     requires { All (λ line. AreMeasurable line.fields) lines.now }
     ensures { result ≡ text.first_fault [] (numbered lines.now) }
@@ -82,7 +82,7 @@ impl<'a> Standing<'a> {
         }
     }
 
-    /// What stands behind the statement of a line too, or its fault.
+    /// The same after the statement of a line, or the fault of that statement.
     fn after_line(&self, line: &'a Line) -> Result<Standing<'a>, BlifKind>
         requires measurable { AreMeasurable line.now.fields }
         requires small { IsSmall self.now }
@@ -99,7 +99,7 @@ impl<'a> Standing<'a> {
         self.after(statement)
     }
 
-    /// What stands behind a statement too, or its fault.
+    /// The same after a statement, or the fault of that statement.
     fn after(&self, statement: Statement<'a>) -> Result<Standing<'a>, BlifKind>
         requires measurable { AreMeasurable (fields_said statement) }
         requires small { IsSmall self.now }
@@ -291,7 +291,7 @@ impl<'a> Standing<'a> {
         })
     }
 
-    /// The clock where a latch may name it.
+    /// The clock after a latch with this control, if it does not differ from the clock so far.
     fn clock_with(&self, name: Option<&'a Name>) -> Result<Option<&'a Name>, BlifKind>
         ensures { (names : List (List ℕ)) → IsClock (option_copied self.now.clock) names → Judges result (fault_where (names_another names (option_to_list (option_copied name.entry))) BlifKind.Clocks) (λ clock. IsClock (option_copied clock) (option_to_list (option_copied name.entry) ++ names)) }
     {
@@ -303,14 +303,14 @@ impl<'a> Standing<'a> {
     }
 }
 
-/// The fault that more stands than is taken.
+/// The fault that a limit is passed.
 fn over(what: NetLimit, found: u32) -> BlifKind
     ensures { result ≡ BlifKind.OverLimit what found }
 {
     BlifKind::OverLimit { what, found }
 }
 
-/// Whether the statement is a model's.
+/// Whether the statement is `.model`.
 fn is_model(statement: Statement<'_>) -> bool
     ensures { result ≡ said.is_model (said_by statement.entry) }
 {
@@ -320,7 +320,7 @@ fn is_model(statement: Statement<'_>) -> bool
     }
 }
 
-/// Whether each name is short enough.
+/// Refuses the first name that is too long.
 fn judge_lengths(names: &[Name]) -> Result<(), BlifKind>
     requires { AreMeasurable names.now }
     ensures { MatchResult result (λ _. long_name names.now ≡ None) (λ kind. long_name names.now ≡ Some kind) }
@@ -331,7 +331,7 @@ fn judge_lengths(names: &[Name]) -> Result<(), BlifKind>
     Ok(())
 }
 
-/// Whether a name is short enough.
+/// Refuses a name that is too long.
 fn judge_length(name: &Name) -> Result<(), BlifKind>
     requires { length name.now < 2 ^ 32 }
     ensures { MatchResult result (λ _. long_name (name.now ∷ []) ≡ None) (λ kind. long_name (name.now ∷ []) ≡ Some kind) }
@@ -343,7 +343,7 @@ fn judge_length(name: &Name) -> Result<(), BlifKind>
     Ok(())
 }
 
-/// Whether the names of a latch are short enough.
+/// Refuses the first name of a latch that is too long.
 fn judge_latch_names(parts: &LatchParts<'_>) -> Result<(), BlifKind>
     requires input { length parts.now.input.now < 2 ^ 32 }
     requires output { length parts.now.output.now < 2 ^ 32 }
@@ -358,7 +358,7 @@ fn judge_latch_names(parts: &LatchParts<'_>) -> Result<(), BlifKind>
     }
 }
 
-/// Whether the clock has another name.
+/// Whether there is a clock of another name.
 fn differs_from(clock: Option<&Name>, name: &Name) -> bool
     ensures { (names : List (List ℕ)) → IsClock (option_copied clock.entry) names → names_another names (name.now ∷ []) ≡ result }
 {
@@ -368,7 +368,7 @@ fn differs_from(clock: Option<&Name>, name: &Name) -> bool
     }
 }
 
-/// Whether the type of a latch is not the one that is read.
+/// Whether a latch has a type that is not supported.
 fn is_other_kind(kind: Option<&Name>) -> bool
     ensures { result ≡ said.is_other_kind (option_copied kind.entry) }
 {
@@ -378,7 +378,7 @@ fn is_other_kind(kind: Option<&Name>) -> bool
     }
 }
 
-/// The output bit of a row of a gate with so many inputs.
+/// The output bit of a row of a gate with this number of inputs, if the row has the right form.
 fn row_bit(inputs: usize, fields: &[Name]) -> Option<bool>
     ensures { MatchOption result (is_row_for inputs fields.now ≡ false) (λ bit. (is_row_for inputs fields.now ≡ true) × (bit ≡ said.bit_of fields.now)) }
 {
@@ -389,28 +389,28 @@ fn row_bit(inputs: usize, fields: &[Name]) -> Option<bool>
     }
 }
 
-/// Whether the field is a plane of so many inputs, one or more.
+/// Whether the field is a plane for this number of inputs, which is not 0.
 fn is_plane(inputs: usize, field: &[u8]) -> bool
     ensures { result ≡ (nat_le 1 inputs && length field.now == inputs && list_all said.is_plane_character field.now) }
 {
     inputs >= 1 && field.len() == inputs && has_plane_characters(field)
 }
 
-/// Whether each character may stand in a plane.
+/// Whether each character is one of a plane.
 fn has_plane_characters(field: &[u8]) -> bool
     ensures { result ≡ list_all said.is_plane_character field.now }
 {
     field.iter().all(|c| is_plane_character(*c))
 }
 
-/// Whether the character may stand in a plane.
+/// Whether the character is one of a plane.
 fn is_plane_character(c: u8) -> bool
     ensures { result ≡ said.is_plane_character c }
 {
     c == b'0' || c == b'1' || c == b'-'
 }
 
-/// The output bit that a field is.
+/// The output bit of a field, if it is one.
 pub(crate) fn bit_said(field: &[u8]) -> Option<bool>
     ensures { MatchOption result (said.is_bit field.now ≡ false) (λ bit. (said.is_bit field.now ≡ true) × (bit ≡ said.is_one field.now)) }
 {

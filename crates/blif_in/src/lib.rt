@@ -1,14 +1,14 @@
 //! Reads BLIF texts.
 //!
-//! [`read()`] answers the network that a text denotes, where it is sound and within the limits, or the first
-//! fault of the text with its line and kind. What a text denotes, which networks are sound and what the
-//! limits are stands in `net_core`; which fault is the first stands here: `specs/Faults.antt` for a statement
-//! behind those before it, and `specs/Text.antt` for the text as a whole, with the laws that a text is one of
-//! a network or has one first fault. `specs/Inner` is for private functions and proofs alone.
+//! [`read()`] gives the network that a text denotes, if it is sound and within the limits, or else the first
+//! fault of the text with its line and kind. `net_core` defines what a text denotes, which networks are sound,
+//! and the limits. This crate defines which fault is the first: `specs/Faults.antt` for a statement, given those
+//! before it, and `specs/Text.antt` for the whole text. Its laws say that a text denotes such a network or has a
+//! first fault, and never both. `specs/Inner` is for private functions only.
 //!
-//! The reader goes over the text in layers, each with a contract of its own: physical lines, the joined lines
-//! that are statements (`joining`), the first fault of the statements (`judging`), their network
-//! (`building`), and whether that is sound.
+//! The reader works in layers, each with a contract of its own: physical lines, the joined lines that are
+//! statements (`joining`), the first fault of the statements (`judging`), their network (`building`), and
+//! whether the network is sound.
 #![tactic(auto)]
 
 mod building;

@@ -21,8 +21,8 @@ use hs_io::{Line, Name, cut_lines};
 use net_core::{Gate, Latch, NetFail, Network, check};
 use std::alloc::Global;
 
-/// The network of a BLIF text, or the first fault of the text. Where the network has several cycles, any one
-/// of them may be told.
+/// The network of a BLIF text, or the first fault of the text. Where the network has several cycles, the fault
+/// may name any of them.
 pub fn read(alloc: Global, bytes: &[u8]) -> Result<Network, BlifFail>
     requires { length bytes.now < 2 ^ 32 }
     ensures read { IfOk result (λ net. Blif bytes.now net) }
@@ -34,7 +34,7 @@ pub fn read(alloc: Global, bytes: &[u8]) -> Result<Network, BlifFail>
     read_statements(alloc, &lines)
 }
 
-/// The network that the statements in lines say, where they have no fault.
+/// The network of the statements in lines, or their first fault.
 fn read_statements(alloc: Global, lines: &[Line]) -> Result<Network, BlifFail>
     requires { All (λ line. AreMeasurable line.fields) lines.now }
     ensures faultless { OnOk result (text_fault (numbered lines.now) ≡ None) }
@@ -52,7 +52,7 @@ fn read_statements(alloc: Global, lines: &[Line]) -> Result<Network, BlifFail>
     checked(alloc, net)
 }
 
-/// The network, where it is sound.
+/// The network, if it is sound.
 fn checked(alloc: Global, net: Network) -> Result<Network, BlifFail>
     ensures same { IfOk result (λ same. same ≡ net) }
     ensures sound { OnOk result (Sound net) }
@@ -68,7 +68,7 @@ fn checked(alloc: Global, net: Network) -> Result<Network, BlifFail>
     }
 }
 
-/// The fault of statements as a whole, where none of them has one.
+/// The fault of the statements as a whole, if none of them has a fault of its own.
 fn closing_fault(lines: &[Line], net: &Network) -> Option<BlifFault>
     requires { net.now ≡ text.network_of (map says lines.now) }
     ensures { result ≡ text.closing_fault (numbered lines.now) }
@@ -87,7 +87,7 @@ fn closing_fault(lines: &[Line], net: &Network) -> Option<BlifFault>
     None
 }
 
-/// The fault that the clock is driven, at the line that first names it.
+/// The fault of a driven clock, at the line that first names it.
 fn clock_fault(driven: bool, line: u32) -> Option<BlifFault>
     ensures { result ≡ (if driven then Some (record { line = line; kind = BlifKind.Clocks }) else None) }
 {
@@ -100,7 +100,7 @@ fn clock_fault(driven: bool, line: u32) -> Option<BlifFault>
     None
 }
 
-/// Whether the network drives the clock that a line names, if it names one.
+/// Whether a latch or a gate drives the clock that a line names, if the line names one.
 fn drives_clock(net: &Network, line: &Line) -> Option<bool>
     ensures { MatchOption result (names_clock (said.numbered_of line.now) ≡ false) (λ driven. (names_clock (said.numbered_of line.now) ≡ true) × (driven ≡ list_any (λ clock. list_any (bytes_eq clock) (driven_within net.now)) (said.clocks_in (says line.now)))) }
 {
@@ -111,7 +111,7 @@ fn drives_clock(net: &Network, line: &Line) -> Option<bool>
     }
 }
 
-/// Whether the network drives one of these names, if there are any.
+/// Whether a latch or a gate drives one of these names, if there are any.
 fn drives_any(net: &Network, names: &[Name]) -> Option<bool>
     ensures { MatchOption result (names.now ≡ []) (λ driven. (0 < length names.now) × (driven ≡ list_any (λ clock. list_any (bytes_eq clock) (driven_within net.now)) names.now)) }
 {
@@ -121,7 +121,7 @@ fn drives_any(net: &Network, names: &[Name]) -> Option<bool>
     Some(names.iter().any(|name| drives(net, name.bytes())))
 }
 
-/// Whether the network drives the control of a latch, if that is a clock.
+/// Whether a latch or a gate drives the control of a latch, if that is a clock.
 fn drives_control(net: &Network, operands: &[Name]) -> Option<bool>
     ensures { MatchOption result (said.clocks_in (said.LatchLine operands.now) ≡ []) (λ driven. (0 < length (said.clocks_in (said.LatchLine operands.now))) × (driven ≡ list_any (λ clock. list_any (bytes_eq clock) (driven_within net.now)) (said.clocks_in (said.LatchLine operands.now)))) }
 {

@@ -8,7 +8,7 @@ ghost use Rattle.blif_in.specs.Inner.Saying.{fields_said, parts_said, said_by};
 use hs_io::{Line, Name};
 use net_core::Start;
 
-/// What a line says, by its first field, with the fields behind it.
+/// What a line says, by its first field, with the fields after it.
 #[derive(Clone, Copy)]
 pub(crate) enum Statement<'a> {
     Model(&'a [Name]),
@@ -111,7 +111,7 @@ pub(crate) fn latch_parts(operands: &[Name]) -> Option<LatchParts<'_>>
     }
 }
 
-/// The start that a field says, or one that is not known where it is missing.
+/// The start that a field says; a missing field says that it is unknown.
 pub(crate) fn start_said(field: Option<&Name>) -> Option<Start>
     ensures { result ≡ said.start_said (option_copied field.entry) }
 {
@@ -127,7 +127,7 @@ pub(crate) fn start_said(field: Option<&Name>) -> Option<Start>
     }
 }
 
-/// The name of the clock, if the control is one.
+/// The clock that a control names, unless it is the word for no control.
 pub(crate) fn clock_named(control: Option<&Name>) -> Option<&Name>
     ensures { said.clock_named (option_copied control.entry) ≡ option_to_list (option_copied result) }
 {

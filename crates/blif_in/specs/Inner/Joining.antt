@@ -1,10 +1,10 @@
--- Joined lines, piece by piece, and those of them that are statements.
+-- Joined lines, part by part, and those of them that are statements.
 use Rattle.std.specs.Prelude.{◌||◌, if◌then◌else◌, Option, Some, None, List, [], ◌∷◌, ◌++◌}
 use Rattle.hs_io.specs.declared.lines.Line.{Line}
 use Rattle.net_core.specs.Joined.{ends_text, in_front}
 use Rattle.net_core.specs.Statements.{is_skipped}
 
--- a part behind what goes before it
+-- the front of a joined line with one more part
 abbrev pub merged : Line → Line → Line
 merged front part = record { number = front.number; fields = front.fields ++ part.fields; bad = front.bad || part.bad }
 
@@ -12,7 +12,7 @@ abbrev pub behind : Option Line → Line → Line
 behind None part = part
 behind (Some front) part = merged front part
 
--- lines behind what goes before them
+-- lines after the front of a joined line, if there is one
 abbrev pub lines_behind : Option Line → List Line → List Line
 lines_behind None lines = lines
 lines_behind (Some front) lines = in_front front lines

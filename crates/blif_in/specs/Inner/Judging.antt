@@ -1,4 +1,4 @@
--- What the reader keeps while it judges statement after statement.
+-- What the reader keeps from one statement to the next.
 use Rattle.std.specs.Prelude.{◌≡◌, ℕ, ◌≤◌, Bool, false, true, Option, Some, None, Result, Ok, Err, List, [], ◌∷◌, length, count_by}
 use Rattle.std.specs.List.{AllByRecursion, filter_map, flat_map, list_any}
 use Rattle.std.specs.Option.{option_copied, option_map}
@@ -13,18 +13,18 @@ use Rattle.blif_in.specs.declared.judging.Standing.{Standing}
 abbrev pub gate_seen : OpenGate → said.OpenGate
 gate_seen gate = record { inputs = gate.inputs; bit = gate.bit }
 
--- all of these are the one name of the clock
+-- all of these names are the clock's
 abbrev pub IsClock : Option (List ℕ) → List (List ℕ) → Type 0
 IsClock None names = names ≡ []
 IsClock (Some clock) [] = ⊥
 IsClock (Some clock) (name ∷ names) = AllByRecursion (λ other. other ≡ clock) (name ∷ names)
 
--- whether a statement has stood
+-- whether there was a statement
 abbrev pub has_begun : List Statement → Bool
 has_begun [] = false
 has_begun (_ ∷ _) = true
 
--- what is kept behind these statements, which begin with the last one
+-- what is kept after these statements, which begin with the last one
 pub record Stands (standing : Standing) (earlier : List Statement) : Type 0 where
   pub begun : standing.begun ≡ has_begun earlier
   pub model : standing.model ≡ list_any is_model earlier
@@ -43,12 +43,12 @@ pub record IsSmall (standing : Standing) : Type 0 where
   pub latches : standing.latches ≤ 256
   pub gates : standing.gates ≤ 65536
 
--- an answer to a statement with a fault, or to one with none
+-- the answer is the fault, if there is one, or else a value with the property
 abbrev pub Judges : {T : Type 0} → Result T BlifKind → Option BlifKind → (T → Type 0) → Type 0
 Judges (Ok value) fault P = (fault ≡ None) × P value
 Judges (Err kind) fault P = fault ≡ Some kind
 
--- a statement is judged behind all statements behind which this is kept
+-- the answer for a statement is right after any statements after which this is kept
 abbrev pub IsJudged : Standing → Statement → Result Standing BlifKind → Type 0
 IsJudged standing statement result =
     (earlier : List Statement) → Stands standing earlier → Judges result (form_fault earlier statement) (λ next. Stands next (statement ∷ earlier))

@@ -18,7 +18,7 @@ said_by (Names names) = said.Names names.now
 said_by (Row fields) = said.Row fields.now
 said_by Other = said.Other
 
--- the fields behind the word, or those of a row
+-- the fields after the word, or those of a row
 abbrev pub fields_said : Statement → List (List ℕ)
 fields_said (Model names) = names.now
 fields_said (Inputs names) = names.now
