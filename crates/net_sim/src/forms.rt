@@ -29,22 +29,26 @@ const MOST_TABLE: usize = 12;
 /// The greatest number of inputs of a gate with cubes.
 const MOST_CUBES: usize = 32;
 
-/// A table has fewer values than this many times the bytes of the gate's rows and of one more row.
+/// A table has at most this many times as many values as the gate's rows and one more row have bytes.
 const MOST_SPREAD: usize = 16;
 
-/// The form of each gate.
-pub(crate) fn forms_of(alloc: Global, gates: &[NumberedGate]) -> Result<Items<GateForm>, AllocError>
+/// The form of each gate, for a run on at most this many symbols.
+pub(crate) fn forms_of(
+    alloc: Global,
+    gates: &[NumberedGate],
+    symbols: usize,
+) -> Result<Items<GateForm>, AllocError>
     ensures { IfOk result (AreForms gates.now) }
 {
     let mut forms = Items::new(alloc);
     for gate in gates {
-        forms.push(form_of(alloc, gate)?)?;
+        forms.push(form_of(alloc, gate, symbols)?)?;
     }
     Ok(forms)
 }
 
-/// The form of a gate.
-fn form_of(alloc: Global, gate: &NumberedGate) -> Result<GateForm, AllocError>
+/// The form of a gate, for a run on at most this many symbols.
+fn form_of(alloc: Global, gate: &NumberedGate, symbols: usize) -> Result<GateForm, AllocError>
     ensures { IfOk result (IsForm gate.now) }
 {
     let inputs = gate.inputs.len();
@@ -52,19 +56,21 @@ fn form_of(alloc: Global, gate: &NumberedGate) -> Result<GateForm, AllocError>
         return Ok(GateForm::Rows);
     }
     let cubes = cubes_of(alloc, gate, inputs as u8)?;
-    if has_table(gate) {
+    if has_table(gate, symbols) {
         Ok(GateForm::Table(table_of(alloc, gate, cubes.as_slice())?))
     } else {
         Ok(GateForm::Cubes(cubes))
     }
 }
 
-/// Whether the gate gets a table: it has few inputs, and the table is not much longer than its rows.
-fn has_table(gate: &NumberedGate) -> bool
+/// Whether the gate gets a table: it has few inputs, and the table is neither much longer than its rows nor
+/// longer than the list of symbols.
+fn has_table(gate: &NumberedGate, symbols: usize) -> bool
     ensures { result ≡ true → length gate.now.inputs.items ≤ 12 }
 {
     let inputs = gate.inputs.len();
     inputs <= MOST_TABLE
+        && 1 << inputs <= symbols
         && (1 << inputs) / (MOST_SPREAD * (inputs + 1)) <= gate.rows.as_slice().len()
 }
 

@@ -25,8 +25,8 @@ use net_core::{Network, Order};
 use std::alloc::{AllocError, Global};
 
 /// The text of the answers of a network to the symbols of a file, from the given start or else from its own.
-/// For an empty file it judges only the start, and does not look at the gates. For a symbol it takes no memory
-/// besides that of the text.
+/// For an empty file it judges only the start, and does not look at the gates. It takes memory for the forms of
+/// the gates and for the text, and none besides for a symbol.
 pub fn run(
     alloc: Global,
     net: &Network,
@@ -78,7 +78,8 @@ fn answers_from(
     if symbols.is_empty() {
         return Ok(Vec::new(alloc));
     }
-    let mut runner = Runner::new(alloc, order, state)?;
+    let most = symbols.len() / order.input_count.max(1);
+    let mut runner = Runner::new(alloc, order, state, most)?;
     let mut rest = symbols;
     let mut count = 0;
     while !rest.is_empty() {
@@ -90,7 +91,7 @@ fn answers_from(
     Ok(runner.text)
 }
 
-/// A network that runs.
+/// A running network.
 #[derive(Drop)]
 struct Runner {
     /// The forms by which its gates are evaluated.
@@ -106,14 +107,20 @@ struct Runner {
 }
 
 impl Runner {
-    fn new(alloc: Global, order: &Order, state: Vec<bool>) -> Result<Runner, AllocError>
+    /// A network before the first of at most this many symbols.
+    fn new(
+        alloc: Global,
+        order: &Order,
+        state: Vec<bool>,
+        symbols: usize,
+    ) -> Result<Runner, AllocError>
         requires { length state.items ≡ order.now.latch_count }
         ensures fits { IfOk result (Fits order.now) }
         ensures state { IfOk result (λ runner. runner.state.items ≡ state.items) }
         ensures text { IfOk result (λ runner. runner.text.items ≡ []) }
     {
         Ok(Runner {
-            forms: forms_of(alloc, &order.gates)?,
+            forms: forms_of(alloc, &order.gates, symbols)?,
             state,
             symbol: vec![in alloc; false; order.input_count]?,
             answer: vec![in alloc; false; order.output_signals.len()]?,
