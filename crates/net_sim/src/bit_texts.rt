@@ -6,7 +6,7 @@ ghost use Rattle.net_sim.specs.BitTexts.{text_of_bits, character_of};
 
 use std::alloc::AllocError;
 
-/// Whether the text is that of as many bits as there are places. If so, the places then hold these bits.
+/// Whether the text is that of as many bits as the slice has places. If so, it then holds these bits.
 pub(crate) fn read_bits(text: &[u8], bits: &mut [bool]) -> bool
     ensures read { result ≡ true → text.now ≡ text_of_bits bits.new }
     ensures refused { result ≡ false → (others : List Bool) → length others ≡ length bits.old → text.now ≢ text_of_bits others }

@@ -1,10 +1,10 @@
 use hs_io::Name;
 use std::alloc::AllocError;
 
-/// Why a network was not run. The first cause in this order is answered.
+/// Why a network was not run. Where several causes hold, the answer is the first in this order.
 #[derive(Debug, Drop)]
 pub enum SimFail {
-    /// A start is given, and it is not a text of a bit for each latch.
+    /// A start is given, and it is not the text of one bit for each latch.
     BadStart,
     /// No start is given, and the start of some latch is free or not given: the output of the first such latch.
     UnknownStart { latch: Name },

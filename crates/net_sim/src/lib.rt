@@ -1,9 +1,8 @@
 //! Runs networks on symbols.
 //!
-//! [`step_into`] is one step of a network, by an order in which its gates are evaluated. What it writes is what
-//! the definition of a step says of each sound network of this order. [`run`] takes a whole file of symbols,
-//! and gives the text of the answers, or the first cause why there is none. [`read_symbols`] reads the same
-//! files as numbers. [`append_answer`] writes each answer of a run; a caller that answers the symbols of a file
+//! [`step_into`] makes one step of a network, whose gates are evaluated in a given order. [`run`] takes a whole
+//! file of symbols, and gives the text of the answers, or the first cause why there is none. [`read_symbols`]
+//! reads such a file as numbers. [`append_answer`] writes each answer of a run; a caller that answers the symbols
 //! by other means, such as a machine, writes its answers by it too.
 //!
 //! The definitions are in `specs/`:
@@ -13,8 +12,8 @@
 //! - `Starts` says where a network starts, and `Run` what a run is.
 //! - `Inner` is for private functions only.
 //!
-//! Before the first symbol a run makes tables of the gates that have few inputs, and cubes of the rows of most
-//! others (`forms`). It reads the file line by line (`said`).
+//! Before the first symbol a run makes tables of the gates with few inputs, and cubes of the rows of most others
+//! (`forms`). It reads the file line by line (`said`).
 #![tactic(auto)]
 
 mod bit_texts;

@@ -12,8 +12,8 @@ use crate::forms::GateForm;
 use crate::gate_values::value_by_any;
 use net_core::Order;
 
-/// One step of each network of this order: `z` becomes the output for the symbol `x`, and `state` the next
-/// latch values. What `scratch` holds before is not read. It takes no memory.
+/// One step of a network of this order: `z` becomes the output for the symbol `x`, and `state` becomes the next
+/// latch values. The old values in `scratch` are not read. It takes no memory.
 pub fn step_into(
     order: &Order,
     state: &mut [bool],
@@ -61,7 +61,7 @@ fn put(signals: &mut [bool], from: usize, bits: &[bool])
     signals[from..from + bits.len()].copy_from_slice(bits);
 }
 
-/// Gives the gates their values in the order of evaluation.
+/// Evaluates the gates in the order of evaluation.
 fn evaluate(forms: &[GateForm], order: &Order, signals: &mut [bool])
     requires forms { AreForms order.now.gates.items forms.now }
     requires signals { length signals.old ≡ order.now.signal_count }
