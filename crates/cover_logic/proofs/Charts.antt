@@ -79,3 +79,10 @@ pub found_in_halves : (w : ℕ) (t zero one : Term) (number column : ℕ) (chart
 found_in_halves w t zero one number column chart None low high none h = λ x below p e. ⊎_elim
     (λ b. none x below ((low x).1 (p, b)) e) (λ b. h x below ((high x).1 (p, b)) e) (zero_or_one (bit_at x column) (bit_at-lt x column))
 found_in_halves w t zero one number column chart (Some x) low high none h = found_in_half w t one number column 1 x chart high h
+
+-- of the values below `count`, those with the mark 0 have the number 0; any other value has the number that it had
+pub record IsClearedBelow (count : ℕ) (marks before after : List ℕ) : Type 0 where
+  pub size : length after ≡ length before
+  pub none : (x : ℕ) → x < count → x < length before → get_or marks x 0 ≡ 0 → get_or after x 0 ≡ 0
+  pub same : (x : ℕ) → x < count → x < length before → (get_or marks x 0 ≡ 0 → ⊥) → get_or after x 0 ≡ get_or before x 0
+  pub rest : (x : ℕ) → count ≤ x → get_or after x 0 ≡ get_or before x 0

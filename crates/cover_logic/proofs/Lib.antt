@@ -10,8 +10,9 @@ pub mod Values
 pub mod Raising
 pub mod Gaps
 pub mod PrimeRows
-pub mod SpareRows
-pub mod Standing
+pub mod NeededRows
+pub mod LeftRows
 pub mod Width
 pub mod Charts
 pub mod Tables
+pub mod LastRows

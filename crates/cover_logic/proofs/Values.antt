@@ -5,7 +5,7 @@ use Rattle.std.proofs.lemmas.List.Elements.{All-contains, All-nil, All-push, All
 use Rattle.std.proofs.lemmas.List.Sorted.{Contains-permutation, IsPermutation-sym}
 use Rattle.cover_logic.specs.declared.term.Term.{Term}
 use Rattle.cover_logic.specs.Term.{IsCovered}
-use Rattle.cover_logic.specs.Inner.Rows.{Covers, EachNeeded, HasSameTerms, HasSameValues, IsWithinOne}
+use Rattle.cover_logic.specs.Inner.Rows.{Covers, HasSameTerms, HasSameValues, IsWithinOne}
 use Rattle.cover_logic.proofs.Lists.{held_left, held_push, held_push_cases}
 
 pub values_none : HasSameValues [] []
@@ -45,13 +45,6 @@ values_same terms others list h same = record {
 -- what covers the terms covers a list of the same terms
 pub covers_same : (rows terms list : List Term) → HasSameTerms terms list → Covers rows terms → Covers rows list
 covers_same rows terms list same covers x h = covers x (h.0, (same h.0).0 h.1, h.2)
-
-pub covers_from_same : (rows terms list : List Term) → HasSameTerms terms list → Covers rows list → Covers rows terms
-covers_from_same rows terms list same covers x h = covers x (h.0, (same h.0).1 h.1, h.2)
-
--- and so for what each row has for itself
-pub needed_from_same : (rows terms list : List Term) → HasSameTerms terms list → EachNeeded list rows [] → EachNeeded terms rows []
-needed_from_same rows terms list same needed i below = let n = needed i below in (n.0, (n.1.0, (same n.1.0).0 n.1.1, n.1.2), n.2)
 
 -- what the others hold, the terms hold
 pub covered_back : (terms others : List Term) → HasSameValues terms others → (x : ℕ) → IsCovered others x → IsCovered terms x

@@ -1,4 +1,4 @@
-use Rattle.std.proofs.Common.{◌≡◌, ℕ, ◌/◌, ◌%◌, ◌<◌, ◌^◌, ◌∙◌, suc, take, drop, Result, Ok, Err, IfOk, List, [], get_or, sym, ap, subst}
+use Rattle.std.proofs.Common.{◌≡◌, ℕ, ◌/◌, ◌%◌, ◌<◌, ◌^◌, ◌∙◌, suc, take, drop, List, get_or, sym, ap, subst}
 use Rattle.std.specs.Int.{bit_at}
 use Rattle.std.specs.List.{All, Contains, remove}
 use Rattle.std.proofs.Math.Nat.{mod-lt}
@@ -10,7 +10,7 @@ use Rattle.cover_logic.proofs.Bits.{below_width}
 use Rattle.cover_logic.specs.declared.term.Term.{Term}
 use Rattle.cover_logic.specs.Term.{FitsWidth, Holds, HoldsWithDash, IsCovered}
 use Rattle.cover_logic.specs.Cover.{ShareNoValue, GoodCover}
-use Rattle.cover_logic.specs.Inner.Rows.{Covers, EachNeeded, HasSameValues, IsClear, IsPrime}
+use Rattle.cover_logic.specs.Inner.Rows.{AreNeededPrimes, HasSameValues, IsClear}
 use Rattle.cover_logic.proofs.Values.{covered_back}
 
 -- where a value and its lowest `width` bits are the same
@@ -51,17 +51,17 @@ clear_from_apart width on off fits off_fits apart = λ k d h x p held.
 pub apart_from_clear : (width : ℕ) (on off : List Term) → All (IsClear off) on → ShareNoValue width on off
 apart_from_clear width on off clear = λ x h held off_held. All-contains (IsClear off) on held.0 clear held.1 x held.2 off_held
 
--- rows of one width that cover on, are clear of off, prime and each needed are a good cover; on and off may be
--- told by other lists with the same values
-pub good_cover : (width : ℕ) (rows on off ones zeros : List Term) → HasSameValues on ones → HasSameValues off zeros → All (FitsWidth width) rows → All (FitsWidth width) on → All (FitsWidth width) off → Covers rows ones → All (IsClear zeros) rows → All (IsPrime zeros) rows → EachNeeded ones rows [] → GoodCover width rows on off
-good_cover width rows on off ones zeros same_on same_off fits on_fits off_fits covers clear prime needed = record {
-  on_held = λ x h held. covers x (same_on.covers x held);
-  off_free = λ x h off_held held. All-contains (IsClear zeros) rows held.0 clear held.1 x held.2 (same_off.covers x off_held);
+-- rows that are needed and that need each of their literals are a good cover; on and off may be told by other lists
+-- with the same values
+pub good_cover : (width : ℕ) (rows on off ones zeros : List Term) → HasSameValues on ones → HasSameValues off zeros → All (FitsWidth width) on → All (FitsWidth width) off → AreNeededPrimes ones zeros width rows → GoodCover width rows on off
+good_cover width rows on off ones zeros same_on same_off on_fits off_fits p = record {
+  on_held = λ x h held. p.primes.covers x (same_on.covers x held);
+  off_free = λ x h off_held held. All-contains (IsClear zeros) rows held.0 p.primes.clear held.1 x held.2 (same_off.covers x off_held);
   literals_needed = λ k d h column l.
-      let w = prime k d h column l in
-      (w.0 % 2 ^ width, low_is_value width w.0, held_low width off off_fits w.0 (covered_back off zeros same_off w.0 w.1), dash_low width (get_or rows k d) (fits k d h) column w.0 w.2);
+      let w = p.primes.prime k d h column l in
+      (w.0 % 2 ^ width, low_is_value width w.0, held_low width off off_fits w.0 (covered_back off zeros same_off w.0 w.1), dash_low width (get_or rows k d) (p.primes.fits k d h) column w.0 w.2);
   rows_needed = λ i h.
-      let w = needed i h in
+      let w = p.needed i h in
       let P : List Term → Type 0 = λ ts. IsCovered ts w.0 in (
         w.0 % 2 ^ width,
         low_is_value width w.0,
@@ -71,16 +71,7 @@ good_cover width rows on off ones zeros same_on same_off fits on_fits off_fits c
 }
   where
     rest_fits : (i : ℕ) → All (FitsWidth width) (remove rows i)
-    rest_fits i = All-append (FitsWidth width) (take i rows) (drop (suc i) rows) (All-take (FitsWidth width) i rows fits) (All-drop (FitsWidth width) (suc i) rows fits)
-
--- what is true of the rows is true of those that are kept
-pub kept_all : (P : Term → Type 0) (rows kept : List Term) → All (Contains rows) kept → All P rows → All P kept
-kept_all P rows kept among h = λ k d below. All-contains P rows (get_or kept k d) h (among k d below)
-
--- three facts of one result give a fourth
-pub from_three : {T E : Type 0} (r : Result T E) (P Q R S : T → Type 0) → IfOk r P → IfOk r Q → IfOk r R → ((x : T) → P x → Q x → R x → S x) → IfOk r S
-from_three (Ok x) P Q R S p q r h = h x p q r
-from_three (Err e) P Q R S p q r h = tt
+    rest_fits i = All-append (FitsWidth width) (take i rows) (drop (suc i) rows) (All-take (FitsWidth width) i rows p.primes.fits) (All-drop (FitsWidth width) (suc i) rows p.primes.fits)
 
 -- what is clear of off is clear of another list with the same values
 pub clear_of_same : (off zeros terms : List Term) → HasSameValues off zeros → All (IsClear off) terms → All (IsClear zeros) terms

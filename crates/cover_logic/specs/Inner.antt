@@ -10,3 +10,4 @@ pub mod Nodes
 pub mod Index
 pub mod Charts
 pub mod Tables
+pub mod Lasts

@@ -11,7 +11,7 @@ LooksAt t column = bit_at t.care column ≡ 1
 unfoldable pub Holds : Term → ℕ → Type 0
 Holds t x = (column : ℕ) → LooksAt t column → bit_at x column ≡ bit_at t.value column
 
--- the term with a dash in place of its literal at one column holds the value
+-- the term with a dash instead of its literal at one column holds the value
 unfoldable pub HoldsWithDash : Term → ℕ → ℕ → Type 0
 HoldsWithDash t dash x =
     (column : ℕ) → column ≢ dash → LooksAt t column → bit_at x column ≡ bit_at t.value column
@@ -20,6 +20,6 @@ HoldsWithDash t dash x =
 abbrev pub IsCovered : List Term → ℕ → Type 0
 IsCovered terms x = (t : Term) × Contains terms t × Holds t x
 
--- the term has no literal at or above the width; its value is inside care, so it has no bit there at all
+-- the term has no literal at or above the width; its value has bits at the columns of care alone, so none there either
 abbrev pub FitsWidth : ℕ → Term → Type 0
 FitsWidth width t = t.care < 2 ^ width

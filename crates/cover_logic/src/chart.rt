@@ -1,11 +1,11 @@
 //! A number for each value of at most 16 columns.
 ghost use Rattle.std.specs.Prelude.{◌≡◌, ◌≤◌, ◌-◌, ◌^◌, length};
 ghost use Rattle.cover_logic.specs.Term.{FitsWidth};
-ghost use Rattle.cover_logic.specs.Inner.Charts.{IsFilled, IsFound};
+ghost use Rattle.cover_logic.specs.Inner.Charts.{IsCleared, IsFilled, IsFound};
 
 use crate::term::Term;
 
-/// The columns below the width.
+/// The columns below the width, as a number that has a bit for each.
 fn columns(width: u8) -> u128
     requires { width ≤ 16 }
     ensures { result ≡ 2 ^ width - 1 }
@@ -30,7 +30,7 @@ pub fn fill(chart: &mut [usize], row: Term, width: u8, number: usize)
     fill(chart, row.with_literal(column, true), width, number);
 }
 
-/// A value of the row at which the number stands.
+/// A value of the row that has the number.
 pub fn find(chart: &[usize], row: Term, width: u8, number: usize) -> Option<u128>
     requires few { width ≤ 16 }
     requires fits { FitsWidth width row }
@@ -49,4 +49,16 @@ pub fn find(chart: &[usize], row: Term, width: u8, number: usize) -> Option<u128
         return Some(value);
     }
     find(chart, row.with_literal(column, true), width, number)
+}
+
+/// Gives 0 to each value that has the mark 0.
+pub fn clear(chart: &mut [usize], marks: &[usize])
+    requires { length chart.old ≡ length marks.now }
+    ensures { IsCleared marks.now chart.old chart.new }
+{
+    for value in 0..chart.len() {
+        if marks[value] == 0 {
+            chart[value] = 0;
+        }
+    }
 }

@@ -1,4 +1,4 @@
-//! The rows of dense gates of few columns, by tables of their values.
+//! The rows of dense gates, by tables of their values.
 ghost use Rattle.std.specs.Prelude.{◌≡◌, ◌≤◌, ◌<◌, All, IfOk, IsTrue};
 ghost use Rattle.cover_logic.specs.Term.{FitsWidth, LooksAt};
 ghost use Rattle.cover_logic.specs.Inner.Pair.{Includes, IsLooser};
@@ -10,14 +10,14 @@ use crate::table::Table;
 use crate::term::Term;
 use std::alloc::{AllocError, Global};
 
-/// The fewest columns, the most columns and the fewest terms of a gate that is dense.
+/// The least and the greatest width of a dense gate, and the least number of its terms.
 const DENSE_WIDTH: u8 = 10;
 
 const MOST_WIDTH: u8 = 16;
 
 const DENSE_TERMS: usize = 512;
 
-/// How many values the terms hold, each term for itself.
+/// The number of values that the terms hold, where a value counts once for each term that holds it.
 fn values_of(terms: &[Term], width: u8) -> usize {
     let mut values = 0usize;
     for term in terms {
@@ -27,8 +27,8 @@ fn values_of(terms: &[Term], width: u8) -> usize {
     values
 }
 
-/// Whether tables are worth their making: where the terms hold at least three quarters of all values, and do
-/// not hold the same ones too often.
+/// Whether tables pay: whether the terms hold at least three quarters of all values, and each value about eight
+/// times at most on average.
 pub fn is_dense(on: &[Term], off: &[Term], width: u8) -> bool
     ensures { IsTrue result → width ≤ 16 }
 {

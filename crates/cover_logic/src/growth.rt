@@ -1,12 +1,12 @@
-//! How far a row may go in a gate of few columns. Nothing is promised of what is answered: it is advice, and
-//! whoever takes it asks a table before a row is changed.
+//! How far a row can be widened in a gate of few columns. No clause speaks of the answers: they are advice, and the
+//! caller asks a table before it changes a row.
 
 ghost use Rattle.std.specs.Prelude.{◌≤◌};
 
 use crate::term::Term;
 use std::alloc::{AllocError, Global};
 
-/// What a value is: free, or of off, or of on and in no row yet.
+/// What a value is: of off, of on and in no row yet, or free. A value of on that a row holds is free as well.
 #[derive(Clone, Copy, PartialEq, Eq)]
 enum Cell {
     Free,
@@ -50,7 +50,6 @@ impl Block {
 #[derive(Drop)]
 pub struct Ground {
     cells: Vec<Cell>,
-    width: u8,
 }
 
 impl Ground {
@@ -64,7 +63,6 @@ impl Ground {
     {
         let mut ground = Ground {
             cells: vec![in alloc; Cell::Free; 1usize << width]?,
-            width,
         };
         for term in on {
             ground.put(*term, Cell::Open);
@@ -75,12 +73,12 @@ impl Ground {
         Ok(ground)
     }
 
-    /// Asks no longer for the values of the row.
+    /// Makes the values of the row free.
     pub(crate) fn take(&mut self, row: Term) {
         self.put(row, Cell::Free);
     }
 
-    /// The row with dashes, at each step at the column that brings most values of on in no row yet.
+    /// The row with dashes, put one by one at the column that brings the most values of on that are in no row yet.
     pub(crate) fn grown(&self, row: Term) -> Term {
         let mut block = Block::of(row);
         for _ in 0..16 {
@@ -92,7 +90,7 @@ impl Ground {
         Term::masked(block.care as u128, block.value as u128)
     }
 
-    /// The literal of the block that brings most when it becomes a dash, among those that bring no value of off.
+    /// The column whose dash brings the most, among those whose dash brings no value of off.
     fn best(&self, block: Block) -> Option<usize> {
         let mut best = None;
         let mut most = 0;
@@ -109,7 +107,7 @@ impl Ground {
         best
     }
 
-    /// One more than the values of the block that are of on and in no row yet; 0 where one is of off.
+    /// One more than the number of values of the block that are of on and in no row yet; 0 where one is of off.
     fn gain(&self, block: Block) -> usize {
         let dashes = self.cells.len().saturating_sub(1) & !block.care;
         let mut part = 0;
@@ -128,7 +126,7 @@ impl Ground {
         gain
     }
 
-    /// Makes each value of the row that cell.
+    /// Gives each value of the row this cell.
     fn put(&mut self, row: Term, cell: Cell) {
         let block = Block::of(row);
         let dashes = self.cells.len().saturating_sub(1) & !block.care;

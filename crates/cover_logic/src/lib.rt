@@ -1,33 +1,39 @@
 //! Irredundant covers of gates.
 //!
-//! A gate of up to 128 columns is given by two lists of terms: `on` stands for the values at which it is
-//! 1, and `off` for those at which it is 0. Any other value is free. `cover` answers rows that are a good
-//! cover (`GoodCover`, in specs/Cover.antt): they hold every value of on and none of off, no literal can
-//! become a dash without a value of off being held, and no row can be left out without a value of on
-//! being lost. That definition speaks of values, by their bits (specs/Term.antt), and never of the terms
-//! that they were given by. Which of the good covers is answered is left to the crate, and no clause says
-//! that it is a least one. (specs/Inner holds what the crate's own functions say.)
+//! A gate of up to 128 columns is given by two lists of terms: `on` holds the values at which it is 1, and `off`
+//! those at which it is 0. Any other value is free. `cover` answers rows that are a good cover (`GoodCover`, in
+//! specs/Cover.antt): they hold every value of on and none of off, no literal can become a dash without a value of
+//! off being held, and no row can be left out without a value of on being lost. That definition speaks of values,
+//! by their bits (specs/Term.antt), and never of the terms that give them. Which of the good covers is answered is
+//! left to the crate, and no clause says that it is a least one. (specs/Inner has the definitions of the crate's own
+//! functions.)
 //!
-//! The argument. A term of on is widened, first to hold other terms of on whole, and then by a dash for
-//! each literal in turn, as long as it shares no value with a term of off (`raise`). A literal that
-//! stays has a value of off as its reason, and the reason stands when later literals go, since the row
-//! only grows. Rows are made until each term of on lies whole within one (`primes`); which terms a row
-//! holds whole is asked, in large gates, of 128 terms at once by their columns (`waiting`). Then each row is
-//! held against the others, and goes where they hold all its values of on; a row that stays has a value
-//! of its own, which stays its own when other rows go (`spare`). Which rows and which terms of on share
-//! a value with the row is asked, in long lists, of 128 terms at once by their columns (`bundles`, `rivals`):
-//! a term that has the other literal at a column of the row is out, a term that is not out is looked at,
-//! and of the rows so found those count that have another number and did not go. Whether the others hold
-//! the values that a row shares with a term of on is asked of one part at a time (`gap`): of the terms
-//! that touch the part, the one with the fewest literals outside it either holds the part whole, or has
-//! such a literal, and the part is split there in two. So the answer comes from the terms, whatever the
-//! number of values.
+//! The argument is the same for every gate. A term of on is widened, and then each of its literals in turn becomes a
+//! dash, as long as the row holds no value of off. A literal that is kept has a value of off as its reason, and the
+//! reason remains when later literals go, since the row only grows. Rows are made until each term of on is held.
+//! Then each row is compared with the others, and is left out where they hold all its values of on. A row that is
+//! kept has a value of its own, which stays its own when other rows go.
+//!
+//! How the crate finds out what a row holds depends on the gate.
+//!
+//! A dense gate has 10 to 16 columns, and its terms hold most of all values (`dense`). It is asked by its values. A
+//! table has a mark for each value of off, and another for each value that a row holds already (`table`). A row can
+//! be left out where no value of on has it as the last row that holds the value (`lasts`).
+//!
+//! Any other gate is asked by its terms, so the number of values does not matter. Whether a row shares a value with
+//! off is asked of an index (`index`, `raise`). A row is made until each term of on lies whole within one (`primes`);
+//! in large gates one step asks this of 128 terms at once, by their columns (`waiting`, `bundles`), and advice tells
+//! which steps are worth a question to the index (`slices`). Which rows and which terms of on share a value with a
+//! row is also asked of 128 terms at once in long lists (`rivals`). Whether other rows hold the values that a row
+//! shares with a term of on is asked of one part of them at a time (`gap`). Of the rows that touch the part, the one
+//! with the fewest literals outside it either holds the part whole, or has such a literal, and the part is split
+//! there in two.
 #![tactic(auto)]
 
 ghost use Rattle.std.specs.Prelude.{◌≤◌, ◌↔◌, All, IfOk, IsTrue};
 ghost use Rattle.cover_logic.specs.Term.{FitsWidth};
 ghost use Rattle.cover_logic.specs.Cover.{CanCover, GoodCover};
-ghost use Rattle.cover_logic.specs.Inner.Rows.{IsClear};
+ghost use Rattle.cover_logic.specs.Inner.Rows.{AreNeededPrimes, IsClear};
 
 mod bundles;
 mod chart;
@@ -36,19 +42,22 @@ mod distinct;
 mod gap;
 mod growth;
 mod index;
+mod lasts;
+mod needed;
 mod primes;
 mod raise;
 mod rivals;
 mod slices;
-mod spare;
 mod table;
 mod term;
 mod waiting;
 
+use dense::{dense_rows, is_dense};
 use distinct::distinct;
+use lasts::needed_by_lasts;
+use needed::needed_rows;
 use primes::primes;
 use raise::is_clear;
-use spare::without_spare;
 use std::alloc::{AllocError, Global};
 pub use term::Term;
 
@@ -75,9 +84,52 @@ fn are_apart(on: &[Term], off: &[Term]) -> bool
     on.iter().all(|term| is_clear(*term, off))
 }
 
-/// Rows that hold every value of on and no value of off, with no literal and no row to spare. Values in
-/// neither list are free. Both lists may be empty, overlap themselves and repeat. A gate of width 0 has
-/// one row without literals where on is not empty, and else none.
+/// The cover of a dense gate, by its values.
+fn dense_cover(alloc: Global, on: &[Term], off: &[Term], width: u8) -> Result<Vec<Term>, AllocError>
+    requires few { width ≤ 16 }
+    requires fits { All (FitsWidth width) on.now }
+    requires off_fits { All (FitsWidth width) off.now }
+    requires clear { All (IsClear off.now) on.now }
+    ensures { IfOk result (λ rows. AreNeededPrimes on.now off.now width rows.items) }
+{
+    let rows = dense_rows(alloc, on, off, width)?;
+    needed_by_lasts(alloc, &rows, on, width)
+}
+
+/// The cover of any gate, by its terms.
+fn term_cover(alloc: Global, on: &[Term], off: &[Term], width: u8) -> Result<Vec<Term>, AllocError>
+    requires width { width ≤ 128 }
+    requires fits { All (FitsWidth width) on.now }
+    requires off_fits { All (FitsWidth width) off.now }
+    requires clear { All (IsClear off.now) on.now }
+    ensures { IfOk result (λ rows. AreNeededPrimes on.now off.now width rows.items) }
+{
+    let rows = primes(alloc, on, off, width)?;
+    needed_rows(alloc, &rows, on, width)
+}
+
+/// The cover of the gate in the way that suits it.
+fn chosen_cover(
+    alloc: Global,
+    on: &[Term],
+    off: &[Term],
+    width: u8,
+) -> Result<Vec<Term>, AllocError>
+    requires width { width ≤ 128 }
+    requires fits { All (FitsWidth width) on.now }
+    requires off_fits { All (FitsWidth width) off.now }
+    requires clear { All (IsClear off.now) on.now }
+    ensures { IfOk result (λ rows. AreNeededPrimes on.now off.now width rows.items) }
+{
+    if is_dense(on, off, width) {
+        return dense_cover(alloc, on, off, width);
+    }
+    term_cover(alloc, on, off, width)
+}
+
+/// Rows that hold every value of on and no value of off, and of which no literal and no row can be left out. Values
+/// in neither list are free. A list may be empty, and its terms may overlap or repeat. A gate of width 0 has
+/// one row without literals where on is not empty, and no row otherwise.
 pub fn cover(alloc: Global, on: &[Term], off: &[Term], width: u8) -> Result<Vec<Term>, AllocError>
     requires { CanCover width on.now off.now }
     ensures good { IfOk result (λ rows. GoodCover width rows.items on.now off.now) }
@@ -85,6 +137,5 @@ pub fn cover(alloc: Global, on: &[Term], off: &[Term], width: u8) -> Result<Vec<
 {
     let ones = distinct(alloc, on)?;
     let zeros = distinct(alloc, off)?;
-    let rows = primes(alloc, &ones, &zeros, width)?;
-    without_spare(alloc, &rows, &ones, width)
+    chosen_cover(alloc, &ones, &zeros, width)
 }

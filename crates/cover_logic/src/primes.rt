@@ -1,10 +1,10 @@
+//! Rows that hold every value of on and none of off, and that need each of their literals.
 ghost use Rattle.std.specs.Prelude.{◌≡◌, ◌≤◌, All, IfOk, filter, not, vec_len};
 ghost use Rattle.cover_logic.specs.Term.{FitsWidth};
 ghost use Rattle.cover_logic.specs.Inner.Index.{terms_of};
 ghost use Rattle.cover_logic.specs.Inner.Pair.{refines};
 ghost use Rattle.cover_logic.specs.Inner.Rows.{ArePrimeRows, IsClear, IsPrimeRow};
 
-use crate::dense::{dense_rows, is_dense};
 use crate::index::Index;
 use crate::raise::{grow, raise, widened};
 use crate::slices::Slices;
@@ -20,7 +20,7 @@ fn drop_included(terms: &mut Vec<Term>, row: Term)
     terms.retain(|term| !row.includes(*term));
 }
 
-/// What tells which steps are worth a question to the index, for lists that are long enough.
+/// Advice on which steps are worth a question to the index, for long lists.
 #[derive(Drop)]
 struct Guide {
     on: Slices,
@@ -29,12 +29,12 @@ struct Guide {
     places: Vec<usize>,
 }
 
-/// The fewest columns and the fewest terms of a list for which a guide is made: below, it costs more than it saves.
+/// The least width and the least number of terms of a list for which a guide pays.
 const GUIDED_WIDTH: u8 = 13;
 
 const GUIDED_TERMS: usize = 256;
 
-/// How many terms of off are looked at before the index is asked.
+/// The number of terms of off that are looked at before the index is asked.
 const NEAREST: usize = 128;
 
 /// A guide, where the lists are long enough for one.
@@ -94,7 +94,7 @@ fn plain_row(
     Ok(raise(grown, off, width, &[]))
 }
 
-/// The same, by the guide.
+/// The same, with the guide.
 fn guided_row(
     alloc: Global,
     seed: Term,
@@ -118,7 +118,7 @@ fn guided_row(
     Ok(row)
 }
 
-/// Rows for `primes`, by passes over the list of the terms that lie in none yet.
+/// Rows for `primes`, by passes over the list of the terms that lie in no row yet.
 fn plain_rows(alloc: Global, on: &[Term], off: &Index, width: u8) -> Result<Vec<Term>, AllocError>
     requires width { width ≤ 128 }
     requires fits { All (FitsWidth width) on.now }
@@ -135,7 +135,7 @@ fn plain_rows(alloc: Global, on: &[Term], off: &Index, width: u8) -> Result<Vec<
     Ok(rows)
 }
 
-/// The same, by the guide and by bundles of those terms.
+/// The same, with the guide and with bundles of those terms.
 fn guided_rows(
     alloc: Global,
     on: &[Term],
@@ -158,7 +158,7 @@ fn guided_rows(
     Ok(rows)
 }
 
-/// The same, by an index of off, with a guide or without.
+/// The same, with an index of off, and with a guide where the lists are long.
 fn searched_rows(
     alloc: Global,
     on: &[Term],
@@ -184,9 +184,6 @@ pub fn primes(alloc: Global, on: &[Term], off: &[Term], width: u8) -> Result<Vec
     requires clear { All (IsClear off.now) on.now }
     ensures { IfOk result (λ rows. ArePrimeRows on.now off.now width rows.items) }
 {
-    if is_dense(on, off, width) {
-        return dense_rows(alloc, on, off, width);
-    }
     let index = Index::new(alloc, off, width)?;
     searched_rows(alloc, on, &index, width)
 }

@@ -1,35 +1,29 @@
-//! Which rows are to spare, in long lists: the rows and the terms of on that share a value with a row are
-//! asked of bundles.
-ghost use Rattle.std.specs.Prelude.{◌≡◌, ◌≤◌, [], All, Contains, IfOk, false, slice_index_or};
+//! Which rows can be left out, in long lists: bundles tell which rows and which terms of on share a value with a row.
+ghost use Rattle.std.specs.Prelude.{◌≡◌, ◌≤◌, All, IfOk, false, slice_index_or};
 ghost use Rattle.cover_logic.specs.Term.{FitsWidth};
 ghost use Rattle.cover_logic.specs.Inner.Entries.{HoldsRivals};
 ghost use Rattle.cover_logic.specs.Inner.Bundles.{terms_in_bundles};
-ghost use Rattle.cover_logic.specs.Inner.Rows.{Covers, EachNeeded, IsSole};
+ghost use Rattle.cover_logic.specs.Inner.Rows.{AreNeededRows, Covers, IsSole};
 
 use crate::bundles::{Bundles, Entry};
 use crate::gap::find_gap;
 use crate::term::Term;
 use std::alloc::{AllocError, Global};
 
-/// Whether the row of that number stands.
-fn is_left(stands: &[bool], number: usize) -> bool
-    ensures { result ≡ slice_index_or stands.now number false }
+/// Whether the row of that number is left.
+fn is_left(left: &[bool], number: usize) -> bool
+    ensures { result ≡ slice_index_or left.now number false }
 {
-    stands.get(number).copied().unwrap_or(false)
+    left.get(number).copied().unwrap_or(false)
 }
 
-/// The terms of other rows that stand.
-fn rivals(
-    alloc: Global,
-    row: usize,
-    near: &[Entry],
-    stands: &[bool],
-) -> Result<Vec<Term>, AllocError>
-    ensures { IfOk result (λ others. HoldsRivals row stands.now near.now others.items) }
+/// The terms of other rows that are left.
+fn rivals(alloc: Global, row: usize, near: &[Entry], left: &[bool]) -> Result<Vec<Term>, AllocError>
+    ensures { IfOk result (λ others. HoldsRivals row left.now near.now others.items) }
 {
     let mut others = Vec::new(alloc);
     for entry in near {
-        if entry.number != row && is_left(stands, entry.number) {
+        if entry.number != row && is_left(left, entry.number) {
             others.push(entry.term)?;
         }
     }
@@ -58,7 +52,7 @@ fn sole_value(
 }
 
 /// The rows that are left when each row goes whose values of on the others hold.
-pub fn left_of_bundles(
+pub fn needed_by_bundles(
     alloc: Global,
     rows: &[Term],
     on: &Bundles,
@@ -68,21 +62,19 @@ pub fn left_of_bundles(
     requires fits { All (FitsWidth width) rows.now }
     requires same { on.now.width ≡ width }
     requires covers { Covers rows.now (terms_in_bundles on.now) }
-    ensures among { IfOk result (λ kept. All (Contains rows.now) kept.items) }
-    ensures covers { IfOk result (λ kept. Covers kept.items (terms_in_bundles on.now)) }
-    ensures needed { IfOk result (λ kept. EachNeeded (terms_in_bundles on.now) kept.items []) }
+    ensures { IfOk result (λ kept. AreNeededRows (terms_in_bundles on.now) rows.now kept.items) }
 {
     let all = Bundles::new(alloc, rows, width)?;
-    let mut stands = vec![in alloc; true; rows.len()]?;
+    let mut left = vec![in alloc; true; rows.len()]?;
     let mut kept = Vec::new(alloc);
     for (i, row) in rows.iter().enumerate() {
         let near = all.met_by(alloc, *row)?;
-        let others = rivals(alloc, i, &near, &stands)?;
+        let others = rivals(alloc, i, &near, &left)?;
         let sole = sole_value(alloc, *row, on, &others)?;
         if sole.is_some() {
             kept.push(*row)?;
         } else {
-            stands[i] = false;
+            left[i] = false;
         }
     }
     Ok(kept)

@@ -9,7 +9,7 @@ use std::alloc::{AllocError, Global};
 #[derive(Drop)]
 pub struct Table {
     pub terms: Vec<Term>,
-    marks: Vec<usize>,
+    pub marks: Vec<usize>,
     width: u8,
 }
 
@@ -44,7 +44,7 @@ impl Table {
         Ok(table)
     }
 
-    /// Puts a term behind the others.
+    /// Adds a term.
     pub fn add(&mut self, term: Term) -> Result<(), AllocError>
         requires table { IsTable self.old }
         requires fits { FitsWidth self.old.width term }

@@ -27,41 +27,41 @@ IsMet row entries met = (e : Entry) → Contains met e ↔ (Contains entries e �
 abbrev pub EntryFits : ℕ → Entry → Type 0
 EntryFits width e = FitsWidth width e.term
 
--- of the places of entries, the set has those of entries with that literal at the column
+-- the set has the places of the entries with that literal at the column
 abbrev pub HasLiterals : ℕ → ℕ → List Entry → ℕ → Type 0
 HasLiterals column bit entries places =
     (k : ℕ) (d : Entry) → k < length entries → (bit_at places k ≡ 1) ↔ HasLiteral (slice_index_or entries k d).term column bit
 
--- of the places of entries, the set has those of entries whose terms share no value with the row
+-- the set has the places of the entries whose terms share no value with the row
 abbrev pub IsAgainst : Term → List Entry → ℕ → Type 0
 IsAgainst row entries places =
     (k : ℕ) (d : Entry) → k < length entries → (bit_at places k ≡ 1) ↔ (agree row (slice_index_or entries k d).term ≡ false)
 
--- of the places of entries, the set has those of the other set at which the term looks wherever the row does, with the same bits
+-- of the given places, the second set has those of entries whose term looks wherever the row does, with the same bits
 abbrev pub IsWithin : Term → List Entry → ℕ → ℕ → Type 0
 IsWithin row entries places within =
     (k : ℕ) (d : Entry) → k < length entries → (bit_at within k ≡ 1) ↔ ((bit_at places k ≡ 1) × (refines row (slice_index_or entries k d).term ≡ true))
 
--- entries were put in whose terms share a value with the row, and none was taken out
+-- entries whose terms share a value with the row were added, and none was taken out
 pub record AreMore (row : Term) (entries before after : List Entry) : Type 0 where
   pub kept : (e : Entry) → Contains before e → Contains after e
   pub among : (e : Entry) → Contains after e → Contains before e ⊎ (Contains entries e × (agree row e.term ≡ true))
 
--- with the entry at the place among them, if its term does
+-- the same, and the entry at the place is among them if its term shares a value with the row
 pub record IsPutAt (row : Term) (entries : List Entry) (place : ℕ) (before after : List Entry) : Type 0 where
   pub more : AreMore row entries before after
   pub there : (d : Entry) → place < length entries → agree row (slice_index_or entries place d).term ≡ true → Contains after (slice_index_or entries place d)
 
--- with each such entry
+-- the same, and each entry whose term shares a value with the row is among them
 pub record IsPutIn (row : Term) (entries before after : List Entry) : Type 0 where
   pub more : AreMore row entries before after
   pub all : (e : Entry) → Contains entries e → agree row e.term ≡ true → Contains after e
 
--- the entry is of another row, which stands
+-- the entry is of another row, which is left
 abbrev pub IsRival : ℕ → List Bool → Entry → Type 0
-IsRival row stands e = (e.number ≢ row) × (slice_index_or stands e.number false ≡ true)
+IsRival row left e = (e.number ≢ row) × (slice_index_or left e.number false ≡ true)
 
--- the terms of the entries that are of other rows that stand
-pub record HoldsRivals (row : ℕ) (stands : List Bool) (near : List Entry) (others : List Term) : Type 0 where
-  pub among : All (λ t. (e : Entry) × Contains near e × IsRival row stands e × (e.term ≡ t)) others
-  pub all : All (λ e. IsRival row stands e → Contains others e.term) near
+-- the terms of the entries that are of other rows that are left
+pub record HoldsRivals (row : ℕ) (left : List Bool) (near : List Entry) (others : List Term) : Type 0 where
+  pub among : All (λ t. (e : Entry) × Contains near e × IsRival row left e × (e.term ≡ t)) others
+  pub all : All (λ e. IsRival row left e → Contains others e.term) near

@@ -24,7 +24,7 @@ abbrev pub all_live : List Group → ℕ
 all_live [] = 0
 all_live (g ∷ gs) = g.live + all_live gs
 
--- the term was live, and none but it may be so no longer
+-- the term was live, and no other term ceased to be live
 pub record IsTaken (before : Group) (t : Term) (after : Group) : Type 0 where
   pub was : IsLive before t
   pub among : (u : Term) → IsLive after u → IsLive before u
@@ -36,7 +36,7 @@ pub record IsDropped (row : Term) (before after : Group) : Type 0 where
   pub left : (t : Term) → IsLive after t ↔ (IsLive before t × (refines row t ≡ false))
   pub less : after.live ≤ before.live
 
--- of each group
+-- the same of the terms in all groups
 pub record AreDropped (row : Term) (before after : List Group) : Type 0 where
   pub left : (t : Term) → IsLiveInSome after t ↔ (IsLiveInSome before t × (refines row t ≡ false))
   pub less : all_live after ≤ all_live before

@@ -6,12 +6,12 @@ use Rattle.cover_logic.specs.declared.term.Term.{Term}
 use Rattle.cover_logic.specs.Term.{Holds}
 use Rattle.cover_logic.specs.Inner.Pair.{Includes}
 
--- the terms of the list that the nodes stand for
+-- the terms of the list that the nodes have
 abbrev pub listed : List Node → List Term
 listed [] = []
 listed (n ∷ ns) = if n.is_listed then n.term ∷ listed ns else listed ns
 
--- each node's term holds the terms of the list that stand before it, from `from` on
+-- each node's term holds the terms of the list that come before it, from `from` on
 pub record IsNested (nodes : List Node) : Type 0 where
   pub back : (i : ℕ) (d : Node) → i < length nodes → (slice_index_or nodes i d).from ≤ i
   pub includes : (i j : ℕ) (d : Node) → i < length nodes → (slice_index_or nodes i d).from ≤ j → j < i →
@@ -21,7 +21,7 @@ pub IsNested-prop : (nodes : List Node) → IsProp (IsNested nodes)
 unfolding Holds
 IsNested-prop nodes = hlevel logic.props
 
--- nodes for the terms, and for no others, stand behind those that were there
+-- after the nodes that were there come nodes for the terms, and for no others
 pub record IsAdded (before : List Node) (terms : List Term) (after : List Node) : Type 0 where
   pub added : List Node
   pub is : after ≡ before ++ added

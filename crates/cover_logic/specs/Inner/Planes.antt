@@ -29,7 +29,7 @@ pub record ArePlanes (entries : List Entry) (planes : List Plane) : Type 0 where
   pub zeros : (column : ℕ) (d : Plane) → column < length planes → HasLiterals column 0 entries (slice_index_or planes column d).zeros
   pub ones : (column : ℕ) (d : Plane) → column < length planes → HasLiterals column 1 entries (slice_index_or planes column d).ones
 
--- and there is a plane for each column at which an entry has a literal
+-- the same, and there is a plane for each column at which an entry has a literal
 pub record AreTold (entries : List Entry) (planes : List Plane) : Type 0 where
   pub by_column : ArePlanes entries planes
   pub fits : All (EntryFits (length planes)) entries

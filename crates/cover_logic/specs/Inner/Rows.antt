@@ -1,5 +1,5 @@
 -- Lists of terms while a cover is made. Private functions need it; no public contract cites it.
-use Rattle.std.specs.Prelude.{ℕ, ◌≤◌, List, ◌++◌, ◌↔◌, All, Contains, EachIndex, Option, MatchOption, remove}
+use Rattle.std.specs.Prelude.{ℕ, ◌≤◌, List, [], ◌++◌, ◌↔◌, All, Contains, EachIndex, Option, MatchOption, remove}
 use Rattle.cover_logic.specs.declared.term.Term.{Term}
 use Rattle.cover_logic.specs.Inner.Pair.{Includes}
 use Rattle.cover_logic.specs.Term.{FitsWidth, LooksAt, Holds, HoldsWithDash, IsCovered}
@@ -8,7 +8,7 @@ use Rattle.cover_logic.specs.Term.{FitsWidth, LooksAt, Holds, HoldsWithDash, IsC
 abbrev pub IsClear : List Term → Term → Type 0
 IsClear terms t = (x : ℕ) → Holds t x → IsCovered terms x → ⊥
 
--- with a dash in place of its literal at the column the term holds a value of off
+-- with a dash instead of its literal at the column the term holds a value of off
 abbrev pub NeedsLiteral : List Term → Term → ℕ → Type 0
 NeedsLiteral off t column = (x : ℕ) × IsCovered off x × HoldsWithDash t column x
 
@@ -24,7 +24,7 @@ IsAllHeld terms t = (x : ℕ) → Holds t x → IsCovered terms x
 abbrev pub IsPrime : List Term → Term → Type 0
 IsPrime off t = (column : ℕ) → LooksAt t column → NeedsLiteral off t column
 
--- a term that holds what the seed holds and no value of off, and looks nowhere else
+-- a term that holds what the seed holds and no value of off; as a number, its care is no greater
 pub record IsGrown (seed : Term) (off : List Term) (row : Term) : Type 0 where
   pub includes : Includes row seed
   pub clear : IsClear off row
@@ -63,15 +63,26 @@ IsSole row on others sole =
 abbrev pub EachNeeded : List Term → List Term → List Term → Type 0
 EachNeeded on rows rest = EachIndex rows (λ i. (x : ℕ) × IsCovered on x × (IsCovered (remove rows i ++ rest) x → ⊥))
 
--- the lists have the same terms, whatever their order and however often
+-- some of the rows, which hold every value of on, and of which none can be left out
+pub record AreNeededRows (on rows kept : List Term) : Type 0 where
+  pub among : All (Contains rows) kept
+  pub covers : Covers kept on
+  pub needed : EachNeeded on kept []
+
+-- rows that hold every value of on and no value of off, need each of their literals, and are each needed
+pub record AreNeededPrimes (on off : List Term) (width : ℕ) (rows : List Term) : Type 0 where
+  pub primes : ArePrimeRows on off width rows
+  pub needed : EachNeeded on rows []
+
+-- the lists have the same terms, in any order and any number of times
 abbrev pub HasSameTerms : List Term → List Term → Type 0
 HasSameTerms terms others = (t : Term) → Contains others t ↔ Contains terms t
 
--- one of the list holds each value of the term
+-- one term of the list holds each value of the term
 abbrev pub IsWithinOne : List Term → Term → Type 0
 IsWithinOne terms t = (u : Term) × Contains terms u × Includes u t
 
--- the others are of the terms, and hold all their values
+-- the others are among the terms, and hold all values of the terms
 pub record HasSameValues (terms others : List Term) : Type 0 where
   pub among : All (Contains terms) others
   pub covers : Covers others terms

@@ -5,7 +5,7 @@ use Rattle.cover_logic.specs.declared.term.Term.{Term}
 use Rattle.cover_logic.specs.Term.{FitsWidth, Holds, IsCovered}
 use Rattle.cover_logic.specs.Inner.Rows.{IsClear, MeetsSome}
 
--- of the values of `width` bits those have a 1 that a term holds, and the others a 0
+-- of the values of `width` bits, those that a term holds have the mark 1, and the others have 0
 pub record AreMarks (width : ℕ) (terms : List Term) (marks : List ℕ) : Type 0 where
   pub size : length marks ≡ 2 ^ width
   pub fits : All (FitsWidth width) terms
@@ -17,17 +17,17 @@ pub record IsTable (table : Table) : Type 0 where
   pub few : table.width ≤ 16
   pub told : AreMarks table.width table.terms.items table.marks.items
 
--- and it is of those terms, and of so many columns
+-- the table is right, with those terms and this number of columns
 pub record IsTableOf (width : ℕ) (terms : List Term) (table : Table) : Type 0 where
   pub columns : table.width ≡ width
   pub items : table.terms.items ≡ terms
   pub right : IsTable table
 
--- with one term more
+-- the table with one more term
 abbrev pub IsOneMore : Table → Term → Table → Type 0
 IsOneMore before term after = IsTableOf before.width (before.terms.items ++ term ∷ []) after
 
--- the row has a value of the terms, or it has none
+-- whether the row has a value of the terms
 abbrev pub IsMetOrClear : List Term → Term → Bool → Type 0
 IsMetOrClear terms row true = MeetsSome terms row
 IsMetOrClear terms row false = IsClear terms row

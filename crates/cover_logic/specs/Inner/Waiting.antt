@@ -8,14 +8,14 @@ use Rattle.cover_logic.specs.Inner.Pair.{refines}
 abbrev pub IsWaiting : Waiting → Term → Type 0
 IsWaiting w t = IsLiveInSome w.groups.items t
 
--- the term was waiting, and none but it may be so no longer
+-- the term was waiting, and no other term ceased to wait
 pub record HasTaken (before : Waiting) (t : Term) (after : Waiting) : Type 0 where
   pub was : IsWaiting before t
   pub among : (u : Term) → IsWaiting after u → IsWaiting before u
   pub rest : (u : Term) → IsWaiting before u → IsWaiting after u ⊎ (t ≡ u)
   pub fewer : all_live after.groups.items < all_live before.groups.items
 
--- those wait still that do not look wherever the row does, with the same bits
+-- the terms that still wait are those that do not look wherever the row does, with the same bits
 pub record HasDropped (row : Term) (before after : Waiting) : Type 0 where
   pub left : (t : Term) → IsWaiting after t ↔ (IsWaiting before t × (refines row t ≡ false))
   pub less : all_live after.groups.items ≤ all_live before.groups.items

@@ -6,7 +6,7 @@ use Rattle.cover_logic.specs.declared.bundles.Entry.{Entry}
 use Rattle.cover_logic.specs.Inner.Entries.{IsMet}
 use Rattle.cover_logic.specs.Inner.Bundles.{entries_of}
 use Rattle.cover_logic.specs.Inner.Rows.{IsUncovered}
-use Rattle.cover_logic.proofs.SpareRows.{IsSharedAt, met_is_held, shared_all}
+use Rattle.cover_logic.proofs.NeededRows.{IsSharedAt, met_is_held, shared_all}
 use Rattle.cover_logic.proofs.rivals.sole_value.Goals as goal
 use Rattle.cover_logic.proofs.rivals.sole_value.Goals.{in-Some+in_ok-gap+in_default-2, in_default}
 

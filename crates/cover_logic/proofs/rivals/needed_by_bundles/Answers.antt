@@ -3,19 +3,19 @@ use Rattle.cover_logic.specs.declared.bundles.Entry.{Entry}
 use Rattle.cover_logic.specs.declared.term.Term.{Term}
 use Rattle.cover_logic.specs.Inner.Entries.{HoldsRivals}
 use Rattle.cover_logic.specs.Inner.Bundles.{entries_of, terms_in_bundles}
-use Rattle.cover_logic.specs.Inner.Rows.{EachNeeded, IsSole}
-use Rattle.cover_logic.proofs.Standing.{rivals_alike, standing_kept, standing_left_out, standing_none}
-use Rattle.cover_logic.proofs.SpareRows.{AreKept, HoldAlike, kept_none, row_kept, row_left_out, rest_from, covers_alone}
+use Rattle.cover_logic.specs.Inner.Rows.{IsSole}
+use Rattle.cover_logic.proofs.LeftRows.{rivals_alike, left_kept, left_without, left_all}
+use Rattle.cover_logic.proofs.NeededRows.{AreKept, HoldAlike, kept_none, row_kept, row_left_out, rest_from, needed_from_kept}
 use Rattle.std.proofs.lemmas.List.{drop_all}
 use Rattle.std.specs.List.{Contains}
 use Rattle.std.proofs.lemmas.List.Elements.{Contains-get_or}
-use Rattle.cover_logic.proofs.rivals.left_of_bundles.Goals as goal
-use Rattle.cover_logic.proofs.rivals.left_of_bundles.Goals.{then-is_some+in_ok-push, else-is_some}
+use Rattle.cover_logic.proofs.rivals.needed_by_bundles.Goals as goal
+use Rattle.cover_logic.proofs.rivals.needed_by_bundles.Goals.{then-is_some+in_ok-push, else-is_some}
 
 pub loop-i-init : goal.loop-i-init
 loop-i-init c =
-    let stand : c.in_ok-stands.stands.items ≡ replicate (length c.args.rows.now) true = search rules in
-    rw c.new-kept.ensures.items (kept_none (terms_in_bundles c.args.on.now) c.args.rows.now c.requires.covers, standing_none c.args.rows.now c.in_ok-stands.stands.items stand)
+    let stand : c.in_ok-left.left.items ≡ replicate (length c.args.rows.now) true = search rules in
+    rw c.new-kept.ensures.items (kept_none (terms_in_bundles c.args.on.now) c.args.rows.now c.requires.covers, left_all c.args.rows.now c.in_ok-left.left.items stand)
 
 pub loop-i-preserved : goal.loop-i-preserved
 loop-i-preserved c =
@@ -24,40 +24,36 @@ loop-i-preserved c =
     let on = terms_in_bundles c.args.on.now in
     let rows = c.args.rows.now in
     let kept = c.loop-i.kept.items in
-    let stands = c.loop-i.stands.items in
+    let left = c.loop-i.left.items in
     let rest = drop (i + 1) rows in
     let entries = entries_of c.in_ok-all.all in
     let near = c.in_ok-near.near.items in
     let others = c.in_ok-others.others.items in
     let before : AreKept on rows kept (row ∷ rest) = rw (← rest_from rows i row c.loop-i-test.true c.index-rows-i.is) c.loop-i.invariant.0 in
-    let held : HoldsRivals i stands near others =
-    subst (λ (es : List Entry). HoldsRivals i stands es others) c.deref.ensures.value
+    let held : HoldsRivals i left near others =
+    subst (λ (es : List Entry). HoldsRivals i left es others) c.deref.ensures.value
     (subst (λ (bs : List Bool). HoldsRivals i bs c.deref.result.now others) c.deref-in-loop-i.ensures.value c.in_ok-others.ensures) in
     let alike : HoldAlike row (kept ++ rest) others =
-    rivals_alike rows stands kept i row entries near others c.in_ok-all.ensures.numbers c.in_ok-near.ensures held c.loop-i.invariant.1 in
+    rivals_alike rows left kept i row entries near others c.in_ok-all.ensures.numbers c.in_ok-near.ensures held c.loop-i.invariant.1 in
     let sole : IsSole row on others c.in_ok-sole.sole = subst (λ (ts : List Term). IsSole row on ts c.in_ok-sole.sole) c.deref-in-loop-i-2.ensures.value c.in_ok-sole.ensures in
     let among : Contains rows row = subst (λ (t : Term). Contains rows t) (sym c.index-rows-i.is) (Contains-get_or rows i row c.loop-i-test.true) in
     elim c.if-is_some.branch [
       | then-is_some+in_ok-push w ↦
           let pushed : c.if-is_some.kept.items ≡ kept ++ row ∷ [] = search rules in
-          let same : c.if-is_some.stands.items ≡ stands = ap (λ v. v.items) w.stands-is in
+          let same : c.if-is_some.left.items ≡ left = ap (λ v. v.items) w.left-is in
           rw (pushed, same) (
             row_kept on rows kept rest others row c.in_ok-sole.sole before among alike sole (sym c.is_some.ensures ∙ w.if-is_some.true),
-            standing_kept rows stands kept i row c.loop-i-test.true c.index-rows-i.is c.loop-i.invariant.1,
+            left_kept rows left kept i row c.loop-i-test.true c.index-rows-i.is c.loop-i.invariant.1,
           )
       | else-is_some w ↦
           let same : c.if-is_some.kept.items ≡ kept = ap (λ v. v.items) w.kept-is in
-          let gone : c.if-is_some.stands.items ≡ set stands i false = search rules in
+          let gone : c.if-is_some.left.items ≡ set left i false = search rules in
           rw (same, gone) (
             row_left_out on rows kept rest others row c.in_ok-sole.sole before alike sole (sym c.is_some.ensures ∙ w.if-is_some.false),
-            standing_left_out rows stands kept i c.loop-i-test.true c.loop-i.invariant.1,
+            left_without rows left kept i c.loop-i-test.true c.loop-i.invariant.1,
           )
     ]
 
-pub returns-clause-covers : goal.returns-clause-covers
-returns-clause-covers c =
-    covers_alone (terms_in_bundles c.args.on.now) c.loop-i.kept.items _ (drop_all c.loop-i.i c.args.rows.now c.loop-i-test.false) c.loop-i.invariant.0.covers
-
-pub returns-clause-needed : goal.returns-clause-needed
-returns-clause-needed c =
-    subst (λ (rest : List Term). EachNeeded (terms_in_bundles c.args.on.now) c.loop-i.kept.items rest) (drop_all c.loop-i.i c.args.rows.now c.loop-i-test.false) c.loop-i.invariant.0.needed
+pub returns : goal.returns
+returns c =
+    needed_from_kept (terms_in_bundles c.args.on.now) c.args.rows.now c.loop-i.kept.items _ (drop_all c.loop-i.i c.args.rows.now c.loop-i-test.false) c.loop-i.invariant.0

@@ -1,14 +1,13 @@
 use Rattle.std.proofs.Common.{◌≡◌, ◌+◌, List, ◌∷◌, [], ◌++◌, drop, ap, ◌∙◌, sym, subst, rules}
 use Rattle.cover_logic.specs.declared.term.Term.{Term}
 use Rattle.cover_logic.specs.Inner.Pair.{agree}
-use Rattle.cover_logic.specs.Inner.Rows.{EachNeeded}
-use Rattle.cover_logic.proofs.SpareRows.{AreKept, HoldAlike, kept_none, near_alike, row_kept, row_left_out, rest_from, rest_slice, covers_alone}
+use Rattle.cover_logic.proofs.NeededRows.{AreKept, HoldAlike, kept_none, near_alike, row_kept, row_left_out, rest_from, rest_slice, needed_from_kept}
 use Rattle.std.proofs.lemmas.List.{drop_all}
 use Rattle.cover_logic.proofs.Gaps.{IsNear}
 use Rattle.std.specs.List.{Contains, filter}
 use Rattle.std.proofs.lemmas.List.Elements.{Contains-get_or}
-use Rattle.cover_logic.proofs.spare.plain_rows.Goals as goal
-use Rattle.cover_logic.proofs.spare.plain_rows.Goals.{then-is_some+in_ok-push, else-is_some}
+use Rattle.cover_logic.proofs.needed.needed_by_passes.Goals as goal
+use Rattle.cover_logic.proofs.needed.needed_by_passes.Goals.{then-is_some+in_ok-push, else-is_some}
 
 pub loop-i-init : goal.loop-i-init
 loop-i-init c = rw c.new-kept.ensures.items (kept_none _ _ c.requires)
@@ -36,10 +35,5 @@ loop-i-preserved c =
           subst P (sym same) (row_left_out on rows kept rest _ row c.in_ok-sole.sole before alike c.in_ok-sole.ensures (sym c.is_some.ensures ∙ w.if-is_some.false))
     ]
 
-pub returns-clause-covers : goal.returns-clause-covers
-returns-clause-covers c =
-    covers_alone c.args.on.now c.loop-i.kept.items _ (drop_all c.loop-i.i c.args.rows.now c.loop-i-test.false) c.loop-i.invariant.covers
-
-pub returns-clause-needed : goal.returns-clause-needed
-returns-clause-needed c =
-    subst (λ (rest : List Term). EachNeeded c.args.on.now c.loop-i.kept.items rest) (drop_all c.loop-i.i c.args.rows.now c.loop-i-test.false) c.loop-i.invariant.needed
+pub returns : goal.returns
+returns c = needed_from_kept c.args.on.now c.args.rows.now c.loop-i.kept.items _ (drop_all c.loop-i.i c.args.rows.now c.loop-i-test.false) c.loop-i.invariant

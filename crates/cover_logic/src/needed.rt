@@ -1,11 +1,12 @@
-ghost use Rattle.std.specs.Prelude.{◌≡◌, ◌≤◌, ◌++◌, [], All, Contains, IfOk, filter};
+//! Which rows can be left out of a cover.
+ghost use Rattle.std.specs.Prelude.{◌≡◌, ◌≤◌, ◌++◌, All, IfOk, filter};
 ghost use Rattle.cover_logic.specs.Term.{FitsWidth};
 ghost use Rattle.cover_logic.specs.Inner.Pair.{agree};
-ghost use Rattle.cover_logic.specs.Inner.Rows.{Covers, EachNeeded, IsSole};
+ghost use Rattle.cover_logic.specs.Inner.Rows.{AreNeededRows, Covers, IsSole};
 
 use crate::bundles::Bundles;
 use crate::gap::{find_gap, overlapping};
-use crate::rivals::left_of_bundles;
+use crate::rivals::needed_by_bundles;
 use crate::term::Term;
 use std::alloc::{AllocError, Global};
 
@@ -39,11 +40,9 @@ fn sole_value(
 }
 
 /// The rows that are left when each row goes whose values of on the others hold, by passes over the lists.
-fn plain_rows(alloc: Global, rows: &[Term], on: &[Term]) -> Result<Vec<Term>, AllocError>
+fn needed_by_passes(alloc: Global, rows: &[Term], on: &[Term]) -> Result<Vec<Term>, AllocError>
     requires { Covers rows.now on.now }
-    ensures among { IfOk result (λ kept. All (Contains rows.now) kept.items) }
-    ensures covers { IfOk result (λ kept. Covers kept.items on.now) }
-    ensures needed { IfOk result (λ kept. EachNeeded on.now kept.items []) }
+    ensures { IfOk result (λ kept. AreNeededRows on.now rows.now kept.items) }
 {
     let mut kept = Vec::new(alloc);
     for (i, row) in rows.iter().enumerate() {
@@ -56,13 +55,13 @@ fn plain_rows(alloc: Global, rows: &[Term], on: &[Term]) -> Result<Vec<Term>, Al
     Ok(kept)
 }
 
-/// The fewest terms of on and the fewest rows for which bundles are made: below, they cost more than they save.
+/// The least numbers of terms of on and of rows for which bundles pay.
 const BUNDLED_TERMS: usize = 1024;
 
 const BUNDLED_ROWS: usize = 128;
 
 /// The rows that are left when each row goes whose values of on the others hold.
-pub fn without_spare(
+pub fn needed_rows(
     alloc: Global,
     rows: &[Term],
     on: &[Term],
@@ -72,13 +71,11 @@ pub fn without_spare(
     requires fits { All (FitsWidth width) rows.now }
     requires on_fits { All (FitsWidth width) on.now }
     requires covers { Covers rows.now on.now }
-    ensures among { IfOk result (λ kept. All (Contains rows.now) kept.items) }
-    ensures covers { IfOk result (λ kept. Covers kept.items on.now) }
-    ensures needed { IfOk result (λ kept. EachNeeded on.now kept.items []) }
+    ensures { IfOk result (λ kept. AreNeededRows on.now rows.now kept.items) }
 {
     if on.len() < BUNDLED_TERMS || rows.len() < BUNDLED_ROWS {
-        return plain_rows(alloc, rows, on);
+        return needed_by_passes(alloc, rows, on);
     }
     let held = Bundles::new(alloc, on, width)?;
-    left_of_bundles(alloc, rows, &held, width)
+    needed_by_bundles(alloc, rows, &held, width)
 }

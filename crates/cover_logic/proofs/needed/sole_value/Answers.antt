@@ -4,9 +4,9 @@ use Rattle.cover_logic.specs.declared.term.Term.{Term}
 use Rattle.cover_logic.specs.Term.{Holds, IsCovered}
 use Rattle.cover_logic.specs.Inner.Rows.{IsUncovered}
 use Rattle.cover_logic.proofs.Lists.{held_at}
-use Rattle.cover_logic.proofs.SpareRows.{IsShared, shared_more}
-use Rattle.cover_logic.proofs.spare.sole_value.Goals as goal
-use Rattle.cover_logic.proofs.spare.sole_value.Goals.{in-Some+in_ok-gap+in_default-2, in_default}
+use Rattle.cover_logic.proofs.NeededRows.{IsShared, shared_more}
+use Rattle.cover_logic.proofs.needed.sole_value.Goals as goal
+use Rattle.cover_logic.proofs.needed.sole_value.Goals.{in-Some+in_ok-gap+in_default-2, in_default}
 
 pub returns-in-Some-2 : goal.returns-in-Some-2
 returns-in-Some-2 c =

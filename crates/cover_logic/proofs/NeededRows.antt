@@ -6,9 +6,9 @@ use Rattle.std.proofs.lemmas.List.{take-append-le, drop-append-le, append-nil, t
 use Rattle.std.proofs.lemmas.List.Elements.{All-contains, All-nil, All-push}
 use Rattle.cover_logic.specs.declared.bundles.Entry.{Entry}
 use Rattle.cover_logic.specs.declared.term.Term.{Term}
-use Rattle.cover_logic.specs.Term.{Holds, IsCovered}
+use Rattle.cover_logic.specs.Term.{FitsWidth, Holds, IsCovered}
 use Rattle.cover_logic.specs.Inner.Entries.{IsMet, terms_in}
-use Rattle.cover_logic.specs.Inner.Rows.{Covers, EachNeeded, IsSole}
+use Rattle.cover_logic.specs.Inner.Rows.{AreNeededPrimes, AreNeededRows, ArePrimeRows, Covers, EachNeeded, HasSameTerms, IsClear, IsPrime, IsSole}
 use Rattle.cover_logic.proofs.Gaps.{IsNear, held_near, held_from_near}
 use Rattle.cover_logic.proofs.Entries.{entry_of_term, term_of_entry}
 use Rattle.cover_logic.proofs.Terms.{agree_from_shared}
@@ -127,6 +127,38 @@ rest_from rows i row h e = rw (add-one, drop-cons rows i row) (ap (λ (t : Term)
 pub rest_slice : (rows : List Term) (n : ℕ) → take (length rows - n) (drop n rows) ≡ drop n rows
 rest_slice rows n = take_all (length rows - n) (drop n rows) (omega (arith, length-drop n rows))
 
--- with nothing left, the rows that are kept hold all
-pub covers_alone : (on kept rest : List Term) → rest ≡ [] → Covers (kept ++ rest) on → Covers kept on
-covers_alone on kept rest e h x p = subst (λ (ts : List Term). IsCovered ts x) (ap (λ ys. kept ++ ys) e ∙ append-nil kept) (h x p)
+-- with nothing left, the rows that are kept are those that are needed
+pub needed_from_kept : (on rows kept rest : List Term) → rest ≡ [] → AreKept on rows kept rest → AreNeededRows on rows kept
+needed_from_kept on rows kept rest e a = record {
+  among = a.among;
+  covers = λ x p. subst (λ (ts : List Term). IsCovered ts x) (ap (λ ys. kept ++ ys) e ∙ append-nil kept) (a.covers x p);
+  needed = subst (λ (ts : List Term). EachNeeded on kept ts) e a.needed;
+}
+
+-- the others are the rows that are kept and the rest
+pub same_alike : (row : Term) (terms : List Term) → HoldAlike row terms terms
+same_alike row terms = record { inside = λ x p h. h; back = λ x h. h }
+
+-- the same for a list of the same terms
+pub needed_from_same : (on list rows kept : List Term) → HasSameTerms on list → AreNeededRows list rows kept → AreNeededRows on rows kept
+needed_from_same on list rows kept same n = record {
+  among = n.among;
+  covers = λ x h. n.covers x (h.0, (same h.0).1 h.1, h.2);
+  needed = λ i below. let w = n.needed i below in (w.0, (w.1.0, (same w.1.0).0 w.1.1, w.1.2), w.2);
+}
+
+-- what is true of the rows is true of those that are kept
+pub kept_all : (P : Term → Type 0) (rows kept : List Term) → All (Contains rows) kept → All P rows → All P kept
+kept_all P rows kept among h = λ k d below. All-contains P rows (get_or kept k d) h (among k d below)
+
+-- rows that need each of their literals, without those that can be left out
+pub needed_primes : (on off : List Term) (width : ℕ) (rows kept : List Term) → ArePrimeRows on off width rows → AreNeededRows on rows kept → AreNeededPrimes on off width kept
+needed_primes on off width rows kept p n = record {
+  primes = record {
+    covers = n.covers;
+    clear = kept_all (IsClear off) rows kept n.among p.clear;
+    prime = kept_all (IsPrime off) rows kept n.among p.prime;
+    fits = kept_all (FitsWidth width) rows kept n.among p.fits;
+  };
+  needed = n.needed;
+}

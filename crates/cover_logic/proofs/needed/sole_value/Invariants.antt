@@ -1,6 +1,6 @@
 use Rattle.std.proofs.Common.{take}
-use Rattle.cover_logic.proofs.SpareRows.{IsShared}
-use Rattle.cover_logic.proofs.spare.sole_value.Given as goal
+use Rattle.cover_logic.proofs.NeededRows.{IsShared}
+use Rattle.cover_logic.proofs.needed.sole_value.Given as goal
 
 abbrev pub invariant-loop-term : goal.invariant-loop-term
 invariant-loop-term l = IsShared l.row (take l.term-index l.on) l.others

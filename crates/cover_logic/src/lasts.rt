@@ -1,0 +1,62 @@
+//! Which rows of a dense gate can be left out, by a chart of the last row that holds each value of on.
+ghost use Rattle.std.specs.Prelude.{◌≤◌, All, IfOk, length};
+ghost use Rattle.cover_logic.specs.Term.{FitsWidth};
+ghost use Rattle.cover_logic.specs.Inner.Lasts.{AreLasts, AreLastsOn};
+ghost use Rattle.cover_logic.specs.Inner.Rows.{AreNeededRows, Covers};
+
+use crate::chart::{clear, fill, find};
+use crate::table::Table;
+use crate::term::Term;
+use std::alloc::{AllocError, Global};
+
+/// For each value one more than the number of the last row that holds it, or 0 where no row does.
+fn lasts(alloc: Global, rows: &[Term], width: u8) -> Result<Vec<usize>, AllocError>
+    requires few { width ≤ 16 }
+    requires fits { All (FitsWidth width) rows.now }
+    ensures { IfOk result (λ chart. AreLasts width rows.now (length rows.now) chart.items) }
+{
+    let mut chart = vec![in alloc; 0; 1usize << width]?;
+    for (i, row) in rows.iter().enumerate() {
+        fill(&mut chart, *row, width, i + 1);
+    }
+    Ok(chart)
+}
+
+/// The same for each value of on, and 0 for any other value.
+fn lasts_on(alloc: Global, rows: &[Term], on: &[Term], width: u8) -> Result<Vec<usize>, AllocError>
+    requires few { width ≤ 16 }
+    requires fits { All (FitsWidth width) rows.now }
+    requires on_fits { All (FitsWidth width) on.now }
+    ensures { IfOk result (λ chart. AreLastsOn width rows.now on.now chart.items) }
+{
+    let ones = Table::of(alloc, on, width)?;
+    let mut chart = lasts(alloc, rows, width)?;
+    clear(&mut chart, &ones.marks);
+    Ok(chart)
+}
+
+/// The rows that are left when each row goes whose values of on the others hold. A value of on that is held
+/// by a row already kept gets the number 0, so a row is needed where a value has the number of that row.
+pub fn needed_by_lasts(
+    alloc: Global,
+    rows: &[Term],
+    on: &[Term],
+    width: u8,
+) -> Result<Vec<Term>, AllocError>
+    requires few { width ≤ 16 }
+    requires fits { All (FitsWidth width) rows.now }
+    requires on_fits { All (FitsWidth width) on.now }
+    requires covers { Covers rows.now on.now }
+    ensures { IfOk result (λ kept. AreNeededRows on.now rows.now kept.items) }
+{
+    let mut chart = lasts_on(alloc, rows, on, width)?;
+    let mut kept = Vec::new(alloc);
+    for (i, row) in rows.iter().enumerate() {
+        let sole = find(&chart, *row, width, i + 1);
+        if sole.is_some() {
+            fill(&mut chart, *row, width, 0);
+            kept.push(*row)?;
+        }
+    }
+    Ok(kept)
+}
