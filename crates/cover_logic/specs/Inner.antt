@@ -7,6 +7,7 @@ pub mod Bundles
 pub mod Groups
 pub mod Waiting
 pub mod Nodes
+pub mod Sides
 pub mod Index
 pub mod Charts
 pub mod Tables

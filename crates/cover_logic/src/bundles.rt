@@ -1,5 +1,5 @@
-//! The terms of a list in bundles of 128, by their columns, so that one step asks all terms of a bundle
-//! whether they share a value with a row, or whether the row holds them whole.
+//! The terms of a list in bundles of 128, by their columns. One step asks all terms of a bundle whether they share a
+//! value with a row, or whether the row holds them whole.
 ghost use Rattle.std.specs.Prelude.{◌<◌, ◌≤◌, IfOk, if◌then◌else◌, length};
 ghost use Rattle.cover_logic.specs.Term.{FitsWidth};
 ghost use Rattle.cover_logic.specs.Inner.Entries.{HasLiterals, IsNumbered};
@@ -22,8 +22,8 @@ pub struct Literal {
     one: bool,
 }
 
-/// Which terms of a bundle have a literal 0 at a column, and which have a literal 1: bit k stands for the
-/// term at place k.
+/// Which terms of a bundle have a literal 0 at a column, and which have a literal 1: bit k is for the term at
+/// place k.
 #[derive(Clone, Copy)]
 struct Plane {
     zeros: u128,
@@ -72,7 +72,7 @@ impl Bundle {
         self.entries.len()
     }
 
-    /// Places of terms that have that literal at the column.
+    /// The places of the terms that have that literal at the column.
     fn having(&self, column: usize, one: bool) -> u128
         ensures { HasLiterals column (if one then 1 else 0) self.now.entries.items result }
     {
@@ -86,7 +86,7 @@ impl Bundle {
         plane.zeros
     }
 
-    /// Places of terms that have the other literal at some column, found until no place is left.
+    /// The places of the terms that have the other literal at some column. The search ends early where all have one.
     fn against(&self, literals: &[Literal]) -> u128
         ensures { (row : Term) → AreLiteralsOf row literals.now → IsAgainst row self.now.entries.items result }
     {
@@ -100,7 +100,7 @@ impl Bundle {
         against
     }
 
-    /// Those of the places whose terms have each of the literals, looked for until no place is left.
+    /// Those of the places whose terms have each of the literals. The search ends early where no place is left.
     pub fn within(&self, places: u128, literals: &[Literal]) -> u128
         ensures { (row : Term) → AreLiteralsOf row literals.now → IsWithin row self.now.entries.items places result }
     {
@@ -114,7 +114,7 @@ impl Bundle {
         within
     }
 
-    /// Puts the entry at the place behind the others if its term shares a value with the row.
+    /// Adds the entry at the place if its term shares a value with the row.
     fn put_at(&self, place: usize, row: Term, met: &mut Vec<Entry>) -> Result<(), AllocError>
         ensures { OnOk result (IsPutAt row self.now.entries.items place met.old.items met.new.items) }
     {
@@ -128,7 +128,7 @@ impl Bundle {
         Ok(())
     }
 
-    /// Puts the entries whose terms share a value with the row behind the others.
+    /// Adds the entries whose terms share a value with the row.
     fn put_met(
         &self,
         row: Term,
@@ -148,7 +148,7 @@ impl Bundle {
     }
 }
 
-/// A list of terms in bundles, which is asked for the terms that share a value with a row.
+/// A list of terms in bundles, which tells the terms that share a value with a row.
 #[derive(Drop)]
 pub struct Bundles {
     pub bundles: Vec<Bundle>,

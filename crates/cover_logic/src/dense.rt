@@ -5,9 +5,9 @@ ghost use Rattle.cover_logic.specs.Inner.Pair.{Includes, IsLooser};
 ghost use Rattle.cover_logic.specs.Inner.Rows.{ArePrimeRows, IsClear, IsGrown, IsPrime, IsPrimeRow, NeedsLiteral};
 ghost use Rattle.cover_logic.specs.Inner.Tables.{IsTable};
 
-use crate::growth::Ground;
 use crate::table::Table;
-use crate::term::Term;
+use crate::term::{Term, patterns};
+use cover_advice::Ground;
 use std::alloc::{AllocError, Global};
 
 /// The least and the greatest width of a dense gate, and the least number of its terms.
@@ -40,7 +40,7 @@ pub fn is_dense(on: &[Term], off: &[Term], width: u8) -> bool
     on.len().saturating_add(off.len()) >= DENSE_TERMS && values >= all / 4 * 3 && values / 8 <= all
 }
 
-/// The row widened to hold the other term whole, or the row itself where it would hold a value of off.
+/// The row widened to hold the other term whole, or the row itself where the wider row would hold a value of off.
 fn widened(row: Term, other: Term, off: &Table, width: u8) -> Term
     requires table { IsTable off.now }
     requires width { off.now.width ≡ width }
@@ -52,7 +52,7 @@ fn widened(row: Term, other: Term, off: &Table, width: u8) -> Term
     if off.meets(joined) { row } else { joined }
 }
 
-/// The row with a dash at the column, or the row itself where it would hold a value of off.
+/// The row with a dash at the column, or the row itself where the wider row would hold a value of off.
 fn dashed(row: Term, column: u32, off: &Table, width: u8) -> Term
     requires column { column < 128 }
     requires table { IsTable off.now }
@@ -99,8 +99,17 @@ fn row_of(seed: Term, ground: &Ground, off: &Table, width: u8) -> Term
     requires clear { IsClear off.now.terms.items seed }
     ensures { IsPrimeRow seed off.now.terms.items width result }
 {
-    let wide = widened(seed, ground.grown(seed), off, width);
+    let wide = widened(seed, Term::of(ground.grown(seed.pattern())), off, width);
     raised(wide, off, width)
+}
+
+/// The cells of the gate.
+fn ground_of(alloc: Global, on: &[Term], off: &[Term], width: u8) -> Result<Ground, AllocError>
+    requires { width ≤ 16 }
+{
+    let ones = patterns(alloc, on)?;
+    let zeros = patterns(alloc, off)?;
+    Ground::new(alloc, &ones, &zeros, width)
 }
 
 /// Rows that hold every value of on and none of off, and that need each of their literals.
@@ -117,13 +126,13 @@ pub fn dense_rows(
     ensures { IfOk result (λ rows. ArePrimeRows on.now off.now width rows.items) }
 {
     let zeros = Table::of(alloc, off, width)?;
-    let mut ground = Ground::new(alloc, on, off, width)?;
+    let mut ground = ground_of(alloc, on, off, width)?;
     let mut left = Vec::from_slice(alloc, on)?;
     let mut rows = Table::new(alloc, width)?;
     while let Some(seed) = left.pop() {
         if !rows.holds(seed) {
             let row = row_of(seed, &ground, &zeros, width);
-            ground.take(row);
+            ground.take(row.pattern());
             rows.add(row)?;
         }
     }

@@ -1,11 +1,11 @@
-//! A list without the terms that stand in it again.
+//! A list without repeated terms.
 ghost use Rattle.std.specs.Prelude.{IfOk, IsTrue};
 ghost use Rattle.cover_logic.specs.Inner.Rows.{HasSameValues, IsWithinOne};
 
 use crate::term::Term;
 use std::alloc::{AllocError, Global};
 
-/// Whether the last of the terms holds each value of that one.
+/// Whether the last of the terms holds each value of the given term.
 fn last_includes(terms: &[Term], term: Term) -> bool
     ensures { IsTrue result → IsWithinOne terms.now term }
 {
@@ -15,7 +15,8 @@ fn last_includes(terms: &[Term], term: Term) -> bool
     }
 }
 
-/// The terms in the order of their numbers, without those whose values the one before holds, as equal ones.
+/// The terms in the order of care and value, without a term whose values the term before it holds, such as an equal
+/// one.
 pub fn distinct(alloc: Global, terms: &[Term]) -> Result<Vec<Term>, AllocError>
     ensures { IfOk result (λ once. HasSameValues terms.now once.items) }
 {

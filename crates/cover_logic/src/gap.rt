@@ -1,3 +1,4 @@
+//! The values of a term that a list of terms does not hold.
 ghost use Rattle.std.specs.Prelude.{◌≡◌, ◌↔◌, [], Contains, IfOk, IfSome, IsNone, filter};
 ghost use Rattle.cover_logic.specs.Inner.Pair.{agree};
 ghost use Rattle.cover_logic.specs.Inner.Rows.{IsUncovered};

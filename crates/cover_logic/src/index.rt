@@ -1,12 +1,14 @@
 //! An index of a list of terms, which is asked for a term that shares a value with a given one.
 ghost use Rattle.std.specs.Prelude.{◌≡◌, ◌<◌, ◌≤◌, All, IfOk, OnOk, filter, length};
-ghost use Rattle.cover_logic.specs.Inner.Pair.{Includes, has_dash, has_one, has_zero};
+ghost use Rattle.cover_logic.specs.Inner.Pair.{Includes};
+ghost use Rattle.cover_logic.specs.Inner.Sides.{is_on_side};
 ghost use Rattle.cover_logic.specs.Inner.Nodes.{IsAdded, IsNested, IsNested-prop};
 
 use crate::term::Term;
+use cover_advice::Pattern;
 use std::alloc::{AllocError, Global};
 
-/// A term of the list, or a term that holds those of the list from `from` up to its own place.
+/// A term of the list, or a term that holds the terms of the list from node `from` up to its own place.
 #[derive(Clone, Copy)]
 struct Node {
     term: Term,
@@ -14,8 +16,8 @@ struct Node {
     is_listed: bool,
 }
 
-/// The terms of a list, and behind them terms that hold many of them. A search goes from the last node to
-/// the first, and where it shares no value with a node it leaves out those that the node holds.
+/// The terms of a list, each group of them followed by a term that holds them all. A search goes from the last node
+/// to the first. Where the row shares no value with a node, the search leaves out the terms that the node holds.
 #[derive(Drop)]
 pub struct Index {
     nodes: Vec<Node>,
@@ -28,7 +30,7 @@ impl Index {
     ghost use Rattle.cover_logic.specs.Inner.Pair.{ShareValue};
     ghost use Rattle.cover_logic.specs.Inner.Rows.{HasSameTerms, IsClear, MeetsSome};
 
-    /// The index of the terms. It is split by columns below the width alone.
+    /// The index of the terms. It is split by columns below the width.
     pub fn new(alloc: Global, terms: &[Term], width: u8) -> Result<Index, AllocError>
         requires { width ≤ 128 }
         ensures { IfOk result (λ index. HasSameTerms terms.now (terms_of index)) }
@@ -58,7 +60,7 @@ impl Index {
         None
     }
 
-    /// Whether the node at the place stands for a term of the list that shares a value with the row.
+    /// Whether the node at the place has a term of the list, and the term shares a value with the row.
     pub fn is_met_at(&self, place: usize, row: Term) -> bool
         ensures { IsTrue result → MeetsSome (terms_of self.now) row }
     {
@@ -72,15 +74,15 @@ impl Index {
         row.touches(node.term)
     }
 
-    /// The terms of the list, in the order of the nodes.
-    pub(crate) fn terms(&self, alloc: Global) -> Result<Vec<Term>, AllocError> {
-        let mut terms = Vec::new(alloc);
+    /// The terms of the list as `cover_advice` sees them, in the order of the nodes.
+    pub(crate) fn patterns(&self, alloc: Global) -> Result<Vec<Pattern>, AllocError> {
+        let mut patterns = Vec::new(alloc);
         for node in &self.nodes {
             if node.is_listed {
-                terms.push(node.term)?;
+                patterns.push(node.term.pattern())?;
             }
         }
-        Ok(terms)
+        Ok(patterns)
     }
 
     /// The places of their nodes.
@@ -95,8 +97,8 @@ impl Index {
     }
 }
 
-/// Puts nodes for the terms behind the others: by halves of a column and those with a dash there, as often
-/// as `depth` says.
+/// Adds nodes for the terms: for those with a 0 at a column, those with a 1 and those with a dash, down to `depth`
+/// such splits.
 fn add(
     alloc: Global,
     nodes: &mut Vec<Node>,
@@ -116,9 +118,9 @@ fn add(
     if depth == 0 || column == 0 || terms.len() <= 4 {
         add_each(nodes, terms)?;
     } else {
-        let zeros = zeros(alloc, terms, column)?;
-        let ones = ones(alloc, terms, column)?;
-        let dashes = dashes(alloc, terms, column)?;
+        let zeros = part(alloc, terms, column, Side::Zero)?;
+        let ones = part(alloc, terms, column, Side::One)?;
+        let dashes = part(alloc, terms, column, Side::Dash)?;
         add(alloc, nodes, &zeros, width, depth - 1)?;
         add(alloc, nodes, &ones, width, depth - 1)?;
         add(alloc, nodes, &dashes, width, depth - 1)?;
@@ -132,7 +134,7 @@ fn add(
     Ok(())
 }
 
-/// Puts a node for each term behind the others.
+/// Adds a node for each term.
 fn add_each(nodes: &mut Vec<Node>, terms: &[Term]) -> Result<(), AllocError>
     requires { IsNested nodes.old.items }
     ensures { OnOk result (IsAdded nodes.old.items terms.now nodes.new.items) }
@@ -148,7 +150,7 @@ fn add_each(nodes: &mut Vec<Node>, terms: &[Term]) -> Result<(), AllocError>
     Ok(())
 }
 
-/// A term that holds the values of all.
+/// A term that holds the values of all terms.
 fn hull(first: Term, terms: &[Term]) -> Term
     ensures { All (Includes result) terms.now }
 {
@@ -159,40 +161,37 @@ fn hull(first: Term, terms: &[Term]) -> Term
     hull
 }
 
-/// The terms with a literal 0 at the column.
-fn zeros(alloc: Global, terms: &[Term], column: u128) -> Result<Vec<Term>, AllocError>
-    ensures { IfOk result (λ part. part.items ≡ filter (has_zero column) terms.now) }
+/// What a term can have at a column.
+#[derive(Clone, Copy)]
+enum Side {
+    Zero,
+    One,
+    Dash,
+}
+
+/// Whether the term has this at the column, which is a number with its bit alone.
+fn is_on_side(term: Term, column: u128, side: Side) -> bool
+    ensures { result ≡ is_on_side side column term }
+{
+    match side {
+        Side::Zero => term.value & column == 0 && term.care & column != 0,
+        Side::One => term.value & column != 0,
+        Side::Dash => term.value & column == 0 && term.care & column == 0,
+    }
+}
+
+/// The terms that have this at the column.
+fn part(alloc: Global, terms: &[Term], column: u128, side: Side) -> Result<Vec<Term>, AllocError>
+    ensures { IfOk result (λ part. part.items ≡ filter (is_on_side side column) terms.now) }
 {
     terms
         .iter()
         .copied()
-        .filter(|term| term.value & column == 0 && term.care & column != 0)
+        .filter(|term| is_on_side(*term, column, side))
         .collect(alloc)
 }
 
-/// The terms with a literal 1 at the column.
-fn ones(alloc: Global, terms: &[Term], column: u128) -> Result<Vec<Term>, AllocError>
-    ensures { IfOk result (λ part. part.items ≡ filter (has_one column) terms.now) }
-{
-    terms
-        .iter()
-        .copied()
-        .filter(|term| term.value & column != 0)
-        .collect(alloc)
-}
-
-/// The terms with a dash at the column.
-fn dashes(alloc: Global, terms: &[Term], column: u128) -> Result<Vec<Term>, AllocError>
-    ensures { IfOk result (λ part. part.items ≡ filter (has_dash column) terms.now) }
-{
-    terms
-        .iter()
-        .copied()
-        .filter(|term| term.value & column == 0 && term.care & column == 0)
-        .collect(alloc)
-}
-
-/// The column that parts the terms best, as a number with that bit alone; 0 where none does.
+/// The column that splits the terms best, as a number with that bit alone; 0 where none does.
 fn best_column(terms: &[Term], width: u8) -> u128
     requires { width ≤ 128 }
 {
@@ -209,11 +208,17 @@ fn best_column(terms: &[Term], width: u8) -> u128
     best
 }
 
-/// How well a column parts the terms: best into halves without dashes; 0 where all stay together.
+/// How well a column splits the terms: best into halves without dashes; 0 where all stay together.
 fn gain(terms: &[Term], column: u128) -> usize {
-    let ones = terms.iter().filter(|term| term.value & column != 0).count();
-    let literals = terms.iter().filter(|term| term.care & column != 0).count();
-    let zeros = literals.saturating_sub(ones);
+    let mut ones = 0usize;
+    let mut zeros = 0usize;
+    for term in terms {
+        if term.value & column != 0 {
+            ones = ones.saturating_add(1);
+        } else if term.care & column != 0 {
+            zeros = zeros.saturating_add(1);
+        }
+    }
     let most = ones.max(zeros);
     if most == terms.len() {
         0

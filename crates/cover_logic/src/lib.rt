@@ -22,8 +22,8 @@
 //!
 //! Any other gate is asked by its terms, so the number of values does not matter. Whether a row shares a value with
 //! off is asked of an index (`index`, `raise`). A row is made until each term of on lies whole within one (`primes`);
-//! in large gates one step asks this of 128 terms at once, by their columns (`waiting`, `bundles`), and advice tells
-//! which steps are worth a question to the index (`slices`). Which rows and which terms of on share a value with a
+//! in large gates one step asks this of 128 terms at once, by their columns (`waiting`, `bundles`), and the crate
+//! `cover_advice` tells which steps are worth a question to the index. Which rows and which terms of on share a value with a
 //! row is also asked of 128 terms at once in long lists (`rivals`). Whether other rows hold the values that a row
 //! shares with a term of on is asked of one part of them at a time (`gap`). Of the rows that touch the part, the one
 //! with the fewest literals outside it either holds the part whole, or has such a literal, and the part is split
@@ -40,14 +40,12 @@ mod chart;
 mod dense;
 mod distinct;
 mod gap;
-mod growth;
 mod index;
 mod lasts;
 mod needed;
 mod primes;
 mod raise;
 mod rivals;
-mod slices;
 mod table;
 mod term;
 mod waiting;

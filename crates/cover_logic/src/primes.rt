@@ -7,9 +7,9 @@ ghost use Rattle.cover_logic.specs.Inner.Rows.{ArePrimeRows, IsClear, IsPrimeRow
 
 use crate::index::Index;
 use crate::raise::{grow, raise, widened};
-use crate::slices::Slices;
-use crate::term::Term;
+use crate::term::{Term, patterns, terms_of_patterns};
 use crate::waiting::Waiting;
+use cover_advice::Slices;
 use std::alloc::{AllocError, Global};
 
 /// Drops each term whose values the row all holds.
@@ -53,9 +53,10 @@ fn guide_for(
     if places.len() < GUIDED_TERMS {
         return Ok(None);
     }
-    let zeros = off.terms(alloc)?;
+    let ones = patterns(alloc, on)?;
+    let zeros = off.patterns(alloc)?;
     Ok(Some(Guide {
-        on: Slices::new(alloc, on, width)?,
+        on: Slices::new(alloc, &ones, width)?,
         off: Slices::new(alloc, &zeros, width)?,
         places,
     }))
@@ -107,14 +108,15 @@ fn guided_row(
     requires clear { IsClear (terms_of off.now) seed }
     ensures { IfOk result (IsPrimeRow seed (terms_of off.now) width) }
 {
-    let sets = guide.off.nearest(alloc, seed, NEAREST)?;
-    let others = guide.on.joinable(alloc, seed, &sets)?;
+    let sets = guide.off.nearest(alloc, seed.pattern(), NEAREST)?;
+    let joinable = guide.on.joinable(alloc, seed.pattern(), &sets)?;
+    let others = terms_of_patterns(alloc, &joinable)?;
     let grown = grow(alloc, seed, &others, sets, off)?;
-    let advice = guide.off.advice(alloc, grown)?;
-    let wide = widened(grown, advice.wide, off);
+    let advice = guide.off.advice(alloc, grown.pattern())?;
+    let wide = widened(grown, Term::of(advice.wide), off);
     let reasons = places_of(alloc, &advice.reasons, &guide.places)?;
     let row = raise(wide, off, width, &reasons);
-    guide.on.drop_included(alloc, row)?;
+    guide.on.drop_included(alloc, row.pattern())?;
     Ok(row)
 }
 
@@ -139,7 +141,7 @@ fn plain_rows(alloc: Global, on: &[Term], off: &Index, width: u8) -> Result<Vec<
 fn guided_rows(
     alloc: Global,
     on: &[Term],
-    mut guide: Guide,
+    guide: &mut Guide,
     off: &Index,
     width: u8,
 ) -> Result<Vec<Term>, AllocError>
@@ -151,7 +153,7 @@ fn guided_rows(
     let mut waiting = Waiting::new(alloc, on, width)?;
     let mut rows = Vec::new(alloc);
     while let Some(seed) = waiting.pop() {
-        let row = guided_row(alloc, seed, &mut guide, off, width)?;
+        let row = guided_row(alloc, seed, guide, off, width)?;
         waiting.drop_included(alloc, row, width)?;
         rows.push(row)?;
     }
@@ -171,7 +173,7 @@ fn searched_rows(
     ensures { IfOk result (λ rows. ArePrimeRows on.now (terms_of off.now) width rows.items) }
 {
     match guide_for(alloc, on, off, width)? {
-        Some(guide) => guided_rows(alloc, on, guide, off, width),
+        Some(mut guide) => guided_rows(alloc, on, &mut guide, off, width),
         None => plain_rows(alloc, on, off, width),
     }
 }

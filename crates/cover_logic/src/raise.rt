@@ -1,3 +1,4 @@
+//! Rows widened as far as an index of off allows.
 ghost use Rattle.std.specs.Prelude.{◌≤◌, ◌<◌, ◌↔◌, IfOk, IsTrue};
 ghost use Rattle.cover_logic.specs.Term.{FitsWidth, LooksAt};
 ghost use Rattle.cover_logic.specs.Inner.Index.{terms_of};
@@ -21,8 +22,8 @@ fn has_each(columns: u128, sets: &[u128]) -> bool {
 }
 
 /// Widens the seed so that it holds more of the other terms, each whole, and no value of off. A set has the columns
-/// at which a term of off stands against the seed: a row that has none of them touches that term. Those of the
-/// terms that were met on the way are asked first, since they are met again and again.
+/// at which a term of off has the other literal than the seed: a row with a dash at each of them touches that term.
+/// The sets of terms that a row touched before are asked first, since rows often touch the same terms.
 pub fn grow(
     alloc: Global,
     seed: Term,
@@ -50,7 +51,8 @@ pub fn grow(
     Ok(row)
 }
 
-/// The row widened to hold the other term whole, or the row itself where it would hold a value of off.
+/// The row widened to hold the other term whole, or the row itself where the wider row would hold a value of
+/// off.
 pub fn widened(row: Term, other: Term, off: &Index) -> Term
     requires { IsClear (terms_of off.now) row }
     ensures { IsGrown row (terms_of off.now) result }
@@ -62,8 +64,8 @@ pub fn widened(row: Term, other: Term, off: &Index) -> Term
     }
 }
 
-/// The row with a dash at the column, or the row itself where it would hold a value of off. The term at
-/// the place, if there is one, is asked first.
+/// The row with a dash at the column, or the row itself where the wider row would hold a value of off. The
+/// term at the place `reason` is asked first.
 fn dashed(row: Term, column: u32, reason: Option<usize>, off: &Index) -> Term
     requires column { column < 128 }
     requires clear { IsClear (terms_of off.now) row }
@@ -87,8 +89,8 @@ fn dashed(row: Term, column: u32, reason: Option<usize>, off: &Index) -> Term
     }
 }
 
-/// Replaces literals by dashes as long as no value of off is held. The reasons are places
-/// in the index, by columns, of terms that are asked first.
+/// Replaces literals by dashes as long as no value of off is held. For each column `reasons` may have the place in
+/// the index of a term that is asked first.
 pub fn raise(row: Term, off: &Index, width: u8, reasons: &[Option<usize>]) -> Term
     requires width { width ≤ 128 }
     requires fits { FitsWidth width row }

@@ -1,6 +1,9 @@
 ghost use Rattle.std.specs.Prelude.{◌≡◌, bit_and};
 
-/// The values that have the bits of `value` at the columns of `care`. Column c stands at 2^c in both.
+use cover_advice::Pattern;
+use std::alloc::{AllocError, Global};
+
+/// The values that have the bits of `value` at the columns of `care`. Column c is bit c of both, that of 2^c.
 /// A column of `care` is a literal, and any other is a dash, at which `value` has no bit.
 #[derive(Clone, Copy, Debug, PartialEq, Eq)]
 pub struct Term {
@@ -40,6 +43,19 @@ impl Term {
         ensures shared { IsTrue result ↔ ShareValue self other }
     {
         (self.value ^ other.value) & self.care & other.care == 0
+    }
+
+    /// The term as `cover_advice` sees it.
+    pub(crate) fn pattern(self) -> Pattern {
+        Pattern {
+            care: self.care,
+            value: self.value,
+        }
+    }
+
+    /// The term of a pattern.
+    pub(crate) fn of(pattern: Pattern) -> Term {
+        Term::masked(pattern.care, pattern.value)
     }
 
     /// The columns at which the terms have different literals.
@@ -118,4 +134,25 @@ impl Term {
             None
         }
     }
+}
+
+/// The terms as `cover_advice` sees them.
+pub(crate) fn patterns(alloc: Global, terms: &[Term]) -> Result<Vec<Pattern>, AllocError> {
+    let mut patterns = Vec::new(alloc);
+    for term in terms {
+        patterns.push(term.pattern())?;
+    }
+    Ok(patterns)
+}
+
+/// The terms of the patterns.
+pub(crate) fn terms_of_patterns(
+    alloc: Global,
+    patterns: &[Pattern],
+) -> Result<Vec<Term>, AllocError> {
+    let mut terms = Vec::new(alloc);
+    for pattern in patterns {
+        terms.push(Term::of(*pattern))?;
+    }
+    Ok(terms)
 }

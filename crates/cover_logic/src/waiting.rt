@@ -1,12 +1,12 @@
-//! The terms of a list that lie in no row yet, in bundles, so that one step asks all terms of a bundle
-//! whether a row holds them whole.
+//! The terms of a list that lie in no row yet, in bundles: one step asks all terms of a bundle whether a row holds
+//! them whole.
 ghost use Rattle.std.specs.Prelude.{◌≡◌, ◌-◌, ◌<◌, ◌≤◌, ◌^◌, length};
 
 use crate::bundles::{Bundle, Bundles, Literal, literals_of};
 use crate::term::Term;
 use std::alloc::{AllocError, Global};
 
-/// A bundle, and which of its terms are waiting: bit k stands for the term at place k.
+/// A bundle, and which of its terms are waiting: bit k is for the term at place k.
 #[derive(Drop)]
 struct Group {
     bundle: Bundle,
@@ -49,7 +49,7 @@ impl Group {
     }
 }
 
-/// The set of so many first places.
+/// The set of the first `count` places.
 fn first_places(count: usize) -> u128
     requires { count ≤ 128 }
     ensures { result ≡ 2 ^ count - 1 }
@@ -60,7 +60,7 @@ fn first_places(count: usize) -> u128
     (1u128 << count) - 1
 }
 
-/// The terms of a list that lie in no row yet. The group of its last bundle is the first.
+/// The terms of a list that lie in no row yet. The groups come in the opposite order of the bundles.
 #[derive(Drop)]
 pub struct Waiting {
     groups: Vec<Group>,
@@ -91,7 +91,7 @@ impl Waiting {
         Ok(Waiting { groups })
     }
 
-    /// A group with a live place: the first one, which no clause asks for.
+    /// The number of the first group with a live place. No clause says that it is the first.
     fn first_live(&self) -> Option<usize>
         ensures { IsFirstLive self.now.groups.items result }
     {
@@ -103,7 +103,7 @@ impl Waiting {
         None
     }
 
-    /// Takes a term that is still waiting: the last one of the list, which no clause asks for.
+    /// Takes the last term of the list that is still waiting. No clause says that it is the last.
     pub fn pop(&mut self) -> Option<Term>
         ensures { MatchOption result ((t : Term) → IsWaiting self.old t → ⊥) (λ term. HasTaken self.old term self.new) }
     {
@@ -122,7 +122,7 @@ impl Waiting {
         }
     }
 
-    /// Drops each term whose values the row all holds.
+    /// Drops each term that the row holds whole.
     pub fn drop_included(&mut self, alloc: Global, row: Term, width: u8) -> Result<(), AllocError>
         requires width { width ≤ 128 }
         requires fits { FitsWidth width row }

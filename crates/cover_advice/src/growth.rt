@@ -1,9 +1,8 @@
-//! How far a row can be widened in a gate of few columns. No clause speaks of the answers: they are advice, and the
-//! caller asks a table before it changes a row.
+//! How far a row can be widened in a gate of at most 16 columns, by a cell for each value.
 
 ghost use Rattle.std.specs.Prelude.{◌≤◌};
 
-use crate::term::Term;
+use crate::pattern::Pattern;
 use std::alloc::{AllocError, Global};
 
 /// What a value is: of off, of on and in no row yet, or free. A value of on that a row holds is free as well.
@@ -22,7 +21,7 @@ struct Block {
 }
 
 impl Block {
-    fn of(term: Term) -> Block {
+    fn of(term: Pattern) -> Block {
         Block {
             care: (term.care & 0xffff) as usize,
             value: (term.value & 0xffff) as usize,
@@ -53,10 +52,11 @@ pub struct Ground {
 }
 
 impl Ground {
-    pub(crate) fn new(
+    /// The cells of a gate. The values of `on` are in no row yet.
+    pub fn new(
         alloc: Global,
-        on: &[Term],
-        off: &[Term],
+        on: &[Pattern],
+        off: &[Pattern],
         width: u8,
     ) -> Result<Ground, AllocError>
         requires { width ≤ 16 }
@@ -74,12 +74,12 @@ impl Ground {
     }
 
     /// Makes the values of the row free.
-    pub(crate) fn take(&mut self, row: Term) {
+    pub fn take(&mut self, row: Pattern) {
         self.put(row, Cell::Free);
     }
 
     /// The row with dashes, put one by one at the column that brings the most values of on that are in no row yet.
-    pub(crate) fn grown(&self, row: Term) -> Term {
+    pub fn grown(&self, row: Pattern) -> Pattern {
         let mut block = Block::of(row);
         for _ in 0..16 {
             let Some(bit) = self.best(block) else {
@@ -87,7 +87,10 @@ impl Ground {
             };
             block = block.without(bit);
         }
-        Term::masked(block.care as u128, block.value as u128)
+        Pattern {
+            care: block.care as u128,
+            value: block.value as u128,
+        }
     }
 
     /// The column whose dash brings the most, among those whose dash brings no value of off.
@@ -127,7 +130,7 @@ impl Ground {
     }
 
     /// Gives each value of the row this cell.
-    fn put(&mut self, row: Term, cell: Cell) {
+    fn put(&mut self, row: Pattern, cell: Cell) {
         let block = Block::of(row);
         let dashes = self.cells.len().saturating_sub(1) & !block.care;
         let mut part = 0;

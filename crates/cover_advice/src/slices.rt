@@ -1,13 +1,12 @@
-//! The terms of a list by their columns, so that one step asks 64 terms at once. Nothing is promised of
-//! what is answered: it is advice, and whoever takes it asks an index before a row is changed.
+//! How far a row can be widened in a gate of many terms, by the columns of the terms: one step asks 64 terms at once.
 
 ghost use Rattle.std.specs.Prelude.{◌≤◌};
 
-use crate::term::Term;
+use crate::pattern::Pattern;
 use std::alloc::{AllocError, Global};
 
-/// The column whose bit alone `bit` has, and which terms have a literal 0 and a literal 1 there: term 64 * i + k
-/// of the list stands at bit k of word i.
+/// A column, as the number with its bit alone, and which terms have a literal 0 and a literal 1 there: term 64 * i + k
+/// of the list is bit k of word i.
 #[derive(Drop)]
 struct Column {
     bit: u128,
@@ -16,12 +15,12 @@ struct Column {
 }
 
 impl Column {
-    fn is_literal_of(&self, row: Term) -> bool {
+    fn is_literal_of(&self, row: Pattern) -> bool {
         row.care & self.bit != 0
     }
 
     /// The terms with the literal of the row.
-    fn with(&self, row: Term) -> &[u64] {
+    fn with(&self, row: Pattern) -> &[u64] {
         if row.value & self.bit == 0 {
             &self.zeros
         } else {
@@ -30,7 +29,7 @@ impl Column {
     }
 
     /// The terms with the other literal.
-    fn against(&self, row: Term) -> &[u64] {
+    fn against(&self, row: Pattern) -> &[u64] {
         if row.value & self.bit == 0 {
             &self.ones
         } else {
@@ -39,7 +38,8 @@ impl Column {
     }
 }
 
-/// At how many columns each of 64 terms stands against a row: the bits of a number up to 7, or `more`.
+/// For each of 64 terms, the number of columns at which it has the other literal than a row: its bits, up to 7, or
+/// `more`.
 #[derive(Clone, Copy)]
 struct Count {
     ones: u64,
@@ -49,7 +49,7 @@ struct Count {
 }
 
 impl Count {
-    /// One more for each term of the set.
+    /// The counts with one more for each term of the set.
     fn plus(self, set: u64) -> Count {
         let twos = self.ones & set;
         let fours = self.twos & twos;
@@ -61,7 +61,7 @@ impl Count {
         }
     }
 
-    /// The terms with that number, from 1 to 7.
+    /// The terms with this count, which is from 1 to 7.
     fn at(self, number: u32) -> u64 {
         let ones = if number & 1 == 0 {
             !self.ones
@@ -82,26 +82,29 @@ impl Count {
     }
 }
 
-/// How far a row may go: a term to widen it to, and for each column the number of a term that stands against a dash.
+/// How far a row can be widened: to which pattern, and for each column the number of a term that the row would touch
+/// with a dash there.
 #[derive(Drop)]
 pub struct Advice {
-    pub wide: Term,
+    pub wide: Pattern,
     pub reasons: Vec<Option<usize>>,
 }
 
-/// How many sets are asked of all terms; those that are left are few enough to be asked one by one.
+/// The number of sets that are asked of all terms: the terms that are left are few enough to be asked one by one.
 const ASKED_SETS: usize = 32;
 
+/// The terms of a list by their columns.
 #[derive(Drop)]
 pub struct Slices {
-    terms: Vec<Term>,
+    terms: Vec<Pattern>,
     columns: Vec<Column>,
-    /// The terms that are asked for.
+    /// The terms that still count.
     live: Vec<u64>,
 }
 
 impl Slices {
-    pub(crate) fn new(alloc: Global, terms: &[Term], width: u8) -> Result<Slices, AllocError>
+    /// All terms of the list, by the columns below the width.
+    pub fn new(alloc: Global, terms: &[Pattern], width: u8) -> Result<Slices, AllocError>
         requires { width ≤ 128 }
     {
         let mut columns = Vec::new(alloc);
@@ -120,8 +123,8 @@ impl Slices {
         })
     }
 
-    /// Asks no longer for the terms that the row holds whole.
-    pub(crate) fn drop_included(&mut self, alloc: Global, row: Term) -> Result<(), AllocError> {
+    /// Leaves out the terms that the row holds whole.
+    pub fn drop_included(&mut self, alloc: Global, row: Pattern) -> Result<(), AllocError> {
         let mut inside = self.live.clone()?;
         for column in &self.columns {
             if column.is_literal_of(row) {
@@ -134,12 +137,12 @@ impl Slices {
         Ok(())
     }
 
-    /// The columns at which terms stand against the row, for at most so many terms: those of few columns first,
-    /// and none of more than 7.
-    pub(crate) fn nearest(
+    /// For at most `most` terms, the columns at which they have the other literal than the row: terms with the fewest
+    /// such columns first, and none with more than 7.
+    pub fn nearest(
         &self,
         alloc: Global,
-        row: Term,
+        row: Pattern,
         most: usize,
     ) -> Result<Vec<u128>, AllocError> {
         let mut counts = Vec::new(alloc);
@@ -165,11 +168,11 @@ impl Slices {
         Ok(sets)
     }
 
-    /// Puts the columns of the terms of one word behind the others, as long as they are fewer than `most`.
+    /// Adds the columns of the terms of one word, up to `most` in all.
     fn put_sets(
         &self,
         sets: &mut Vec<u128>,
-        row: Term,
+        row: Pattern,
         word: usize,
         found: u64,
         most: usize,
@@ -188,17 +191,17 @@ impl Slices {
     }
 
     /// The term at the lowest bit of the word of that number.
-    fn term_at(&self, word: usize, found: u64) -> Option<Term> {
+    fn term_at(&self, word: usize, found: u64) -> Option<Pattern> {
         self.terms.get(place(word, found)).copied()
     }
 
-    /// The terms that have the literal of the row at a column of each set, as far as the first sets tell.
-    pub(crate) fn joinable(
+    /// The terms that have the literal of the row at a column of each of the first sets.
+    pub fn joinable(
         &self,
         alloc: Global,
-        row: Term,
+        row: Pattern,
         sets: &[u128],
-    ) -> Result<Vec<Term>, AllocError> {
+    ) -> Result<Vec<Pattern>, AllocError> {
         let mut left = self.live.clone()?;
         let mut any = self.live.clone()?;
         for set in sets.iter().take(ASKED_SETS) {
@@ -213,7 +216,7 @@ impl Slices {
     }
 
     /// Makes `any` the terms that have the literal of the row at some column of the set.
-    fn gather(&self, any: &mut [u64], row: Term, set: u128) {
+    fn gather(&self, any: &mut [u64], row: Pattern, set: u128) {
         for word in any.iter_mut() {
             *word = 0;
         }
@@ -224,8 +227,13 @@ impl Slices {
         }
     }
 
-    /// Puts the terms of one word behind the others.
-    fn put_terms(&self, terms: &mut Vec<Term>, word: usize, found: u64) -> Result<(), AllocError> {
+    /// Adds the terms of one word.
+    fn put_terms(
+        &self,
+        terms: &mut Vec<Pattern>,
+        word: usize,
+        found: u64,
+    ) -> Result<(), AllocError> {
         let mut found = found;
         for _ in 0..64 {
             if found == 0 {
@@ -239,8 +247,8 @@ impl Slices {
         Ok(())
     }
 
-    /// What the row comes to when each literal in turn becomes a dash as long as it touches no term.
-    pub(crate) fn advice(&self, alloc: Global, row: Term) -> Result<Advice, AllocError> {
+    /// How far the row is widened when each literal in turn becomes a dash where the row then touches no term.
+    pub fn advice(&self, alloc: Global, row: Pattern) -> Result<Advice, AllocError> {
         let mut later = self.later(alloc, row)?;
         let mut kept = Vec::new(alloc);
         for word in &self.live {
@@ -262,13 +270,16 @@ impl Slices {
             reasons.push(reason)?;
         }
         Ok(Advice {
-            wide: Term::masked(row.care & !dashes, row.value),
+            wide: Pattern {
+                care: row.care & !dashes,
+                value: row.value & !dashes,
+            },
             reasons,
         })
     }
 
-    /// For each literal of the row, from the last to the first, the terms against a literal behind it.
-    fn later(&self, alloc: Global, row: Term) -> Result<Vec<Vec<u64>>, AllocError> {
+    /// For each literal of the row, from the last to the first, the terms that have the other literal at a later column.
+    fn later(&self, alloc: Global, row: Pattern) -> Result<Vec<Vec<u64>>, AllocError> {
         let mut later = Vec::new(alloc);
         let mut all = Vec::new(alloc);
         for _ in &self.live {
@@ -302,7 +313,12 @@ fn place(word: usize, found: u64) -> usize {
 }
 
 /// A bit for each term that has at the columns of `mask` the literals of `value`.
-fn places(alloc: Global, terms: &[Term], mask: u128, value: u128) -> Result<Vec<u64>, AllocError> {
+fn places(
+    alloc: Global,
+    terms: &[Pattern],
+    mask: u128,
+    value: u128,
+) -> Result<Vec<u64>, AllocError> {
     let mut words = Vec::new(alloc);
     for chunk in terms.chunks(64) {
         let mut word = 0;
@@ -316,18 +332,21 @@ fn places(alloc: Global, terms: &[Term], mask: u128, value: u128) -> Result<Vec<
     Ok(words)
 }
 
+/// Adds the set.
 fn unite(all: &mut [u64], set: &[u64]) {
     for (word, more) in all.iter_mut().zip(set) {
         *word |= *more;
     }
 }
 
+/// Keeps what is in the set.
 fn keep(all: &mut [u64], set: &[u64]) {
     for (word, more) in all.iter_mut().zip(set) {
         *word &= *more;
     }
 }
 
+/// Adds one to the count of each term of the set.
 fn tally(counts: &mut [Count], set: &[u64]) {
     for (count, more) in counts.iter_mut().zip(set) {
         *count = count.plus(*more);

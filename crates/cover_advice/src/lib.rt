@@ -1,0 +1,15 @@
+//! Advice on how far a row of a gate can be widened.
+//!
+//! A row is widened as long as it holds no value that the gate has to leave out. The best steps are found here, by
+//! marks of all values in a gate of few columns (`Ground`), and by the columns of all terms in any other gate
+//! (`Slices`). No clause speaks of the answers: the caller asks a table or an index of its own before it changes
+//! a row, so a wrong answer costs time and no more.
+#![tactic(auto)]
+
+mod growth;
+mod pattern;
+mod slices;
+
+pub use growth::Ground;
+pub use pattern::Pattern;
+pub use slices::{Advice, Slices};

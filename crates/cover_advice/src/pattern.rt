@@ -1,0 +1,14 @@
+/// The values that have the bits of `value` at the columns of `care`, where column c is bit c of both. A column of
+/// `care` is a literal, and `value` has no bit at any other column.
+#[derive(Clone, Copy)]
+pub struct Pattern {
+    pub care: u128,
+    pub value: u128,
+}
+
+impl Pattern {
+    /// The columns at which the patterns have different literals.
+    pub(crate) fn apart(self, other: Pattern) -> u128 {
+        (self.value ^ other.value) & self.care & other.care
+    }
+}
