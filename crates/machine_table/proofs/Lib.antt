@@ -4,6 +4,7 @@ pub mod AlikeRows
 pub mod Asking
 pub mod Conflicts
 pub mod Copies
+pub mod FilledRows
 pub mod GatheredOutputs
 pub mod Labels
 pub mod Lawful

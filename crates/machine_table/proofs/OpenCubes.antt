@@ -18,11 +18,11 @@ use Rattle.machine_table.specs.Inner.Places.{IsNumberOf}
 use Rattle.machine_table.proofs.Asking.{is_row_at, lawful_row, looked_at, number_of_row}
 use Rattle.machine_table.proofs.Sought.{at_from_held}
 
-only_one : {X : Type 0} (x y : X) → Contains (x ∷ []) y → y ≡ x
+pub only_one : {X : Type 0} (x y : X) → Contains (x ∷ []) y → y ≡ x
 only_one x y (zero, lt, e) = sym e
 only_one x y (suc k, lt, e) = absurd (omega arith)
 
-itself : {X : Type 0} (x : X) → Contains (x ∷ []) x
+pub itself : {X : Type 0} (x : X) → Contains (x ∷ []) x
 itself x = (0, omega arith, refl)
 
 module _ (F : KissFile) (s : ℕ) (part : Missing) (numbers : List ℕ) (count : ℕ) (cubes : List Cube) (row : KissRow)

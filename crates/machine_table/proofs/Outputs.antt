@@ -1,5 +1,5 @@
 -- Where two rows give 0 and 1 at one output.
-use Rattle.std.proofs.Common.{◌≡◌, ◌≢◌, ℕ, ◌+◌, ◌-◌, ◌%◌, ◌^◌, ◌<◌, ◌⊎◌, min, Bool, true, false, Some, None, IsSome, Option, subst, ap, sym, ◌∙◌, arith, bit_and, eqb, not, inl, inr, is_some, w64, refl}
+use Rattle.std.proofs.Common.{◌≡◌, ◌≢◌, ℕ, ◌+◌, ◌-◌, ◌%◌, ◌^◌, ◌<◌, ◌⊎◌, ◌↔◌, min, Bool, true, false, Some, None, IsSome, Option, subst, ap, sym, ◌∙◌, arith, bit_and, eqb, not, inl, inr, is_some, w64, refl}
 use Rattle.std.proofs.lemmas.Bool.{cases_Bool, true≢false}
 use Rattle.std.proofs.lemmas.Bool.Decides.{nat_tests}
 use Rattle.std.proofs.lemmas.Nat.Bits.{bit_at_and, bit_at_xor, bit_at-lt, bit_at-zero, bit_at_ones, bit_at-trailing_zeros}
@@ -59,7 +59,7 @@ care_of_given row k b given =
       | inr not_there ↦ let none : None ≡ Some b = rw not_there at given in cc
     ]
 
-value_of_given : (row : KissRow) (k : ℕ) (b : Bool) → given_bit k row ≡ Some b → bit row.value k ≡ b
+pub value_of_given : (row : KissRow) (k : ℕ) (b : Bool) → given_bit k row ≡ Some b → bit row.value k ≡ b
 value_of_given row k b given =
     let there : Some (bit row.value k) ≡ Some b = rw (care_of_given row k b given) at given in cc
 
@@ -99,3 +99,10 @@ given_value row b some =
           let gone : given_bit b row ≡ None = rw not_there refl in
           absurd (true≢false (sym some ∙ ap is_some gone))
     ]
+
+-- a row gives an output where its care has the bit
+pub gives_where_cares : (row : KissRow) (b : ℕ) → IsSome (given_bit b row) ↔ (bit row.care b ≡ true)
+gives_where_cares row b = (
+  λ some. care_of_given row b (bit row.value b) (given_value row b some),
+  λ cares. subst (λ (o : Option Bool). IsSome o) (sym (given_at row b (bit row.value b) (one_from_bit row.care b cares) refl)) refl,
+)

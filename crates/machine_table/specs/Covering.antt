@@ -1,10 +1,14 @@
 -- What a machine does at the symbols of a cube, each symbol given by its number.
-use Rattle.std.specs.Prelude.{ℕ, ◌≡◌, ◌<◌, ◌^◌, Contains, List}
+use Rattle.std.specs.Prelude.{ℕ, ◌≡◌, ◌<◌, ◌^◌, Bool, Contains, List, Some, length}
 use Rattle.cubes.specs.Cube.{HoldsNumber}
 use Rattle.cubes.specs.Symbol.{symbol_of}
 use Rattle.kiss2.specs.declared.kiss_file.KissFile.{KissFile}
-use Rattle.kiss2.specs.Machine.{next, out}
+use Rattle.kiss2.specs.declared.kiss_file.KissRow.{KissRow}
+use Rattle.kiss2.specs.Lawful.{IsLawfulRow}
+use Rattle.kiss2.specs.Machine.{given_bit, next, out, output_bit}
 use Rattle.machine_table.specs.declared.covering.Piece.{Piece}
+use Rattle.machine_table.specs.declared.missing.Missing.{Missing}
+use Rattle.machine_table.specs.Said.{Says}
 use Rattle.machine_table.specs.Walk.{outputs_of}
 
 -- some symbol leads the two states to these
@@ -21,3 +25,14 @@ pub record IsPiece (F : KissFile) (s : ℕ) (piece : Piece) : Type 0 where
 -- some piece holds the symbol of that number
 abbrev pub IsHeldByPiece : List Piece → ℕ → Type 0
 IsHeldByPiece pieces x = (piece : Piece) × Contains pieces piece × HoldsNumber piece.cube x
+
+-- the row is of the state, and the parts that it says are the machine's at each symbol that it holds
+pub record IsRightRow (F : KissFile) (s : ℕ) (row : KissRow) : Type 0 where
+  pub lawful : IsLawfulRow F.inputs F.outputs (length F.states) row
+  pub state : row.from ≡ s
+  pub next_state : (x t : ℕ) → x < 2 ^ F.inputs → HoldsNumber row.cube x → row.to ≡ Some t → next F s (symbol_of F.inputs x) ≡ t
+  pub output : (x b : ℕ) (value : Bool) → x < 2 ^ F.inputs → HoldsNumber row.cube x → given_bit b row ≡ Some value → output_bit F s (symbol_of F.inputs x) b ≡ value
+
+-- some row that holds the symbol of that number says the part
+abbrev pub IsSaidBy : List KissRow → ℕ → Missing → Type 0
+IsSaidBy rows x part = (row : KissRow) × Contains rows row × HoldsNumber row.cube x × Says part row

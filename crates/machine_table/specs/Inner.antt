@@ -4,4 +4,5 @@ pub mod OpenSymbol
 pub mod Asked
 pub mod Settled
 pub mod Step
+pub mod Filled
 pub mod AddedPairs

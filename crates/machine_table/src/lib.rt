@@ -15,6 +15,7 @@ mod building;
 mod contradiction;
 mod copying;
 mod covering;
+mod filling;
 mod images;
 mod laws;
 mod machine;

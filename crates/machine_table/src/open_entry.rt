@@ -22,7 +22,7 @@ pub struct Entry {
 }
 
 /// Whether the row says the part.
-fn says(row: &KissRow, part: Missing) -> bool
+pub(crate) fn says(row: &KissRow, part: Missing) -> bool
     requires { place_of part < 65 }
     ensures { IsTrue result ↔ Says part row.now }
 {
