@@ -112,6 +112,33 @@ fn ground_of(alloc: Global, on: &[Term], off: &[Term], width: u8) -> Result<Grou
     Ground::new(alloc, &ones, &zeros, width)
 }
 
+/// Rows for `dense_rows`, with the cells of the gate and the table of off.
+fn rows_of(
+    alloc: Global,
+    on: &[Term],
+    ground: &mut Ground,
+    zeros: &Table,
+    width: u8,
+) -> Result<Vec<Term>, AllocError>
+    requires table { IsTable zeros.now }
+    requires columns { zeros.now.width ≡ width }
+    requires few { width ≤ 16 }
+    requires fits { All (FitsWidth width) on.now }
+    requires clear { All (IsClear zeros.now.terms.items) on.now }
+    ensures { IfOk result (λ rows. ArePrimeRows on.now zeros.now.terms.items width rows.items) }
+{
+    let mut left = Vec::from_slice(alloc, on)?;
+    let mut rows = Table::new(alloc, width)?;
+    while let Some(seed) = left.pop() {
+        if !rows.holds(seed) {
+            let row = row_of(seed, ground, zeros, width);
+            ground.take(row.pattern());
+            rows.add(row)?;
+        }
+    }
+    Ok(rows.terms)
+}
+
 /// Rows that hold every value of on and none of off, and that need each of their literals.
 pub fn dense_rows(
     alloc: Global,
@@ -127,14 +154,5 @@ pub fn dense_rows(
 {
     let zeros = Table::of(alloc, off, width)?;
     let mut ground = ground_of(alloc, on, off, width)?;
-    let mut left = Vec::from_slice(alloc, on)?;
-    let mut rows = Table::new(alloc, width)?;
-    while let Some(seed) = left.pop() {
-        if !rows.holds(seed) {
-            let row = row_of(seed, &ground, &zeros, width);
-            ground.take(row.pattern());
-            rows.add(row)?;
-        }
-    }
-    Ok(rows.terms)
+    rows_of(alloc, on, &mut ground, &zeros, width)
 }

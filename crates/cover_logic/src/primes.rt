@@ -3,7 +3,7 @@ ghost use Rattle.std.specs.Prelude.{◌≡◌, ◌≤◌, All, IfOk, filter, not
 ghost use Rattle.cover_logic.specs.Term.{FitsWidth};
 ghost use Rattle.cover_logic.specs.Inner.Index.{terms_of};
 ghost use Rattle.cover_logic.specs.Inner.Pair.{refines};
-ghost use Rattle.cover_logic.specs.Inner.Rows.{ArePrimeRows, IsClear, IsPrimeRow};
+ghost use Rattle.cover_logic.specs.Inner.Rows.{ArePrimeRows, IsClear, IsGrown, IsPrimeRow};
 
 use crate::index::Index;
 use crate::raise::{grow, raise, widened};
@@ -95,7 +95,18 @@ fn plain_row(
     Ok(raise(grown, off, width, &[]))
 }
 
-/// The same, with the guide.
+/// The seed grown by the terms of on that the guide finds.
+fn guided_growth(alloc: Global, seed: Term, guide: &Guide, off: &Index) -> Result<Term, AllocError>
+    requires { IsClear (terms_of off.now) seed }
+    ensures { IfOk result (IsGrown seed (terms_of off.now)) }
+{
+    let sets = guide.off.nearest(alloc, seed.pattern(), NEAREST)?;
+    let joinable = guide.on.joinable(alloc, seed.pattern(), &sets)?;
+    let others = terms_of_patterns(alloc, &joinable)?;
+    grow(alloc, seed, &others, sets, off)
+}
+
+/// The same as `plain_row`, with the guide.
 fn guided_row(
     alloc: Global,
     seed: Term,
@@ -108,10 +119,7 @@ fn guided_row(
     requires clear { IsClear (terms_of off.now) seed }
     ensures { IfOk result (IsPrimeRow seed (terms_of off.now) width) }
 {
-    let sets = guide.off.nearest(alloc, seed.pattern(), NEAREST)?;
-    let joinable = guide.on.joinable(alloc, seed.pattern(), &sets)?;
-    let others = terms_of_patterns(alloc, &joinable)?;
-    let grown = grow(alloc, seed, &others, sets, off)?;
+    let grown = guided_growth(alloc, seed, guide, off)?;
     let advice = guide.off.advice(alloc, grown.pattern())?;
     let wide = widened(grown, Term::of(advice.wide), off);
     let reasons = places_of(alloc, &advice.reasons, &guide.places)?;

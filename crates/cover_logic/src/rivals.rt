@@ -2,7 +2,7 @@
 ghost use Rattle.std.specs.Prelude.{◌≡◌, ◌≤◌, All, IfOk, false, slice_index_or};
 ghost use Rattle.cover_logic.specs.Term.{FitsWidth};
 ghost use Rattle.cover_logic.specs.Inner.Entries.{HoldsRivals};
-ghost use Rattle.cover_logic.specs.Inner.Bundles.{terms_in_bundles};
+ghost use Rattle.cover_logic.specs.Inner.Bundles.{IsSoleLeft, terms_in_bundles};
 ghost use Rattle.cover_logic.specs.Inner.Rows.{AreNeededRows, Covers, IsSole};
 
 use crate::bundles::{Bundles, Entry};
@@ -51,6 +51,24 @@ fn sole_value(
     Ok(None)
 }
 
+/// A value of on in the row of that number that no other row which is left holds.
+fn sole_left(
+    alloc: Global,
+    number: usize,
+    row: Term,
+    rows: &Bundles,
+    left: &[bool],
+    on: &Bundles,
+) -> Result<Option<u128>, AllocError>
+    requires fits { FitsWidth rows.now.width row }
+    requires on_fits { FitsWidth on.now.width row }
+    ensures { IfOk result (IsSoleLeft number row rows.now on.now left.now) }
+{
+    let near = rows.met_by(alloc, row)?;
+    let others = rivals(alloc, number, &near, left)?;
+    sole_value(alloc, row, on, &others)
+}
+
 /// The rows that are left when each row goes whose values of on the others hold.
 pub fn needed_by_bundles(
     alloc: Global,
@@ -68,9 +86,7 @@ pub fn needed_by_bundles(
     let mut left = vec![in alloc; true; rows.len()]?;
     let mut kept = Vec::new(alloc);
     for (i, row) in rows.iter().enumerate() {
-        let near = all.met_by(alloc, *row)?;
-        let others = rivals(alloc, i, &near, &left)?;
-        let sole = sole_value(alloc, *row, on, &others)?;
+        let sole = sole_left(alloc, i, *row, &all, &left, on)?;
         if sole.is_some() {
             kept.push(*row)?;
         } else {

@@ -1,10 +1,11 @@
 -- The entries of bundles. Private functions need it; no public contract cites it.
-use Rattle.std.specs.Prelude.{List, [], ◌∷◌, ◌++◌}
+use Rattle.std.specs.Prelude.{ℕ, Bool, List, [], ◌∷◌, ◌++◌, Option}
 use Rattle.cover_logic.specs.declared.bundles.Bundle.{Bundle}
 use Rattle.cover_logic.specs.declared.bundles.Bundles.{Bundles}
 use Rattle.cover_logic.specs.declared.bundles.Entry.{Entry}
 use Rattle.cover_logic.specs.declared.term.Term.{Term}
-use Rattle.cover_logic.specs.Inner.Entries.{terms_in}
+use Rattle.cover_logic.specs.Inner.Entries.{HoldsRivals, IsMet, terms_in}
+use Rattle.cover_logic.specs.Inner.Rows.{IsSole}
 
 abbrev pub entries_in : List Bundle → List Entry
 entries_in [] = []
@@ -15,3 +16,11 @@ entries_of all = entries_in all.bundles.items
 
 abbrev pub terms_in_bundles : Bundles → List Term
 terms_in_bundles all = terms_in (entries_of all)
+
+-- a value of on in the row that no other row which is left holds, or none; `near` and `others` are on the way to it
+pub record IsSoleLeft (number : ℕ) (row : Term) (rows on : Bundles) (left : List Bool) (sole : Option ℕ) : Type 0 where
+  pub near : List Entry
+  pub others : List Term
+  pub met : IsMet row (entries_of rows) near
+  pub rivals : HoldsRivals number left near others
+  pub own : IsSole row (terms_in_bundles on) others sole

@@ -1,8 +1,6 @@
 use Rattle.std.proofs.Common.{◌≡◌, ◌+◌, ◌∙◌, Bool, List, ◌∷◌, [], ◌++◌, true, false, drop, length, replicate, set, ap, sym, subst, rules}
-use Rattle.cover_logic.specs.declared.bundles.Entry.{Entry}
 use Rattle.cover_logic.specs.declared.term.Term.{Term}
-use Rattle.cover_logic.specs.Inner.Entries.{HoldsRivals}
-use Rattle.cover_logic.specs.Inner.Bundles.{entries_of, terms_in_bundles}
+use Rattle.cover_logic.specs.Inner.Bundles.{IsSoleLeft, entries_of, terms_in_bundles}
 use Rattle.cover_logic.specs.Inner.Rows.{IsSole}
 use Rattle.cover_logic.proofs.LeftRows.{rivals_alike, left_kept, left_without, left_all}
 use Rattle.cover_logic.proofs.NeededRows.{AreKept, HoldAlike, kept_none, row_kept, row_left_out, rest_from, needed_from_kept}
@@ -27,15 +25,13 @@ loop-i-preserved c =
     let left = c.loop-i.left.items in
     let rest = drop (i + 1) rows in
     let entries = entries_of c.in_ok-all.all in
-    let near = c.in_ok-near.near.items in
-    let others = c.in_ok-others.others.items in
+    let told : IsSoleLeft i row c.in_ok-all.all c.args.on.now left c.in_ok-sole.sole =
+    subst (λ (bs : List Bool). IsSoleLeft i row c.in_ok-all.all c.args.on.now bs c.in_ok-sole.sole) c.deref.ensures.value c.in_ok-sole.ensures in
+    let others = told.others in
     let before : AreKept on rows kept (row ∷ rest) = rw (← rest_from rows i row c.loop-i-test.true c.index-rows-i.is) c.loop-i.invariant.0 in
-    let held : HoldsRivals i left near others =
-    subst (λ (es : List Entry). HoldsRivals i left es others) c.deref.ensures.value
-    (subst (λ (bs : List Bool). HoldsRivals i bs c.deref.result.now others) c.deref-in-loop-i.ensures.value c.in_ok-others.ensures) in
     let alike : HoldAlike row (kept ++ rest) others =
-    rivals_alike rows left kept i row entries near others c.in_ok-all.ensures.numbers c.in_ok-near.ensures held c.loop-i.invariant.1 in
-    let sole : IsSole row on others c.in_ok-sole.sole = subst (λ (ts : List Term). IsSole row on ts c.in_ok-sole.sole) c.deref-in-loop-i-2.ensures.value c.in_ok-sole.ensures in
+    rivals_alike rows left kept i row entries told.near others c.in_ok-all.ensures.numbers told.met told.rivals c.loop-i.invariant.1 in
+    let sole : IsSole row on others c.in_ok-sole.sole = told.own in
     let among : Contains rows row = subst (λ (t : Term). Contains rows t) (sym c.index-rows-i.is) (Contains-get_or rows i row c.loop-i-test.true) in
     elim c.if-is_some.branch [
       | then-is_some+in_ok-push w ↦

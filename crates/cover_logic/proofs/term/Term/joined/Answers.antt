@@ -1,4 +1,6 @@
 use Rattle.std.proofs.Common.{◌∙◌, ap, sym, bit_and, rules}
+use Rattle.std.proofs.Math.Nat.{le_trans}
+use Rattle.std.proofs.lemmas.Nat.{and_le_l}
 use Rattle.cover_logic.proofs.Terms.{IsCommon, joined_left, joined_right}
 use Rattle.cover_logic.proofs.term.Term.joined.Goals as goal
 
@@ -25,3 +27,6 @@ returns-clause-right c =
       care_fits = search rules;
     } in
     joined_right c.args.self c.args.other _ common
+
+pub returns-clause-care : goal.returns-clause-care
+returns-clause-care c = rw c.masked.ensures.care (le_trans (and_le_l _ _) (and_le_l _ _))

@@ -1,4 +1,5 @@
 use Rattle.std.proofs.Common.{refl, rules}
+use Rattle.std.proofs.lemmas.Nat.{and_le_l}
 use Rattle.cover_logic.proofs.Terms.{and_both, dashed_column, dashed_holds, dashed_looser}
 use Rattle.cover_logic.proofs.term.Term.with_dash.Goals as goal
 
@@ -13,3 +14,6 @@ returns-clause-looser c = dashed_looser c.args.self c.args.column _ (record { co
 
 pub returns-clause-dash : goal.returns-clause-dash
 returns-clause-dash c = dashed_column c.args.self.care c.args.column c.requires
+
+pub returns-clause-care : goal.returns-clause-care
+returns-clause-care c = and_le_l c.args.self.care _
