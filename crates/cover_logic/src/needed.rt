@@ -39,6 +39,20 @@ fn sole_value(
     Ok(None)
 }
 
+/// A value of on in the row that the terms of both lists do not hold.
+fn sole_beside(
+    alloc: Global,
+    row: Term,
+    on: &[Term],
+    kept: &[Term],
+    rest: &[Term],
+) -> Result<Option<u128>, AllocError>
+    ensures { IfOk result (IsSole row on.now (filter (agree row) (kept.now ++ rest.now))) }
+{
+    let others = rivals(alloc, row, kept, rest)?;
+    sole_value(alloc, row, on, &others)
+}
+
 /// The rows that are left when each row goes whose values of on the others hold, by passes over the lists.
 fn needed_by_passes(alloc: Global, rows: &[Term], on: &[Term]) -> Result<Vec<Term>, AllocError>
     requires { Covers rows.now on.now }
@@ -46,8 +60,7 @@ fn needed_by_passes(alloc: Global, rows: &[Term], on: &[Term]) -> Result<Vec<Ter
 {
     let mut kept = Vec::new(alloc);
     for (i, row) in rows.iter().enumerate() {
-        let others = rivals(alloc, *row, &kept, &rows[i + 1..])?;
-        let sole = sole_value(alloc, *row, on, &others)?;
+        let sole = sole_beside(alloc, *row, on, &kept, &rows[i + 1..])?;
         if sole.is_some() {
             kept.push(*row)?;
         }

@@ -1,9 +1,9 @@
-use Rattle.std.proofs.Common.{◌≡◌, ◌+◌, List, ◌∷◌, [], ◌++◌, drop, ap, ◌∙◌, sym, subst, rules}
+use Rattle.std.proofs.Common.{◌≡◌, ◌+◌, List, ◌∷◌, [], ◌++◌, drop, ap, ◌∙◌, refl, sym, subst, rules}
 use Rattle.cover_logic.specs.declared.term.Term.{Term}
 use Rattle.cover_logic.specs.Inner.Pair.{agree}
 use Rattle.cover_logic.proofs.NeededRows.{AreKept, HoldAlike, kept_none, near_alike, row_kept, row_left_out, rest_from, rest_slice, needed_from_kept}
 use Rattle.std.proofs.lemmas.List.{drop_all}
-use Rattle.cover_logic.proofs.Gaps.{IsNear}
+use Rattle.cover_logic.specs.Inner.Rows.{IsSole}
 use Rattle.std.specs.List.{Contains, filter}
 use Rattle.std.proofs.lemmas.List.Elements.{Contains-get_or}
 use Rattle.cover_logic.proofs.needed.needed_by_passes.Goals as goal
@@ -20,19 +20,19 @@ loop-i-preserved c =
     let kept = c.loop-i.kept.items in
     let rest = drop (c.loop-i.i + 1) rows in
     let before : AreKept on rows kept (row ∷ rest) = rw (← rest_from rows c.loop-i.i row c.loop-i-test.true c.index-rows-i.is) c.loop-i.invariant in
-    let near : IsNear row (kept ++ rest) c.deref-in-loop-i.result.now =
-    c.deref-in-loop-i.ensures.value ∙ (c.in_ok-others.ensures ∙ (ap (λ (ts : List Term). filter (agree row) (c.deref.result.now ++ ts)) (rest_slice rows (c.loop-i.i + 1))
-    ∙ ap (λ (ts : List Term). filter (agree row) (ts ++ rest)) c.deref.ensures.value)) in
-    let alike : HoldAlike row (kept ++ rest) c.deref-in-loop-i.result.now = near_alike row (kept ++ rest) c.deref-in-loop-i.result.now near in
+    let sole : IsSole row on (filter (agree row) (kept ++ rest)) c.in_ok-sole.sole =
+    subst (λ (ts : List Term). IsSole row on (filter (agree row) ts) c.in_ok-sole.sole)
+    (ap (λ (ts : List Term). c.deref.result.now ++ ts) (rest_slice rows (c.loop-i.i + 1)) ∙ ap (λ (ts : List Term). ts ++ rest) c.deref.ensures.value) c.in_ok-sole.ensures in
+    let alike : HoldAlike row (kept ++ rest) (filter (agree row) (kept ++ rest)) = near_alike row (kept ++ rest) _ refl in
     let among : Contains rows row = subst (λ (t : Term). Contains rows t) (sym c.index-rows-i.is) (Contains-get_or rows c.loop-i.i row c.loop-i-test.true) in
     let P : List Term → Type 0 = λ ts. AreKept on rows ts rest in
     elim c.if-is_some.branch [
       | then-is_some+in_ok-push w ↦
           let pushed : c.if-is_some.kept.items ≡ kept ++ row ∷ [] = search rules in
-          subst P (sym pushed) (row_kept on rows kept rest _ row c.in_ok-sole.sole before among alike c.in_ok-sole.ensures (sym c.is_some.ensures ∙ w.if-is_some.true))
+          subst P (sym pushed) (row_kept on rows kept rest _ row c.in_ok-sole.sole before among alike sole (sym c.is_some.ensures ∙ w.if-is_some.true))
       | else-is_some w ↦
           let same : c.if-is_some.kept.items ≡ kept = ap (λ v. v.items) w.kept-is in
-          subst P (sym same) (row_left_out on rows kept rest _ row c.in_ok-sole.sole before alike c.in_ok-sole.ensures (sym c.is_some.ensures ∙ w.if-is_some.false))
+          subst P (sym same) (row_left_out on rows kept rest _ row c.in_ok-sole.sole before alike sole (sym c.is_some.ensures ∙ w.if-is_some.false))
     ]
 
 pub returns : goal.returns

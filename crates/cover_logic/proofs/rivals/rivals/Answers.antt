@@ -1,12 +1,15 @@
 use Rattle.std.proofs.Common.{◌≡◌, ◌+◌, ◌∙◌, List, ◌∷◌, [], ◌++◌, take, sym, subst, ap, rules}
 use Rattle.std.proofs.lemmas.Bool.{false≢true}
-use Rattle.std.proofs.lemmas.List.{take_more}
+use Rattle.std.proofs.lemmas.List.{take_all, take_more}
 use Rattle.cover_logic.specs.declared.bundles.Entry.{Entry}
 use Rattle.cover_logic.specs.declared.term.Term.{Term}
 use Rattle.cover_logic.specs.Inner.Entries.{HoldsRivals, IsRival}
-use Rattle.cover_logic.proofs.LeftRows.{rivals_more, rivals_passed}
+use Rattle.cover_logic.proofs.LeftRows.{rivals_more, rivals_none, rivals_passed}
 use Rattle.cover_logic.proofs.rivals.rivals.Goals as goal
 use Rattle.cover_logic.proofs.rivals.rivals.Goals.{then-entry-row+then-is_left+in_ok-push, else-entry-row, else-entry-row-via-then-entry-row+else-is_left, else-entry-row-via-else-entry-row}
+
+pub loop-entry-init : goal.loop-entry-init
+loop-entry-init c = rw c.new-others.ensures.items (rivals_none c.args.row c.args.left.now)
 
 pub loop-entry-preserved : goal.loop-entry-preserved
 loop-entry-preserved c =
@@ -35,3 +38,7 @@ loop-entry-preserved c =
           subst Q (sym same) (rivals_passed row left (take i near) others entry c.loop-entry.invariant none)
     ] in
     subst (λ (es : List Entry). HoldsRivals row left es c.if-entry-row.others.items) (sym more) after
+
+pub returns : goal.returns
+returns c =
+    subst (λ (es : List Entry). HoldsRivals c.args.row c.args.left.now es c.loop-entry.others.items) (take_all c.loop-entry.entry-index c.args.near.now c.loop-entry-test.false) c.loop-entry.invariant
