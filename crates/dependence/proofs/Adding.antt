@@ -1,19 +1,21 @@
 -- Effects that are added to the list.
-use Rattle.std.proofs.Common.{◌≡◌, ◌≢◌, ◌∙◌, ◌⊎◌, ℕ, ◌-◌, ◌^◌, ◌<◌, Bool, true, false, not, ◌||◌, List, length, get_or, set, replicate, inl, inr, ap, sym, subst, refl, arith, bit_or}
+use Rattle.std.proofs.Common.{◌≡◌, ◌≢◌, ◌∙◌, ◌⊎◌, ◌↔◌, ℕ, ◌-◌, ◌^◌, ◌<◌, Bool, true, false, not, ◌||◌, ◌&&◌, if◌then◌else◌, Option, Some, None, List, length, get_or, set, replicate, inl, inr, ap, sym, subst, refl, arith, bit_and, bit_or}
 use Rattle.std.proofs.Math.ListN.{length-set}
 use Rattle.std.proofs.lemmas.Bool.{cases_eq, false≢true, or_cases, or_left, or_right}
 use Rattle.std.proofs.lemmas.List.{get_or-replicate, get_or-set_other, get_or-set_same, length-replicate}
-use Rattle.std.proofs.lemmas.Option.{get_or_from_slice_get, slice_get-get_or, slice_get_within}
+use Rattle.std.proofs.lemmas.Option.{get_or_from_slice_get, same_Some, slice_get-get_or, slice_get_within}
 use Rattle.std.specs.Bool.{beq}
+use Rattle.std.specs.Option.{option_map}
 use Rattle.std.specs.Int.RustNames.{bit_xor}
 use Rattle.cubes.specs.Symbol.{bit}
 use Rattle.cubes.specs.Inner.Region.{clash_of}
-use Rattle.cubes.proofs.Bits.{bit-or, bit-xor, bit-zero}
-use Rattle.machine_table.specs.declared.covering.Piece.{Piece}
+use Rattle.cubes.proofs.Bits.{bit-and, bit-or, bit-xor, bit-zero}
+use Rattle.kiss2.specs.declared.kiss_file.KissRow.{KissRow}
+use Rattle.kiss2.specs.Machine.{given_bit}
 use Rattle.dependence.specs.declared.effects.Effect.{Effect}
 use Rattle.dependence.specs.declared.gate.Gate.{Gate}
 use Rattle.dependence.specs.declared.gate.Gate.TheVariants.{Latch, Output}
-use Rattle.dependence.specs.Inner.Effects.{ActsBy, Adds, IsActed, Show, acts_in, acts_on, piece_value}
+use Rattle.dependence.specs.Inner.Effects.{ActsBy, Adds, AreApart, IsActed, Show, acts_in, acts_on, next_bit, row_value}
 use Rattle.dependence.proofs.Symbols.{clash_turned, one_place}
 
 -- ---- what is added in turn
@@ -107,13 +109,36 @@ none_acts inputs d no_latch no_output a gate acts =
       by_gate (Latch i) acts = false≢true (sym (ap (λ n. bit n i) no_latch ∙ bit-zero i) ∙ acts)
       by_gate (Output b) acts = false≢true (sym (ap (λ n. bit n b) no_output ∙ bit-zero b) ∙ acts)
 
--- ---- what two pieces show
-pub turned : (inputs : ℕ) (words : List ℕ) (one other : Piece) (a : ℕ) (gate : Gate) → Show inputs words one other a gate → Show inputs words other one a gate
+-- ---- what two rows show
+apart_turned : (first second : Option Bool) → AreApart first second → AreApart second first
+apart_turned first second (v, w, is_v, is_w, apart) = (w, v, is_w, is_v, λ same. apart (sym same))
+
+pub turned : (inputs : ℕ) (words : List ℕ) (one other : KissRow) (a : ℕ) (gate : Gate) → Show inputs words one other a gate → Show inputs words other one a gate
 turned inputs words one other a gate show = record {
   differ = record { place = show.differ.place; of_input = show.differ.of_input; clash = clash_turned other.cube one.cube ∙ show.differ.clash };
-  values = λ same. show.values (sym same);
+  values = apart_turned (row_value words gate one) (row_value words gate other) show.values;
 }
 
+module _ (words : List ℕ) (one other : KissRow) (latches outputs : ℕ)
+    (of_latches : (i : ℕ) → (bit latches i ≡ true) ↔ AreApart (next_bit words i one) (next_bit words i other))
+    (of_outputs : (b : ℕ) → (bit outputs b ≡ true) ↔ AreApart (given_bit b one) (given_bit b other)) where
+  acts_by_values : (gate : Gate) → (acts_in latches outputs gate ≡ true) ↔ AreApart (row_value words gate one) (row_value words gate other)
+  acts_by_values (Latch i) = of_latches i
+  acts_by_values (Output b) = of_outputs b
+
+  -- the effect at the place where their cubes differ
+  pub acted_shows : (inputs place : ℕ) → clash_of one.cube other.cube ≡ 2 ^ place → place < inputs → (a : ℕ) (gate : Gate) → IsActed (inputs - 1 - place) latches outputs a gate → Show inputs words one other a gate
+  acted_shows inputs place clash within a gate acted = record {
+    differ = record { place = place; of_input = omega (arith, within, acted.0); clash = clash };
+    values = (acts_by_values gate).0 acted.1;
+  }
+
+  pub shows_acted : (inputs place : ℕ) → clash_of one.cube other.cube ≡ 2 ^ place → (a : ℕ) (gate : Gate) → Show inputs words one other a gate → IsActed (inputs - 1 - place) latches outputs a gate
+  shows_acted inputs place clash a gate show =
+      let at : show.differ.place ≡ place = one_place show.differ.place place (sym show.differ.clash ∙ clash) in
+      (omega (arith, at, show.differ.of_input), (acts_by_values gate).1 show.values)
+
+-- ---- what two rows say
 differs_from : (a b : Bool) → not (beq a b) ≡ true → a ≢ b
 differs_from true true is same = false≢true is
 differs_from true false is same = false≢true (sym same)
@@ -126,19 +151,38 @@ differs_to true false other = refl
 differs_to false true other = refl
 differs_to false false other = absurd (other refl)
 
-module _ (words : List ℕ) (one other : Piece) where
-  acts_by_values : (gate : Gate) → acts_in (bit_xor (get_or words one.next 0) (get_or words other.next 0)) (bit_xor one.outputs other.outputs) gate ≡ not (beq (piece_value words gate one) (piece_value words gate other))
-  acts_by_values (Latch i) = bit-xor (get_or words one.next 0) (get_or words other.next 0) i
-  acts_by_values (Output b) = bit-xor one.outputs other.outputs b
+some_apart : (v w : Bool) → (not (beq v w) ≡ true) ↔ AreApart (Some v) (Some w)
+some_apart v w = (
+  (λ is. (v, w, refl, refl, differs_from v w is)),
+  (λ apart. differs_to v w (λ same. apart.4 (sym (same_Some v apart.0 apart.2) ∙ same ∙ same_Some w apart.1 apart.3))),
+)
 
-  -- the effect at the place where their cubes differ
-  pub acted_shows : (inputs place : ℕ) → clash_of one.cube other.cube ≡ 2 ^ place → place < inputs → (a : ℕ) (gate : Gate) → IsActed (inputs - 1 - place) (bit_xor (get_or words one.next 0) (get_or words other.next 0)) (bit_xor one.outputs other.outputs) a gate → Show inputs words one other a gate
-  acted_shows inputs place clash within a gate acted = record {
-    differ = record { place = place; of_input = omega (arith, within, acted.0); clash = clash };
-    values = differs_from (piece_value words gate one) (piece_value words gate other) (sym (acts_by_values gate) ∙ acted.1);
-  }
+words_apart : (words : List ℕ) (i t u : ℕ) → (bit (bit_xor (get_or words t 0) (get_or words u 0)) i ≡ true) ↔ AreApart (Some (bit (get_or words t 0) i)) (Some (bit (get_or words u 0) i))
+words_apart words i t u =
+    let both = some_apart (bit (get_or words t 0) i) (bit (get_or words u 0) i) in
+    ((λ is. both.0 (sym (bit-xor (get_or words t 0) (get_or words u 0) i) ∙ is)), (λ apart. bit-xor (get_or words t 0) (get_or words u 0) i ∙ both.1 apart))
 
-  pub shows_acted : (inputs place : ℕ) → clash_of one.cube other.cube ≡ 2 ^ place → (a : ℕ) (gate : Gate) → Show inputs words one other a gate → IsActed (inputs - 1 - place) (bit_xor (get_or words one.next 0) (get_or words other.next 0)) (bit_xor one.outputs other.outputs) a gate
-  shows_acted inputs place clash a gate show =
-      let at : show.differ.place ≡ place = one_place show.differ.place place (sym show.differ.clash ∙ clash) in
-      (omega (arith, at, show.differ.of_input), acts_by_values gate ∙ differs_to (piece_value words gate one) (piece_value words gate other) show.values)
+pub latches_apart : (words : List ℕ) (one other : KissRow) (i t u : ℕ) → one.to ≡ Some t → other.to ≡ Some u
+    → (bit (bit_xor (get_or words t 0) (get_or words u 0)) i ≡ true) ↔ AreApart (next_bit words i one) (next_bit words i other)
+latches_apart words one other i t u goes leads =
+    let coded = λ (s : ℕ). bit (get_or words s 0) i in
+    let first : next_bit words i one ≡ Some (bit (get_or words t 0) i) = ap (λ (o : Option ℕ). option_map coded o) goes in
+    let second : next_bit words i other ≡ Some (bit (get_or words u 0) i) = ap (λ (o : Option ℕ). option_map coded o) leads in
+    let both = words_apart words i t u in (
+      (λ is. subst (λ (o : Option Bool). AreApart o (next_bit words i other)) (sym first) (subst (AreApart (Some (bit (get_or words t 0) i))) (sym second) (both.0 is))),
+      (λ apart. both.1 (subst (AreApart (Some (bit (get_or words t 0) i))) second (subst (λ (o : Option Bool). AreApart o (next_bit words i other)) first apart))),
+    )
+
+given_apart : (a b v w : Bool) → (((a && b) && not (beq v w)) ≡ true) ↔ AreApart (if a then Some v else None) (if b then Some w else None)
+given_apart true true v w = some_apart v w
+given_apart true false v w = ((λ is. absurd (false≢true is)), (λ apart. let gone : None ≡ Some apart.1 = apart.3 in absurd (cc)))
+given_apart false b v w = ((λ is. absurd (false≢true is)), (λ apart. let gone : None ≡ Some apart.0 = apart.2 in absurd (cc)))
+
+pub outputs_apart : (one other : KissRow) (b : ℕ) → (bit (bit_and (bit_and one.care other.care) (bit_xor one.value other.value)) b ≡ true) ↔ AreApart (given_bit b one) (given_bit b other)
+outputs_apart one other b =
+    let digits : bit (bit_and (bit_and one.care other.care) (bit_xor one.value other.value)) b ≡ ((bit one.care b && bit other.care b) && not (beq (bit one.value b) (bit other.value b))) =
+    bit-and (bit_and one.care other.care) (bit_xor one.value other.value) b
+    ∙ ap (λ (x : Bool). x && bit (bit_xor one.value other.value) b) (bit-and one.care other.care b)
+    ∙ ap (λ (x : Bool). (bit one.care b && bit other.care b) && x) (bit-xor one.value other.value b) in
+    let both = given_apart (bit one.care b) (bit other.care b) (bit one.value b) (bit other.value b) in
+    ((λ is. both.0 (sym digits ∙ is)), (λ apart. digits ∙ both.1 apart))

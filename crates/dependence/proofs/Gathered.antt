@@ -1,5 +1,5 @@
 -- What one gate reads, and the lists of all gates.
-use Rattle.std.proofs.Common.{◌≡◌, ◌↔◌, ◌∙◌, ℕ, ◌+◌, ◌-◌, ◌^◌, ◌<◌, ◌≤◌, ◌/◌, All, Bool, Contains, List, [], ◌∷◌, ◌++◌, length, get_or, Some, inl, inr, ap, sym, subst, arith}
+use Rattle.std.proofs.Common.{◌≡◌, ◌↔◌, ◌∙◌, ℕ, ◌+◌, ◌-◌, ◌^◌, ◌<◌, ◌≤◌, ◌/◌, All, Bool, Contains, IfSome, List, [], ◌∷◌, ◌++◌, length, get_or, Some, inl, inr, ap, sym, subst, arith}
 use Rattle.std.proofs.lemmas.Bool.{cases_eq, cases_lt}
 use Rattle.std.proofs.lemmas.List.Elements.{All-weaker}
 use Rattle.std.proofs.lemmas.List.Sorted.{Contains-permutation}
@@ -9,9 +9,10 @@ use Rattle.std.proofs.lemmas.Nat.Bits.{bit_at_ones, bit_at_ones_above, ones_shr}
 use Rattle.std.proofs.lemmas.Option.{get_or_from_slice_get, slice_get-get_or, slice_get_within}
 use Rattle.std.specs.List.{slice_get}
 use Rattle.kiss2.specs.declared.kiss_file.KissFile.{KissFile}
-use Rattle.machine_table.specs.declared.covering.Piece.{Piece}
-use Rattle.machine_table.specs.Covering.{IsHeldByPiece, IsPiece}
-use Rattle.machine_table.specs.Staying.{NeverLeaves}
+use Rattle.kiss2.specs.declared.kiss_file.KissRow.{KissRow}
+use Rattle.machine_table.specs.declared.missing.Missing.{Missing}
+use Rattle.machine_table.specs.Covering.{IsRightRow, IsSaidBy}
+use Rattle.machine_table.specs.Said.{place_of}
 use Rattle.dependence.specs.declared.effects.Effect.{Effect}
 use Rattle.dependence.specs.declared.gate.Gate.{Gate}
 use Rattle.dependence.specs.declared.sets.ReadSet.{ReadSet}
@@ -24,7 +25,7 @@ use Rattle.dependence.specs.ReadRule.{Beside, IsReadRule}
 use Rattle.dependence.specs.Reads.{IsReadSet}
 use Rattle.dependence.proofs.Adding.{acts_within}
 use Rattle.dependence.proofs.Judged.{permits_more}
-use Rattle.dependence.proofs.Showing.{across_matters, matters_across, piece_stays}
+use Rattle.dependence.proofs.Showing.{across_matters, matters_across}
 use Rattle.dependence.proofs.Words.{bit_within}
 
 -- the rule is one of which bits are candidates and which are read
@@ -112,19 +113,19 @@ effects_none F words effects size few none = record {
   each = λ a gate of_gate. ((λ acts. absurd (none a gate acts)), (λ matters. absurd (omega (arith, matters.below))));
 }
 
--- each piece goes to a state, of which there is a word
-pub nexts_within : (F : KissFile) (s : ℕ) (pieces : List Piece) (count : ℕ) → NeverLeaves F → s < length F.states → count ≡ length F.states → All (IsPiece F s) pieces → All (λ (piece : Piece). piece.next < count) pieces
-nexts_within F s pieces count stays within size right =
-    All-weaker (IsPiece F s) (λ (piece : Piece). piece.next < count) (λ piece is. omega (arith, size, piece_stays F s piece stays within is)) pieces right
+-- each next state that a row names is a state, of which there is a word
+pub nexts_within : (F : KissFile) (s : ℕ) (rows : List KissRow) (count : ℕ) → count ≡ length F.states → All (IsRightRow F s) rows → All (λ (row : KissRow). IfSome row.to (λ t. t < count)) rows
+nexts_within F s rows count size right =
+    All-weaker (IsRightRow F s) (λ (row : KissRow). IfSome row.to (λ t. t < count)) (λ row is. subst (λ (n : ℕ). IfSome row.to (λ t. t < n)) (sym size) is.lawful.to) rows right
 
--- the cube of each piece has a place for each input
-pub widths_of : (F : KissFile) (s : ℕ) (pieces : List Piece) (count : ℕ) → count ≡ F.inputs → All (IsPiece F s) pieces → All (λ (piece : Piece). piece.cube.width ≡ count) pieces
-widths_of F s pieces count size right = All-weaker (IsPiece F s) (λ (piece : Piece). piece.cube.width ≡ count) (λ piece is. is.width ∙ sym size) pieces right
+-- the cube of each row has a place for each input
+pub widths_of : (F : KissFile) (s : ℕ) (rows : List KissRow) (count : ℕ) → count ≡ F.inputs → All (IsRightRow F s) rows → All (λ (row : KissRow). row.cube.width ≡ count) rows
+widths_of F s rows count size right = All-weaker (IsRightRow F s) (λ (row : KissRow). row.cube.width ≡ count) (λ row is. is.lawful.width ∙ sym size) rows right
 
 -- one more state
-pub effects_more : (F : KissFile) (words : List ℕ) (old new : List Effect) (s : ℕ) (pieces : List Piece) → AreEffects F words old s → ((x : ℕ) → x < 2 ^ F.inputs → IsHeldByPiece pieces x) → All (IsPiece F s) pieces
-    → Adds old new (ShowAcross (length old) words pieces pieces) → AreEffects F words new (s + 1)
-effects_more F words old new s pieces before each right added = record {
+pub effects_more : (F : KissFile) (words : List ℕ) (old new : List Effect) (s : ℕ) (rows : List KissRow) → AreEffects F words old s → ((x : ℕ) (part : Missing) → x < 2 ^ F.inputs → place_of part < F.outputs + 1 → IsSaidBy rows x part) → All (IsRightRow F s) rows
+    → Adds old new (ShowAcross (length old) words rows rows) → AreEffects F words new (s + 1)
+effects_more F words old new s rows before each right added = record {
   size = added.size ∙ before.size;
   few = omega (arith, added.size, before.few);
   each = λ a gate of_gate. (
@@ -133,19 +134,19 @@ effects_more F words old new s pieces before each right added = record {
           let matters : MattersBelow F (value_of F words gate) s a = (before.each a gate of_gate).0 known in
           record { state = matters.state; below = omega (arith, matters.below); there = matters.there }
       | inr shown ↦
-          let of_inputs : ShowAcross F.inputs words pieces pieces a gate = subst (λ (n : ℕ). ShowAcross n words pieces pieces a gate) before.size shown in
-          record { state = s; below = omega arith; there = across_matters F words gate of_gate s pieces each right a of_inputs }
+          let of_inputs : ShowAcross F.inputs words rows rows a gate = subst (λ (n : ℕ). ShowAcross n words rows rows a gate) before.size shown in
+          record { state = s; below = omega arith; there = across_matters F words gate of_gate s rows each right a of_inputs }
     ]),
     (λ matters. elim (cases_eq matters.state s) [
       | inl at ↦
           let here : MattersAt F (value_of F words gate) s a = subst (λ (t : ℕ). MattersAt F (value_of F words gate) t a) at matters.there in
-          let shown : ShowAcross F.inputs words pieces pieces a gate = matters_across F words gate of_gate s pieces each right a here in
-          added.adds a gate (subst (λ (n : ℕ). ShowAcross n words pieces pieces a gate) (sym before.size) shown)
+          let shown : ShowAcross F.inputs words rows rows a gate = matters_across F words gate of_gate s rows each right a here in
+          added.adds a gate (subst (λ (n : ℕ). ShowAcross n words rows rows a gate) (sym before.size) shown)
       | inr other ↦ added.keeps a gate ((before.each a gate of_gate).1 (record { state = matters.state; below = omega (arith, matters.below, other); there = matters.there }))
     ]),
   );
 }
 
--- the pieces in another order
-pub held_reordered : (pieces other : List Piece) → IsPermutation pieces other → (x : ℕ) → IsHeldByPiece pieces x → IsHeldByPiece other x
-held_reordered pieces other same x held = (held.0, Contains-permutation pieces other held.0 same held.1, held.2)
+-- the rows in another order
+pub said_reordered : (rows other : List KissRow) → IsPermutation rows other → (x : ℕ) (part : Missing) → IsSaidBy rows x part → IsSaidBy other x part
+said_reordered rows other same x part said = (said.0, Contains-permutation rows other said.0 same said.1, said.2, said.3)

@@ -1,5 +1,5 @@
--- Which bits the gate of a latch may read at all: those of its own part, and the carrier bits of the parts that its part
--- reads (source: Hartmanis and Stearns, the flow of information between the parts of a decomposition).
+-- Which bits the gate of a latch may read: those of its own part, and the carrier bits of the parts that its part reads
+-- (source: Hartmanis and Stearns, the flow of information between the parts of a decomposition).
 use Rattle.std.specs.Prelude.{◌≡◌, ◌⊎◌, ℕ, ◌<◌, true, Contains, List, Some, slice_get, slice_index}
 use Rattle.state_codes.specs.declared.split.Part.{Part}
 use Rattle.state_codes.specs.declared.Codes.{Codes}

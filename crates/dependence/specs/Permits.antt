@@ -1,4 +1,4 @@
--- Which bits of a code a gate may do with (source: Hartmanis and Stearns, after their partition pairs).
+-- Which bits of a code are enough for a gate (source: Hartmanis and Stearns, after their partition pairs).
 use Rattle.std.specs.Prelude.{◌≡◌, ℕ, ◌<◌, Bool, List, length, slice_index}
 use Rattle.std.specs.Int.{bit_at}
 use Rattle.cubes.specs.Symbol.{bit}
@@ -14,7 +14,7 @@ next_value F words i s x = bit (slice_index words (next F s x)) i
 abbrev pub output_value : KissFile → ℕ → ℕ → List Bool → Bool
 output_value F b s x = output_bit F s x b
 
--- a set of bits that is written as a word: bit c is in it where the word has it
+-- a word as a set of bits: c is in the set where bit c of the word is 1
 abbrev pub InWord : ℕ → ℕ → Type 0
 InWord set c = bit_at set c ≡ 1
 
@@ -22,7 +22,7 @@ InWord set c = bit_at set c ≡ 1
 abbrev pub AgreeOn : List ℕ → (ℕ → Type 0) → ℕ → ℕ → Type 0
 AgreeOn words R s t = (c : ℕ) → R c → CodesAgreeAt words c s t
 
--- the set permits a value: where the codes of two states agree on it, both give the same, for each symbol
+-- the set permits a value: two states whose codes agree on it give the same value, for each symbol
 abbrev pub PermitsValue : KissFile → List ℕ → (ℕ → Type 0) → (ℕ → List Bool → Bool) → Type 0
 PermitsValue F words R value =
     (s t : ℕ) (x : List Bool) → s < length F.states → t < length F.states → AgreeOn words R s t → length x ≡ F.inputs → value s x ≡ value t x

@@ -20,26 +20,27 @@ pub record IsReadRule (F : KissFile) (words : List ℕ) (Candidate R : ℕ → T
 abbrev pub Without : (ℕ → Type 0) → ℕ → ℕ → Type 0
 Without R c d = R d × (d ≢ c)
 
--- where the candidates permit the value, the read bits permit it, and without any one of them they do not
+-- the bits permit the value, and without any one of them they do not
 pub record IsIrredundant (F : KissFile) (words : List ℕ) (R : ℕ → Type 0) (value : ℕ → List Bool → Bool) : Type 0 where
   pub permits : PermitsValue F words R value
   pub none_to_spare : (c : ℕ) → R c → PermitsValue F words (Without R c) value → ⊥
 
--- a law of the rule, for a list of read bits among candidates that a test tells, all below some number
+-- a law of the rule: bits that are read by it, among candidates given by a test and below some number, permit what the
+-- candidates permit, and none of them can be left out
 abbrev pub RuleIsIrredundant : Type 0
 RuleIsIrredundant =
     (F : KissFile) (words : List ℕ) (bits : ℕ) (candidate : ℕ → Bool) (read : List ℕ) (value : ℕ → List Bool → Bool)
     → ((c : ℕ) → IsTrue (candidate c) → c < bits) → PermitsValue F words (λ c. IsTrue (candidate c)) value
     → IsReadRule F words (λ c. IsTrue (candidate c)) (Contains read) value → IsIrredundant F words (Contains read) value
 
--- the same of the candidates of a latch
+-- the same for the candidates of a latch
 abbrev pub LatchRuleIsIrredundant : Type 0
 LatchRuleIsIrredundant =
     (F : KissFile) (words : List ℕ) (parts : List Part) (codes : Codes) (i : ℕ) (read : List ℕ) (value : ℕ → List Bool → Bool)
     → PermitsValue F words (IsCandidate parts codes i) value → IsReadRule F words (IsCandidate parts codes i) (Contains read) value
     → IsIrredundant F words (Contains read) value
 
--- and of those of an output
+-- and for those of an output
 abbrev pub OutputRuleIsIrredundant : Type 0
 OutputRuleIsIrredundant =
     (F : KissFile) (words : List ℕ) (codes : Codes) (read : List ℕ) (value : ℕ → List Bool → Bool)

@@ -11,7 +11,7 @@ use Rattle.dependence.specs.Inputs.{Matters}
 use Rattle.dependence.specs.Permits.{next_value, output_value}
 use Rattle.dependence.specs.ReadRule.{IsReadRule}
 
--- the bits by the rule of the candidates, and the inputs that matter, both ascending
+-- the bits that are read by the rule, and the inputs that matter, both ascending
 pub record IsReadSet (F : KissFile) (words : List ℕ) (Candidate : ℕ → Type 0) (value : ℕ → List Bool → Bool) (set : ReadSet) : Type 0 where
   pub latches : IsReadRule F words Candidate (Contains set.latches) value
   pub latches_ascend : IsStrictlyIncreasing set.latches

@@ -10,12 +10,12 @@ use crate::gate::Gate;
 use machine_table::Machine;
 use state_codes::Codes;
 
-/// The places of a table of states. Their number is a prime that leaves each power of 2 below 2^64 a place of
-/// its own.
+/// The number of places in a table of states: a prime by which the powers of 2 below 2^64 have different
+/// remainders.
 const PLACES: usize = 509;
 
 /// Whether the bits of the set permit latch i: any two states whose codes agree on the set have, for each
-/// symbol, next states whose codes agree at bit i. Bit c of the set stands for state bit c.
+/// symbol, next states whose codes agree at bit i. State bit c is in the set where the word has bit c.
 pub fn permits(m: &Machine, codes: &Codes, set: u64, i: usize) -> bool
     requires words { length codes.now.words ≡ length m.now.states }
     requires bit { i < 64 }
@@ -34,7 +34,7 @@ pub fn permits_output(m: &Machine, codes: &Codes, set: u64, b: u8) -> bool
     permits_gate(m, codes.words.as_slice(), set, Gate::Output(b))
 }
 
-/// Whether the bits of the set permit what the gate gives. Each state is asked about the first one whose
+/// Whether the bits of the set permit what the gate gives. Each state is compared with the first state whose
 /// word has the same bits of the set.
 pub(crate) fn permits_gate(m: &Machine, words: &[u64], set: u64, gate: Gate) -> bool
     requires words { length words.now ≡ length m.now.states }
@@ -51,8 +51,10 @@ pub(crate) fn permits_gate(m: &Machine, words: &[u64], set: u64, gate: Gate) -> 
     true
 }
 
-/// The first state whose word has the same bits of the set as that of s. The table has such first states
-/// among the ones before s, each at the place of its bits. Where another one stands there, it is searched.
+/// The first state whose word has the same bits of the set as the word of s.
+///
+/// The table has such first states of the states before s, each at the place of its bits. If the one at the
+/// place of s has other bits, all states before s are searched.
 fn first_like(firsts: &mut [Option<u16>; PLACES], words: &[u64], set: u64, s: usize) -> usize
     requires state { s < length words.now }
     requires few { length words.now ≤ 256 }
@@ -85,7 +87,7 @@ fn place_of(bits: u64) -> usize
     (bits % PLACES as u64) as usize
 }
 
-/// The same state as `first_like` gives, sought among all before s.
+/// The same state as `first_like` gives, found by a search of all states before s.
 fn searched_like(words: &[u64], set: u64, s: usize) -> usize
     requires { s < length words.now }
     ensures { IsFirstLike words.now set s result }

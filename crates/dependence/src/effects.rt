@@ -1,13 +1,16 @@
 //! For which gates each input matters.
 
 ghost use Rattle.std.specs.Prelude.{◌≡◌, ◌≢◌, ◌↔◌, ◌+◌, ◌<◌, ◌≤◌, ◌^◌, ℕ, All, IfNone, IfOk, IfSome, IsTrue, OnOk, length};
+ghost use Rattle.cubes.specs.Symbol.{bit};
+ghost use Rattle.kiss2.specs.Machine.{given_bit};
 ghost use Rattle.dependence.specs.Permits.{InWord};
 ghost use Rattle.dependence.specs.Inner.Gates.{HasPlace};
-ghost use Rattle.dependence.specs.Inner.Effects.{ActsBy, Adds, AreEffects, DifferMore, HasBits, IsActed, Show, ShowAcross, ShowBeside, acts_on};
+ghost use Rattle.dependence.specs.Inner.Effects.{ActsBy, Adds, AreApart, AreEffects, DifferMore, HasBits, IsActed, Show, ShowAcross, ShowBeside, acts_on, next_bit};
 
 use crate::gate::Gate;
 use crate::judging::{has, with};
-use machine_table::{Machine, Piece};
+use kiss2::KissRow;
+use machine_table::Machine;
 use std::alloc::{AllocError, Global};
 
 /// For which gates an input matters: latch i has its bit at 2^i, output b at 2^b.
@@ -17,10 +20,10 @@ pub(crate) struct Effect {
     pub(crate) outputs: u64,
 }
 
-/// Lists of no more pieces than this are compared piece by piece.
+/// Two lists of at most this many rows each are compared row by row.
 const FEW: usize = 8;
 
-/// Places at which all of some pieces have a 1, and at which all have a 0.
+/// The places at which all rows of a list have a 1, and those at which all have a 0.
 #[derive(Clone, Copy)]
 struct SharedBits {
     ones: u32,
@@ -29,8 +32,8 @@ struct SharedBits {
 
 /// The effects of the inputs in order.
 ///
-/// An input matters where two pieces of a state do not give the same and their cubes differ at that input
-/// and at no other.
+/// An input matters for a gate where two rows of a state both say what the gate gives, they say different
+/// bits, and their cubes have different bits at that input and at no other.
 pub(crate) fn effects_of(
     alloc: Global,
     m: &Machine,
@@ -46,7 +49,7 @@ pub(crate) fn effects_of(
     Ok(effects)
 }
 
-/// No effect for each of so many inputs.
+/// A list of no effects, one for each input.
 fn no_effects(alloc: Global, inputs: u8) -> Result<Vec<Effect>, AllocError>
     ensures size { IfOk result (λ effects. length effects.items ≡ inputs) }
     ensures none { IfOk result (λ effects. (a : ℕ) (gate : Gate) → ActsBy effects.items a gate → ⊥) }
@@ -62,7 +65,7 @@ fn no_effects(alloc: Global, inputs: u8) -> Result<Vec<Effect>, AllocError>
     Ok(effects)
 }
 
-/// Adds what the pieces of a state show.
+/// Adds what two rows of the state show.
 fn add_of_state(
     alloc: Global,
     m: &Machine,
@@ -75,117 +78,137 @@ fn add_of_state(
     requires before { AreEffects m.now words.now effects.old s }
     ensures { OnOk result (AreEffects m.now words.now effects.new (s + 1)) }
 {
-    m.keeps_its_states();
-    let mut pieces = m.pieces(alloc, s)?;
-    pieces.sort_by_key(|piece| piece.cube.value)?;
-    add_within(effects, words, pieces.as_slice());
+    let mut rows = m.filled_rows(alloc, s)?;
+    rows.sort_by_key(|row| row.cube.value)?;
+    add_within(effects, words, rows.as_slice());
     Ok(())
 }
 
-/// Adds what the pieces show beside one another.
-fn add_within(effects: &mut [Effect], words: &[u64], pieces: &[Piece])
-    requires next { All (λ piece. piece.next < length words.now) pieces.now }
-    requires inputs { All (λ piece. piece.cube.width ≡ length effects.old) pieces.now }
-    ensures { Adds effects.old effects.new (ShowAcross (length effects.old) words.now pieces.now pieces.now) }
+/// Adds what two of the rows show.
+fn add_within(effects: &mut [Effect], words: &[u64], rows: &[KissRow])
+    requires next { All (λ row. IfSome row.to (λ t. t < length words.now)) rows.now }
+    requires inputs { All (λ row. row.cube.width ≡ length effects.old) rows.now }
+    ensures { Adds effects.old effects.new (ShowAcross (length effects.old) words.now rows.now rows.now) }
 {
-    if pieces.len() < 2 {
+    if rows.len() < 2 {
         return;
     }
-    let (front, back) = pieces.split_at(pieces.len() / 2);
+    let (front, back) = rows.split_at(rows.len() / 2);
     add_within(effects, words, front);
     add_within(effects, words, back);
     add_across(effects, words, front, back);
 }
 
-/// Adds what the pieces show beside the others. Lists of pieces that all differ at two places or more are passed
-/// over as a whole, and longer ones are halved.
-fn add_across(effects: &mut [Effect], words: &[u64], pieces: &[Piece], others: &[Piece])
-    requires next { All (λ piece. piece.next < length words.now) pieces.now }
-    requires other_next { All (λ piece. piece.next < length words.now) others.now }
-    requires inputs { All (λ piece. piece.cube.width ≡ length effects.old) pieces.now }
-    requires other_inputs { All (λ piece. piece.cube.width ≡ length effects.old) others.now }
-    ensures { Adds effects.old effects.new (ShowAcross (length effects.old) words.now pieces.now others.now) }
+/// Adds what one of the rows and one of the others show.
+///
+/// Two rows that differ at two places or more show nothing. So two lists are skipped where the bits that the
+/// rows of each list have in common show this for all of them. Other long lists are halved.
+fn add_across(effects: &mut [Effect], words: &[u64], rows: &[KissRow], others: &[KissRow])
+    requires next { All (λ row. IfSome row.to (λ t. t < length words.now)) rows.now }
+    requires other_next { All (λ row. IfSome row.to (λ t. t < length words.now)) others.now }
+    requires inputs { All (λ row. row.cube.width ≡ length effects.old) rows.now }
+    requires other_inputs { All (λ row. row.cube.width ≡ length effects.old) others.now }
+    ensures { Adds effects.old effects.new (ShowAcross (length effects.old) words.now rows.now others.now) }
 {
-    if pieces.len() <= FEW && others.len() <= FEW {
-        add_each(effects, words, pieces, others);
-    } else if !differ_more(pieces, others) {
-        if pieces.len() < others.len() {
+    if rows.len() <= FEW && others.len() <= FEW {
+        add_each(effects, words, rows, others);
+    } else if !differ_more(rows, others) {
+        if rows.len() < others.len() {
             let (front, back) = others.split_at(others.len() / 2);
-            add_across(effects, words, front, pieces);
-            add_across(effects, words, back, pieces);
+            add_across(effects, words, front, rows);
+            add_across(effects, words, back, rows);
         } else {
-            let (front, back) = pieces.split_at(pieces.len() / 2);
+            let (front, back) = rows.split_at(rows.len() / 2);
             add_across(effects, words, front, others);
             add_across(effects, words, back, others);
         }
     }
 }
 
-/// Whether it is seen from the bits that all pieces of a list have that each piece of the one list differs from
-/// each of the other at two places or more.
-fn differ_more(pieces: &[Piece], others: &[Piece]) -> bool
-    ensures { IsTrue result → DifferMore pieces.now others.now }
+/// Whether the bits that the rows of each list have in common show that each row of the one list differs from
+/// each row of the other at two places or more.
+fn differ_more(rows: &[KissRow], others: &[KissRow]) -> bool
+    ensures { IsTrue result → DifferMore rows.now others.now }
 {
-    let first = shared_bits(pieces);
+    let first = shared_bits(rows);
     let second = shared_bits(others);
     let clash = (first.ones & second.zeros) | (first.zeros & second.ones);
     clash != 0 && lone_place(clash).is_none()
 }
 
-/// The places at which all pieces have a 1, and those at which all have a 0.
-fn shared_bits(pieces: &[Piece]) -> SharedBits
-    ensures { All (HasBits result.ones result.zeros) pieces.now }
+/// The bits that the rows have in common.
+fn shared_bits(rows: &[KissRow]) -> SharedBits
+    ensures { All (HasBits result.ones result.zeros) rows.now }
 {
     let mut ones = u32::MAX;
     let mut zeros = u32::MAX;
-    for piece in pieces {
-        ones &= piece.cube.value;
-        zeros &= piece.cube.care ^ piece.cube.value;
+    for row in rows {
+        ones &= row.cube.value;
+        zeros &= row.cube.care ^ row.cube.value;
     }
     SharedBits { ones, zeros }
 }
 
-/// Adds what the pieces show beside the others, piece by piece.
-fn add_each(effects: &mut [Effect], words: &[u64], pieces: &[Piece], others: &[Piece])
-    requires next { All (λ piece. piece.next < length words.now) pieces.now }
-    requires other_next { All (λ piece. piece.next < length words.now) others.now }
-    requires other_inputs { All (λ piece. piece.cube.width ≡ length effects.old) others.now }
-    ensures { Adds effects.old effects.new (ShowAcross (length effects.old) words.now pieces.now others.now) }
+/// Adds what one of the rows and one of the others show, row by row.
+fn add_each(effects: &mut [Effect], words: &[u64], rows: &[KissRow], others: &[KissRow])
+    requires next { All (λ row. IfSome row.to (λ t. t < length words.now)) rows.now }
+    requires other_next { All (λ row. IfSome row.to (λ t. t < length words.now)) others.now }
+    requires other_inputs { All (λ row. row.cube.width ≡ length effects.old) others.now }
+    ensures { Adds effects.old effects.new (ShowAcross (length effects.old) words.now rows.now others.now) }
 {
-    for piece in pieces {
-        add_of_piece(effects, words, others, piece);
+    for row in rows {
+        add_of_row(effects, words, others, row);
     }
 }
 
-/// Adds what the piece shows beside each other one.
-fn add_of_piece(effects: &mut [Effect], words: &[u64], others: &[Piece], piece: &Piece)
-    requires next { All (λ piece. piece.next < length words.now) others.now }
-    requires inputs { All (λ piece. piece.cube.width ≡ length effects.old) others.now }
-    requires own_next { piece.now.next < length words.now }
-    ensures { Adds effects.old effects.new (ShowBeside (length effects.old) words.now others.now piece.now) }
+/// Adds what the row and one of the others show.
+fn add_of_row(effects: &mut [Effect], words: &[u64], others: &[KissRow], row: &KissRow)
+    requires next { All (λ row. IfSome row.to (λ t. t < length words.now)) others.now }
+    requires inputs { All (λ row. row.cube.width ≡ length effects.old) others.now }
+    requires own_next { IfSome row.now.to (λ t. t < length words.now) }
+    ensures { Adds effects.old effects.new (ShowBeside (length effects.old) words.now others.now row.now) }
 {
     for other in others {
-        add_of_two(effects, words, other, piece);
+        add_of_two(effects, words, other, row);
     }
 }
 
-/// Adds what two pieces show.
-fn add_of_two(effects: &mut [Effect], words: &[u64], one: &Piece, other: &Piece)
-    requires next { one.now.next < length words.now }
-    requires other_next { other.now.next < length words.now }
+/// Adds what the two rows show.
+fn add_of_two(effects: &mut [Effect], words: &[u64], one: &KissRow, other: &KissRow)
+    requires next { IfSome one.now.to (λ t. t < length words.now) }
+    requires other_next { IfSome other.now.to (λ t. t < length words.now) }
     requires inputs { one.now.cube.width ≡ length effects.old }
     ensures { Adds effects.old effects.new (Show (length effects.old) words.now one.now other.now) }
 {
     let clash = (one.cube.value ^ other.cube.value) & one.cube.care & other.cube.care;
     if let Some(place) = lone_place(clash) {
         let input = effects.len() - 1 - place as usize;
-        let latches = words[usize::from(one.next)] ^ words[usize::from(other.next)];
-        let outputs = one.outputs ^ other.outputs;
+        let latches = latches_apart(words, one, other);
+        let outputs = outputs_apart(one, other);
         add_effect(effects, input, latches, outputs);
     }
 }
 
-/// Adds an effect of an input on these latches and outputs.
+/// The latches at which the codes of the two next states differ, if both rows name one.
+fn latches_apart(words: &[u64], one: &KissRow, other: &KissRow) -> u64
+    requires next { IfSome one.now.to (λ t. t < length words.now) }
+    requires other_next { IfSome other.now.to (λ t. t < length words.now) }
+    ensures { (i : ℕ) → IsTrue (bit result i) ↔ AreApart (next_bit words.now i one.now) (next_bit words.now i other.now) }
+{
+    match (one.to, other.to) {
+        (Some(t), Some(u)) => words[usize::from(t)] ^ words[usize::from(u)],
+        _ => 0,
+    }
+}
+
+/// The outputs at which both rows give a bit, and the bits differ.
+fn outputs_apart(one: &KissRow, other: &KissRow) -> u64
+    ensures { (b : ℕ) → IsTrue (bit result b) ↔ AreApart (given_bit b one.now) (given_bit b other.now) }
+{
+    one.care & other.care & (one.value ^ other.value)
+}
+
+/// Adds an effect of the input on these latches and outputs.
 fn add_effect(effects: &mut [Effect], input: usize, latches: u64, outputs: u64)
     requires { input < length effects.old }
     ensures { Adds effects.old effects.new (IsActed input latches outputs) }
@@ -195,7 +218,7 @@ fn add_effect(effects: &mut [Effect], input: usize, latches: u64, outputs: u64)
     effect.outputs |= outputs;
 }
 
-/// The place of the bit of a number that has one bit alone.
+/// The place of the 1 in a number that has only one.
 fn lone_place(bits: u32) -> Option<u32>
     ensures some { IfSome result (λ place. bits ≡ 2 ^ place) }
     ensures none { IfNone result ((place : ℕ) → bits ≢ 2 ^ place) }
@@ -212,7 +235,7 @@ fn lone_place(bits: u32) -> Option<u32>
     }
 }
 
-/// The inputs that matter for a gate, input a at 2^a.
+/// The inputs that matter for the gate, input a at 2^a.
 pub(crate) fn inputs_of(effects: &[Effect], gate: Gate) -> u64
     requires few { length effects.now ≤ 64 }
     requires gate { HasPlace gate }
@@ -228,7 +251,7 @@ pub(crate) fn inputs_of(effects: &[Effect], gate: Gate) -> u64
 }
 
 impl Effect {
-    /// Whether it is one on the gate.
+    /// Whether the effect is one on the gate.
     fn acts_on(self, gate: Gate) -> bool
         requires { HasPlace gate }
         ensures { result ≡ acts_on self gate }

@@ -14,7 +14,7 @@ pub(crate) enum Gate {
 }
 
 impl Gate {
-    /// Whether the gate gives the same at both states, for each symbol.
+    /// Whether the gate gives the same bit at both states, for each symbol.
     pub(crate) fn gives_the_same(self, m: &Machine, words: &[u64], s: usize, t: usize) -> bool
         requires words { length words.now ≡ length m.now.states }
         requires gate { IsGate m.now self }

@@ -12,8 +12,8 @@ use crate::gate::Gate;
 use machine_table::Machine;
 use std::alloc::{AllocError, Global};
 
-/// The candidates that the gate reads. They are judged from the highest down: one is left out where the
-/// others that are still in the set permit the gate.
+/// The candidates that the gate reads. They are judged from the highest down: a candidate is left out where
+/// the others that are still in the set permit the gate.
 pub(crate) fn read_bits(m: &Machine, words: &[u64], candidates: u64, gate: Gate) -> u64
     requires words { length words.now ≡ length m.now.states }
     requires gate { IsGate m.now gate }
@@ -26,7 +26,7 @@ pub(crate) fn read_bits(m: &Machine, words: &[u64], candidates: u64, gate: Gate)
     set
 }
 
-/// The set without bit c where that permits the gate; else the set.
+/// The set without bit c if that permits the gate, otherwise the set.
 fn judged(m: &Machine, words: &[u64], set: u64, c: u32, gate: Gate) -> u64
     requires words { length words.now ≡ length m.now.states }
     requires gate { IsGate m.now gate }

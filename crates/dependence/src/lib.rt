@@ -3,13 +3,15 @@
 //! The codes of the states are given, and with them the bits that the gate of each latch may read, its
 //! candidates. A set of bits permits a latch where states whose codes agree on it have next states whose
 //! codes agree at that latch, and an output where such states have that output equal. [`permits`] and
-//! [`permits_output`] decide it. [`reads`] gives each gate a [`ReadSet`]: a candidate is read exactly where
-//! the candidates below it and the read ones above it do not permit, so that none can be left out, and an
-//! input where some state and two symbols that differ in it alone give different values.
+//! [`permits_output`] decide it.
 //!
-//! The definitions stand in `specs/`: `Permits` has what a set permits, `Candidates` which bits a gate may
-//! read, `ReadRule` which of them it reads and that it can spare none, `Inputs` where an input matters, and
-//! `Reads` puts them together. What follows of them is promised by the functions of `laws`.
+//! [`reads`] gives each gate a [`ReadSet`]. A candidate is read exactly where the candidates below it and the
+//! read ones above it do not permit, so that none can be left out. An input is read where some state and two
+//! symbols that differ in it alone give different values.
+//!
+//! The definitions are in `specs/`: `Permits` has what a set permits, `Candidates` which bits a gate may
+//! read, `ReadRule` which of them it reads and that it can spare none, and `Inputs` where an input matters.
+//! `Reads` puts them together. The functions of `laws` promise what follows from them.
 #![tactic(auto)]
 
 mod asking;

@@ -28,7 +28,7 @@ impl Numbers {
         }
     }
 
-    /// Adds a number at the end. Where memory is wanting, the list stays as it was.
+    /// Adds a number at the end. If memory runs out, the list stays as it was.
     pub fn push(&mut self, number: u8) -> Result<(), AllocError>
         ensures ok { OnOk result (self.new ≡ self.old ++ number ∷ []) }
         ensures err { OnErr result (self.new ≡ self.old) }

@@ -18,9 +18,11 @@ use machine_table::Machine;
 use state_codes::{Codes, Split};
 use std::alloc::{AllocError, Global};
 
-/// What each gate reads, for the codes of the split. The candidates of a latch are the bits of its part and
-/// the carrier bits of the parts that its part may read, those of an output are all bits. Where the
-/// candidates of a gate permit it, so do the bits that are read.
+/// What each gate reads, for the codes of the split.
+///
+/// The candidates of a latch are the bits of its part and the carrier bits of the parts that its part may
+/// read. The candidates of an output are all bits. Where the candidates of a gate permit it, the bits that are
+/// read permit it too (`rule_is_irredundant`). It fails only for want of memory.
 pub fn reads(alloc: Global, m: &Machine, split: &Split, codes: &Codes) -> Result<Reads, AllocError>
     requires parts { All (IsPart (length m.now.states)) split.now.parts }
     requires code { IsCode (length m.now.states) split.now.parts codes.now }
@@ -76,7 +78,7 @@ fn output_sets(
     Ok(sets)
 }
 
-/// What a gate reads that has these candidates.
+/// What a gate with these candidates reads.
 fn read_set(
     alloc: Global,
     m: &Machine,
@@ -138,7 +140,7 @@ fn may_read(split: &Split, j: u16, l: u16) -> bool
     }
 }
 
-/// The bits below a number.
+/// The set of the first bits.
 fn bits_below(bits: usize) -> u64
     requires { bits ≤ 64 }
     ensures { (c : ℕ) → InWord result c ↔ (c < bits) }

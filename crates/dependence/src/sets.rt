@@ -3,8 +3,8 @@
 use crate::Numbers;
 use hs_list::Items;
 
-/// What one gate reads. Both lists are ascending: the numbers of inputs, input 0 being the first character
-/// of a symbol, and the numbers of state bits, which are those of the latches.
+/// What one gate reads: the numbers of inputs, and the numbers of latches, which are those of the state bits.
+/// Both lists are ascending. Input 0 is the first character of a symbol.
 #[derive(Debug, Drop)]
 pub struct ReadSet {
     pub inputs: Numbers,

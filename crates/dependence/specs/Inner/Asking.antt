@@ -1,4 +1,4 @@
--- States that are asked about one another.
+-- States that are compared because their words have the same bits of a set.
 use Rattle.std.specs.Prelude.{◌≡◌, ◌≢◌, ℕ, ◌<◌, ◌≤◌, ◌%◌, Bool, List, Option, Some, bit_and, length, slice_get, slice_index}
 use Rattle.kiss2.specs.declared.kiss_file.KissFile.{KissFile}
 
@@ -6,7 +6,7 @@ use Rattle.kiss2.specs.declared.kiss_file.KissFile.{KissFile}
 abbrev pub GiveTheSame : KissFile → (ℕ → List Bool → Bool) → ℕ → ℕ → Type 0
 GiveTheSame F value s t = (x : List Bool) → length x ≡ F.inputs → value s x ≡ value t x
 
--- t is the first state whose word has the same bits of the set as that of s
+-- t is the first state whose word has the same bits of the set as the word of s
 pub record IsFirstLike (words : List ℕ) (set s t : ℕ) : Type 0 where
   pub among : t ≤ s
   pub like : bit_and (slice_index words t) set ≡ bit_and (slice_index words s) set
@@ -16,7 +16,7 @@ pub record IsFirstLike (words : List ℕ) (set s t : ℕ) : Type 0 where
 abbrev pub place_in : List ℕ → ℕ → ℕ → ℕ
 place_in words set s = bit_and (slice_index words s) set % 509
 
--- a table over the states below count: each that stands in it is the first one like itself, and at the place of each state one stands
+-- a table for the states below count: each state in it is the first one like itself, and the place of each state is taken
 pub record AreFirsts (words : List ℕ) (set : ℕ) (firsts : List (Option ℕ)) (count : ℕ) : Type 0 where
   pub each : (place first : ℕ) → slice_get firsts place ≡ Some (Some first) → first < count × IsFirstLike words set first first
   pub taken : (s : ℕ) → s < count → (first : ℕ) × (slice_get firsts (place_in words set s) ≡ Some (Some first))

@@ -1,10 +1,12 @@
 -- For which gates each input matters.
-use Rattle.std.specs.Prelude.{◌≡◌, ◌≢◌, ◌⊎◌, ◌↔◌, ℕ, ◌+◌, ◌^◌, ◌<◌, ◌≤◌, Bool, true, Contains, List, length, slice_get, slice_index, Some, bit_xor}
+use Rattle.std.specs.Prelude.{◌≡◌, ◌≢◌, ◌⊎◌, ◌↔◌, ℕ, ◌+◌, ◌^◌, ◌<◌, ◌≤◌, Bool, true, Contains, List, Option, length, slice_get, slice_index, Some, bit_xor}
 use Rattle.std.specs.Int.{bit_at}
+use Rattle.std.specs.Option.{option_map}
 use Rattle.cubes.specs.Symbol.{bit}
 use Rattle.cubes.specs.Inner.Region.{clash_of}
 use Rattle.kiss2.specs.declared.kiss_file.KissFile.{KissFile}
-use Rattle.machine_table.specs.declared.covering.Piece.{Piece}
+use Rattle.kiss2.specs.Machine.{given_bit}
+use Rattle.kiss2.specs.declared.kiss_file.KissRow.{KissRow}
 use Rattle.dependence.specs.declared.effects.Effect.{Effect}
 use Rattle.dependence.specs.declared.gate.Gate.{Gate}
 use Rattle.dependence.specs.declared.gate.Gate.TheVariants.{Latch, Output}
@@ -16,59 +18,67 @@ abbrev pub acts_on : Effect → Gate → Bool
 acts_on effect (Latch i) = bit effect.latches i
 acts_on effect (Output b) = bit effect.outputs b
 
--- what the gate gives at each symbol of a piece
-abbrev pub piece_value : List ℕ → Gate → Piece → Bool
-piece_value words (Latch i) piece = bit (slice_index words piece.next) i
-piece_value words (Output b) piece = bit piece.outputs b
+-- the bit of the word of the next state that a row names, if it names one
+abbrev pub next_bit : List ℕ → ℕ → KissRow → Option Bool
+next_bit words i row = option_map (λ t. bit (slice_index words t) i) row.to
 
--- by the list of effects, input a matters for the gate
+-- what the gate gives at each symbol of a row, if the row says it
+abbrev pub row_value : List ℕ → Gate → KissRow → Option Bool
+row_value words (Latch i) row = next_bit words i row
+row_value words (Output b) row = given_bit b row
+
+-- both are given, and they differ
+abbrev pub AreApart : Option Bool → Option Bool → Type 0
+AreApart first second = (v w : Bool) × (first ≡ Some v) × (second ≡ Some w) × (v ≢ w)
+
+-- the list of effects says that input a matters for the gate
 pub record ActsBy (effects : List Effect) (a : ℕ) (gate : Gate) : Type 0 where
   pub effect : Effect
   pub there : slice_get effects a ≡ Some effect
   pub acts : acts_on effect gate ≡ true
 
--- at the place of input a, of so many inputs, and at no other, the cubes have a bit each, and not the same one
-pub record DifferAt (inputs : ℕ) (one other : Piece) (a : ℕ) : Type 0 where
+-- the cubes have different bits at the place of input a, and at no other place
+pub record DifferAt (inputs : ℕ) (one other : KissRow) (a : ℕ) : Type 0 where
   pub place : ℕ
   pub of_input : place + a + 1 ≡ inputs
   pub clash : clash_of one.cube other.cube ≡ 2 ^ place
 
--- two pieces of one state show that input a matters for the gate
-pub record Show (inputs : ℕ) (words : List ℕ) (one other : Piece) (a : ℕ) (gate : Gate) : Type 0 where
+-- two rows of one state show that input a matters for the gate
+pub record Show (inputs : ℕ) (words : List ℕ) (one other : KissRow) (a : ℕ) (gate : Gate) : Type 0 where
   pub differ : DifferAt inputs one other a
-  pub values : piece_value words gate one ≢ piece_value words gate other
+  pub values : AreApart (row_value words gate one) (row_value words gate other)
 
--- a piece and one of the others do
-pub record ShowBeside (inputs : ℕ) (words : List ℕ) (others : List Piece) (piece : Piece) (a : ℕ) (gate : Gate) : Type 0 where
-  pub other : Piece
+-- the row and one of the others show it
+pub record ShowBeside (inputs : ℕ) (words : List ℕ) (others : List KissRow) (row : KissRow) (a : ℕ) (gate : Gate) : Type 0 where
+  pub other : KissRow
   pub among : Contains others other
-  pub show : Show inputs words other piece a gate
+  pub show : Show inputs words other row a gate
 
--- one of some pieces and one of the others do
-pub record ShowAcross (inputs : ℕ) (words : List ℕ) (pieces others : List Piece) (a : ℕ) (gate : Gate) : Type 0 where
-  pub piece : Piece
-  pub among : Contains pieces piece
-  pub shown : ShowBeside inputs words others piece a gate
+-- one of the rows and one of the others show it
+pub record ShowAcross (inputs : ℕ) (words : List ℕ) (rows others : List KissRow) (a : ℕ) (gate : Gate) : Type 0 where
+  pub row : KissRow
+  pub among : Contains rows row
+  pub shown : ShowBeside inputs words others row a gate
 
--- the piece has a 1 at each place of ones, and a 0 at each of zeros
-pub record HasBits (ones zeros : ℕ) (piece : Piece) : Type 0 where
-  pub has_ones : (place : ℕ) → bit_at ones place ≡ 1 → bit_at piece.cube.value place ≡ 1
-  pub has_zeros : (place : ℕ) → bit_at zeros place ≡ 1 → bit_at (bit_xor piece.cube.care piece.cube.value) place ≡ 1
+-- the row has a 1 at each place of `ones`, and a 0 at each place of `zeros`
+pub record HasBits (ones zeros : ℕ) (row : KissRow) : Type 0 where
+  pub has_ones : (place : ℕ) → bit_at ones place ≡ 1 → bit_at row.cube.value place ≡ 1
+  pub has_zeros : (place : ℕ) → bit_at zeros place ≡ 1 → bit_at (bit_xor row.cube.care row.cube.value) place ≡ 1
 
--- no piece of the first list and one of the second differ at one place alone
-abbrev pub DifferMore : List Piece → List Piece → Type 0
-DifferMore pieces others = (piece other : Piece) (place : ℕ) → Contains pieces piece → Contains others other → clash_of other.cube piece.cube ≢ 2 ^ place
+-- no row of the first list differs from a row of the second at one place alone
+abbrev pub DifferMore : List KissRow → List KissRow → Type 0
+DifferMore rows others = (row other : KissRow) (place : ℕ) → Contains rows row → Contains others other → clash_of other.cube row.cube ≢ 2 ^ place
 
--- the gate is of one of these latches or outputs, each written as bits of a word
+-- the gate is that of one of these latches or outputs, given as bits of a word
 abbrev pub acts_in : ℕ → ℕ → Gate → Bool
 acts_in latches outputs (Latch i) = bit latches i
 acts_in latches outputs (Output b) = bit outputs b
 
--- the input is this one, and the gate one of these
+-- the input is this one, and the gate is that of one of these latches or outputs
 abbrev pub IsActed : ℕ → ℕ → ℕ → ℕ → Gate → Type 0
 IsActed input latches outputs a gate = (a ≡ input) × (acts_in latches outputs gate ≡ true)
 
--- what is shown was added to the list of effects, and nothing else
+-- what is shown was added to the list of effects, and nothing else was
 pub record Adds (old new : List Effect) (Shown : ℕ → Gate → Type 0) : Type 0 where
   pub size : length new ≡ length old
   pub keeps : (a : ℕ) (gate : Gate) → ActsBy old a gate → ActsBy new a gate
@@ -83,13 +93,13 @@ pub record MattersAt (F : KissFile) (value : ℕ → List Bool → Bool) (s a : 
   pub differ : DifferAlone a x y
   pub values : value s x ≢ value s y
 
--- so it does at a state below s
+-- they do so at some state below s
 pub record MattersBelow (F : KissFile) (value : ℕ → List Bool → Bool) (s a : ℕ) : Type 0 where
   pub state : ℕ
   pub below : state < s
   pub there : MattersAt F value state a
 
--- the list has the effects of each input, as far as the states below s show them
+-- the list has the effects of each input at the states below s
 pub record AreEffects (F : KissFile) (words : List ℕ) (effects : List Effect) (s : ℕ) : Type 0 where
   pub size : length effects ≡ F.inputs
   pub few : length effects ≤ 64

@@ -5,12 +5,12 @@ use Rattle.dependence.specs.declared.gate.Gate.{Gate}
 use Rattle.dependence.specs.declared.gate.Gate.TheVariants.{Latch, Output}
 use Rattle.dependence.specs.Permits.{next_value, output_value}
 
--- the gate is of a bit of a word, or of an output
+-- the gate is that of a bit of a word, or of an output of the machine
 abbrev pub IsGate : KissFile → Gate → Type 0
 IsGate F (Latch i) = i < 64
 IsGate F (Output b) = b < F.outputs
 
--- the gate's bit is one of a word
+-- the gate's number is that of a bit of a word
 abbrev pub HasPlace : Gate → Type 0
 HasPlace (Latch i) = i < 64
 HasPlace (Output b) = b < 64

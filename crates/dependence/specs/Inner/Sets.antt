@@ -8,12 +8,12 @@ use Rattle.dependence.specs.Candidates.{IsBitOfCode, IsCandidate}
 use Rattle.dependence.specs.Permits.{next_value, output_value}
 use Rattle.dependence.specs.Reads.{IsReadSet}
 
--- one of each of the first so many latches
+-- the read sets of the latches below count
 pub record AreLatchSets (F : KissFile) (parts : List Part) (codes : Codes) (sets : List ReadSet) (count : ℕ) : Type 0 where
   pub size : length sets ≡ count
   pub each : (i : ℕ) (set : ReadSet) → slice_get sets i ≡ Some set → IsReadSet F codes.words (IsCandidate parts codes i) (next_value F codes.words i) set
 
--- one of each of the first so many outputs
+-- the read sets of the outputs below count
 pub record AreOutputSets (F : KissFile) (codes : Codes) (sets : List ReadSet) (count : ℕ) : Type 0 where
   pub size : length sets ≡ count
   pub each : (b : ℕ) (set : ReadSet) → slice_get sets b ≡ Some set → IsReadSet F codes.words (IsBitOfCode codes) (output_value F b) set

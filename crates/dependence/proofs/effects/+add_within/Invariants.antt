@@ -2,4 +2,4 @@ use Rattle.std.proofs.Common.{length}
 use Rattle.dependence.proofs.effects.+add_within.Given as goal
 
 abbrev pub decreases-add_within : goal.decreases-add_within
-decreases-add_within l = length l.pieces.now
+decreases-add_within l = length l.rows.now

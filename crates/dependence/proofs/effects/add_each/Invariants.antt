@@ -2,5 +2,5 @@ use Rattle.std.proofs.Common.{length, take}
 use Rattle.dependence.specs.Inner.Effects.{Adds, ShowAcross}
 use Rattle.dependence.proofs.effects.add_each.Given as goal
 
-abbrev pub invariant-loop-piece : goal.invariant-loop-piece
-invariant-loop-piece l = Adds l.initial.effects l.effects (ShowAcross (length l.initial.effects) l.words (take l.piece-index l.pieces) l.others)
+abbrev pub invariant-loop-row : goal.invariant-loop-row
+invariant-loop-row l = Adds l.initial.effects l.effects (ShowAcross (length l.initial.effects) l.words (take l.row-index l.rows) l.others)
