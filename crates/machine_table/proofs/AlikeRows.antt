@@ -1,15 +1,16 @@
--- Rows of two states that stand at the same places, with the same cubes.
-use Rattle.std.proofs.Common.{◌≡◌, ℕ, ◌+◌, ◌<◌, Bool, List, length, get_or, Option, Some, Contains, slice_get, inl, inr, sym, ◌∙◌, subst, arith, ap, bit_and}
-use Rattle.std.proofs.lemmas.Bool.{cases_lt}
+-- Aligned rows of two states.
+use Rattle.std.proofs.Common.{◌≡◌, ℕ, ◌+◌, ◌<◌, Bool, true, false, refl, IsTrue, None, List, length, get_or, Option, Some, slice_get, inl, inr, sym, ◌∙◌, subst, arith, ap, bit_and}
+use Rattle.std.proofs.lemmas.Bool.{cases_lt, false≢true}
 use Rattle.std.proofs.lemmas.List.{get_or_default}
 use Rattle.std.proofs.lemmas.List.Elements.{Contains-get_or}
+use Rattle.cubes.specs.Cube.{HoldsNumber}
+use Rattle.cubes.proofs.Ends.{least_held}
 use Rattle.cubes.proofs.Held.{held_from_mask, mask_from_held}
 use Rattle.kiss2.specs.declared.kiss_file.KissFile.{KissFile}
 use Rattle.kiss2.specs.declared.kiss_file.KissRow.{KissRow}
-use Rattle.machine_table.specs.Inner.Asked.{AlikeBelow, ApartBelow, HaveOneLabel, IsMetBy, MeetsApart, SayTwo}
-use Rattle.machine_table.specs.Inner.Places.{IsNumberOf}
+use Rattle.machine_table.specs.Inner.Asked.{AllSay, ApartBelow, AreApartAt, HaveOneLabel, IsMetBy, MeetsApart, SayApart, SayTwo}
+use Rattle.machine_table.specs.Inner.Columns.{AreAligned, HaveOneCube, Represents}
 use Rattle.machine_table.specs.Table.{IsTable}
-use Rattle.machine_table.proofs.Asking.{number_of_row}
 use Rattle.machine_table.proofs.Labels.{value_of_some}
 use Rattle.machine_table.proofs.Sought.{apart_wanted, at_from_held, row_of, two_of_row}
 
@@ -32,43 +33,55 @@ pair_more rows first second i P row other inside also at_row at_other has known 
           subst (λ (a : KissRow). P a o) it (subst (λ (b : KissRow). P row b) that has)
     ]
 
-module _ (F : KissFile) (table : IsTable F) (said : KissRow → Option ℕ) (one : HaveOneLabel said F) (s t : ℕ) (first second : List ℕ)
-    (own_first : (i : ℕ) → Contains first i → IsNumberOf F s i) (own_second : (i : ℕ) → Contains second i → IsNumberOf F t i)
-    (each_first : (i : ℕ) (row : KissRow) → slice_get F.rows i ≡ Some row → row.from ≡ s → Contains first i)
-    (count : length first ≡ length second) (alike : AlikeBelow said F.rows first second (length first)) where
+-- a row with the cube of another holds what that holds
+pub held_by_like : (row other : KissRow) (y : ℕ) → HaveOneCube row other → HoldsNumber row.cube y → HoldsNumber other.cube y
+held_by_like row other y cubes held =
+    held_from_mask other.cube y (ap (bit_and y) (sym cubes.care) ∙ mask_from_held row.cube y held ∙ cubes.value)
+
+module _ (said : KissRow → Option ℕ) (a b row other : KissRow) (y : ℕ) (cubes : HaveOneCube a b) (differ : SayApart said a b) where
+  -- rows that show two rows are apart at some symbol, and where they are these rows, at each that the first of them holds
+  pub apart_shown : (least : Bool) → Represents said least a row → Represents said least b other → HoldsNumber row.cube y
+      → (z : ℕ) × AreApartAt said a b z × (IsTrue least → z ≡ y)
+  apart_shown true first second held =
+      let here : HoldsNumber a.cube y = subst (λ (r : KissRow). HoldsNumber r.cube y) (sym (first.itself refl)) held in
+      (y, (record { first = here; second = held_by_like a b y cubes here; differ = differ }), λ _. refl)
+  apart_shown false first second held =
+      let z = a.cube.value in
+      let here : HoldsNumber a.cube z = least_held a.cube in
+      (z, (record { first = here; second = held_by_like a b z cubes here; differ = differ }), λ asked. absurd (false≢true asked))
+
+-- what has met a symbol has met one that is the same, where the least is asked for
+pub met_moved : (found : Option ℕ) (least : Bool) (z y : ℕ) → (IsTrue least → z ≡ y) → IsMetBy found least z → IsMetBy found least y
+met_moved None least z y same met = met
+met_moved (Some x) least z y same met = λ asked. omega (arith, met asked, same asked)
+
+module _ (F : KissFile) (table : IsTable F) (said : KissRow → Option ℕ) (one : HaveOneLabel said F) (s t : ℕ) (first second : List ℕ) (least : Bool)
+    (aligned : AreAligned F s t first second said least) where
   -- rows that are apart at one place say two labels
   pub two_from_places : (x : ℕ) → ApartBelow said F.rows first second (length first) x → SayTwo said F s t x
   two_from_places x (k, row, other, within, at_row, at_other, apart) =
-      let also : k < length second = omega arith in
-      two_of_row F table said s t row (row_of F s (get_or first k 0) row (own_first (get_or first k 0) (Contains-get_or first k 0 within)) at_row) x
-      (other, row_of F t (get_or second k 0) other (own_second (get_or second k 0) (Contains-get_or second k 0 also)) at_other, apart)
+      let also : k < length second = omega (arith, within, aligned.count) in
+      two_of_row F table said s t row (row_of F s (get_or first k 0) row (aligned.own_first (get_or first k 0) (Contains-get_or first k 0 within)) at_row) x
+      (other, row_of F t (get_or second k 0) other (aligned.own_second (get_or second k 0) (Contains-get_or second k 0 also)) at_other, apart)
 
   -- where two labels are said, the rows at one place are apart
-  pub met_by_places : (found : Option ℕ) (least : Bool) → MeetsApart said F.rows first second (length first) found least
+  pub met_by_places : AllSay said F.rows second → (found : Option ℕ) → MeetsApart said F.rows first second (length first) found least
       → (y : ℕ) → SayTwo said F s t y → IsMetBy found least y
-  met_by_places found least met y two =
+  met_by_places says found met y two =
       let wanted = apart_wanted F table said s t y two in
       let row = wanted.0 in
-      let of_state = wanted.1 in
       let other = wanted.2.0 in
-      let of_other = wanted.2.1 in
       let apart = wanted.2.2 in
       let differ = apart.differ in
-      let at_number = number_of_row F row of_state.0 in
-      let place = each_first of_state.0.0 row at_number of_state.1 in
-      let k = place.0 in
-      let also : k < length second = omega (arith, place.1) in
-      let own = own_second (get_or second k 0) (Contains-get_or second k 0 also) in
-      let partner = own.0 in
-      let at_row : slice_get F.rows (get_or first k of_state.0.0) ≡ Some row = subst (λ (n : ℕ). slice_get F.rows n ≡ Some row) (sym place.2) at_number in
-      let same = alike k of_state.0.0 0 row partner place.1 at_row own.1 in
-      let masked : bit_and y partner.cube.care ≡ partner.cube.value =
-      ap (bit_and y) (sym same.care) ∙ mask_from_held row.cube y apart.first ∙ same.value in
-      let held = held_from_mask partner.cube y masked in
-      let label = value_of_some (said partner) same.says in
-      let of_partner = row_of F t (get_or second k 0) partner own own.1 in
+      let like = aligned.each row wanted.1 in
+      let partner = like.0 in
+      let shown = like.3 in
+      let label = value_of_some (said shown.partner) (says shown.place 0 shown.partner shown.at_second.0 shown.at_second.1) in
+      let held = held_by_like row partner y like.2 apart.first in
       let equal = one t y label.0 differ.1
-      (partner, at_from_held F table t y partner of_partner held, label.1)
-      (other, at_from_held F table t y other of_other apart.second, differ.3) in
-      met k of_state.0.0 0 row partner place.1 at_row own.1 y
-      (record { first = apart.first; second = held; differ = (differ.0, label.0, differ.2, label.1, λ is. differ.4 (is ∙ equal)) })
+      (partner, at_from_held F table t y partner like.1 held, sym shown.represents_second.label ∙ label.1)
+      (other, at_from_held F table t y other wanted.2.1 apart.second, differ.3) in
+      let moved = apart_shown said shown.shown shown.partner row partner y shown.cubes
+      (differ.0, label.0, shown.represents_first.label ∙ differ.2, label.1, λ is. differ.4 (is ∙ equal)) least shown.represents_first shown.represents_second apart.first in
+      met_moved found least moved.0 y moved.2
+      (met shown.place 0 0 shown.shown shown.partner shown.at_first.0 shown.at_first.1 shown.at_second.1 moved.0 moved.1)

@@ -1,11 +1,13 @@
 pub mod AddedPairs
 pub mod Against
+pub mod AlignedRows
 pub mod AlikeRows
 pub mod Asking
 pub mod Conflicts
 pub mod Copies
 pub mod FilledRows
 pub mod GatheredOutputs
+pub mod KeptColumns
 pub mod Labels
 pub mod Lawful
 pub mod NamedPairs

@@ -1,10 +1,10 @@
 -- The pairs of next states of two states, as rows name them and as they are left open.
-use Rattle.std.proofs.Common.{◌≡◌, ℕ, ◌<◌, ◌^◌, ◌↔◌, ◌⊎◌, List, length, get_or, Some, Contains, slice_get, inl, inr, sym, ◌∙◌, subst, arith, ap, bit_and}
+use Rattle.std.proofs.Common.{false, ◌≡◌, ℕ, ◌<◌, ◌^◌, ◌↔◌, ◌⊎◌, List, length, get_or, Some, inl, inr, sym, ◌∙◌, subst, arith, ap}
 use Rattle.std.proofs.lemmas.Bool.{true≢false}
-use Rattle.std.proofs.lemmas.List.{get_or_default}
 use Rattle.std.proofs.lemmas.List.Elements.{Contains-get_or}
 use Rattle.cubes.specs.Symbol.{symbol_of}
-use Rattle.cubes.proofs.Held.{held_from_mask, mask_from_held}
+use Rattle.cubes.specs.Cube.{HoldsNumber}
+use Rattle.cubes.proofs.Ends.{least_held}
 use Rattle.cubes.proofs.Numbers.{length-symbol_of}
 use Rattle.kiss2.specs.declared.kiss_file.KissFile.{KissFile}
 use Rattle.kiss2.specs.declared.kiss_file.KissRow.{KissRow}
@@ -12,11 +12,13 @@ use Rattle.kiss2.specs.Machine.{Conflicting, Specified}
 use Rattle.kiss2.proofs.Machine.{next_not_said, next_said}
 use Rattle.machine_table.specs.Covering.{IsImage}
 use Rattle.machine_table.specs.Inner.AddedPairs.{AreNamed, AreNamedAtPlaces, AreNamedBy, IsNamedBeside, IsOpenImage, OfSomeRow, to_of}
-use Rattle.machine_table.specs.Inner.Asked.{AlikeBelow, HaveOneLabel, IsOpenAt, IsOfState}
-use Rattle.machine_table.specs.Inner.Places.{IsNumberOf}
+use Rattle.machine_table.specs.Inner.Asked.{AllSay, HaveOneLabel, IsOpenAt, IsOfState}
+use Rattle.machine_table.specs.Inner.Columns.{AreAligned}
 use Rattle.machine_table.specs.Table.{IsTable}
+use Rattle.machine_table.proofs.AlikeRows.{held_by_like}
 use Rattle.machine_table.proofs.Asking.{lawful_row, number_of_row}
 use Rattle.machine_table.proofs.Labels.{label_or_open, value_of_some}
+use Rattle.machine_table.proofs.SharedCubes.{value_below}
 use Rattle.machine_table.proofs.Sought.{at_from_held, held_from_at, row_from_at, row_of}
 
 -- ---- what rows name
@@ -59,46 +61,38 @@ module _ (F : KissFile) (table : IsTable F) where
       ),
     )
 
-  -- the same where the rows of both states stand alike
-  pub named_by_places : HaveOneLabel to_of F → (s t : ℕ) (first second : List ℕ)
-      → ((i : ℕ) → Contains first i → IsNumberOf F s i) → ((i : ℕ) → Contains second i → IsNumberOf F t i)
-      → ((i : ℕ) (row : KissRow) → slice_get F.rows i ≡ Some row → row.from ≡ s → Contains first i)
-      → length first ≡ length second → AlikeBelow to_of F.rows first second (length first)
+  -- the same where the rows of both states are aligned
+  pub named_by_places : HaveOneLabel to_of F → (s t : ℕ) (first second : List ℕ) → AreAligned F s t first second to_of false → AllSay to_of F.rows second
       → (u v : ℕ) → AreNamedAtPlaces F.rows first second u v ↔ AreNamed F s t u v
-  named_by_places one s t first second own_first own_second each_first count alike u v = (there, back) where
+  named_by_places one s t first second aligned says u v = (there, back) where
     there : AreNamedAtPlaces F.rows first second u v → AreNamed F s t u v
     there (k, below, (row, other, at_row, at_other, named)) =
-        let also : k < length second = omega arith in
-        named_from_rows s t row other (row_of F s (get_or first k 0) row (own_first (get_or first k 0) (Contains-get_or first k 0 below)) at_row)
-        (row_of F t (get_or second k 0) other (own_second (get_or second k 0) (Contains-get_or second k 0 also)) at_other) u v named
+        let also : k < length second = omega (arith, below, aligned.count) in
+        named_from_rows s t row other (row_of F s (get_or first k 0) row (aligned.own_first (get_or first k 0) (Contains-get_or first k 0 below)) at_row)
+        (row_of F t (get_or second k 0) other (aligned.own_second (get_or second k 0) (Contains-get_or second k 0 also)) at_other) u v named
 
     back : AreNamed F s t u v → AreNamedAtPlaces F.rows first second u v
     back (x, within, (row, at, names), (other, also_at, tells)) =
-        let at_number = number_of_row F row at.among in
-        let place = each_first at.among.0 row at_number at.from in
-        let k = place.0 in
-        let inside : k < length first = place.1 in
-        let also : k < length second = omega arith in
-        let own = own_second (get_or second k 0) (Contains-get_or second k 0 also) in
-        let partner = own.0 in
-        let here : slice_get F.rows (get_or first k at.among.0) ≡ Some row = subst (λ (n : ℕ). slice_get F.rows n ≡ Some row) (sym place.2) at_number in
-        let same = alike k at.among.0 0 row partner inside here own.1 in
-        let held = held_from_at F table s x row at in
-        let masked : bit_and x partner.cube.care ≡ partner.cube.value = ap (bit_and x) (sym same.care) ∙ mask_from_held row.cube x held ∙ same.value in
-        let also_held = held_from_mask partner.cube x masked in
-        let label = value_of_some (to_of partner) same.says in
-        let equal : label.0 ≡ v = one t x label.0 v (partner, at_from_held F table t x partner (row_of F t (get_or second k 0) partner own own.1) also_held, label.1) (other, also_at, tells) in (
-          k,
-          inside,
+        let like = aligned.each row (row_from_at F table s x row at) in
+        let partner = like.0 in
+        let shown = like.3 in
+        let label = value_of_some (to_of shown.partner) (says shown.place 0 shown.partner shown.at_second.0 shown.at_second.1) in
+        let held = held_by_like row partner x like.2 (held_from_at F table s x row at) in
+        let equal : label.0 ≡ v = one t x label.0 v
+        (partner, at_from_held F table t x partner like.1 held, sym shown.represents_second.label ∙ label.1) (other, also_at, tells) in
+        let least = shown.shown.cube.value in
+        let here : HoldsNumber shown.shown.cube least = least_held shown.shown.cube in (
+          shown.place,
+          shown.at_first.0,
           (
-            row,
-            partner,
-            subst (λ (n : ℕ). slice_get F.rows n ≡ Some row) (sym place.2 ∙ get_or_default first k at.among.0 0 inside) at_number,
-            own.1,
+            shown.shown,
+            shown.partner,
+            shown.at_first.1,
+            shown.at_second.1,
             record {
-              shared = (x, subst (λ (w : ℕ). x < 2 ^ w) (sym (width_of s row (row_from_at F table s x row at))) within, held, also_held);
-              first = names;
-              second = subst (λ (n : ℕ). partner.to ≡ Some n) equal label.1;
+              shared = (least, value_below shown.shown.cube, here, held_by_like shown.shown shown.partner least shown.cubes here);
+              first = shown.represents_first.label ∙ names;
+              second = subst (λ (n : ℕ). shown.partner.to ≡ Some n) equal label.1;
             },
           ),
         )

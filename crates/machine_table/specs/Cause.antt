@@ -1,4 +1,4 @@
--- Why a file has no machine.
+-- The reasons why a file has no machine.
 use Rattle.std.specs.Prelude.{◌≡◌, ⊤}
 use Rattle.kiss2.specs.declared.fill.Fill.{Fill}
 use Rattle.kiss2.specs.declared.fill.Fill.TheVariants.{Refuse}
@@ -9,13 +9,13 @@ use Rattle.machine_table.specs.declared.building.BuildFail.TheVariants.{Conflict
 use Rattle.machine_table.specs.Conflict.{IsFirstConflict}
 use Rattle.machine_table.specs.Said.{IsFirstOpen}
 
--- the refusal names the first conflict, or memory was wanting
+-- the refusal names the first conflict, or memory ran out
 abbrev pub IsConflictOf : KissFile → BuildFail → Type 0
 IsConflictOf F (Conflict row_a row_b) = IsFirstConflict F row_a row_b
 IsConflictOf F (Unspecified state symbol part) = ⊥
 IsConflictOf F NoMemory = ⊤
 
--- no two rows contradict one another, what is open is refused, and the entry is the first that no row says
+-- no two rows contradict one another, open entries are refused, and the entry is the first open one
 pub record IsRefusedAt (F : KissFile) (fill : Fill) (open_first : Type 0) : Type 0 where
   pub refused : fill ≡ Refuse
   pub no_conflict : Conflicting F → ⊥

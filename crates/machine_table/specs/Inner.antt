@@ -1,4 +1,4 @@
--- What private functions and proofs need; no public contract cites it.
+-- Definitions for private functions and proofs; no public contract cites them.
 pub mod Places
 pub mod OpenSymbol
 pub mod Asked
@@ -6,3 +6,4 @@ pub mod Settled
 pub mod Step
 pub mod Filled
 pub mod AddedPairs
+pub mod Columns

@@ -4,7 +4,7 @@ use Rattle.cubes.specs.Symbol.{bit, symbol_of}
 use Rattle.kiss2.specs.declared.kiss_file.KissFile.{KissFile}
 use Rattle.kiss2.specs.Machine.{next, out, output_bit}
 
--- a relation of states holds of the next states at the symbol of that number
+-- the relation holds between the next states at the symbol with that number
 abbrev pub GoInto : (ℕ → ℕ → Type 0) → KissFile → (s t x : ℕ) → Type 0
 GoInto R F s t x = R (next F s (symbol_of F.inputs x)) (next F t (symbol_of F.inputs x))
 
@@ -16,11 +16,11 @@ AgreeAt F s t x = out F s (symbol_of F.inputs x) ≡ out F t (symbol_of F.inputs
 abbrev pub AgreeInBit : ℕ → KissFile → (s t x : ℕ) → Type 0
 AgreeInBit b F s t x = output_bit F s (symbol_of F.inputs x) b ≡ output_bit F t (symbol_of F.inputs x) b
 
--- so it is at each symbol of so many inputs
+-- the predicate holds at each symbol of that many inputs
 abbrev pub AtEachSymbol : (inputs : ℕ) → (ℕ → Type 0) → Type 0
 AtEachSymbol inputs P = (x : ℕ) → x < 2 ^ inputs → P x
 
--- the least symbol of so many inputs at which it is not so
+-- the least symbol of that many inputs at which the predicate does not hold
 pub record IsFirstWithout (inputs : ℕ) (P : ℕ → Type 0) (x : ℕ) : Type 0 where
   pub within : x < 2 ^ inputs
   pub without : ¬ P x

@@ -1,10 +1,9 @@
--- The files of which machines are built.
+-- The files that have machines.
 use Rattle.std.specs.Prelude.{◌≤◌, ◌<◌, All, length}
 use Rattle.kiss2.specs.declared.kiss_file.KissFile.{KissFile}
 use Rattle.kiss2.specs.Lawful.{IsLawfulRow}
 
--- the counts are within the limits, and each row and the reset state are of these counts; a lawful file is such, and
--- of the number of its rows nothing is asked
+-- the counts are within the limits, and each row and the reset state fit the counts; the number of rows is not limited
 pub record IsTable (F : KissFile) : Type 0 where
   pub some_input : 1 ≤ F.inputs
   pub inputs : F.inputs ≤ 32

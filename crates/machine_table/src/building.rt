@@ -1,9 +1,11 @@
-//! Building a machine, and why a file has none.
+//! Building a machine, and the reasons why a file has none.
 ghost use Rattle.std.specs.Prelude.{◌≡◌, ◌^◌, ◌<◌, IfOk, IfErr, length};
 ghost use Rattle.kiss2.specs.Machine.{Accepted, Conflicting};
 ghost use Rattle.machine_table.specs.Cause.{Caused, IsConflictOf};
 ghost use Rattle.machine_table.specs.Table.{IsTable};
 
+use crate::classes::leaders_of_states;
+use crate::columns::columns_of_states;
 use crate::contradiction::first_conflict;
 use crate::copying::copied_file;
 use crate::order::places_by_cubes;
@@ -15,20 +17,20 @@ use std::alloc::{AllocError, AllocFailed, Global};
 /// Why a file has no machine.
 #[derive(Clone, Copy, Debug, PartialEq, Eq)]
 pub enum BuildFail {
-    /// Two rows of one state share a symbol, and name two next states or give 0 and 1 at one output. Rows
-    /// are counted from 1; of all such pairs the later row is the least, and then the earlier one.
+    /// Two rows of one state share a symbol, and name different next states or give 0 and 1 at one output.
+    /// Rows are counted from 1. Among all such pairs the later row comes first, and then the earlier row.
     Conflict {
         row_a: u32,
         row_b: u32,
     },
-    /// With `Fill::Refuse` alone: no row says this part at the state and the symbol of that number. It is
-    /// the least such state, then the least symbol, then the next state before the outputs in order.
+    /// Only with `Fill::Refuse`: no row gives this part at this state and the symbol with this number. It is
+    /// the least such state, then the least symbol; the next state comes before the outputs, in order.
     Unspecified {
         state: u16,
         symbol: u32,
         part: Missing,
     },
-    /// There is no memory left.
+    /// Memory ran out.
     NoMemory,
 }
 
@@ -44,8 +46,8 @@ impl From<AllocError> for BuildFail {
 }
 
 impl Machine {
-    /// The machine of a file. A conflict is looked for first, and then an open entry. With `Fill::Hold` a
-    /// machine that has none is known to be complete.
+    /// The machine of a file. Conflicts are looked for first, then open entries. With `Fill::Hold` open
+    /// entries are allowed.
     pub fn build(alloc: Global, file: &KissFile, fill: Fill) -> Result<Machine, BuildFail>
         requires table { IsTable file.now }
         requires numbered { Conflicting file.now → length file.now.rows < 2 ^ 32 }
@@ -67,7 +69,7 @@ impl Machine {
         }
     }
 
-    /// The machine of a file whose rows do not contradict one another, whatever they leave open.
+    /// The machine of a file without conflicts, whatever its rows leave open.
     fn of_rows(alloc: Global, file: &KissFile) -> Result<Machine, BuildFail>
         requires table { IsTable file.now }
         requires numbered { Conflicting file.now → length file.now.rows < 2 ^ 32 }
@@ -84,10 +86,14 @@ impl Machine {
             });
         }
         let ordered = places_by_cubes(alloc, rows, &places)?;
+        let leaders = leaders_of_states(alloc, rows, &ordered)?;
+        let columns = columns_of_states(alloc, rows, &ordered, &leaders)?;
         let file = copied_file(alloc, file)?;
         Ok(Machine {
             file,
             places: ordered,
+            leaders,
+            columns,
             complete: false,
         })
     }

@@ -7,7 +7,7 @@ ghost use Rattle.machine_table.specs.Inner.Places.{AreNumbersOf, ArePlaces, Cont
 use hs_list::Items;
 use kiss2::KissRow;
 
-/// Whether the rows name two next states.
+/// Whether the rows name different next states.
 fn name_two(row: &KissRow, other: &KissRow) -> bool
     ensures { IsTrue result ↔ NameTwo row.now other.now }
 {
@@ -17,7 +17,7 @@ fn name_two(row: &KissRow, other: &KissRow) -> bool
     }
 }
 
-/// Whether one row gives 0 at an output at which the other gives 1.
+/// Whether at some output one row gives 0 and the other 1.
 fn give_both(row: &KissRow, other: &KissRow) -> bool
     ensures { IsTrue result ↔ (GiveBoth row.now other.now ⊎ GiveBoth other.now row.now) }
 {
@@ -54,8 +54,8 @@ fn first_against(rows: &[KissRow], numbers: &[usize], number: usize, row: &KissR
     None
 }
 
-/// The numbers of the first two rows that contradict one another: the second is the least, and then the
-/// first.
+/// The numbers of the first two rows that contradict one another: the least later row, and then the least
+/// earlier row.
 pub fn first_conflict(rows: &[KissRow], places: &[Items<usize>]) -> Option<(usize, usize)>
     requires places { ArePlaces rows.now (length places.now) (length rows.now) places.now }
     requires widths { HaveOneWidth rows.now }

@@ -1,11 +1,11 @@
-//! Another copy of a file.
+//! Copies of files.
 ghost use Rattle.std.specs.Prelude.{◌≡◌, ◌<◌, IfOk, IsOk, Option, length};
 
 use hs_io::{Name, Names};
 use kiss2::{KissFile, Rows, StateNames};
 use std::alloc::{AllocError, Global};
 
-/// The file again.
+/// A copy of the file.
 pub fn copied_file(alloc: Global, file: &KissFile) -> Result<KissFile, AllocError>
     requires { length file.now.states < 65536 }
     ensures { IfOk result (λ copy. copy ≡ file.now) }
@@ -21,7 +21,7 @@ pub fn copied_file(alloc: Global, file: &KissFile) -> Result<KissFile, AllocErro
     })
 }
 
-/// The names of the states again.
+/// A copy of the names of the states.
 fn copied_states(alloc: Global, states: &StateNames) -> Result<StateNames, AllocError>
     requires { length states.now < 65536 }
     ensures { IfOk result (λ copy. copy ≡ states.now) }
@@ -33,7 +33,7 @@ fn copied_states(alloc: Global, states: &StateNames) -> Result<StateNames, Alloc
     Ok(copy)
 }
 
-/// The names of inputs or outputs again, where there are names.
+/// A copy of the names of inputs or outputs, if there are names.
 fn copied_given(alloc: Global, given: &Option<Names>) -> Result<Option<Names>, AllocError>
     ensures { IfOk result (λ copy. copy ≡ given.now) }
 {
@@ -43,7 +43,7 @@ fn copied_given(alloc: Global, given: &Option<Names>) -> Result<Option<Names>, A
     }
 }
 
-/// Names again.
+/// A copy of the names.
 fn copied_names(alloc: Global, names: &[Name]) -> Result<Names, AllocError>
     ensures { IfOk result (λ copy. copy ≡ names.now) }
 {

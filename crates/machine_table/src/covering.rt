@@ -1,7 +1,7 @@
-//! The pieces on which a machine does one thing.
+//! Pieces: cubes at whose symbols a state has one next state and one set of outputs.
 //!
-//! They are the rows of the state, where each says all and no symbol is without a row. Else the cube of all
-//! symbols is halved at places at which rows look, until each row holds all symbols of a cube or none.
+//! If each row gives every part and no symbol is without a row, the rows are the pieces. Otherwise the cube of
+//! all symbols is halved until each row holds all symbols of a cube or none.
 ghost use Rattle.std.specs.Prelude.{ℕ, ◌≡◌, ◌<◌, ◌^◌, All, IfNone, IfOk, IfSome, IsSome, OnOk, Some, false, length};
 ghost use Rattle.cubes.specs.Symbol.{bit, symbol_of};
 ghost use Rattle.cubes.specs.Cube.{HoldsNumber};
@@ -18,18 +18,18 @@ use cubes::Cube;
 use kiss2::KissRow;
 use std::alloc::{AllocError, Global};
 
-/// Symbols of one state at which the machine does the same.
+/// Symbols at which a state has the same next state and the same outputs.
 #[derive(Clone, Copy, Debug, PartialEq, Eq)]
 pub struct Piece {
     /// The symbols.
     pub cube: Cube,
     /// The next state at each of them.
     pub next: u16,
-    /// The outputs at each of them, output b at 2^b.
+    /// The outputs at each of them, with output b at 2^b.
     pub outputs: u64,
 }
 
-/// A place at which to halve the cube, where the other holds some of its symbols, but not all.
+/// A place at which to halve the cube, if the other cube holds some of its symbols but not all.
 fn halving_place(cube: &Cube, other: &Cube) -> Option<u32>
     requires { cube.now.width ≡ other.now.width }
     ensures within { IfSome result (λ place. place < cube.now.width) }
@@ -51,7 +51,7 @@ fn least_symbol(cube: &Cube) -> u32
     cube.value
 }
 
-/// The row as a piece, where it names a next state and gives each output.
+/// The row as a piece; the row names a next state and gives every output.
 fn piece_of_row(row: &KissRow) -> Piece
     requires { IsSome row.now.to }
     ensures cube { result.cube ≡ row.now.cube }
@@ -66,7 +66,7 @@ fn piece_of_row(row: &KissRow) -> Piece
 }
 
 impl Machine {
-    /// Pieces of the state that hold all symbols.
+    /// Pieces of the state that together hold all symbols.
     pub fn pieces(&self, alloc: Global, s: usize) -> Result<Vec<Piece>, AllocError>
         requires { s < length self.now.states }
         ensures each { IfOk result (λ pieces. (x : ℕ) → x < 2 ^ self.now.inputs → IsHeldByPiece pieces.items x) }
@@ -80,7 +80,7 @@ impl Machine {
         Ok(pieces)
     }
 
-    /// The rows of the state as pieces, where each says all and no symbol is without a row.
+    /// The rows of the state as pieces; each gives every part, and no symbol is without a row.
     fn pieces_of_rows(&self, alloc: Global, s: usize) -> Result<Vec<Piece>, AllocError>
         requires state { s < length self.now.states }
         requires specified { Specified self.now }
@@ -96,7 +96,7 @@ impl Machine {
         Ok(pieces)
     }
 
-    /// Adds pieces that hold the symbols of the cube.
+    /// Adds pieces that together hold the symbols of the cube.
     fn add_pieces(&self, s: usize, cube: Cube, pieces: &mut Vec<Piece>) -> Result<(), AllocError>
         requires s { s < length self.now.states }
         requires width { cube.width ≡ self.now.inputs }
@@ -124,12 +124,12 @@ impl Machine {
         requires settled { IsSettledIn self.now s cube.now }
         ensures { (y : ℕ) → HoldsNumber cube.now y → next self.now s (symbol_of self.now.inputs y) ≡ result }
     {
-        // The check knows what every machine keeps only where a function names a field; so it is below.
+        // Naming a field gives the proof what every machine keeps; the same in the function below.
         let _ = &self.file;
         self.next(s, least_symbol(cube)) as u16
     }
 
-    /// The outputs at each symbol of the cube, output b at 2^b.
+    /// The outputs at each symbol of the cube, with output b at 2^b.
     fn one_word(&self, s: usize, cube: &Cube) -> u64
         requires s { s < length self.now.states }
         requires width { cube.now.width ≡ self.now.inputs }
@@ -141,7 +141,7 @@ impl Machine {
         self.output_word(s, least_symbol(cube))
     }
 
-    /// A place at which to halve the cube, where some row of the state holds some of its symbols, but not all.
+    /// A place at which to halve the cube, if some row of the state holds some of its symbols but not all.
     fn unsettled_place(&self, s: usize, cube: &Cube) -> Option<u32>
         requires s { s < length self.now.states }
         requires width { cube.now.width ≡ self.now.inputs }

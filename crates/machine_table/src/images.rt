@@ -1,7 +1,7 @@
 //! The pairs of next states of two states.
 //!
-//! Rows of both states that share a symbol name a pair. Where rows may leave a next state open, the pairs at
-//! such symbols are added: the symbols are sought as those at which labels differ.
+//! Rows of both states that share a symbol name a pair. If rows may leave a next state open, the pairs at such
+//! symbols are added.
 ghost use Rattle.std.specs.Prelude.{ℕ, ◌≡◌, ◌≢◌, ◌<◌, ◌↔◌, All, AllPairs, Contains, IfOk, OnOk, length};
 ghost use Rattle.machine_table.specs.Covering.{IsImage};
 ghost use Rattle.machine_table.specs.Inner.AddedPairs.{AddsPairs, AreBothOpen, AreNamed, AreNamedAtPlaces, AreNamedBy, IsFound, IsNamedBeside, IsOpenImage, NamesAlone, OfSomeRow, pair_of};
@@ -12,7 +12,7 @@ use crate::searching::{least_of_both, whole};
 use kiss2::KissRow;
 use std::alloc::{AllocError, Global};
 
-/// Puts the pairs into ascending order and leaves each once.
+/// Sorts the pairs and removes duplicates.
 fn keep_one_of_each(pairs: &mut Vec<(u16, u16)>)
     ensures same { (pair : ℕ × ℕ) → Contains pairs.new.items pair ↔ Contains pairs.old.items pair }
     ensures once { AllPairs (λ a b. a ≢ b) pairs.new.items }
@@ -21,10 +21,10 @@ fn keep_one_of_each(pairs: &mut Vec<(u16, u16)>)
     pairs.dedup();
 }
 
-/// The length past which a list of pairs is long: twice the number of pairs of 256 states.
+/// The length above which a list of pairs is long: twice the number of pairs of 256 states.
 const LONG: usize = 131_072;
 
-/// Leaves each pair once, where the list is long.
+/// Removes duplicates if the list is long.
 fn thin_out(pairs: &mut Vec<(u16, u16)>)
     ensures { (pair : ℕ × ℕ) → Contains pairs.new.items pair ↔ Contains pairs.old.items pair }
 {
@@ -33,7 +33,7 @@ fn thin_out(pairs: &mut Vec<(u16, u16)>)
     }
 }
 
-/// Adds the pair that was found, if one was.
+/// Adds the pair, if one was found.
 fn add_found(found: Option<(u16, u16)>, pairs: &mut Vec<(u16, u16)>) -> Result<(), AllocError>
     ensures { OnOk result (AddsPairs (IsFound found) pairs.old.items pairs.new.items) }
 {
@@ -43,7 +43,7 @@ fn add_found(found: Option<(u16, u16)>, pairs: &mut Vec<(u16, u16)>) -> Result<(
     Ok(())
 }
 
-/// The pair, or where it is turned the pair of the second and the first.
+/// The pair, swapped if `turned` is set.
 fn in_order(first: u16, second: u16, turned: bool) -> (u16, u16)
     ensures { result ≡ pair_of turned first second }
 {
@@ -54,7 +54,7 @@ fn in_order(first: u16, second: u16, turned: bool) -> (u16, u16)
     }
 }
 
-/// The pair that two rows name, where they share a symbol.
+/// The pair that two rows name, if they share a symbol.
 fn named_pair(row: &KissRow, other: &KissRow) -> Option<(u16, u16)>
     requires { row.now.cube.width ≡ other.now.cube.width }
     ensures { (u v : ℕ) → IsFound result u v ↔ AreNamedBy row.now other.now u v }
@@ -97,15 +97,16 @@ impl Machine {
         requires t { t < length self.now.states }
         ensures { OnOk result (AddsPairs (AreNamed self.now s t) pairs.old.items pairs.new.items) }
     {
-        let first = self.numbers_of(s);
-        let second = self.numbers_of(t);
-        if self.are_alike(&NextState::new(self.states()), first, second) {
-            return self.add_by_places(first, second, pairs);
+        let question = NextState::new(self.states());
+        if let Some(rows) = self.aligned_rows(&question, s, t, false)
+            && self.all_say(&question, rows.second)
+        {
+            return self.add_by_places(rows.first, rows.second, pairs);
         }
         self.add_by_rows(s, t, pairs)
     }
 
-    /// Adds the pairs that rows at one place of both lists name.
+    /// Adds the pairs named by the rows at the same place of both lists.
     fn add_by_places(
         &self,
         first: &[usize],
@@ -125,8 +126,8 @@ impl Machine {
         Ok(())
     }
 
-    /// Adds the pairs that some row of the first state and some row of the second name. The list is thinned
-    /// out after each row, so that it stays short.
+    /// Adds the pairs named by any row of the first state and any row of the second. Duplicates are removed
+    /// after each row, so that the list stays short.
     fn add_by_rows(&self, s: usize, t: usize, pairs: &mut Vec<(u16, u16)>) -> Result<(), AllocError>
         requires s { s < length self.now.states }
         requires t { t < length self.now.states }
@@ -139,7 +140,7 @@ impl Machine {
         Ok(())
     }
 
-    /// Adds the pairs that the row and some row of the state name.
+    /// Adds the pairs named by the row and any row of the state.
     fn add_beside(
         &self,
         row: &KissRow,
@@ -156,7 +157,7 @@ impl Machine {
         Ok(())
     }
 
-    /// Adds the pairs at symbols at which no row of one of the states names a next state.
+    /// Adds the pairs at symbols at which one of the states leaves the next state open.
     fn add_open(&self, s: usize, t: usize, pairs: &mut Vec<(u16, u16)>) -> Result<(), AllocError>
         requires s { s < length self.now.states }
         requires t { t < length self.now.states }
@@ -167,7 +168,7 @@ impl Machine {
         add_found(self.open_pair(s, t), pairs)
     }
 
-    /// The pair of the states, where at some symbol no row of either names a next state.
+    /// The pair of the states themselves, if at some symbol both leave the next state open.
     fn open_pair(&self, s: usize, t: usize) -> Option<(u16, u16)>
         requires s { s < length self.now.states }
         requires t { t < length self.now.states }
@@ -178,8 +179,8 @@ impl Machine {
         Some((s as u16, t as u16))
     }
 
-    /// Adds the pairs of a next state that a row of the first state names and of the second state, where no
-    /// row of the second names one; turned, if that is asked for.
+    /// Adds the pairs of a next state that a row of the first state names and of the second state itself, for
+    /// symbols at which the second state leaves the next state open; swapped, if `turned` is set.
     fn add_alone(
         &self,
         s: usize,
@@ -197,8 +198,8 @@ impl Machine {
         Ok(())
     }
 
-    /// The pair of the next state that the row names and of the state, where at some symbol of the row no
-    /// row of the state names one.
+    /// The pair of the next state that the row names and of the state itself, if at some symbol of the row the
+    /// state leaves the next state open.
     fn alone_pair(&self, row: &KissRow, t: usize, turned: bool) -> Option<(u16, u16)>
         requires t { t < length self.now.states }
         requires width { row.now.cube.width ≡ self.now.inputs }

@@ -1,17 +1,20 @@
 //! The machine of a KISS2 file, kept as its rows.
 //!
-//! A [`Machine`] is built from a file whose rows do not contradict one another, and with `Fill::Refuse`
-//! leave nothing open. Contracts see it as the file without its names (`specs/Table`), so each question
-//! that it answers is one about the next states and outputs of that file, as `kiss2/specs/Machine` defines
-//! them. There is no table over symbols: an answer comes from the rows of the states that are asked about.
+//! A [`Machine`] is built from a file whose rows do not contradict one another and, with `Fill::Refuse`,
+//! leave nothing open. Contracts see it as that file, so every question it answers is about the next states
+//! and outputs that `kiss2/specs/Machine` defines. There is no table indexed by symbols: answers come from
+//! the rows of the states in question.
 //!
-//! `specs/Conflict` says which two rows a refusal names, `specs/Said` which open entry, and `specs/Cause`
-//! when each refusal comes. `specs/Staying` says that a machine never leaves its states, `specs/Walk` what a
-//! word is answered, `specs/Pairs` where the next states of two states stand, and `specs/Covering` what the
-//! images and pieces list.
+//! `specs/Table` says which files have a machine, `specs/Conflict` which two rows a refusal names,
+//! `specs/Said` which open entry it names, and `specs/Cause` when each refusal occurs. `specs/Staying` says
+//! that a machine never leaves its states, `specs/Walk` how numbers encode outputs, `specs/Pairs` what is
+//! asked of two states at all symbols, and `specs/Covering` what the images and pieces list.
 #![tactic(auto)]
 
+mod aligned;
 mod building;
+mod classes;
+mod columns;
 mod contradiction;
 mod copying;
 mod covering;

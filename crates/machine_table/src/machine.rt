@@ -1,4 +1,4 @@
-//! What a machine keeps, and the questions about one state and one symbol.
+//! The data of a machine, and the questions about one state and one symbol.
 ghost use Rattle.std.specs.Prelude.{ℕ, ◌≡◌, ◌<◌, ◌≤◌, ◌^◌, All, Contains, IsTrue, Some, length, slice_get};
 ghost use Rattle.cubes.specs.Symbol.{symbol_of};
 ghost use Rattle.kiss2.specs.Lawful.{IsLawfulRow};
@@ -13,15 +13,19 @@ use hs_list::Items;
 use kiss2::{KissFile, KissRow};
 use std::marker::Model;
 
-/// The machine of a file, seen by contracts as that file.
+/// The machine of a file. Contracts see it as that file.
 ///
-/// A symbol is given by its number: its text read in binary, the first input the most significant bit.
+/// A symbol is given by its number: its text read in binary, the first input being the most significant bit.
 #[derive(Drop)]
 pub struct Machine {
     pub(crate) file: KissFile,
-    /// For each state the numbers of its rows, in the order of their cubes.
+    /// For each state, the numbers of its rows in the order of their cubes.
     pub(crate) places: Vec<Items<usize>>,
-    /// Rows leave nothing open. Where it is not set, nothing is known of that.
+    /// For each state, the first state whose rows have the same cubes.
+    pub(crate) leaders: Vec<usize>,
+    /// For each state, the numbers of its rows at one place for each column of the states with its leader.
+    pub(crate) columns: Vec<Items<usize>>,
+    /// If set, the rows leave nothing open. If not set, they may or may not.
     pub(crate) complete: bool,
 }
 
@@ -30,6 +34,7 @@ impl Model for Machine {
     ghost use Rattle.kiss2.specs.declared.kiss_file.KissFile.{KissFile};
     ghost use Rattle.kiss2.specs.Machine.{Conflicting, Specified};
     ghost use Rattle.machine_table.specs.Table.{IsTable};
+    ghost use Rattle.machine_table.specs.Inner.Columns.{AreColumns};
     ghost use Rattle.machine_table.specs.Inner.Places.{ListRows};
 
     ghost Value = { KissFile };
@@ -37,8 +42,8 @@ impl Model for Machine {
     ghost view = { λ m. m.file };
 
     ghost invariant = { λ m. IsTable m.file × (Conflicting m.file → ⊥)
-        × ListRows m.file.rows (length m.file.states) m.places.items
-        × (IsTrue m.complete → Specified m.file) };
+        × ListRows m.file.rows (length m.file.states) m.places.items × (IsTrue m.complete → Specified m.file)
+        × AreColumns m.file.rows m.places.items m.leaders.items m.columns.items };
 }
 
 /// The bit that a row gives at an output, if it gives one.
@@ -90,8 +95,8 @@ impl Machine {
         usize::from(self.file.reset)
     }
 
-    /// The next state at the symbol of that number: the one that a row names, and the state itself where
-    /// none names one.
+    /// The next state at the symbol with that number: the one that a row names, or the state itself if no
+    /// row names one.
     pub fn next(&self, s: usize, x: u32) -> usize
         requires s { s < length self.now.states }
         requires x { x < 2 ^ self.now.inputs }
@@ -109,8 +114,7 @@ impl Machine {
         s
     }
 
-    /// The output of that number at the symbol of that number: the bit that a row gives, and 0 where none
-    /// gives one.
+    /// Output `b` at the symbol with number `x`: the bit that a row gives, or 0 if no row gives one.
     pub fn output_bit(&self, s: usize, x: u32, b: u8) -> bool
         requires s { s < length self.now.states }
         requires x { x < 2 ^ self.now.inputs }
@@ -128,7 +132,7 @@ impl Machine {
         false
     }
 
-    /// The machine, of whose file it is known that it leaves nothing open.
+    /// The same machine, marked as leaving nothing open.
     pub(crate) fn completed(self) -> Machine
         requires { Specified self }
         ensures { result ≡ self }
@@ -136,11 +140,13 @@ impl Machine {
         Machine {
             file: self.file,
             places: self.places,
+            leaders: self.leaders,
+            columns: self.columns,
             complete: true,
         }
     }
 
-    /// Whether it is known that the rows leave nothing open.
+    /// Whether the rows are known to leave nothing open.
     pub(crate) fn is_complete(&self) -> bool
         ensures specified { IsTrue result → Specified self.now }
         ensures table { IsTable self.now }
@@ -161,7 +167,7 @@ impl Machine {
         self.places[s].as_slice()
     }
 
-    /// The row of that number.
+    /// The row with that number.
     pub(crate) fn row(&self, number: usize) -> &KissRow
         requires { number < length self.now.rows }
         ensures row { slice_get self.now.rows number ≡ Some result.now }
@@ -170,7 +176,7 @@ impl Machine {
         &self.file.rows.as_slice()[number]
     }
 
-    /// What is so of the file of every machine. It does nothing.
+    /// Facts about the file of every machine. The function does nothing.
     pub fn keeps_its_states(&self)
         ensures table { IsTable self.now }
         ensures no_conflict { Conflicting self.now → ⊥ }

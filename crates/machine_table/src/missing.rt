@@ -3,6 +3,6 @@
 pub enum Missing {
     /// The next state.
     Next,
-    /// The output of that number.
+    /// The output with that number.
     Output(u8),
 }

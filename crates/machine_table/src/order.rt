@@ -1,6 +1,6 @@
-//! The order in which the rows of a state are gone through: that of their cubes.
+//! The order in which a machine keeps the rows of a state: by their cubes.
 //!
-//! So states whose rows have the same cubes, in whatever order the file has them, have them at the same places.
+//! States whose rows have the same cubes then have equal cubes at equal places, whatever the order in the file.
 ghost use Rattle.std.specs.Prelude.{ℕ, ◌↔◌, Contains, IfOk, length};
 ghost use Rattle.machine_table.specs.Inner.Places.{ArePlaces, ListRows};
 
@@ -8,7 +8,7 @@ use hs_list::Items;
 use kiss2::KissRow;
 use std::alloc::{AllocError, Global};
 
-/// The value and the care of the cube of the row of that number.
+/// The value and the care of the cube of the row with that number.
 fn cube_key(rows: &[KissRow], number: usize) -> Option<(u32, u32)> {
     let row = rows.get(number)?;
     Some((row.cube.value, row.cube.care))
@@ -23,7 +23,7 @@ fn by_cubes(alloc: Global, rows: &[KissRow], numbers: &[usize]) -> Result<Vec<us
     Ok(ordered)
 }
 
-/// For each state the numbers of its rows, in the order of their cubes.
+/// For each state, the numbers of its rows in the order of their cubes.
 pub fn places_by_cubes(
     alloc: Global,
     rows: &[KissRow],

@@ -18,7 +18,7 @@ impl Machine {
         requires states { length q.now ≡ length self.now.states }
         ensures { IsTrue result ↔ AtEachSymbol self.now.inputs (GoInto (Together q.now) self.now s t) }
     {
-        // The check knows what every machine keeps only where a function names a field; so it is below.
+        // Naming a field gives the proof what every machine keeps; the same in the functions below.
         let _ = &self.file;
         self.first_differing(q, s, t, false).is_none()
     }
@@ -35,7 +35,7 @@ impl Machine {
         self.first_differing(q, s, t, true)
     }
 
-    /// Whether the words of the next states have the same bit at 2^at, at each symbol. There is a word for
+    /// Whether at each symbol the words of the next states have the same bit at 2^at. There is one word for
     /// each state.
     pub fn bit_goes(&self, s: usize, t: usize, words: &[u64], at: usize) -> bool
         requires s { s < length self.now.states }
@@ -49,7 +49,7 @@ impl Machine {
             .is_none()
     }
 
-    /// Whether the output of that number is the same at each symbol.
+    /// Whether output `b` is the same at each symbol.
     pub fn bit_agrees(&self, s: usize, t: usize, b: u8) -> bool
         requires s { s < length self.now.states }
         requires t { t < length self.now.states }
@@ -61,7 +61,7 @@ impl Machine {
             .is_none()
     }
 
-    /// The least symbol at which the output of that number is not the same.
+    /// The least symbol at which output `b` differs.
     fn first_bit_apart(&self, s: usize, t: usize, b: u8) -> Option<u32>
         requires s { s < length self.now.states }
         requires t { t < length self.now.states }
@@ -73,8 +73,8 @@ impl Machine {
         self.first_differing(&OutputBit::new(b), s, t, true)
     }
 
-    /// A symbol at which the outputs are not the same, where each row of both states says all; where the
-    /// least is asked for, it is the least such.
+    /// A symbol at which the outputs differ, for states whose rows give every part; the least one, if `least`
+    /// is set.
     fn first_word_apart(&self, s: usize, t: usize, least: bool) -> Option<u32>
         requires s { s < length self.now.states }
         requires t { t < length self.now.states }
@@ -105,7 +105,7 @@ impl Machine {
         true
     }
 
-    /// The least symbol at which the outputs are not the same.
+    /// The least symbol at which the outputs differ.
     pub fn first_output_apart(&self, s: usize, t: usize) -> Option<u32>
         requires s { s < length self.now.states }
         requires t { t < length self.now.states }

@@ -1,12 +1,20 @@
-//! Where the rows of each state stand.
+//! The numbers of the rows of each state.
 ghost use Rattle.std.specs.Prelude.{◌<◌, All, IfOk, [], length, replicate, ◌≡◌};
-ghost use Rattle.machine_table.specs.Inner.Places.{ArePlaces};
+ghost use Rattle.machine_table.specs.Inner.Places.{ArePlaces, places_of};
 
 use hs_list::Items;
 use kiss2::KissRow;
 use std::alloc::{AllocError, Global};
 
-/// For each of so many states the numbers of its rows, ascending.
+/// The list of a state.
+pub fn list_of(lists: &[Items<usize>], s: usize) -> &[usize]
+    requires { s < length lists.now }
+    ensures { result.now ≡ places_of lists.now s }
+{
+    lists[s].as_slice()
+}
+
+/// For each state, the numbers of its rows in ascending order.
 pub fn places_of_states(
     alloc: Global,
     rows: &[KissRow],
@@ -22,7 +30,7 @@ pub fn places_of_states(
     Ok(places)
 }
 
-/// An empty list for each of so many states.
+/// An empty list for each state.
 fn no_places(alloc: Global, states: usize) -> Result<Vec<Items<usize>>, AllocError>
     ensures { IfOk result (λ places. places.items ≡ replicate states []) }
 {

@@ -1,5 +1,5 @@
-//! What may be asked of two states: one part of what rows say, and which of its values are alike.
-ghost use Rattle.std.specs.Prelude.{ℕ, ◌≡◌, ◌<◌, ◌≤◌, IfSome, Option, length, slice_index};
+//! What can be asked about two states: one part of what rows give, and which of its values count as equal.
+ghost use Rattle.std.specs.Prelude.{ℕ, ◌≡◌, ◌<◌, ◌≤◌, IfSome, IsTrue, Option, length, slice_index};
 ghost use Rattle.std.specs.Int.{bit_at};
 ghost use Rattle.kiss2.specs.declared.kiss_file.KissRow.{KissRow};
 
@@ -7,30 +7,34 @@ use crate::machine::given;
 use kiss2::KissRow;
 use partition::Partition;
 
-/// A question about one part of what rows say. Each value of the part has a label, and values are alike
-/// where their labels are equal.
+/// A question about one part of what rows give. Each value of the part has a label, and values count as
+/// equal if their labels are equal.
 pub(crate) trait Question {
-    /// Of how many states it can be asked.
+    /// The number of states that the question covers.
     ghost states: { Self → ℕ };
 
-    /// The label of what a row says, if it says the part.
+    /// The label of what a row gives, if it gives the part.
     ghost said: { Self → KissRow → Option ℕ };
 
-    /// The label of what holds at a state where no row says the part.
+    /// The label at a state where no row gives the part.
     ghost unsaid: { Self → ℕ → ℕ };
 
-    /// The label of what a row says, if it says the part.
+    /// The label of what a row gives, if it gives the part.
     fn said(&self, row: &KissRow) -> Option<u64>
         requires { IfSome row.now.to (λ t. t < states self.now) }
         ensures { result ≡ said self.now row.now };
 
-    /// The label of what holds at a state where no row says the part.
+    /// The label at a state where no row gives the part.
     fn unsaid(&self, s: usize) -> u64
         requires { s < states self.now }
         ensures { result ≡ unsaid self.now s };
+
+    /// If true, the label depends on the next state alone.
+    fn is_of_next(&self) -> bool
+        ensures { IsTrue result → (row other : KissRow) → row.to ≡ other.to → said self.now row ≡ said self.now other };
 }
 
-/// Of next states those in one block are alike.
+/// Next states in one block count as equal.
 impl Question for Partition {
     ghost use Rattle.std.specs.Prelude.{length, slice_index, option_map};
 
@@ -50,9 +54,13 @@ impl Question for Partition {
     fn unsaid(&self, s: usize) -> u64 {
         u64::from(self.label(s))
     }
+
+    fn is_of_next(&self) -> bool {
+        true
+    }
 }
 
-/// The bits of words of states at one place.
+/// One bit of a word for each state.
 #[derive(Clone, Copy)]
 pub(crate) struct WordBits<'a> {
     words: &'a [u64],
@@ -78,7 +86,7 @@ impl<'a> WordBits<'a> {
     }
 }
 
-/// Of next states those whose words have one bit at the place are alike.
+/// Next states whose words have the same bit count as equal.
 impl<'a> Question for WordBits<'a> {
     ghost use Rattle.std.specs.Prelude.{length, slice_index, option_map};
     ghost use Rattle.std.specs.Int.{bit_at};
@@ -99,9 +107,13 @@ impl<'a> Question for WordBits<'a> {
     fn unsaid(&self, s: usize) -> u64 {
         self.bit(s)
     }
+
+    fn is_of_next(&self) -> bool {
+        true
+    }
 }
 
-/// The output of that number.
+/// The output with that number.
 #[derive(Clone, Copy)]
 pub(crate) struct OutputBit {
     b: u8,
@@ -117,7 +129,7 @@ impl OutputBit {
     }
 }
 
-/// Equal bits are alike.
+/// Bits count as equal if they are equal.
 impl Question for OutputBit {
     ghost use Rattle.std.specs.Prelude.{option_map};
     ghost use Rattle.kiss2.specs.Machine.{given_bit};
@@ -139,9 +151,13 @@ impl Question for OutputBit {
     fn unsaid(&self, _s: usize) -> u64 {
         0
     }
+
+    fn is_of_next(&self) -> bool {
+        false
+    }
 }
 
-/// All outputs, as rows say them that give each: those that care for no output more or less than `all`.
+/// All outputs together, as given by rows whose care is exactly `all`.
 #[derive(Clone, Copy)]
 pub(crate) struct OutputWord {
     all: u64,
@@ -155,7 +171,7 @@ impl OutputWord {
     }
 }
 
-/// Equal words are alike.
+/// Words count as equal if they are equal.
 impl Question for OutputWord {
     ghost use Rattle.std.specs.Prelude.{◌==◌, None, Some, if◌then◌else◌};
 
@@ -176,9 +192,13 @@ impl Question for OutputWord {
     fn unsaid(&self, _s: usize) -> u64 {
         0
     }
+
+    fn is_of_next(&self) -> bool {
+        false
+    }
 }
 
-/// The next state of a machine of so many states.
+/// The next state of a machine with that many states.
 #[derive(Clone, Copy)]
 pub(crate) struct NextState {
     states: usize,
@@ -194,7 +214,7 @@ impl NextState {
     }
 }
 
-/// A state alone is like itself.
+/// Next states count as equal if they are equal.
 impl Question for NextState {
     ghost states = { λ q. q.states };
 
@@ -212,5 +232,9 @@ impl Question for NextState {
     fn unsaid(&self, s: usize) -> u64 {
         let _ = self.states;
         s as u64
+    }
+
+    fn is_of_next(&self) -> bool {
+        true
     }
 }

@@ -1,21 +1,20 @@
-//! Rows of a state in a tree, in which one that holds a symbol is found without looking at each.
+//! A search tree of the rows of a state, to find a row that holds a symbol without looking at each.
 //!
-//! A tree advises and no more: what is found in it is judged by the row itself, and where nothing is found
-//! all rows of the state are asked.
+//! A tree is only a hint: a row found in it is checked, and if none is found all rows of the state are tried.
 
 use cubes::Cube;
 use kiss2::KissRow;
 use std::alloc::{AllocError, Global};
 
-/// So many rows are not told apart.
+/// Up to this many rows form a leaf.
 const FEW_ROWS: usize = 4;
 
-/// Numbers of rows, told apart by the bits of their cubes.
+/// Numbers of rows, split by the bits of their cubes.
 #[derive(Drop)]
 pub enum RowTree {
     Leaf(Vec<usize>),
     Fork {
-        /// The place, as the number that has a 1 there alone.
+        /// The place at which the rows are split, as a power of 2.
         at: u32,
         zero: Box<RowTree>,
         one: Box<RowTree>,
@@ -42,7 +41,7 @@ fn side_of(cube: &Cube, at: u32) -> Side {
     }
 }
 
-/// Whether the row of that number has that at the place.
+/// Whether the row with that number is on that side.
 fn is_on_side(rows: &[KissRow], number: usize, at: u32, side: Side) -> bool {
     match rows.get(number) {
         Some(row) => side_of(&row.cube, at) == side,
@@ -50,7 +49,7 @@ fn is_on_side(rows: &[KissRow], number: usize, at: u32, side: Side) -> bool {
     }
 }
 
-/// Those of the numbers whose rows have that at the place.
+/// The numbers whose rows are on that side.
 fn on_side(
     alloc: Global,
     rows: &[KissRow],
@@ -65,7 +64,7 @@ fn on_side(
         .collect(alloc)
 }
 
-/// The place of those with a 1 in `free` at which the fewest rows have a dash; none where all have one.
+/// Among the places with a 1 in `free`, the one at which the fewest rows have a dash, if not all have one.
 fn least_dashed(rows: &[KissRow], numbers: &[usize], free: u32) -> Option<u32> {
     let mut best = None;
     let mut fewest = numbers.len();
@@ -87,7 +86,7 @@ fn least_dashed(rows: &[KissRow], numbers: &[usize], free: u32) -> Option<u32> {
 }
 
 impl RowTree {
-    /// The tree of the rows of these numbers, at most so deep, by the places with a 1 in `free`.
+    /// The tree of the rows with these numbers, at most `depth` deep, split at places with a 1 in `free`.
     pub fn of_rows(
         alloc: Global,
         rows: &[KissRow],

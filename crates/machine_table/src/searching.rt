@@ -1,20 +1,20 @@
-//! The symbols at which what is asked of two states differs.
+//! The symbols at which the answer to a question differs between two states.
 //!
-//! No symbol is gone through: what two rows that meet both hold has its least symbol, and the symbols of a
-//! cube at which rows leave the part open are found by halving the cube at a place at which such a row looks.
+//! Symbols are never enumerated. Two rows that meet have a least common symbol. Symbols of a cube at which
+//! rows leave the part open are found by halving the cube at an input that some row depends on.
 ghost use Rattle.std.specs.Prelude.{ℕ, ◌≡◌, ◌<◌, ◌≤◌, ◌^◌, ◌↔◌, All, IfNone, IfSome, IsSome, IsTrue, length, false, true};
 ghost use Rattle.cubes.specs.Cube.{HoldsNumber, IsHalf, Meets};
 ghost use Rattle.cubes.specs.Symbol.{bit};
 ghost use Rattle.kiss2.specs.Lawful.{IsLawfulRow};
 ghost use Rattle.kiss2.specs.Machine.{Specified};
-ghost use Rattle.machine_table.specs.Inner.Asked.{AlikeBelow, ApartBelow, AreAlike, HaveOneLabel, MeetsApart, NoneIsOpen, AreApartAt, IsAloneAt, IsApartAt, AreOpenAt, SayApart, DifferAt, DifferBothOpen, DifferOpen, IsMetBy, IsOpenAt, SayTwo, SaysAlone, lesser_of};
+ghost use Rattle.machine_table.specs.Inner.Asked.{AllSay, ApartBelow, HaveOneLabel, MeetsApart, NoneIsOpen, AreApartAt, IsAloneAt, IsApartAt, AreOpenAt, SayApart, DifferAt, DifferBothOpen, DifferOpen, IsMetBy, IsOpenAt, SayTwo, SaysAlone, lesser_of};
 
 use crate::Machine;
 use crate::question::Question;
 use cubes::Cube;
 use kiss2::KissRow;
 
-/// The lesser of two numbers that were found.
+/// The lesser of two numbers, if any was found.
 pub(crate) fn lesser(first: Option<u32>, second: Option<u32>) -> Option<u32>
     ensures { result ≡ lesser_of first second }
 {
@@ -25,7 +25,7 @@ pub(crate) fn lesser(first: Option<u32>, second: Option<u32>) -> Option<u32>
     }
 }
 
-/// Whether nothing more is to be looked for: something was found, and the least is not asked for.
+/// Whether the search is over: a symbol was found and the least is not needed.
 fn is_settled(found: Option<u32>, least: bool) -> bool
     ensures some { IsTrue result → IsSome found }
     ensures any { IsTrue result → least ≡ false }
@@ -33,7 +33,7 @@ fn is_settled(found: Option<u32>, least: bool) -> bool
     found.is_some() && !least
 }
 
-/// The half of the cube that has a 1, or a 0, at the place of a dash.
+/// The half of the cube with a 1, or a 0, at the place of a dash.
 pub(crate) fn half(cube: Cube, place: u32, one: bool) -> Cube
     requires place { place < cube.width }
     requires dash { bit cube.care place ≡ false }
@@ -62,7 +62,7 @@ pub(crate) fn whole(width: u8) -> Cube
     }
 }
 
-/// The lowest place at which the other cube looks and the cube does not.
+/// The lowest place at which the other cube has a bit and the cube has a dash.
 pub(crate) fn free_place(cube: &Cube, other: &Cube) -> Option<u32>
     requires width { cube.now.width ≡ other.now.width }
     requires meets { Meets cube.now other.now }
@@ -78,7 +78,7 @@ pub(crate) fn free_place(cube: &Cube, other: &Cube) -> Option<u32>
     }
 }
 
-/// Whether the rows say labels that differ.
+/// Whether the rows give different labels.
 fn say_two<Q: Question>(question: &Q, row: &KissRow, other: &KissRow) -> bool
     requires row { IfSome row.now.to (λ t. t < Q.states question.now) }
     requires other { IfSome other.now.to (λ t. t < Q.states question.now) }
@@ -90,7 +90,7 @@ fn say_two<Q: Question>(question: &Q, row: &KissRow, other: &KissRow) -> bool
     }
 }
 
-/// The least symbol that both rows hold, where they say labels that differ.
+/// The least symbol that both rows hold, if they give different labels.
 fn first_between<Q: Question>(question: &Q, row: &KissRow, other: &KissRow) -> Option<u32>
     requires width { row.now.cube.width ≡ other.now.cube.width }
     requires row { IfSome row.now.to (λ t. t < Q.states question.now) }
@@ -120,7 +120,7 @@ pub(crate) fn least_of_both(cube: &Cube, other: &Cube) -> Option<u32>
     }
 }
 
-/// Whether the row says the part and shares a symbol with the cube.
+/// Whether the row gives the part and shares a symbol with the cube.
 fn says_in<Q: Question>(question: &Q, row: &KissRow, cube: &Cube) -> bool
     requires width { cube.now.width ≡ row.now.cube.width }
     requires row { IfSome row.now.to (λ t. t < Q.states question.now) }
@@ -129,19 +129,8 @@ fn says_in<Q: Question>(question: &Q, row: &KissRow, cube: &Cube) -> bool
     cube.meets(&row.cube) && question.said(row).is_some()
 }
 
-/// Whether the rows have one cube, and the second says the part.
-fn is_alike<Q: Question>(question: &Q, row: &KissRow, other: &KissRow) -> bool
-    requires { IfSome other.now.to (λ t. t < Q.states question.now) }
-    ensures { IsTrue result → AreAlike (Q.said question.now) row.now other.now }
-{
-    if row.cube.care != other.cube.care || row.cube.value != other.cube.value {
-        return false;
-    }
-    question.said(other).is_some()
-}
-
 impl Machine {
-    /// A symbol at which what is asked differs; where the least is asked for, it is the least such.
+    /// A symbol at which the answer differs between the states; the least one, if `least` is set.
     pub(crate) fn first_differing<Q: Question>(
         &self,
         question: &Q,
@@ -168,7 +157,7 @@ impl Machine {
         lesser(found, self.first_open_differing(question, s, t, least))
     }
 
-    /// The same among the symbols at which rows of both states say the part.
+    /// The same among the symbols at which rows of both states give the part.
     fn first_said<Q: Question>(&self, question: &Q, s: usize, t: usize, least: bool) -> Option<u32>
         requires s { s < length self.now.states }
         requires t { t < length self.now.states }
@@ -178,42 +167,29 @@ impl Machine {
         ensures within { IfSome result (λ x. x < 2 ^ self.now.inputs) }
         ensures met { (y : ℕ) → SayTwo (Q.said question.now) self.now s t y → IsMetBy result least y }
     {
-        let first = self.numbers_of(s);
-        let second = self.numbers_of(t);
-        if self.are_alike(question, first, second) {
-            return self.first_by_rows(question, first, second, least);
+        if let Some(rows) = self.aligned_rows(question, s, t, least)
+            && self.all_say(question, rows.second)
+        {
+            return self.first_by_rows(question, rows.first, rows.second, least);
         }
         self.first_by_pairs(question, s, t, least)
     }
 
-    /// Whether the rows at these numbers have the same cubes in the same order, and each of the second ones
-    /// says the part.
-    pub(crate) fn are_alike<Q: Question>(
-        &self,
-        question: &Q,
-        first: &[usize],
-        second: &[usize],
-    ) -> bool
-        requires first { All (λ i. i < length self.now.rows) first.now }
-        requires second { All (λ i. i < length self.now.rows) second.now }
+    /// Whether each row with one of these numbers gives the part.
+    pub(crate) fn all_say<Q: Question>(&self, question: &Q, numbers: &[usize]) -> bool
+        requires inside { All (λ i. i < length self.now.rows) numbers.now }
         requires known { length self.now.states ≤ Q.states question.now }
-        ensures count { IsTrue result → length first.now ≡ length second.now }
-        ensures alike { IsTrue result → AlikeBelow (Q.said question.now) self.now.rows first.now second.now (length first.now) }
+        ensures { IsTrue result → AllSay (Q.said question.now) self.now.rows numbers.now }
     {
-        if first.len() != second.len() {
-            return false;
-        }
-        for i in 0..first.len() {
-            let row = self.row(first[i]);
-            let other = self.row(second[i]);
-            if !is_alike(question, row, other) {
+        for number in numbers {
+            if question.said(self.row(*number)).is_none() {
                 return false;
             }
         }
         true
     }
 
-    /// The same, by the rows that stand at one place.
+    /// The same, comparing only the rows at the same place of both lists.
     fn first_by_rows<Q: Question>(
         &self,
         question: &Q,
@@ -241,7 +217,7 @@ impl Machine {
         found
     }
 
-    /// The same, by all pairs of rows.
+    /// The same, comparing every row of one state with every row of the other.
     fn first_by_pairs<Q: Question>(
         &self,
         question: &Q,
@@ -269,7 +245,7 @@ impl Machine {
         found
     }
 
-    /// The same among the symbols that the row holds, with the label that it says.
+    /// The same among the symbols that the row holds, where it gives a label.
     fn first_apart_from<Q: Question>(
         &self,
         question: &Q,
@@ -294,7 +270,7 @@ impl Machine {
         found
     }
 
-    /// The same among the symbols at which no row of one of the states says the part.
+    /// The same among the symbols at which one of the states leaves the part open.
     fn first_open_differing<Q: Question>(
         &self,
         question: &Q,
@@ -320,7 +296,7 @@ impl Machine {
         lesser(either, self.first_both_open(question, s, t, least))
     }
 
-    /// The same among the symbols at which no row of either state says the part.
+    /// The same among the symbols at which both states leave the part open.
     fn first_both_open<Q: Question>(
         &self,
         question: &Q,
@@ -341,8 +317,8 @@ impl Machine {
         self.first_open_in(question, s, t, whole(self.inputs()), least)
     }
 
-    /// The same among the symbols at which a row of the first state says another label than the second has
-    /// for what no row says, and no row of the second says the part.
+    /// The same among the symbols at which the second state leaves the part open, and a row of the first
+    /// state gives a label other than the one that then applies to the second.
     fn first_alone<Q: Question>(&self, question: &Q, s: usize, t: usize, least: bool) -> Option<u32>
         requires s { s < length self.now.states }
         requires t { t < length self.now.states }
@@ -387,8 +363,7 @@ impl Machine {
         }
     }
 
-    /// A symbol of the cube at which no row of either state says the part; where the least is asked for, it
-    /// is the least such.
+    /// A symbol of the cube at which both states leave the part open; the least one, if `least` is set.
     pub(crate) fn first_open_in<Q: Question>(
         &self,
         question: &Q,
@@ -419,7 +394,7 @@ impl Machine {
         )
     }
 
-    /// The cube of a row of either state that says the part and shares a symbol with the cube.
+    /// The cube of a row of either state that gives the part and shares a symbol with the cube.
     fn said_within<Q: Question>(
         &self,
         question: &Q,
@@ -442,7 +417,7 @@ impl Machine {
         }
     }
 
-    /// The cube of a row of the state that says the part and shares a symbol with the cube.
+    /// The cube of a row of the state that gives the part and shares a symbol with the cube.
     fn said_in<Q: Question>(&self, question: &Q, s: usize, cube: &Cube) -> Option<Cube>
         requires s { s < length self.now.states }
         requires known { length self.now.states ≤ Q.states question.now }

@@ -10,10 +10,10 @@ use crate::open_entry::all_outputs;
 use crate::row_tree::RowTree;
 use std::alloc::{AllocError, Global};
 
-/// With so many symbols for each state trees of rows are worth it.
+/// The number of symbols per state from which trees of rows pay off.
 const MANY_VISITS: usize = 256;
 
-/// Where a machine goes, and its outputs, output b at 2^b.
+/// The next state, and the outputs with output b at 2^b.
 #[derive(Clone, Copy)]
 struct Step {
     next: usize,
@@ -21,7 +21,7 @@ struct Step {
 }
 
 impl Machine {
-    /// The outputs from the reset state on, one number for each symbol: output b at 2^b.
+    /// The outputs from the reset state on, one number for each symbol, with output b at 2^b.
     pub fn walk(&self, alloc: Global, symbols: &[u32]) -> Result<Vec<u64>, AllocError>
         requires { All (λ x. x < 2 ^ self.now.inputs) symbols.now }
         ensures outputs { IfOk result (λ words. map (outputs_of self.now.outputs) words.items ≡ answers self.now self.now.reset (map (symbol_of self.now.inputs) symbols.now)) }
@@ -38,7 +38,7 @@ impl Machine {
         Ok(words)
     }
 
-    /// A tree of the rows of each state, where a word has so many symbols that they are worth it.
+    /// A tree of the rows of each state, if the word is long enough for trees to pay off.
     fn trees_for(&self, alloc: Global, symbols: usize) -> Result<Vec<RowTree>, AllocError> {
         let mut trees = Vec::new(alloc);
         if symbols / MANY_VISITS < self.states() {
@@ -52,7 +52,7 @@ impl Machine {
         Ok(trees)
     }
 
-    /// The step from a state at a symbol. There may be trees of the rows of the states.
+    /// The step from a state at a symbol. The list of trees may be empty.
     fn step(&self, trees: &[RowTree], s: usize, x: u32) -> Step
         requires s { s < length self.now.states }
         requires x { x < 2 ^ self.now.inputs }
@@ -69,7 +69,7 @@ impl Machine {
         }
     }
 
-    /// The same, if a row in the tree says it.
+    /// The same, if a row in the tree gives it.
     fn step_in(&self, tree: &RowTree, s: usize, x: u32) -> Option<Step>
         requires x { x < 2 ^ self.now.inputs }
         ensures { IfSome result (λ step. IsStep self.now s x step.next step.outputs) }
@@ -91,7 +91,7 @@ impl Machine {
         }
     }
 
-    /// The same, if one of the rows of these numbers says it.
+    /// The same, if a row with one of these numbers gives it.
     fn step_among(&self, numbers: &[usize], s: usize, x: u32) -> Option<Step>
         requires x { x < 2 ^ self.now.inputs }
         ensures { IfSome result (λ step. IsStep self.now s x step.next step.outputs) }
@@ -104,8 +104,8 @@ impl Machine {
         None
     }
 
-    /// The same, if the row of that number says it: a row of the state that holds the symbol, names a next
-    /// state and gives each output.
+    /// The same, if the row with that number is a row of the state that holds the symbol, names a next state
+    /// and gives every output.
     fn step_of_row(&self, number: usize, s: usize, x: u32) -> Option<Step>
         requires x { x < 2 ^ self.now.inputs }
         ensures { IfSome result (λ step. IsStep self.now s x step.next step.outputs) }
@@ -126,7 +126,7 @@ impl Machine {
         }
     }
 
-    /// The outputs at a state and a symbol, output b at 2^b.
+    /// The outputs at a state and a symbol, with output b at 2^b.
     pub(crate) fn output_word(&self, s: usize, x: u32) -> u64
         requires s { s < length self.now.states }
         requires x { x < 2 ^ self.now.inputs }

@@ -5,15 +5,15 @@ use Rattle.kiss2.specs.declared.kiss_file.KissFile.{KissFile}
 use Rattle.kiss2.specs.declared.kiss_file.KissRow.{KissRow}
 use Rattle.machine_table.specs.Inner.Asked.{AreOpenAt, IsLabelAt, IsOpenAt, IsOfState}
 
--- a list with the pairs of a kind beside its own
+-- the second list has the pairs of the first, and those of the relation
 abbrev pub AddsPairs : (ℕ → ℕ → Type 0) → List (ℕ × ℕ) → List (ℕ × ℕ) → Type 0
 AddsPairs P old more = (u v : ℕ) → Contains more (u, v) ↔ (Contains old (u, v) ⊎ P u v)
 
--- it is the pair that was found
+-- the pair is the one that was found
 abbrev pub IsFound : Option (ℕ × ℕ) → ℕ → ℕ → Type 0
 IsFound found u v = found ≡ Some (u, v)
 
--- the pair, or where it is turned the pair of the second and the first
+-- the pair, swapped if the flag is set
 abbrev pub pair_of : Bool → ℕ → ℕ → ℕ × ℕ
 pair_of false u v = (u, v)
 pair_of true u v = (v, u)
@@ -22,33 +22,33 @@ pair_of true u v = (v, u)
 abbrev pub to_of : KissRow → Option ℕ
 to_of row = row.to
 
--- both rows hold some symbol, and name these
+-- the rows share a symbol, and name these next states
 pub record AreNamedBy (row other : KissRow) (u v : ℕ) : Type 0 where
   pub shared : (x : ℕ) × (x < 2 ^ row.cube.width) × HoldsNumber row.cube x × HoldsNumber other.cube x
   pub first : row.to ≡ Some u
   pub second : other.to ≡ Some v
 
--- some row of the state does what is told of a row
+-- the statement about a row holds of some row of the state
 abbrev pub OfSomeRow : KissFile → ℕ → (KissRow → ℕ → ℕ → Type 0) → ℕ → ℕ → Type 0
 OfSomeRow F s P u v = (row : KissRow) × IsOfState F s row × P row u v
 
--- the row and some row of the state name these at some symbol
+-- the row and some row of the state share a symbol, and name these next states
 abbrev pub IsNamedBeside : KissFile → ℕ → KissRow → ℕ → ℕ → Type 0
 IsNamedBeside F t row = OfSomeRow F t (AreNamedBy row)
 
--- rows of both states name these at some symbol
+-- at some symbol rows of both states name these next states
 abbrev pub AreNamed : KissFile → (s t u v : ℕ) → Type 0
 AreNamed F s t u v = (x : ℕ) × (x < 2 ^ F.inputs) × IsLabelAt to_of F s x u × IsLabelAt to_of F t x v
 
--- what is told of a number holds of one below the count
+-- the statement holds of some number below the count
 abbrev pub BelowCount : (ℕ → ℕ → ℕ → Type 0) → ℕ → ℕ → ℕ → Type 0
 BelowCount P count u v = (k : ℕ) × (k < count) × P k u v
 
--- the row at a place of a list of numbers does what is told of a row
+-- the statement holds of the row at that place of a list of numbers
 abbrev pub AtPlace : List KissRow → List ℕ → (KissRow → ℕ → ℕ → Type 0) → ℕ → ℕ → ℕ → Type 0
 AtPlace rows numbers P k u v = (row : KissRow) × (slice_get rows (slice_index numbers k) ≡ Some row) × P row u v
 
--- the rows at one place of two lists name these at some symbol
+-- the rows at one place of two lists share a symbol, and name these next states
 abbrev pub AtBothPlaces : List KissRow → (first second : List ℕ) → ℕ → ℕ → ℕ → Type 0
 AtBothPlaces rows first second k u v =
     (row : KissRow) × (other : KissRow) × (slice_get rows (slice_index first k) ≡ Some row) × (slice_get rows (slice_index second k) ≡ Some other) × AreNamedBy row other u v
@@ -56,16 +56,16 @@ AtBothPlaces rows first second k u v =
 abbrev pub AreNamedAtPlaces : List KissRow → (first second : List ℕ) → ℕ → ℕ → Type 0
 AreNamedAtPlaces rows first second = BelowCount (AtBothPlaces rows first second) (length first)
 
--- the row names one at a symbol at which no row of the state names any, and the other is that state
+-- the pair of a next state that the row names and of the other state, at a symbol at which that state leaves it open
 abbrev pub NamesAlone : KissFile → ℕ → Bool → KissRow → ℕ → ℕ → Type 0
 NamesAlone F t turned row u v =
     (x w : ℕ) × (x < 2 ^ F.inputs) × HoldsNumber row.cube x × IsOpenAt to_of F t x × (row.to ≡ Some w) × ((u, v) ≡ pair_of turned w t)
 
--- they are the states, and at some symbol no row of either names any
+-- the pair of the states themselves, which both leave the next state open at some symbol
 abbrev pub AreBothOpen : KissFile → (s t u v : ℕ) → Type 0
 AreBothOpen F s t u v = (x : ℕ) × (x < 2 ^ F.inputs) × AreOpenAt to_of F s t x × (u ≡ s) × (v ≡ t)
 
--- so it is at a symbol at which no row of one of the states names any
+-- a pair at a symbol at which one of the states leaves the next state open
 abbrev pub IsOpenImage : KissFile → (s t u v : ℕ) → Type 0
 IsOpenImage F s t u v =
     OfSomeRow F s (NamesAlone F t false) u v ⊎ (OfSomeRow F t (NamesAlone F s true) u v ⊎ AreBothOpen F s t u v)

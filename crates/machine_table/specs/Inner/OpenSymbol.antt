@@ -10,11 +10,11 @@ use Rattle.machine_table.specs.Said.{IsSaid, Says, place_of}
 use Rattle.machine_table.specs.Inner.Asked.{IsOfState}
 use Rattle.machine_table.specs.Inner.Places.{IsNumberOf}
 
--- at each symbol each part at the first places is said
+-- at each symbol each part at the first places is given
 abbrev pub IsSaidEverywhere : KissFile → (s count : ℕ) → Type 0
 IsSaidEverywhere F s count = (number : ℕ) (part : Missing) → number < 2 ^ F.inputs → place_of part < count → IsSaid F s number part
 
--- the first symbol at which one of them is open, and the first such part there
+-- the first symbol at which one of these parts is open, and the first such part there
 pub record IsFirstOpenAt (F : KissFile) (s count symbol : ℕ) (part : Missing) : Type 0 where
   pub within : symbol < 2 ^ F.inputs
   pub counted : place_of part < count
@@ -28,28 +28,28 @@ pub record IsFirstOpenOf (F : KissFile) (s : ℕ) (part : Missing) (symbol : ℕ
   pub not_said : IsSaid F s symbol part → ⊥
   pub least : (number : ℕ) → number < symbol → IsSaid F s number part
 
--- what is known of the parts at the first places
+-- the answer of a search for open parts at the first places
 abbrev pub IsFirstAmong : KissFile → (s count : ℕ) → Option (ℕ × Missing) → Type 0
 IsFirstAmong F s count found = MatchOption found (IsSaidEverywhere F s count) (λ it. IsFirstOpenAt F s count it.0 it.1)
 
--- what is known of one part
+-- the answer of a search for one open part
 abbrev pub IsFirstOf : KissFile → (s : ℕ) → Missing → Option ℕ → Type 0
 IsFirstOf F s part found =
     MatchOption found ((number : ℕ) → number < 2 ^ F.inputs → IsSaid F s number part) (IsFirstOpenOf F s part)
 
--- the row names a next state and gives each of so many outputs
+-- the row names a next state and gives each of that many outputs
 abbrev pub IsFull : ℕ → KissRow → Type 0
 IsFull outputs row = IsSome row.to × ((b : ℕ) → b < outputs → IsSome (given_bit b row))
 
--- each row of the state does
+-- each row of the state names a next state and gives every output
 abbrev pub SaysAll : KissFile → ℕ → Type 0
 SaysAll F s = (row : KissRow) → Contains F.rows row → row.from ≡ s → IsFull F.outputs row
 
--- each of the cubes is that of a row of the state that does
+-- each cube is that of a row of the state that names a next state and gives every output
 abbrev pub AreFullCubes : KissFile → ℕ → List Cube → Type 0
 AreFullCubes F s cubes = (cube : Cube) → Contains cubes cube → (row : KissRow) × IsOfState F s row × IsFull F.outputs row × (row.cube ≡ cube)
 
--- the cubes are those of the rows at these numbers that say the part
+-- the cubes are those of the first rows with these numbers that give the part
 pub record AreCubesOf (F : KissFile) (s : ℕ) (part : Missing) (numbers : List ℕ) (count : ℕ) (cubes : List Cube) : Type 0 where
   pub own : (cube : Cube) → Contains cubes cube → (i : ℕ) × (row : KissRow) × IsNumberOf F s i × (slice_get F.rows i ≡ Some row) × Says part row × (row.cube ≡ cube)
   pub each : (k d : ℕ) (row : KissRow) → k < count → slice_get F.rows (slice_index_or numbers k d) ≡ Some row → Says part row → Contains cubes row.cube

@@ -1,4 +1,4 @@
--- Where the rows of each state stand. Private functions need it; no public contract cites it.
+-- The numbers of the rows of each state. Private functions need it; no public contract cites it.
 use Rattle.std.specs.Prelude.{ℕ, ◌≡◌, ◌<◌, AllPairs, List, Contains, Some, [], length, slice_get, slice_index_or}
 use Rattle.kiss2.specs.declared.kiss_file.KissFile.{KissFile}
 use Rattle.kiss2.specs.declared.kiss_file.KissRow.{KissRow}
@@ -8,32 +8,32 @@ use Rattle.machine_table.specs.Conflict.{Contradicts}
 abbrev pub places_of : List (List ℕ) → ℕ → List ℕ
 places_of places s = slice_index_or places s []
 
--- for each state the numbers of its rows among the first rows, ascending
+-- for each state, the numbers of its rows among the first rows, ascending
 pub record ArePlaces (rows : List KissRow) (states count : ℕ) (places : List (List ℕ)) : Type 0 where
   pub size : length places ≡ states
   pub own : (s i : ℕ) → Contains (places_of places s) i → (row : KissRow) × (i < count) × (slice_get rows i ≡ Some row) × (row.from ≡ s)
   pub each : (i : ℕ) (row : KissRow) → i < count → slice_get rows i ≡ Some row → Contains (places_of places row.from) i
   pub ascending : (s : ℕ) → AllPairs (λ i j. i < j) (places_of places s)
 
--- for each state the numbers of its rows, in whatever order
+-- for each state, the numbers of its rows in any order
 pub record ListRows (rows : List KissRow) (states : ℕ) (places : List (List ℕ)) : Type 0 where
   pub size : length places ≡ states
   pub own : (s i : ℕ) → Contains (places_of places s) i → (row : KissRow) × (slice_get rows i ≡ Some row) × (row.from ≡ s)
   pub each : (i : ℕ) (row : KissRow) → slice_get rows i ≡ Some row → Contains (places_of places row.from) i
 
--- the row of that number contradicts the row
+-- the row with that number contradicts the row
 abbrev pub ContradictsRow : List KissRow → KissRow → ℕ → Type 0
 ContradictsRow rows row i = (other : KissRow) × (slice_get rows i ≡ Some other) × Contradicts other row
 
--- each of the numbers is that of a row of the state, with a cube of that width
+-- each number is that of a row of the state, with a cube of that width
 abbrev pub AreNumbersOf : List KissRow → (state width : ℕ) → List ℕ → Type 0
 AreNumbersOf rows state width numbers =
     (i : ℕ) → Contains numbers i → (row : KissRow) × (slice_get rows i ≡ Some row) × (row.from ≡ state) × (row.cube.width ≡ width)
 
--- all cubes are of one width
+-- all cubes have the same width
 abbrev pub HaveOneWidth : List KissRow → Type 0
 HaveOneWidth rows = AllPairs (λ row other. row.cube.width ≡ other.cube.width) rows
 
--- the row of that number is one of the state
+-- the row with that number belongs to the state
 abbrev pub IsNumberOf : KissFile → (state number : ℕ) → Type 0
 IsNumberOf F state number = (row : KissRow) × (slice_get F.rows number ≡ Some row) × (row.from ≡ state)

@@ -5,7 +5,7 @@ use Rattle.kiss2.specs.declared.kiss_file.KissFile.{KissFile}
 use Rattle.kiss2.specs.Machine.{next, out}
 use Rattle.machine_table.specs.Walk.{outputs_of}
 
--- where the machine goes from the state at the symbol of that number, and the number of its outputs there
+-- the next state at the symbol with that number, and the number that encodes the outputs there
 pub record IsStep (F : KissFile) (s x goes word : ℕ) : Type 0 where
   pub next_state : goes ≡ next F s (symbol_of F.inputs x)
   pub state : goes < length F.states

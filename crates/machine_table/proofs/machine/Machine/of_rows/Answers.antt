@@ -5,6 +5,7 @@ use Rattle.kiss2.specs.declared.kiss_file.KissRow.{KissRow}
 use Rattle.kiss2.specs.Machine.{Conflicting, Specified}
 use Rattle.machine_table.specs.Conflict.{ContradictAt}
 use Rattle.machine_table.specs.Table.{IsTable}
+use Rattle.machine_table.specs.Inner.Columns.{AreColumns}
 use Rattle.machine_table.specs.Inner.Places.{ListRows}
 use Rattle.machine_table.proofs.Conflicts.{few_rows, none_conflicting}
 use Rattle.machine_table.proofs.machine.Machine.of_rows.Goals as goal
@@ -38,8 +39,14 @@ invariant_of-result c =
     subst (λ (n : ℕ). ListRows F.rows n c.in_ok-ordered.ordered.items) c.count.ensures.count
     (subst (λ (list : List KissRow). ListRows list c.count.result c.in_ok-ordered.ordered.items) c.as_slice-rows.ensures
     (subst (λ (n : ℕ). ListRows c.as_slice-rows.result.now n c.in_ok-ordered.ordered.items) (ap (λ (lists : List (List ℕ)). length lists) c.deref-2.ensures.value ∙ c.in_ok-places.ensures.size) c.in_ok-ordered.ensures)) in
-    subst (λ (G : KissFile). IsTable G × (Conflicting G → ⊥) × ListRows G.rows (length G.states) c.in_ok-ordered.ordered.items × (IsTrue false → Specified G))
-    (sym c.in_ok-file.ensures) (c.requires.table, none, stand, λ complete. absurd (false≢true complete))
+    let columns : AreColumns F.rows c.in_ok-ordered.ordered.items c.in_ok-leaders.leaders.items c.in_ok-columns.columns.items =
+    subst (λ (list : List KissRow). AreColumns list c.in_ok-ordered.ordered.items c.in_ok-leaders.leaders.items c.in_ok-columns.columns.items) c.as_slice-rows.ensures
+    (subst (λ (all : List ℕ). AreColumns c.as_slice-rows.result.now c.in_ok-ordered.ordered.items all c.in_ok-columns.columns.items) c.deref-5.ensures.value
+    (subst (λ (lists : List (List ℕ)). AreColumns c.as_slice-rows.result.now lists c.deref-5.result.now c.in_ok-columns.columns.items) c.deref-4.ensures.value
+    c.in_ok-columns.ensures)) in
+    subst (λ (G : KissFile). IsTable G × (Conflicting G → ⊥) × ListRows G.rows (length G.states) c.in_ok-ordered.ordered.items × (IsTrue false → Specified G)
+    × AreColumns G.rows c.in_ok-ordered.ordered.items c.in_ok-leaders.leaders.items c.in_ok-columns.columns.items)
+    (sym c.in_ok-file.ensures) (c.requires.table, none, stand, (λ complete. absurd (false≢true complete)), columns)
 
 pub returns-clause-no_conflict : goal.returns-clause-no_conflict
 returns-clause-no_conflict c =
