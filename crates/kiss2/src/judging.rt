@@ -1,10 +1,8 @@
 //! Judges the operands of a line.
-ghost use Rattle.std.specs.Prelude.{ℕ, ◌≡◌, ◌+◌, ◌<◌, ◌≤◌, ◌^◌, All, List, [], ◌∷◌, ◌++◌, false, true, not, filter, nat_lt, IfErr, IfOk, IfNone, IfSome, MatchResult, None, OnOk, Some, length, unwrap_or};
+ghost use Rattle.std.specs.Prelude.{◌≡◌, ◌+◌, ◌<◌, ◌^◌, All, [], ◌++◌, false, true, not, IfOk, MatchResult, None, Some, length, unwrap_or};
 ghost use Rattle.std.specs.List.{list_any};
-ghost use Rattle.hs_io.specs.declared.lines.Line.{Line};
-ghost use Rattle.kiss2.specs.declared.line_kind.LineKind.TheVariants.{InputCount, InputNames, OutputCount, OutputNames, Reset, Row, RowCount, StateCount};
-ghost use Rattle.kiss2.specs.Faults.{count_fault, fault_in, first_of, fault_where, has_twice, is_not_one, long_name, names_fault, number_fault, operand_of, reset_fault, row_fault};
-ghost use Rattle.kiss2.specs.Words.{field_at, has_backslash, is_character_field, line_kind_of, decimal_value, output_field};
+ghost use Rattle.kiss2.specs.Faults.{count_fault, has_twice, is_not_one, long_name, names_fault, number_fault, operand_of, reset_fault};
+ghost use Rattle.kiss2.specs.Words.{has_backslash, decimal_value};
 ghost use Rattle.kiss2.specs.Names.{AreDistinct};
 ghost use Rattle.kiss2.specs.Inner.Judging.{Judges};
 

@@ -1,5 +1,5 @@
 //! What is kept of the lines so far, and one line more.
-ghost use Rattle.std.specs.Prelude.{◌≡◌, [], ◌∷◌, ◌++◌, All, List, OnOk};
+ghost use Rattle.std.specs.Prelude.{◌≡◌, [], ◌∷◌, ◌++◌, List, OnOk};
 ghost use Rattle.hs_io.specs.declared.lines.Line.{Line};
 ghost use Rattle.kiss2.specs.Faults.{fault_in};
 ghost use Rattle.kiss2.specs.Standing.{row_lines};

@@ -1,5 +1,5 @@
 //! Reads a KISS2 text.
-ghost use Rattle.std.specs.Prelude.{ℕ, ◌≡◌, ◌≢◌, ◌<◌, ◌^◌, ◌⊎◌, Err, List, IfErr, IfOk, MatchResult, Some, length};
+ghost use Rattle.std.specs.Prelude.{◌≡◌, ◌<◌, ◌^◌, ◌⊎◌, Err, List, IfOk, MatchResult, Some, length};
 ghost use Rattle.hs_io.specs.declared.lines.Line.{Line};
 ghost use Rattle.kiss2.specs.declared.fault.KissFault.{KissFault};
 ghost use Rattle.kiss2.specs.declared.kiss_file.KissFile.{KissFile};

@@ -1,12 +1,12 @@
 //! The record of lines without a fault, by the lines of their rows.
-ghost use Rattle.std.specs.Prelude.{ℕ, ◌≡◌, ◌+◌, ◌<◌, ◌≤◌, ◌^◌, All, Contains, List, IfNone, IfOk, IfSome, None, OnOk, Some, false, true, length, slice_get, slice_index_or};
+ghost use Rattle.std.specs.Prelude.{ℕ, ◌≡◌, ◌<◌, ◌≤◌, All, Contains, List, IfNone, IfOk, IfSome, None, OnOk, Some, false, true, length, slice_get, slice_index_or};
 ghost use Rattle.kiss2.specs.declared.kiss_file.KissRow.{KissRow};
 ghost use Rattle.std.specs.List.{AllZip};
 ghost use Rattle.cubes.specs.Cube.{text_of};
 ghost use Rattle.hs_io.specs.declared.lines.Line.{Line};
 ghost use Rattle.kiss2.specs.Kiss.{IsNextOf, IsRecordOf, IsRowOf, closing_fault};
-ghost use Rattle.kiss2.specs.Standing.{names_in_column, reset_name};
-ghost use Rattle.kiss2.specs.Words.{current_field, is_character_field, is_open, next_field};
+ghost use Rattle.kiss2.specs.Standing.{names_in_column};
+ghost use Rattle.kiss2.specs.Words.{is_character_field, is_open};
 ghost use Rattle.kiss2.specs.Inner.Good.{IsGoodRow, IsKnownRow};
 ghost use Rattle.kiss2.specs.Inner.Judging.{Keeps, names_in_columns, once_after};
 

@@ -1,11 +1,10 @@
 //! What the lines so far have said, and one line more.
-ghost use Rattle.std.specs.Prelude.{ℕ, ◌≡◌, ◌≢◌, ◌+◌, ◌<◌, ◌≤◌, ◌^◌, ◌↔◌, ◌||◌, All, Contains, Err, List, [], ◌∷◌, ◌++◌, false, true, not, filter, nat_lt, IfErr, IfOk, IfSome, MatchOption, MatchResult, None, OnErr, OnOk, Ok, Some, length, take, unwrap_or};
-ghost use Rattle.std.specs.Option.{is_none};
+ghost use Rattle.std.specs.Prelude.{ℕ, ◌≡◌, ◌+◌, ◌<◌, ◌≤◌, ◌^◌, All, Err, List, [], ◌∷◌, ◌++◌, false, true, not, filter, nat_lt, IfErr, IfOk, MatchResult, None, OnOk, Ok, Some, length};
 ghost use Rattle.hs_io.specs.declared.lines.Line.{Line};
 ghost use Rattle.kiss2.specs.declared.line_kind.LineKind.TheVariants.{InputCount, InputNames, OutputCount, OutputNames, Reset, Row, RowCount, StateCount};
 ghost use Rattle.kiss2.specs.Faults.{fault_in, first_of, fault_where, row_fault};
-ghost use Rattle.kiss2.specs.Words.{current_field, field_at, is_character_field, is_name, line_kind_of, next_field, output_field};
-ghost use Rattle.kiss2.specs.Inner.Judging.{IsSmall, Judges, Stands, names_on, once_after};
+ghost use Rattle.kiss2.specs.Words.{current_field, is_character_field, is_name, line_kind_of, output_field};
+ghost use Rattle.kiss2.specs.Inner.Judging.{IsSmall, Judges, Stands, once_after};
 
 use crate::StateNames;
 use crate::fault::{KissKind, KissLimit};

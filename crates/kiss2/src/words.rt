@@ -1,5 +1,5 @@
 //! Fields of a line, one at a time.
-ghost use Rattle.std.specs.Prelude.{ℕ, ◌≡◌, ◌<◌, ◌≤◌, ◌^◌, false, true, IfNone, IfSome, length};
+ghost use Rattle.std.specs.Prelude.{◌≡◌, ◌<◌, ◌≤◌, ◌^◌, false, true, IfNone, IfSome, length};
 ghost use Rattle.std.specs.Char.{is_ascii_digit};
 ghost use Rattle.std.specs.List.{list_all};
 ghost use Rattle.kiss2.specs.Words.{care_in, field_at, has_backslash, is_character, is_character_field, is_decimal, is_open, decimal_value, operands, value_in};

@@ -1,5 +1,5 @@
 //! Writes a record as a KISS2 text.
-ghost use Rattle.std.specs.Prelude.{ℕ, ◌≡◌, ◌+◌, ◌<◌, ◌≤◌, ◌==◌, Bool, List, [], ◌∷◌, ◌++◌, IfOk, OnOk, codes, count_by, length, map, replicate, slice_index_or, ◌||◌, if◌then◌else◌, true, false, Some, None};
+ghost use Rattle.std.specs.Prelude.{ℕ, ◌≡◌, ◌+◌, ◌<◌, ◌==◌, [], ◌∷◌, ◌++◌, IfOk, OnOk, count_by, length, map, replicate, slice_index_or, ◌||◌, if◌then◌else◌, true, false, Some, None};
 ghost use Rattle.cubes.specs.Symbol.{bit};
 ghost use Rattle.std.specs.Fmt.{decimal};
 ghost use Rattle.std.specs.List.{cons_option, filter_map, flat_map, list_any, range_with_len};
