@@ -115,7 +115,7 @@ bytes_hold (c ∷ field) (bit ∷ bits) = ap (λ b. b && row_holds (map byte_of 
 pub cube_of_row : (cube : Cube) (row : List ℕ) (symbol : List Bool) → row ≡ text_of cube → row_holds row symbol ≡ holds cube symbol
 cube_of_row cube row symbol is = ap (λ (r : List ℕ). row_holds r symbol) is ∙ bytes_hold (field_of cube) symbol
 
-or_none : (b : Bool) → (b || false) ≡ b
+pub or_none : (b : Bool) → (b || false) ≡ b
 or_none true = refl
 or_none false = refl
 

@@ -11,3 +11,4 @@ pub mod Binary
 pub mod FormValues
 pub mod ReadSymbols
 pub mod WorkedRuns
+pub mod WideRows

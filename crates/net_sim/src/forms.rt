@@ -7,6 +7,7 @@ ghost use Rattle.net_core.specs.Step.{row_holds};
 ghost use Rattle.net_sim.specs.Inner.Forms.{AreForms, IsCubes, IsForm, IsTable};
 
 use crate::gate_values::value_of_cubes;
+use crate::pieces::{Pieces, wide_rows};
 use cubes::Cube;
 use hs_list::Items;
 use net_core::NumberedGate;
@@ -19,6 +20,8 @@ pub(crate) enum GateForm {
     Table(Items<bool>),
     /// Its rows as cubes.
     Cubes(Items<Cube>),
+    /// Its rows as lists of cubes, for a gate of more inputs than a cube has places.
+    Wide(Items<Pieces>),
     /// Its rows as they are.
     Rows,
 }
@@ -26,8 +29,11 @@ pub(crate) enum GateForm {
 /// The greatest number of inputs of a gate with a table.
 const MOST_TABLE: usize = 12;
 
-/// The greatest number of inputs of a gate with cubes.
+/// The greatest number of inputs of a gate with one cube for each row.
 const MOST_CUBES: usize = 32;
+
+/// The greatest number of inputs of a gate with cubes.
+const MOST_PIECES: usize = 256;
 
 /// A table has at most this many times as many values as the gate's rows and one more row have bytes.
 const MOST_SPREAD: usize = 16;
@@ -52,8 +58,11 @@ fn form_of(alloc: Global, gate: &NumberedGate, symbols: usize) -> Result<GateFor
     ensures { IfOk result (IsForm gate.now) }
 {
     let inputs = gate.inputs.len();
-    if inputs == 0 || inputs > MOST_CUBES {
+    if inputs == 0 || inputs > MOST_PIECES {
         return Ok(GateForm::Rows);
+    }
+    if inputs > MOST_CUBES {
+        return Ok(GateForm::Wide(wide_rows(alloc, gate)?));
     }
     let cubes = cubes_of(alloc, gate, inputs as u8)?;
     if has_table(gate, symbols) {

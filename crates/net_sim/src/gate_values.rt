@@ -8,8 +8,10 @@ ghost use Rattle.net_core.specs.Step.{character_holds, row_holds};
 ghost use Rattle.net_sim.specs.declared.forms.GateForm.{GateForm};
 ghost use Rattle.net_sim.specs.Inner.Evaluated.{bits_at, value_at, value_for};
 ghost use Rattle.net_sim.specs.Inner.Forms.{IsCubes, IsForm};
+ghost use Rattle.net_sim.specs.Inner.Pieces.{IsWide};
 
 use crate::forms::GateForm;
+use crate::pieces::{Pieces, holds_some, number_pieces};
 use cubes::Cube;
 use net_core::NumberedGate;
 
@@ -41,12 +43,13 @@ fn value_by(form: &GateForm, gate: &NumberedGate, signals: &[bool]) -> bool
         GateForm::Cubes(cubes) => {
             value_of_cubes(gate, cubes.as_slice(), number_at(&gate.inputs, signals))
         }
+        GateForm::Wide(rows) => value_of_pieces(gate, rows.as_slice(), signals),
         GateForm::Rows => value_of(gate, &gate.inputs, signals),
     }
 }
 
 /// The number whose bits are the signals of these numbers, the first bit the most significant.
-fn number_at(numbers: &[usize], signals: &[bool]) -> u32
+pub(crate) fn number_at(numbers: &[usize], signals: &[bool]) -> u32
     requires few { length numbers.now ≤ 32 }
     requires within { All (λ s. s < length signals.now) numbers.now }
     ensures { result ≡ number_of (bits_at signals.now numbers.now) }
@@ -82,11 +85,24 @@ fn is_held(cubes: &[Cube], number: u32) -> bool
 }
 
 /// Whether the cube holds the bits of a number.
-fn is_held_by(cube: &Cube, number: u32) -> bool
+pub(crate) fn is_held_by(cube: &Cube, number: u32) -> bool
     requires { number < 2 ^ cube.now.width }
     ensures { result ≡ cube_holds cube.now (symbol_of cube.now.width number) }
 {
     cube.holds(number)
+}
+
+/// The value of a gate of many inputs, by the pieces of its rows.
+fn value_of_pieces(gate: &NumberedGate, rows: &[Pieces], signals: &[bool]) -> bool
+    requires few { length gate.now.inputs.items ≤ 256 }
+    requires within { All (λ s. s < length signals.now) gate.now.inputs.items }
+    requires wide { IsWide gate.now rows.now }
+    ensures { result ≡ value_at signals.now gate.now }
+{
+    let mut numbers = [0u32; 8];
+    number_pieces(&gate.inputs, signals, &mut numbers);
+    let held = holds_some(rows, &numbers);
+    if held { gate.on } else { !gate.on }
 }
 
 /// The value of a gate whose inputs are the signals of these numbers, by its rows.

@@ -21,6 +21,7 @@ mod failing;
 mod forms;
 mod gate_values;
 mod laws;
+mod pieces;
 mod running;
 mod said;
 mod starting;

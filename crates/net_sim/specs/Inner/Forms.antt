@@ -7,8 +7,9 @@ use Rattle.cubes.specs.Symbol.{symbol_of}
 use Rattle.net_core.specs.declared.ordering.NumberedGate.{NumberedGate}
 use Rattle.net_core.specs.Step.{row_holds}
 use Rattle.net_sim.specs.declared.forms.GateForm.{GateForm}
-use Rattle.net_sim.specs.declared.forms.GateForm.TheVariants.{Table, Cubes, Rows}
+use Rattle.net_sim.specs.declared.forms.GateForm.TheVariants.{Table, Cubes, Wide, Rows}
 use Rattle.net_sim.specs.Inner.Evaluated.{value_for}
+use Rattle.net_sim.specs.Inner.Pieces.{IsWide}
 
 -- the table has at each number the value of the gate for the bits of this number
 pub record IsTable (gate : NumberedGate) (table : List Bool) : Type 0 where
@@ -26,6 +27,7 @@ pub record IsCubes (gate : NumberedGate) (cubes : List Cube) : Type 0 where
 abbrev pub IsForm : NumberedGate → GateForm → Type 0
 IsForm gate (Table table) = IsTable gate table
 IsForm gate (Cubes cubes) = IsCubes gate cubes
+IsForm gate (Wide rows) = (length gate.inputs.items ≤ 256) × IsWide gate rows
 IsForm gate Rows = ⊤
 
 -- forms of gates, one for each gate as far as there are forms
