@@ -63,7 +63,7 @@ filled_halves w t zero one number column before between after low high first sec
       (λ q. inr ((high x).0 q).0) (second.rest x below);
 }
 
--- the number stands at the only value, or it does not
+-- the only value has the number, or it has not
 pub found_one : (w : ℕ) (t : Term) (number : ℕ) (chart : List ℕ) → FitsWidth w t → get_or chart t.value 0 ≡ number → IsFound w t number chart (Some t.value)
 found_one w t number chart fits e = (value_below w t fits, holds_own t, e)
 

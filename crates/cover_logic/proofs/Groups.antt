@@ -111,7 +111,7 @@ live_push gs g t = (
   λ h. ⊎_elim (λ k. (k.0, Contains-append_left gs (g ∷ []) k.0 k.1, k.2)) (λ l. (g, Contains-push gs g, l)) h,
 )
 
--- each of the terms is live in a group, or stands in a bundle that has no group yet
+-- each of the terms is live in a group, or is in a bundle that has no group yet
 abbrev pub AreGrouped : List Term → List Bundle → List Group → Type 0
 AreGrouped terms left gs = (t : Term) → (IsLiveInSome gs t ⊎ Contains (terms_in (entries_in left)) t) ↔ Contains terms t
 
@@ -142,7 +142,7 @@ pub grouped_all : (terms : List Term) (left : List Bundle) (gs : List Group) →
 grouped_all terms left gs none all t =
     (λ h. (all t).0 (inl h), λ h. ⊎_elim (λ l. l) (λ k. absurd (Contains-nil t (subst (λ (bs : List Bundle). Contains (terms_in (entries_in bs)) t) none k))) ((all t).1 h))
 
--- another group in the place of one
+-- another group instead of one
 pub all_live_set : (gs : List Group) (i : ℕ) (h d : Group) → i < length gs → all_live (set gs i h) + (get_or gs i d).live ≡ all_live gs + h.live
 all_live_set [] i h d below = absurd (omega arith)
 all_live_set (g ∷ gs) zero h d below = omega arith

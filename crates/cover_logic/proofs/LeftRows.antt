@@ -92,7 +92,7 @@ left_without rows left kept i below s = record {
     other : (j : ℕ) → j ≢ i → get_or (set left i false) j false ≡ get_or left j false
     other j ne = get_or-set_other left i j false false ne
 
--- the rivals of a row hold the same of its values as the rows that are kept and those behind it
+-- the rivals of a row hold the same of its values as the rows that are kept and those after it
 module _ (rows : List Term) (left : List Bool) (kept : List Term) (i : ℕ) (row : Term) (entries near : List Entry) (others : List Term) (numbered : IsNumbered rows entries) (met : IsMet row entries near) (rivals : HoldsRivals i left near others) (s : AreLeft rows left kept i) where
   held_by : (j : ℕ) (t : Term) (x : ℕ) → j < length rows → j ≢ i → get_or left j false ≡ true → get_or rows j t ≡ t → Holds row x → Holds t x → IsCovered others x
   held_by j t x below ne stand is p q =

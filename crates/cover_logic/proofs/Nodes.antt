@@ -21,7 +21,7 @@ listed-append (x ∷ xs) ys = step x.is_listed (listed xs) (listed (xs ++ ys)) (
     step true low all e = ap (λ ts. x.term ∷ ts) e
     step false low all e = e
 
--- a node of the list, where it stands
+-- a node of the list, at its place
 pub listed_at : (nodes : List Node) (i : ℕ) (d : Node) → i < length nodes → (get_or nodes i d).is_listed ≡ true → Contains (listed nodes) (get_or nodes i d).term
 listed_at [] i d h e = absurd (omega arith)
 listed_at (x ∷ xs) zero d h e = subst (λ (ts : List Term). Contains ts x.term) (sym (cond-true x.is_listed (x.term ∷ listed xs) (listed xs) e)) (Contains-head x.term (listed xs))
@@ -31,7 +31,7 @@ listed_at (x ∷ xs) (suc i) d h e = behind x.is_listed (listed_at xs i d (omega
     behind true k = Contains-tail x.term (listed xs) (get_or xs i d).term k
     behind false k = k
 
--- and where a term of the list stands
+-- and a term of the list, at its place
 abbrev pub StandsAt : List Node → Term → Type 0
 StandsAt nodes t = (i : ℕ) × (i < length nodes) × ((d : Node) → ((get_or nodes i d).is_listed ≡ true) × ((get_or nodes i d).term ≡ t))
 
@@ -154,7 +154,7 @@ added_hull before after terms n a is from holds = record {
         (All-contains (Includes n.term) terms (get_or a.added (j - length before) d).term holds
         (All-contains (Contains terms) (listed a.added) (get_or a.added (j - length before) d).term a.among k))
 
--- what was put in behind nothing
+-- what was put in after nothing
 pub same_terms : (terms : List Term) (nodes : List Node) → IsAdded [] terms nodes → HasSameTerms terms (listed nodes)
 same_terms terms nodes a t = (
   λ h. All-contains (Contains terms) (listed a.added) t a.among (subst (λ (ns : List Node). Contains (listed ns) t) a.is h),
@@ -194,7 +194,7 @@ apart_left_out row nodes end at n nested a e is none = record {
         absurd (false≢true (sym none ∙ agree_from_shared row n.term x.0 x.1 outer)))
         (λ rest. rest) (cases_Bool (agree row (get_or nodes i d).term))
 
--- with all nodes behind, the row is clear of the list
+-- once all nodes are passed, the row is clear of the list
 pub apart_all : (row : Term) (nodes : List Node) (end : ℕ) → ApartFrom row nodes end → end ≡ 0 → IsClear (listed nodes) row
 apart_all row nodes end a e x p held =
     let s = stands nodes held.0 held.1 in
@@ -244,7 +244,7 @@ parts_same column terms t = (
     by_bits true false z o d = z refl
     by_bits false c z o d = o refl
 
--- the three parts, one behind the other
+-- the three parts, one after the other
 pub added_parts : (before first second after : List Node) (terms zeros ones dashes : List Term) (column : ℕ) → zeros ≡ filter (has_zero column) terms → ones ≡ filter (has_one column) terms → dashes ≡ filter (has_dash column) terms → IsAdded before zeros first → IsAdded first ones second → IsAdded second dashes after → IsAdded before terms after
 added_parts before first second after terms zeros ones dashes column z o d a b c =
     added_same before after terms ((zeros ++ ones) ++ dashes)

@@ -128,7 +128,7 @@ cleared_less n k within one = ⊎_elim
     (λ same. absurd (zero_is_not_one (bit_at n k) (sym (ap (λ m. bit_at m k) same) ∙ bit_at_clear_same w128 n k within) one))
     (λ ne. let le = and_le_l n (bit_not w128 (1 * 2 ^ k % 2 ^ 128)) in omega (arith, le)) (cases_eq (bit_and n (bit_not w128 (1 * 2 ^ k % 2 ^ 128))) n)
 
--- the first elements, and so many behind them
+-- the first elements, and some after them
 pub take_add : {X : Type 0} (i m : ℕ) (xs : List X) → take (i + m) xs ≡ take i xs ++ take m (drop i xs)
 take_add {X} i m xs =
     sym (take-append-drop i (take (i + m) xs))

@@ -44,7 +44,7 @@ prime_more off n t wide h looser here column below l =
     (λ ne. let w = h column (omega arith) (looser.literals column l).0 in (w.0, w.1, looser_with_dash wide t looser column w.0 w.2))
     (cases_eq n column)
 
--- no literal stands at or above the width
+-- there is no literal at or above the width
 pub prime_from_below : (off : List Term) (width : ℕ) (t : Term) → FitsWidth width t → IsPrimeBelow off width t → IsPrime off t
 prime_from_below off width t fits h column l = h column (below_width width t.care column fits l) l
 

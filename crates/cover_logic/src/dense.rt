@@ -27,8 +27,8 @@ fn values_of(terms: &[Term], width: u8) -> usize {
     values
 }
 
-/// Whether tables pay: whether the terms hold at least three quarters of all values, and each value about eight
-/// times at most on average.
+/// Whether tables are worth making: the terms have to hold at least three quarters of all values, where a value
+/// counts once for each term, and at most about eight times as many as there are.
 pub fn is_dense(on: &[Term], off: &[Term], width: u8) -> bool
     ensures { IsTrue result → width ≤ 16 }
 {

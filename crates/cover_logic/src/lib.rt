@@ -16,18 +16,21 @@
 //!
 //! How the crate finds out what a row holds depends on the gate.
 //!
-//! A dense gate has 10 to 16 columns, and its terms hold most of all values (`dense`). It is asked by its values. A
+//! A dense gate has 10 to 16 columns, and its terms hold most of all values (`dense`). It is asked by its values. One
 //! table has a mark for each value of off, and another for each value that a row holds already (`table`). A row can
-//! be left out where no value of on has it as the last row that holds the value (`lasts`).
+//! be left out unless it is the last row that holds some value of on, and no row kept before holds that value
+//! (`lasts`).
 //!
-//! Any other gate is asked by its terms, so the number of values does not matter. Whether a row shares a value with
-//! off is asked of an index (`index`, `raise`). A row is made until each term of on lies whole within one (`primes`);
-//! in large gates one step asks this of 128 terms at once, by their columns (`waiting`, `bundles`), and the crate
-//! `cover_advice` tells which steps are worth a question to the index. Which rows and which terms of on share a value with a
-//! row is also asked of 128 terms at once in long lists (`rivals`). Whether other rows hold the values that a row
-//! shares with a term of on is asked of one part of them at a time (`gap`). Of the rows that touch the part, the one
-//! with the fewest literals outside it either holds the part whole, or has such a literal, and the part is split
-//! there in two.
+//! Any other gate is asked by its terms, so the number of values does not matter. An index of off tells whether a row
+//! shares a value with off (`index`, `raise`). Rows are made until each term of on lies whole within one (`primes`);
+//! in large gates one step asks this of 128 terms at once, by their columns (`waiting`, `bundles`). In long lists the
+//! same is done to find the rows and the terms of on that share a value with a row (`rivals`). Whether other rows hold
+//! the values that a row shares with a term of on is asked of one part of them at a time (`gap`). Of the rows that
+//! touch the part, the one with the fewest literals outside it either holds the part whole, or has such a literal,
+//! and the part is split there in two.
+//!
+//! Either way the crate `cover_advice` says how a row is best widened, and the table or the index is asked before its
+//! advice is followed.
 #![tactic(auto)]
 
 ghost use Rattle.std.specs.Prelude.{◌≤◌, ◌↔◌, All, IfOk, IsTrue};
