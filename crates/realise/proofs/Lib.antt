@@ -1,10 +1,10 @@
 pub mod Apart
 pub mod Carrying
 pub mod EqualReads
+pub mod FilledRows
 pub mod FlatNetworks
 pub mod Free
 pub mod GateLists
 pub mod Gates
-pub mod StatePieces
 pub mod Stepping
 pub mod TermLists

@@ -1,5 +1,5 @@
 -- The terms of a gate hold the numbers that write what is read where it gives the bit.
-use Rattle.std.proofs.Common.{◌≡◌, ℕ, zero, suc, ◌+◌, ◌^◌, ◌<◌, ◌≤◌, inl, inr, Bool, true, false, List, [], ◌∷◌, ◌++◌, length, map, get_or, slice_index, All, Contains, refl, ap, sym, ◌∙◌, subst, arith, length-append}
+use Rattle.std.proofs.Common.{◌≡◌, ℕ, zero, suc, ◌+◌, ◌^◌, ◌<◌, ◌≤◌, inl, inr, Bool, true, false, Some, List, [], ◌∷◌, ◌++◌, length, map, get_or, slice_index, All, Contains, refl, ap, sym, ◌∙◌, subst, arith, length-append}
 use Rattle.std.specs.Bool.{beq}
 use Rattle.std.specs.List.Sorted.{IsStrictlyIncreasing}
 use Rattle.std.proofs.lemmas.Bool.{false≢true}
@@ -18,18 +18,18 @@ use Rattle.gate_rows.proofs.ReadNumbers.{read_length}
 use Rattle.gate_rows.proofs.RowTexts.{number_for}
 use Rattle.gate_rows.proofs.TermCovers.{same_cover}
 use Rattle.kiss2.specs.declared.kiss_file.KissFile.{KissFile}
+use Rattle.kiss2.specs.declared.kiss_file.KissRow.{KissRow}
 use Rattle.net_core.proofs.Members.{Contains-cons, Contains-here, Contains-none}
-use Rattle.realise.specs.declared.pieces.StatePiece.{StatePiece}
 use Rattle.realise.specs.declared.signals.Signal.{Signal}
 use Rattle.realise.specs.Realised.{IsEnough, IsWithin}
 use Rattle.realise.specs.Rows.{GivesAt, read_values}
 use Rattle.realise.specs.Inner.Lists.{HoldWhatIsRead, IsReadAt, width_of}
-use Rattle.realise.specs.Inner.Pieces.{ArePieces, IsStatePiece}
-use Rattle.realise.specs.Inner.Signals.{IsAmong, piece_value, value_of}
+use Rattle.realise.specs.Inner.Filled.{AreFilled, IsRight}
+use Rattle.realise.specs.Inner.Signals.{IsAmong, row_value, value_of}
 use Rattle.realise.proofs.EqualReads.{equal_reads}
-use Rattle.realise.proofs.StatePieces.{piece_gives}
+use Rattle.realise.proofs.FilledRows.{part_counted, part_of, row_gives, says_value}
 
--- ---- the loop over the pieces
+-- ---- the loop over the rows
 pub read_start : (words : List ℕ) (set : ReadSet) (signal : Signal) (given : Bool) → HoldWhatIsRead words set signal given [] []
 read_start words set signal given = record {
   fits = λ k d lt. absurd (omega arith);
@@ -44,14 +44,14 @@ all_one P x p (suc k) d lt = absurd (omega arith)
 among_one : {X : Type 0} (x y : X) → Contains (x ∷ []) y → x ≡ y
 among_one x y h = elim (Contains-cons x y [] h) [ inl here ↦ here | inr later ↦ absurd (Contains-none y later) ]
 
-module _ (words : List ℕ) (set : ReadSet) (signal : Signal) (given : Bool) (pieces : List StatePiece) (at : StatePiece) where
-  read_later : (read : List Bool) → IsReadAt words set signal given pieces read → IsReadAt words set signal given (pieces ++ at ∷ []) read
-  read_later read h = record { at = h.at; among = Contains-append_left pieces (at ∷ []) h.at h.among; gives = h.gives; is_read = h.is_read }
+module _ (words : List ℕ) (set : ReadSet) (signal : Signal) (given : Bool) (filled : List KissRow) (at : KissRow) where
+  read_later : (read : List Bool) → IsReadAt words set signal given filled read → IsReadAt words set signal given (filled ++ at ∷ []) read
+  read_later read h = record { at = h.at; among = Contains-append_left filled (at ∷ []) h.at h.among; gives = h.gives; is_read = h.is_read }
 
-  read_more : (old new : List Term) (t : Term) → HoldWhatIsRead words set signal given pieces old → piece_value words signal at.piece ≡ given
-      → IsTermOf set.inputs set.latches at.piece.cube (slice_index words at.state) t → new ≡ old ++ t ∷ [] → HoldWhatIsRead words set signal given (pieces ++ at ∷ []) new
+  read_more : (old new : List Term) (t : Term) → HoldWhatIsRead words set signal given filled old → row_value words signal at ≡ Some given
+      → IsTermOf set.inputs set.latches at.cube (slice_index words at.from) t → new ≡ old ++ t ∷ [] → HoldWhatIsRead words set signal given (filled ++ at ∷ []) new
   read_more old new t before gives is pushed =
-      let whole : HoldWhatIsRead words set signal given (pieces ++ at ∷ []) (old ++ t ∷ []) =
+      let whole : HoldWhatIsRead words set signal given (filled ++ at ∷ []) (old ++ t ∷ []) =
       record {
         fits = All-append (FitsWidth (width_of set)) old (t ∷ []) before.fits (all_one (FitsWidth (width_of set)) t is.fits);
         held = λ v. (
@@ -60,10 +60,10 @@ module _ (words : List ℕ) (set : ReadSet) (signal : Signal) (given : Bool) (pi
                 | inl first ↦ read_later (code_bits (width_of set) v) ((before.held v).0 (h.0, first, h.2))
                 | inr last ↦
                     let same : t ≡ h.0 = among_one t h.0 last in
-                    record { at = at; among = Contains-append_right pieces (at ∷ []) at (Contains-here at []); gives = gives; is_read = (is.holds v).0 (subst (λ (u : Term). Holds u v) (sym same) h.2) }
+                    record { at = at; among = Contains-append_right filled (at ∷ []) at (Contains-here at []); gives = gives; is_read = (is.holds v).0 (subst (λ (u : Term). Holds u v) (sym same) h.2) }
               ],
           λ h.
-              elim (Contains-append_cases pieces (at ∷ []) h.at h.among) [
+              elim (Contains-append_cases filled (at ∷ []) h.at h.among) [
                 | inl first ↦
                     let found = (before.held v).1 (record { at = h.at; among = first; gives = h.gives; is_read = h.is_read }) in
                     (found.0, Contains-append_left old (t ∷ []) found.0 found.1, found.2)
@@ -71,31 +71,31 @@ module _ (words : List ℕ) (set : ReadSet) (signal : Signal) (given : Bool) (pi
                     let same : at ≡ h.at = among_one at h.at last in (
                       t,
                       Contains-append_right old (t ∷ []) t (Contains-here t []),
-                      (is.holds v).1 (subst (λ (p : StatePiece). IsReadIn set.inputs set.latches p.piece.cube (slice_index words p.state) (code_bits (width_of set) v)) (sym same) h.is_read),
+                      (is.holds v).1 (subst (λ (p : KissRow). IsReadIn set.inputs set.latches p.cube (slice_index words p.from) (code_bits (width_of set) v)) (sym same) h.is_read),
                     )
               ],
         );
       } in
-      subst (HoldWhatIsRead words set signal given (pieces ++ at ∷ [])) (sym pushed) whole
+      subst (HoldWhatIsRead words set signal given (filled ++ at ∷ [])) (sym pushed) whole
 
   -- so with the lists that were lent
-  pub read_more_at : (inputs latches : List ℕ) (old new : List Term) (t : Term) → inputs ≡ set.inputs → latches ≡ set.latches → HoldWhatIsRead words set signal given pieces old → piece_value words signal at.piece ≡ given
-      → IsTermOf inputs latches at.piece.cube (slice_index words at.state) t → new ≡ old ++ t ∷ [] → HoldWhatIsRead words set signal given (pieces ++ at ∷ []) new
+  pub read_more_at : (inputs latches : List ℕ) (old new : List Term) (t : Term) → inputs ≡ set.inputs → latches ≡ set.latches → HoldWhatIsRead words set signal given filled old → row_value words signal at ≡ Some given
+      → IsTermOf inputs latches at.cube (slice_index words at.from) t → new ≡ old ++ t ∷ [] → HoldWhatIsRead words set signal given (filled ++ at ∷ []) new
   read_more_at inputs latches old new t same_inputs same_latches before gives is pushed =
       read_more old new t before gives
-      (subst (λ (list : List ℕ). IsTermOf list set.latches at.piece.cube (slice_index words at.state) t) same_inputs
-      (subst (λ (list : List ℕ). IsTermOf inputs list at.piece.cube (slice_index words at.state) t) same_latches is)) pushed
+      (subst (λ (list : List ℕ). IsTermOf list set.latches at.cube (slice_index words at.from) t) same_inputs
+      (subst (λ (list : List ℕ). IsTermOf inputs list at.cube (slice_index words at.from) t) same_latches is)) pushed
 
-  pub read_skip : (old : List Term) → HoldWhatIsRead words set signal given pieces old → (piece_value words signal at.piece ≡ given → ⊥)
-      → HoldWhatIsRead words set signal given (pieces ++ at ∷ []) old
+  pub read_skip : (old : List Term) → HoldWhatIsRead words set signal given filled old → (row_value words signal at ≡ Some given → ⊥)
+      → HoldWhatIsRead words set signal given (filled ++ at ∷ []) old
   read_skip old before other = record {
     fits = before.fits;
     held = λ v. (
       λ h. read_later (code_bits (width_of set) v) ((before.held v).0 h),
       λ h.
-          elim (Contains-append_cases pieces (at ∷ []) h.at h.among) [
+          elim (Contains-append_cases filled (at ∷ []) h.at h.among) [
             | inl first ↦ (before.held v).1 (record { at = h.at; among = first; gives = h.gives; is_read = h.is_read })
-            | inr last ↦ absurd (other (ap (λ (p : StatePiece). piece_value words signal p.piece) (among_one at h.at last) ∙ h.gives))
+            | inr last ↦ absurd (other (ap (λ (row : KissRow). row_value words signal row) (among_one at h.at last) ∙ h.gives))
           ],
     );
   }
@@ -124,54 +124,55 @@ pub width_small : (inputs bits : ℕ) (set : ReadSet) → inputs ≤ 32 → bits
 width_small inputs bits set few short within =
     omega (arith, few, short, ascending_count inputs set.inputs within.inputs_ascend within.inputs_within, ascending_count bits set.latches within.latches_ascend within.latches_within)
 
-module _ (F : KissFile) (words : List ℕ) (bits : ℕ) (set : ReadSet) (signal : Signal) (pieces : List StatePiece) (right : ArePieces F pieces) (within : IsWithin F.inputs bits set) (place : IsAmong bits F.outputs signal) where
-  state_piece : (at : StatePiece) → Contains pieces at → IsStatePiece F at
-  state_piece at (k, lt, is) = subst (IsStatePiece F) is (right.right k at lt)
+module _ (F : KissFile) (words : List ℕ) (bits : ℕ) (set : ReadSet) (signal : Signal) (filled : List KissRow) (right : AreFilled F filled) (within : IsWithin F.inputs bits set) (place : IsAmong bits F.outputs signal) where
+  right_row : (at : KissRow) → Contains filled at → IsRight F at
+  right_row at (k, lt, is) = subst (IsRight F) is (right.right k at lt)
 
-  inputs_inside : (at : StatePiece) → IsStatePiece F at → All (λ a. a < at.piece.cube.width) set.inputs
-  inputs_inside at is = subst (λ (w : ℕ). All (λ a. a < w) set.inputs) (sym is.piece.width) within.inputs_within
+  inputs_inside : (at : KissRow) → IsRight F at → All (λ a. a < at.cube.width) set.inputs
+  inputs_inside at is = subst (λ (w : ℕ). All (λ a. a < w) set.inputs) (sym is.lawful.width) within.inputs_within
 
-  -- the bit is given where the values are read at a piece that gives it
-  from_read : (given : Bool) (read : List Bool) → IsReadAt words set signal given pieces read → GivesAt F words set (value_of F words signal) given read
+  -- the bit is given where the values are read at a row that says it
+  from_read : (given : Bool) (read : List Bool) → IsReadAt words set signal given filled read → GivesAt F words set (value_of F words signal) given read
   from_read given read h =
-      let at : StatePiece = h.at in
-      let is : IsStatePiece F at = state_piece at h.among in
+      let at : KissRow = h.at in
+      let is : IsRight F at = right_row at h.among in
       let n : ℕ = h.is_read.0 in
-      let low : n < 2 ^ F.inputs = subst (λ (w : ℕ). n < 2 ^ w) is.piece.width h.is_read.1 in
+      let low : n < 2 ^ F.inputs = subst (λ (w : ℕ). n < 2 ^ w) is.lawful.width h.is_read.1 in
       record {
-        s = at.state;
+        s = at.from;
         x = symbol_of F.inputs n;
-        state = is.state;
+        state = is.lawful.from;
         symbol = length-symbol_of F.inputs n;
-        read_there = h.is_read.3 ∙ ap (λ (w : ℕ). read_values words set at.state (symbol_of w n)) is.piece.width;
-        gives = piece_gives F words bits signal at.state n at.piece is.piece low h.is_read.2 place ∙ h.gives;
+        read_there = h.is_read.3 ∙ ap (λ (w : ℕ). read_values words set at.from (symbol_of w n)) is.lawful.width;
+        gives = row_gives F words signal at.from n at given is low h.is_read.2 h.gives;
       }
 
-  to_read : (given : Bool) (read : List Bool) → GivesAt F words set (value_of F words signal) given read → IsReadAt words set signal given pieces read
+  to_read : (given : Bool) (read : List Bool) → GivesAt F words set (value_of F words signal) given read → IsReadAt words set signal given filled read
   to_read given read h =
       let n : ℕ = number_of h.x in
       let low : n < 2 ^ F.inputs = subst (λ (w : ℕ). n < 2 ^ w) h.symbol (number_below h.x) in
       let whole : symbol_of F.inputs n ≡ h.x = ap (λ (w : ℕ). symbol_of w n) (sym h.symbol) ∙ symbol_of-number_of h.x in
-      let found = right.each h.s n h.state low in
-      let at : StatePiece = found.0 in
-      let is : IsStatePiece F at = state_piece at found.1 in
-      let given_there : value_of F words signal at.state (symbol_of F.inputs n) ≡ given =
+      let found = right.each h.s n (part_of signal) h.state low (part_counted F bits signal place) in
+      let at : KissRow = found.0 in
+      let is : IsRight F at = right_row at found.1 in
+      let told = says_value words signal at found.4 in
+      let given_there : value_of F words signal at.from (symbol_of F.inputs n) ≡ given =
       ap (λ (s : ℕ). value_of F words signal s (symbol_of F.inputs n)) found.2 ∙ (ap (value_of F words signal h.s) whole ∙ h.gives) in
-      let same_symbol : symbol_of at.piece.cube.width n ≡ h.x = ap (λ (w : ℕ). symbol_of w n) is.piece.width ∙ whole in
+      let same_symbol : symbol_of at.cube.width n ≡ h.x = ap (λ (w : ℕ). symbol_of w n) is.lawful.width ∙ whole in
       record {
         at = at;
         among = found.1;
-        gives = sym (piece_gives F words bits signal at.state n at.piece is.piece low found.3 place) ∙ given_there;
+        gives = told.1 ∙ ap Some (sym (row_gives F words signal at.from n at told.0 is low found.3 told.1) ∙ given_there);
         is_read = (
           n,
-          subst (λ (w : ℕ). n < 2 ^ w) (sym is.piece.width) low,
+          subst (λ (w : ℕ). n < 2 ^ w) (sym is.lawful.width) low,
           found.3,
-          h.read_there ∙ (ap (λ (s : ℕ). read_values words set s h.x) (sym found.2) ∙ ap (read_values words set at.state) (sym same_symbol)),
+          h.read_there ∙ (ap (λ (s : ℕ). read_values words set s h.x) (sym found.2) ∙ ap (read_values words set at.from) (sym same_symbol)),
         );
       }
 
   -- so the terms hold the values at which the bit is given
-  module _ (given : Bool) (terms : List Term) (hold : HoldWhatIsRead words set signal given pieces terms) where
+  module _ (given : Bool) (terms : List Term) (hold : HoldWhatIsRead words set signal given filled terms) where
     from_terms : (read : List Bool) → HoldValues (width_of set) terms read → GivesAt F words set (value_of F words signal) given read
     from_terms read (v, low, same, covered) =
         subst (GivesAt F words set (value_of F words signal) given) same (from_read given (code_bits (width_of set) v) ((hold.held v).0 covered))
@@ -185,7 +186,7 @@ module _ (F : KissFile) (words : List ℕ) (bits : ℕ) (set : ReadSet) (signal 
           (hold.held number.0).1 (to_read given (code_bits (width_of set) number.0) (subst (GivesAt F words set (value_of F words signal) given) (sym number.2) h)),
         )
 
-  module _ (enough : IsEnough F words (value_of F words signal) set) (on off : List Term) (on_is : HoldWhatIsRead words set signal true pieces on) (off_is : HoldWhatIsRead words set signal false pieces off) where
+  module _ (enough : IsEnough F words (value_of F words signal) set) (on off : List Term) (on_is : HoldWhatIsRead words set signal true filled on) (off_is : HoldWhatIsRead words set signal false filled off) where
     -- the terms of both bits share no number
     pub can_cover : F.inputs ≤ 32 → bits ≤ 64 → CanCover (width_of set) on off
     can_cover few short =
@@ -208,29 +209,16 @@ module _ (F : KissFile) (words : List ℕ) (bits : ℕ) (set : ReadSet) (signal 
         (from_terms true on on_is) (to_terms true on on_is) (from_terms false off off_is) (to_terms false off off_is) good
 
 -- ---- with the values of a call
-pub can_cover_at : (F : KissFile) (words : List ℕ) (bits : ℕ) (set : ReadSet) (signal : Signal) (pieces : List StatePiece) (width : ℕ) (on off : List Term) → ArePieces F pieces → IsWithin F.inputs bits set → IsAmong bits F.outputs signal
+pub can_cover_at : (F : KissFile) (words : List ℕ) (bits : ℕ) (set : ReadSet) (signal : Signal) (filled : List KissRow) (width : ℕ) (on off : List Term) → AreFilled F filled → IsWithin F.inputs bits set → IsAmong bits F.outputs signal
     → IsEnough F words (value_of F words signal) set → F.inputs ≤ 32 → bits ≤ 64 → width ≡ width_of set
-    → HoldWhatIsRead words set signal true pieces on → HoldWhatIsRead words set signal false pieces off → CanCover width on off
-can_cover_at F words bits set signal pieces width on off right within place enough few short same on_is off_is =
-    subst (λ (w : ℕ). CanCover w on off) (sym same) (can_cover F words bits set signal pieces right within place enough on off on_is off_is few short)
+    → HoldWhatIsRead words set signal true filled on → HoldWhatIsRead words set signal false filled off → CanCover width on off
+can_cover_at F words bits set signal filled width on off right within place enough few short same on_is off_is =
+    subst (λ (w : ℕ). CanCover w on off) (sym same) (can_cover F words bits set signal filled right within place enough on off on_is off_is few short)
 
-pub gives_cover_at : (F : KissFile) (words : List ℕ) (bits : ℕ) (set : ReadSet) (signal : Signal) (pieces : List StatePiece) (width : ℕ) (on off : List Term) (rows : List (List ℕ)) → ArePieces F pieces → IsWithin F.inputs bits set → IsAmong bits F.outputs signal
+pub gives_cover_at : (F : KissFile) (words : List ℕ) (bits : ℕ) (set : ReadSet) (signal : Signal) (filled : List KissRow) (width : ℕ) (on off : List Term) (rows : List (List ℕ)) → AreFilled F filled → IsWithin F.inputs bits set → IsAmong bits F.outputs signal
     → IsEnough F words (value_of F words signal) set → width ≡ width_of set
-    → HoldWhatIsRead words set signal true pieces on → HoldWhatIsRead words set signal false pieces off → IsGoodCover (HoldValues width on) (HoldValues width off) rows
+    → HoldWhatIsRead words set signal true filled on → HoldWhatIsRead words set signal false filled off → IsGoodCover (HoldValues width on) (HoldValues width off) rows
     → IsGoodCover (GivesAt F words set (value_of F words signal) true) (GivesAt F words set (value_of F words signal) false) rows
-gives_cover_at F words bits set signal pieces width on off rows right within place enough same on_is off_is good =
-    gives_cover F words bits set signal pieces right within place enough on off on_is off_is rows
+gives_cover_at F words bits set signal filled width on off rows right within place enough same on_is off_is good =
+    gives_cover F words bits set signal filled right within place enough on off on_is off_is rows
     (subst (λ (w : ℕ). IsGoodCover (HoldValues w on) (HoldValues w off) rows) same good)
-
--- ---- a test of two bits
-pub same_from_test : (a b : Bool) → beq a b ≡ true → a ≡ b
-same_from_test true true h = refl
-same_from_test true false h = absurd (false≢true h)
-same_from_test false true h = absurd (false≢true h)
-same_from_test false false h = refl
-
-pub other_from_test : (a b : Bool) → beq a b ≡ false → a ≡ b → ⊥
-other_from_test true true h same = false≢true (sym h)
-other_from_test true false h same = false≢true (sym same)
-other_from_test false true h same = false≢true same
-other_from_test false false h same = false≢true (sym h)

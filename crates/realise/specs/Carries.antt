@@ -1,4 +1,4 @@
--- A network carries a machine: its latch values are the codes of the machine's states, step by step.
+-- A network carries a machine: step by step, its latch values are the codes of the machine's states.
 use Rattle.std.specs.Prelude.{◌≡◌, ℕ, ◌<◌, Bool, All, List, length}
 use Rattle.kiss2.specs.declared.kiss_file.KissFile.{KissFile}
 use Rattle.kiss2.specs.Machine.{answers, next, out}
@@ -7,7 +7,7 @@ use Rattle.net_core.specs.declared.Network.{Network}
 use Rattle.net_core.specs.Step.{AreStarts, NetAnswers, Step}
 use Rattle.realise.specs.Codes.{code_of}
 
--- the starts are the code of the reset state, and each step of the machine is one of the network between the codes
+-- the starts are the code of the reset state, and for each step of the machine the network has a step from code to code
 pub record Carries (F : KissFile) (N : Network) (words : List ℕ) : Type 0 where
   pub inputs : length N.inputs ≡ F.inputs
   pub outputs : length N.outputs ≡ F.outputs
@@ -20,7 +20,7 @@ AnswersAs F N =
     (starts : List Bool) × AreStarts N.latches starts
     × ((word : List (List Bool)) → All (λ x. length x ≡ F.inputs) word → NetAnswers N starts word (answers F F.reset word))
 
--- a network that carries each step answers every word
+-- a network that carries each step of the machine answers every word
 abbrev pub CarriedAnswers : Type 0
 CarriedAnswers =
     (F : KissFile) (N : Network) (words : List ℕ) → F.reset < length F.states → NeverLeaves F → Carries F N words → AnswersAs F N

@@ -1,7 +1,7 @@
--- Definitions that private functions and proofs need; no public contract cites them.
+-- Definitions that only private functions and proofs need.
 pub mod Free
 pub mod Signals
-pub mod Pieces
+pub mod Filled
 pub mod Lists
 pub mod Latches
 pub mod Adding

@@ -1,4 +1,4 @@
--- What follows of the definitions alone.
+-- What follows from the definitions alone.
 use Rattle.std.specs.Prelude.{◌≡◌, ℕ, ◌<◌, ◌≤◌, Bool, List, length, count_by}
 use Rattle.std.specs.Str.{bytes_eq}
 use Rattle.dependence.specs.declared.sets.ReadSet.{ReadSet}
@@ -14,7 +14,7 @@ use Rattle.realise.specs.Names.{AreNames, all_names}
 use Rattle.realise.specs.Realised.{AreCounted, AreEnough, IsEnough, IsRealised}
 use Rattle.realise.specs.Rows.{read_values}
 
--- no name stands twice
+-- no name occurs twice
 abbrev pub ArePairwiseDistinct : SignalNames → Type 0
 ArePairwiseDistinct names = (name : List ℕ) → count_by (bytes_eq name) (all_names names) ≤ 1
 
@@ -32,7 +32,7 @@ RealisedCarries =
     (F : KissFile) (bits : ℕ) (words : List ℕ) (reads : Reads) (names : SignalNames) (N : Network)
     → NeverLeaves F → length words ≡ length F.states → AreCounted F bits names → ArePairwiseDistinct names → AreEnough F bits words reads → IsRealised F bits words reads names N → Carries F N words
 
--- a gate that reads enough gives one value wherever it reads the same
+-- a gate that reads enough gives the same value wherever it reads the same
 abbrev pub EqualReads : Type 0
 EqualReads =
     (F : KissFile) (words : List ℕ) (set : ReadSet) (value : ℕ → List Bool → Bool) → IsEnough F words value set

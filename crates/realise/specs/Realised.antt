@@ -1,4 +1,4 @@
--- The network of codes: what its signals are called, and what each gate lists.
+-- The network of codes: the names of its signals, and what each gate lists.
 use Rattle.std.specs.Prelude.{◌≡◌, ℕ, ◌+◌, ◌<◌, ◌++◌, Bool, true, false, All, Contains, List, [], Some, length, map, slice_get, slice_index_or}
 use Rattle.std.specs.Cmp.Lexicographic.{slice_cmp}
 use Rattle.std.specs.List.Sorted.{IsSorted, IsStrictlyIncreasing}
@@ -37,14 +37,14 @@ pub record AreEnough (F : KissFile) (bits : ℕ) (words : List ℕ) (reads : Rea
   pub latches : (i : ℕ) (set : ReadSet) → slice_get reads.latches i ≡ Some set → IsEnough F words (next_value F words i) set
   pub outputs : (b : ℕ) (set : ReadSet) → slice_get reads.outputs b ≡ Some set → IsEnough F words (output_value F b) set
 
--- the names number inputs, outputs and bits
+-- there is a name for each input and each output, and two for each bit
 pub record AreCounted (F : KissFile) (bits : ℕ) (names : SignalNames) : Type 0 where
   pub inputs : length names.inputs ≡ F.inputs
   pub outputs : length names.outputs ≡ F.outputs
   pub latch_inputs : length names.latch_inputs ≡ bits
   pub latch_outputs : length names.latch_outputs ≡ bits
 
--- the name of that number
+-- the name with that number
 abbrev pub name_at : List (List ℕ) → ℕ → List ℕ
 name_at names i = slice_index_or names i []
 
@@ -58,7 +58,7 @@ pub record IsGateFor (F : KissFile) (words : List ℕ) (names : SignalNames) (se
   pub widths : All (λ row. length row ≡ length gate.inputs) gate.rows
   pub in_order : IsSorted (slice_cmp nat_cmp) gate.rows
 
--- gate i is that of the read set, the value and the name of that number
+-- the gate at that place is that of the read set, the value and the name
 abbrev pub HasGate : KissFile → List ℕ → SignalNames → Network → (at : ℕ) → ReadSet → (ℕ → List Bool → Bool) → List ℕ → Type 0
 HasGate F words names N at set value name = (gate : Gate) × (slice_get N.gates at ≡ Some gate) × IsGateFor F words names set value name gate
 

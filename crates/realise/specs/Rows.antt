@@ -9,7 +9,7 @@ use Rattle.kiss2.specs.declared.kiss_file.KissFile.{KissFile}
 abbrev pub read_values : List ℕ → ReadSet → ℕ → List Bool → List Bool
 read_values words set s x = map (input_of x) set.inputs ++ map (bit (slice_index words s)) set.latches
 
--- some state and symbol at which these values are read give the bit
+-- these values are read at some state and symbol that give the bit
 pub record GivesAt (F : KissFile) (words : List ℕ) (set : ReadSet) (value : ℕ → List Bool → Bool) (given : Bool) (read : List Bool) : Type 0 where
   pub s : ℕ
   pub x : List Bool

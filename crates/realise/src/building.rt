@@ -5,24 +5,27 @@ ghost use Rattle.net_core.specs.declared.Start.TheVariants.{Zero, One};
 ghost use Rattle.dependence.specs.Permits.{next_value, output_value};
 ghost use Rattle.realise.specs.Realised.{AreCounted, AreEnough, IsEnough, IsGateFor, IsRealised, IsWithin, name_at};
 ghost use Rattle.realise.specs.Inner.Adding.{AddsGates};
-ghost use Rattle.realise.specs.Inner.Pieces.{ArePieces};
+ghost use Rattle.realise.specs.Inner.Filled.{AreFilled};
 ghost use Rattle.realise.specs.Inner.Signals.{IsAmong, value_of};
 ghost use Rattle.realise.specs.Inner.Latches.{AreLatches, latch_of};
 
 use crate::copying::{copied, copied_name};
+use crate::filled::state_rows;
 use crate::lists::gate_rows_of;
-use crate::pieces::{StatePiece, state_pieces};
 use crate::signals::Signal;
 use dependence::{ReadSet, Reads};
 use gate_rows::bit;
 use hs_io::{Name, Names};
+use kiss2::KissRow;
 use machine_table::Machine;
 use net_core::{Gate, Gates, Latch, Latches, Network, SignalNames, Start};
 use state_codes::Codes;
 use std::alloc::{AllocError, Global};
 
-/// The network of the codes. It has one gate for each latch input and then one for each output, in order;
-/// each lists the names of its read inputs and then those of its read latch outputs.
+/// The network of the codes.
+///
+/// It has one gate for each latch input and then one for each output, in order. Each gate lists the names of
+/// its read inputs and then those of its read latch outputs. It fails only for want of memory.
 pub fn network(
     alloc: Global,
     m: &Machine,
@@ -36,10 +39,10 @@ pub fn network(
     requires reads { AreEnough m.now codes.now.bits codes.now.words reads.now }
     ensures { IfOk result (IsRealised m.now codes.now.bits codes.now.words reads.now names.now) }
 {
-    let pieces = state_pieces(alloc, m)?;
+    let filled = state_rows(alloc, m)?;
     let mut gates = Gates::new(alloc);
-    add_latch_gates(alloc, m, codes, reads, names, &pieces, &mut gates)?;
-    add_output_gates(alloc, m, codes, reads, names, &pieces, &mut gates)?;
+    add_latch_gates(alloc, m, codes, reads, names, &filled, &mut gates)?;
+    add_output_gates(alloc, m, codes, reads, names, &filled, &mut gates)?;
     Ok(Network {
         inputs: copied(alloc, &names.inputs)?,
         outputs: copied(alloc, &names.outputs)?,
@@ -48,7 +51,7 @@ pub fn network(
     })
 }
 
-/// The latches, one for each state bit, which start at the code of a state.
+/// The latches, one for each state bit, with the code of the reset state as their starts.
 fn latches(
     alloc: Global,
     codes: &Codes,
@@ -83,14 +86,14 @@ fn latch(alloc: Global, names: &SignalNames, word: u64, i: usize) -> Result<Latc
     })
 }
 
-/// The start of a latch whose first value is this bit.
+/// The start of a latch with this bit as its first value.
 fn start_of(bit: bool) -> Start
     ensures { result ≡ (if bit then One else Zero) }
 {
     if bit { Start::One } else { Start::Zero }
 }
 
-/// The name of that number.
+/// The name with that number.
 fn name_from(alloc: Global, names: &Names, i: usize) -> Result<Name, AllocError>
     requires { i < length names.now }
     ensures { IfOk result (λ name. name ≡ name_at names.now i) }
@@ -105,19 +108,19 @@ fn add_latch_gates(
     codes: &Codes,
     reads: &Reads,
     names: &SignalNames,
-    pieces: &[StatePiece],
+    filled: &[KissRow],
     gates: &mut Gates,
 ) -> Result<(), AllocError>
     requires words { length codes.now.words ≡ length m.now.states }
     requires short { codes.now.bits ≤ 64 }
     requires names { AreCounted m.now codes.now.bits names.now }
     requires reads { AreEnough m.now codes.now.bits codes.now.words reads.now }
-    requires pieces { ArePieces m.now pieces.now }
+    requires filled { AreFilled m.now filled.now }
     ensures { OnOk result (AddsGates m.now codes.now.words names.now (next_value m.now codes.now.words) names.now.latch_inputs reads.now.latches gates.old gates.new) }
 {
     for (i, set) in reads.latches.as_slice().iter().enumerate() {
         let name = name_from(alloc, &names.latch_inputs, i)?;
-        gates.push(gate(alloc, m, codes, names, pieces, set, Signal::Next(i), name)?)?;
+        gates.push(gate(alloc, m, codes, names, filled, set, Signal::Next(i), name)?)?;
     }
     Ok(())
 }
@@ -129,30 +132,30 @@ fn add_output_gates(
     codes: &Codes,
     reads: &Reads,
     names: &SignalNames,
-    pieces: &[StatePiece],
+    filled: &[KissRow],
     gates: &mut Gates,
 ) -> Result<(), AllocError>
     requires words { length codes.now.words ≡ length m.now.states }
     requires short { codes.now.bits ≤ 64 }
     requires names { AreCounted m.now codes.now.bits names.now }
     requires reads { AreEnough m.now codes.now.bits codes.now.words reads.now }
-    requires pieces { ArePieces m.now pieces.now }
+    requires filled { AreFilled m.now filled.now }
     ensures { OnOk result (AddsGates m.now codes.now.words names.now (output_value m.now) names.now.outputs reads.now.outputs gates.old gates.new) }
 {
     for (b, set) in reads.outputs.as_slice().iter().enumerate() {
         let name = name_from(alloc, &names.outputs, b)?;
-        gates.push(gate(alloc, m, codes, names, pieces, set, Signal::Output(b), name)?)?;
+        gates.push(gate(alloc, m, codes, names, filled, set, Signal::Output(b), name)?)?;
     }
     Ok(())
 }
 
-/// The gate of a signal under a name.
+/// The gate of a signal, with this name for its output.
 fn gate(
     alloc: Global,
     m: &Machine,
     codes: &Codes,
     names: &SignalNames,
-    pieces: &[StatePiece],
+    filled: &[KissRow],
     set: &ReadSet,
     signal: Signal,
     name: Name,
@@ -160,7 +163,7 @@ fn gate(
     requires words { length codes.now.words ≡ length m.now.states }
     requires short { codes.now.bits ≤ 64 }
     requires names { AreCounted m.now codes.now.bits names.now }
-    requires pieces { ArePieces m.now pieces.now }
+    requires filled { AreFilled m.now filled.now }
     requires within { IsWithin m.now.inputs codes.now.bits set.now }
     requires enough { IsEnough m.now codes.now.words (value_of m.now codes.now.words signal) set.now }
     requires signal { IsAmong codes.now.bits m.now.outputs signal }
@@ -169,7 +172,7 @@ fn gate(
     let rows = gate_rows_of(
         alloc,
         m,
-        pieces,
+        filled,
         codes.words.as_slice(),
         codes.bits,
         set,
@@ -200,7 +203,7 @@ fn listed_names(alloc: Global, names: &SignalNames, set: &ReadSet) -> Result<Nam
     Ok(listed)
 }
 
-/// Adds the names of these numbers.
+/// Adds the names with these numbers.
 fn push_names(
     alloc: Global,
     names: &Names,

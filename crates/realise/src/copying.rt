@@ -1,11 +1,11 @@
-//! Names, once more.
+//! Copies of names.
 
 ghost use Rattle.std.specs.Prelude.{◌≡◌, IfOk};
 
 use hs_io::{Name, Names};
 use std::alloc::{AllocError, Global};
 
-/// The same names in order.
+/// The same names in the same order.
 pub fn copied(alloc: Global, names: &Names) -> Result<Names, AllocError>
     ensures { IfOk result (λ copy. copy ≡ names.now) }
 {

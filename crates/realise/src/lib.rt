@@ -2,22 +2,24 @@
 //!
 //! The states of a machine have codes, and each gate, of a latch or of an output, has a set of inputs and
 //! state bits that is enough for what it gives. [`network`] builds the network of these: it starts at the
-//! code of the reset state, each gate lists exactly its read set, and its rows are a good cover of the values
-//! at which some state and symbol give 1 and those at which some give 0. Such a network carries the machine
-//! from code to code, and so answers every word as the machine does. [`names`] are those that its signals get
-//! for a file: the given ones, and own names beside them that are kept apart by the least prefix.
+//! code of the reset state, and each gate lists exactly its read set. The rows of a gate are a good cover of
+//! its on-set, the values read at some state and symbol that give 1, and its off-set, those that give 0. Such
+//! a network carries the machine from code to code, and so answers every word as the machine does.
 //!
-//! The definitions stand in `specs/`: `Names` has the names, `Codes` codes as bits, `Carries` what carrying a
-//! machine is, `Rows` where a gate gives a bit, and `Realised` the network of codes. What follows of them
-//! is promised by the functions of `laws`.
+//! [`names`] gives the names of the signals for a file: those that the file gives, and own names for the
+//! others. The least number of prefixes keeps the own names apart from the given ones.
+//!
+//! The definitions are in `specs/`: `Names` has the names, `Codes` codes as bits, `Carries` what it is to
+//! carry a machine, `Rows` where a gate gives a bit, and `Realised` the network of codes. The functions of
+//! `laws` promise what follows from them.
 #![tactic(auto)]
 
 mod building;
 mod copying;
+mod filled;
 mod laws;
 mod lists;
 mod own_names;
-mod pieces;
 mod signals;
 
 pub use building::network;

@@ -8,15 +8,15 @@ ghost use Rattle.gate_rows.specs.Covers.{IsGoodCover};
 ghost use Rattle.realise.specs.Realised.{IsEnough, IsWithin};
 ghost use Rattle.realise.specs.Rows.{GivesAt};
 ghost use Rattle.realise.specs.Inner.Lists.{HoldWhatIsRead, width_of};
-ghost use Rattle.realise.specs.Inner.Pieces.{ArePieces, IsStatePiece};
+ghost use Rattle.realise.specs.Inner.Filled.{AreFilled, IsRight};
 ghost use Rattle.realise.specs.Inner.Signals.{IsAmong, number_of, value_of};
 
-use crate::pieces::StatePiece;
-use crate::signals::{Signal, value_at};
+use crate::signals::{Signal, says_bit};
 use cover_logic::Term;
 use dependence::ReadSet;
 use gate_rows::{rows, term_of};
 use hs_io::Names;
+use kiss2::KissRow;
 use machine_table::Machine;
 use std::alloc::{AllocError, Global};
 
@@ -24,13 +24,13 @@ use std::alloc::{AllocError, Global};
 pub fn gate_rows_of(
     alloc: Global,
     m: &Machine,
-    pieces: &[StatePiece],
+    filled: &[KissRow],
     words: &[u64],
     bits: usize,
     set: &ReadSet,
     signal: Signal,
 ) -> Result<Names, AllocError>
-    requires pieces { ArePieces m.now pieces.now }
+    requires filled { AreFilled m.now filled.now }
     requires words { length words.now ≡ length m.now.states }
     requires short { bits ≤ 64 }
     requires within { IsWithin m.now.inputs bits set.now }
@@ -42,8 +42,8 @@ pub fn gate_rows_of(
     ensures in_order { IfOk result (IsSorted (slice_cmp nat_cmp)) }
 {
     let _limits = (m.inputs(), m.outputs());
-    let on = terms(alloc, m, pieces, words, set, signal, true)?;
-    let off = terms(alloc, m, pieces, words, set, signal, false)?;
+    let on = terms(alloc, m, filled, words, set, signal, true)?;
+    let off = terms(alloc, m, filled, words, set, signal, false)?;
     rows(alloc, &on, &off, column_count(set) as u8)
 }
 
@@ -55,31 +55,31 @@ fn column_count(set: &ReadSet) -> usize
     set.inputs.as_slice().len() + set.latches.as_slice().len()
 }
 
-/// The terms at which a gate gives this bit.
+/// The terms of the rows that say that the gate gives this bit.
 fn terms(
     alloc: Global,
     m: &Machine,
-    pieces: &[StatePiece],
+    filled: &[KissRow],
     words: &[u64],
     set: &ReadSet,
     signal: Signal,
     given: bool,
 ) -> Result<Vec<Term>, AllocError>
-    requires pieces { All (IsStatePiece m.now) pieces.now }
+    requires filled { All (IsRight m.now) filled.now }
     requires words { length words.now ≡ length m.now.states }
     requires within { IsWithin m.now.inputs 64 set.now }
     requires width { width_of set.now ≤ 128 }
     requires signal { number_of signal < 64 }
-    ensures { IfOk result (λ terms. HoldWhatIsRead words.now set.now signal given pieces.now terms.items) }
+    ensures { IfOk result (λ terms. HoldWhatIsRead words.now set.now signal given filled.now terms.items) }
 {
     let _inputs = m.inputs();
     let mut terms = Vec::new(alloc);
-    for at in pieces {
-        if value_at(&at.piece, words, signal) == given {
+    for at in filled {
+        if says_bit(at, words, signal, given) {
             terms.push(term_of(
-                &at.piece.cube,
+                &at.cube,
                 set.inputs.as_slice(),
-                words[at.state],
+                words[usize::from(at.from)],
                 set.latches.as_slice(),
             ))?;
         }

@@ -1,4 +1,4 @@
-//! The names that signals get.
+//! The names of signals.
 
 ghost use Rattle.std.specs.Prelude.{◌≡◌, ◌≤◌, [], ◌++◌, IfOk, OnOk, unwrap_or};
 ghost use Rattle.std.specs.List.{list_any};
@@ -15,12 +15,15 @@ use kiss2::KissFile;
 use net_core::SignalNames;
 use std::alloc::{AllocError, Global};
 
-/// Behind so many prefixes an own name is longer than a given one may be.
+/// With this many prefixes an own name is longer than a given one may be.
 const MANY: usize = 22;
 
-/// The names of the signals of a file's network with so many latches. Inputs and outputs have the names that
-/// the file gives. Own names are `x`, `z`, `d` for latch inputs and `q` for latch outputs, with their numbers,
-/// behind the least number of prefixes `hs_` that keeps those which are used apart from given ones.
+/// The names of the signals of a file's network, with one latch for each of the bits.
+///
+/// Inputs and outputs have the names that the file gives. An own name is `x` for an input, `z` for an output,
+/// `d` for a latch input or `q` for a latch output, with its number. Before it comes the prefix `hs_`, the
+/// least number of times that keeps the own names in use apart from the given ones. It fails only for want of
+/// memory.
 pub fn names(alloc: Global, file: &KissFile, bits: usize) -> Result<SignalNames, AllocError>
     requires lawful { IsLawful file.now }
     requires short { bits ≤ 64 }
@@ -47,8 +50,8 @@ pub fn names(alloc: Global, file: &KissFile, bits: usize) -> Result<SignalNames,
     })
 }
 
-/// How often the prefix stands before each own name, beside so many latches: so often that no own name that
-/// is used is a given one, and no more.
+/// How often the prefix comes before each own name: the least number of times at which no own name in use is a
+/// given one.
 fn prefix_count(alloc: Global, file: &KissFile, latches: usize) -> Result<usize, AllocError>
     ensures { IfOk result (λ count. count ≡ first_count file.now latches) }
 {
@@ -60,7 +63,7 @@ fn prefix_count(alloc: Global, file: &KissFile, latches: usize) -> Result<usize,
     Ok(MANY)
 }
 
-/// Whether no own name that is used is a given one.
+/// Whether no own name in use is a given one.
 fn are_free(
     alloc: Global,
     file: &KissFile,
@@ -73,7 +76,7 @@ fn are_free(
     Ok(!has_given(file, used.as_slice()))
 }
 
-/// The own names that are used beside so many latches.
+/// The own names in use in a network with this number of latches.
 fn used_names(
     alloc: Global,
     file: &KissFile,
@@ -128,14 +131,14 @@ fn has_given(file: &KissFile, names: &[Name]) -> bool
     names.iter().any(|name| is_given(file, name))
 }
 
-/// Whether the text gives a name.
+/// Whether the file gives the name.
 fn is_given(file: &KissFile, name: &Name) -> bool
     ensures { result ≡ free.is_given file.now name.now }
 {
     is_among(&file.input_names, name.bytes()) || is_among(&file.output_names, name.bytes())
 }
 
-/// Whether a name is one of those that are given.
+/// Whether a name is among the given ones.
 fn is_among(given: &Option<Names>, name: &[u8]) -> bool
     ensures { result ≡ list_any (bytes_eq name.now) (unwrap_or given.now []) }
 {
@@ -145,7 +148,7 @@ fn is_among(given: &Option<Names>, name: &[u8]) -> bool
     }
 }
 
-/// The own name of a letter and a number behind so many prefixes.
+/// The own name of a letter and a number, after this number of prefixes.
 fn name_of(alloc: Global, count: usize, letter: u8, number: usize) -> Result<Name, AllocError>
     ensures { IfOk result (λ name. name ≡ own_name count letter number) }
 {
@@ -157,7 +160,7 @@ fn name_of(alloc: Global, count: usize, letter: u8, number: usize) -> Result<Nam
     Name::new(alloc, text.as_slice())
 }
 
-/// Adds so many prefixes.
+/// Adds this number of prefixes.
 fn push_prefixes(text: &mut Vec<u8>, count: usize) -> Result<(), AllocError>
     ensures { OnOk result (text.new.items ≡ text.old.items ++ prefix count) }
 {
@@ -167,7 +170,7 @@ fn push_prefixes(text: &mut Vec<u8>, count: usize) -> Result<(), AllocError>
     Ok(())
 }
 
-/// Adds so many own names of a letter, numbered from 0.
+/// Adds own names of a letter, numbered from 0.
 fn push_own(
     alloc: Global,
     names: &mut Names,
@@ -183,7 +186,7 @@ fn push_own(
     Ok(())
 }
 
-/// So many own names of a letter, numbered from 0.
+/// Own names of a letter, numbered from 0.
 fn own_names(alloc: Global, count: usize, letter: u8, many: usize) -> Result<Names, AllocError>
     ensures { IfOk result (λ names. names ≡ named.own_names count letter many) }
 {
@@ -192,7 +195,7 @@ fn own_names(alloc: Global, count: usize, letter: u8, many: usize) -> Result<Nam
     Ok(names)
 }
 
-/// The given names, or else so many own names of a letter.
+/// The given names, or own names of a letter if none are given.
 fn given_or_own(
     alloc: Global,
     given: &Option<Names>,

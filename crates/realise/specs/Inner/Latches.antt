@@ -17,7 +17,7 @@ latch_of names word i =
       start = if bit word i then One else Zero;
     }
 
--- the latches have the names, and start at the bits of a word
+-- the latches have the names, and their starts are the bits of a word
 pub record AreLatches (names : SignalNames) (bits word : ℕ) (latches : List Latch) : Type 0 where
   pub inputs : map (λ latch. latch.input) latches ≡ names.latch_inputs
   pub outputs : map (λ latch. latch.output) latches ≡ names.latch_outputs

@@ -1,9 +1,11 @@
 -- What gates give.
-use Rattle.std.specs.Prelude.{ℕ, ◌<◌, Bool, List, slice_index}
+use Rattle.std.specs.Prelude.{ℕ, ◌<◌, Bool, List, Option, slice_index}
+use Rattle.std.specs.Option.{option_map}
 use Rattle.cubes.specs.Symbol.{bit}
 use Rattle.dependence.specs.Permits.{next_value, output_value}
 use Rattle.kiss2.specs.declared.kiss_file.KissFile.{KissFile}
-use Rattle.machine_table.specs.declared.covering.Piece.{Piece}
+use Rattle.kiss2.specs.declared.kiss_file.KissRow.{KissRow}
+use Rattle.kiss2.specs.Machine.{given_bit}
 use Rattle.realise.specs.declared.signals.Signal.{Signal}
 use Rattle.realise.specs.declared.signals.Signal.TheVariants.{Next, Output}
 
@@ -12,12 +14,12 @@ abbrev pub value_of : KissFile → List ℕ → Signal → ℕ → List Bool →
 value_of F words (Next i) = next_value F words i
 value_of F words (Output b) = output_value F b
 
--- what it gives at the symbols of a piece
-abbrev pub piece_value : List ℕ → Signal → Piece → Bool
-piece_value words (Next i) piece = bit (slice_index words piece.next) i
-piece_value words (Output b) piece = bit piece.outputs b
+-- what the gate of a signal gives at the symbols of a row, if the row says it
+abbrev pub row_value : List ℕ → Signal → KissRow → Option Bool
+row_value words (Next i) row = option_map (λ t. bit (slice_index words t) i) row.to
+row_value words (Output b) row = given_bit b row
 
--- the number of a signal is one of a bit or of an output
+-- the signal is that of a bit of the code or of an output
 abbrev pub IsAmong : ℕ → ℕ → Signal → Type 0
 IsAmong bits outputs (Next i) = i < bits
 IsAmong bits outputs (Output b) = b < outputs
