@@ -9,7 +9,7 @@ use Rattle.std.proofs.lemmas.List.Elements.{All-append, All-contains, All-drop, 
 use Rattle.cover_logic.proofs.Bits.{below_width}
 use Rattle.cover_logic.specs.declared.term.Term.{Term}
 use Rattle.cover_logic.specs.Term.{FitsWidth, Holds, HoldsWithDash, IsCovered}
-use Rattle.cover_logic.specs.Cover.{ShareNoValue, GoodCover}
+use Rattle.cover_logic.specs.Cover.{ShareNoValue, IsTermCover}
 use Rattle.cover_logic.specs.Inner.Rows.{AreNeededPrimes, HasSameValues, IsClear}
 use Rattle.cover_logic.proofs.Values.{covered_back}
 
@@ -53,7 +53,7 @@ apart_from_clear width on off clear = λ x h held off_held. All-contains (IsClea
 
 -- rows that are needed and that need each of their literals are a good cover; on and off may be told by other lists
 -- with the same values
-pub good_cover : (width : ℕ) (rows on off ones zeros : List Term) → HasSameValues on ones → HasSameValues off zeros → All (FitsWidth width) on → All (FitsWidth width) off → AreNeededPrimes ones zeros width rows → GoodCover width rows on off
+pub good_cover : (width : ℕ) (rows on off ones zeros : List Term) → HasSameValues on ones → HasSameValues off zeros → All (FitsWidth width) on → All (FitsWidth width) off → AreNeededPrimes ones zeros width rows → IsTermCover width rows on off
 good_cover width rows on off ones zeros same_on same_off on_fits off_fits p = record {
   on_held = λ x h held. p.primes.covers x (same_on.covers x held);
   off_free = λ x h off_held held. All-contains (IsClear zeros) rows held.0 p.primes.clear held.1 x held.2 (same_off.covers x off_held);

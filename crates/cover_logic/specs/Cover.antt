@@ -15,7 +15,7 @@ pub record CanCover (width : ℕ) (on off : List Term) : Type 0 where
   pub apart : ShareNoValue width on off
 
 -- the rows are an irredundant cover of on, over the values of `width` bits; a value of neither list is free
-pub record GoodCover (width : ℕ) (rows on off : List Term) : Type 0 where
+pub record IsTermCover (width : ℕ) (rows on off : List Term) : Type 0 where
   -- every value of on is held by a row
   pub on_held : (x : ℕ) → x < 2 ^ width → IsCovered on x → IsCovered rows x
   -- no value of off is held by a row

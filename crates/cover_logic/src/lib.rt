@@ -1,7 +1,7 @@
 //! Irredundant covers of gates.
 //!
 //! A gate of up to 128 columns is given by two lists of terms: `on` holds the values at which it is 1, and `off`
-//! those at which it is 0. Any other value is free. `cover` answers rows that are a good cover (`GoodCover`, in
+//! those at which it is 0. Any other value is free. `cover` answers rows that are a good cover (`IsTermCover`, in
 //! specs/Cover.antt): they hold every value of on and none of off, no literal can become a dash without a value of
 //! off being held, and no row can be left out without a value of on being lost. That definition speaks of values,
 //! by their bits (specs/Term.antt), and never of the terms that give them. Which of the good covers is answered is
@@ -35,7 +35,7 @@
 
 ghost use Rattle.std.specs.Prelude.{◌≤◌, ◌↔◌, All, IfOk, IsTrue};
 ghost use Rattle.cover_logic.specs.Term.{FitsWidth};
-ghost use Rattle.cover_logic.specs.Cover.{CanCover, GoodCover};
+ghost use Rattle.cover_logic.specs.Cover.{CanCover, IsTermCover};
 ghost use Rattle.cover_logic.specs.Inner.Rows.{AreNeededPrimes, IsClear};
 
 mod bundles;
@@ -133,7 +133,7 @@ fn chosen_cover(
 /// one row without literals where on is not empty, and no row otherwise.
 pub fn cover(alloc: Global, on: &[Term], off: &[Term], width: u8) -> Result<Vec<Term>, AllocError>
     requires { CanCover width on.now off.now }
-    ensures good { IfOk result (λ rows. GoodCover width rows.items on.now off.now) }
+    ensures good { IfOk result (λ rows. IsTermCover width rows.items on.now off.now) }
     ensures fits { IfOk result (λ rows. All (FitsWidth width) rows.items) }
 {
     let ones = distinct(alloc, on)?;

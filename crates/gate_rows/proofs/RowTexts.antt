@@ -15,7 +15,7 @@ use Rattle.std.proofs.lemmas.List.Sums.{sum_by-append}
 use Rattle.std.proofs.lemmas.Option.{get_or_from_slice_get, slice_get-get_or, unwrap_or-slice_get}
 use Rattle.std.specs.Option.{unwrap_or}
 use Rattle.cover_logic.specs.declared.term.Term.{Term}
-use Rattle.cover_logic.specs.Cover.{GoodCover}
+use Rattle.cover_logic.specs.Cover.{IsTermCover}
 use Rattle.cover_logic.specs.Term.{FitsWidth, Holds, HoldsWithDash, IsCovered, LooksAt}
 use Rattle.cover_logic.proofs.Bits.{below_width}
 use Rattle.cubes.specs.Field.{allows, byte_of, character}

@@ -2,7 +2,7 @@
 use Rattle.std.proofs.Common.{◌≡◌, ℕ, Bool, List, length, map, All, IsPermutation, refl, sym, ap, ◌∙◌, subst}
 use Rattle.std.proofs.lemmas.List.FromFn.{length-map-range_with_len}
 use Rattle.cover_logic.specs.declared.term.Term.{Term}
-use Rattle.cover_logic.specs.Cover.{GoodCover}
+use Rattle.cover_logic.specs.Cover.{IsTermCover}
 use Rattle.cover_logic.specs.Term.{FitsWidth, IsCovered}
 use Rattle.cubes.specs.Symbol.{bit}
 use Rattle.gate_rows.specs.Bits.{code_bits}
@@ -19,7 +19,7 @@ pub covered_values : (width : ℕ) (terms : List Term) (v : ℕ) → All (FitsWi
 covered_values width terms v fits h =
     covered_from_held width terms v fits (subst (AreHeld (map (row_text width) terms)) h.2 (held_from_covered width terms h.0 h.3))
 
-pub term_cover : (width : ℕ) (on off rows : List Term) → All (FitsWidth width) on → All (FitsWidth width) off → All (FitsWidth width) rows → GoodCover width rows on off
+pub term_cover : (width : ℕ) (on off rows : List Term) → All (FitsWidth width) on → All (FitsWidth width) off → All (FitsWidth width) rows → IsTermCover width rows on off
     → IsTermCover (HoldValues width on) (HoldValues width off) width rows
 term_cover width on off rows on_fits off_fits fits good =
     record {
@@ -50,7 +50,7 @@ same_cover On Off On' Off' rows on on_back off off_back good =
     }
 
 -- ---- with the values of a call
-module _ (width used : ℕ) (on off terms lent : List Term) (names : List (List ℕ)) (on_fits : All (FitsWidth width) on) (off_fits : All (FitsWidth width) off) (fits : All (FitsWidth width) terms) (good : GoodCover width terms on off) (is_used : used ≡ width) (is_lent : lent ≡ terms) (moved : IsPermutation (map (row_text used) lent) names) where
+module _ (width used : ℕ) (on off terms lent : List Term) (names : List (List ℕ)) (on_fits : All (FitsWidth width) on) (off_fits : All (FitsWidth width) off) (fits : All (FitsWidth width) terms) (good : IsTermCover width terms on off) (is_used : used ≡ width) (is_lent : lent ≡ terms) (moved : IsPermutation (map (row_text used) lent) names) where
   there : IsPermutation (map (row_text width) terms) names
   there = subst (λ (w : ℕ). IsPermutation (map (row_text w) terms) names) is_used (subst (λ (list : List Term). IsPermutation (map (row_text used) list) names) is_lent moved)
 
