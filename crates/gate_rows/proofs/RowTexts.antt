@@ -25,7 +25,7 @@ use Rattle.cubes.proofs.Numbers.{number_below}
 use Rattle.net_core.specs.Step.{character_holds, row_holds}
 use Rattle.gate_rows.specs.Bits.{code_bits}
 use Rattle.gate_rows.specs.Covers.{AreHeld, HoldValues, IsGoodCover, IsWithDash}
-use Rattle.gate_rows.specs.Inner.Texts.{IsTermCover, byte_at, row_text}
+use Rattle.gate_rows.specs.Inner.Texts.{IsCoverByTerms, byte_at, row_text}
 use Rattle.gate_rows.proofs.Items.{Contains-image, from_image}
 use Rattle.gate_rows.proofs.ReadNumbers.{code_at, number_bit}
 
@@ -241,7 +241,7 @@ literal_there t c other =
       | inr dash ↦ absurd (other (ap (λ (cares : Bool). byte_of (cond cares (Some (bit t.value c)) None)) dash))
     ]
 
-module _ (On Off : List Bool → Type 0) (width : ℕ) (rows : List Term) (names : List (List ℕ)) (on_long : (read : List Bool) → On read → length read ≡ width) (off_long : (read : List Bool) → Off read → length read ≡ width) (cover : IsTermCover On Off width rows) (moved : IsPermutation (map (row_text width) rows) names) where
+module _ (On Off : List Bool → Type 0) (width : ℕ) (rows : List Term) (names : List (List ℕ)) (on_long : (read : List Bool) → On read → length read ≡ width) (off_long : (read : List Bool) → Off read → length read ≡ width) (cover : IsCoverByTerms On Off width rows) (moved : IsPermutation (map (row_text width) rows) names) where
   abbrev row_texts : List (List ℕ)
   row_texts = map (row_text width) rows
 

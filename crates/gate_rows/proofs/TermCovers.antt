@@ -7,7 +7,7 @@ use Rattle.cover_logic.specs.Term.{FitsWidth, IsCovered}
 use Rattle.cubes.specs.Symbol.{bit}
 use Rattle.gate_rows.specs.Bits.{code_bits}
 use Rattle.gate_rows.specs.Covers.{AreHeld, HoldValues, IsGoodCover}
-use Rattle.gate_rows.specs.Inner.Texts.{IsTermCover, row_text}
+use Rattle.gate_rows.specs.Inner.Texts.{IsCoverByTerms, row_text}
 use Rattle.gate_rows.proofs.RowTexts.{covered_from_held, good_cover, held_from_covered, widths}
 
 -- values are as many as the columns
@@ -20,7 +20,7 @@ covered_values width terms v fits h =
     covered_from_held width terms v fits (subst (AreHeld (map (row_text width) terms)) h.2 (held_from_covered width terms h.0 h.3))
 
 pub term_cover : (width : ℕ) (on off rows : List Term) → All (FitsWidth width) on → All (FitsWidth width) off → All (FitsWidth width) rows → IsTermCover width rows on off
-    → IsTermCover (HoldValues width on) (HoldValues width off) width rows
+    → IsCoverByTerms (HoldValues width on) (HoldValues width off) width rows
 term_cover width on off rows on_fits off_fits fits good =
     record {
       fits = fits;

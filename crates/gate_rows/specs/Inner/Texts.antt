@@ -15,7 +15,7 @@ abbrev pub row_text : ℕ → Term → List ℕ
 row_text width t = map (byte_at t) (range_with_len 0 width)
 
 -- an irredundant cover, over the numbers whose bits are what is read, bit c the value of column c
-pub record IsTermCover (On Off : List Bool → Type 0) (width : ℕ) (rows : List Term) : Type 0 where
+pub record IsCoverByTerms (On Off : List Bool → Type 0) (width : ℕ) (rows : List Term) : Type 0 where
   pub fits : All (FitsWidth width) rows
   pub on_held : (v : ℕ) → v < 2 ^ width → On (code_bits width v) → IsCovered rows v
   pub off_free : (v : ℕ) → v < 2 ^ width → Off (code_bits width v) → IsCovered rows v → ⊥
