@@ -5,7 +5,7 @@ use Rattle.std.proofs.lemmas.Bool.{cases_eq, cases_lt}
 use Rattle.hs_lattice.specs.JoinWorld.{IsJoinOf, IsGenerated, HaveJoins}
 use Rattle.partition.specs.Inside.{least_of}
 use Rattle.partition.specs.Laws.Chains.{join_is_least}
-use Rattle.partition.specs.Laws.Extremes.{zero_of_is_partition}
+use Rattle.partition.specs.Laws.Extremes.{zero_of_below, zero_of_is_partition}
 use Rattle.partition.specs.Laws.Labels.{IsPartition-of, same_labels}
 use Rattle.partition.specs.Laws.World.{join_fits}
 use Rattle.partition.specs.MeetAndJoin.{IsJoin}
@@ -13,7 +13,6 @@ use Rattle.partition.specs.Partition.{IsPartition, Together, Le, zero_of}
 use Rattle.partition.proofs.Nesting.{least_of-le}
 use Rattle.io_pairs.specs.Inner.Collected.{HaveRights, IsFamilyMm, IsRightSide}
 use Rattle.io_pairs.specs.Inner.Families.{AreFunctions, FamilyPair, Go}
-use Rattle.io_pairs.specs.Laws.{zero_below}
 use Rattle.io_pairs.proofs.Going.{go_above, go_by_least, go_itself, least_holds}
 
 -- the joins of partitions of that number of members
@@ -32,7 +31,7 @@ each_below p q le (g ∷ xs) (one, rest) = ((λ s t held. le s t (one s t held))
 joined_between : (n : ℕ) (q : List ℕ) → IsPartition n q → (xs : List (List ℕ)) (y : List ℕ) → AllByRecursion (IsPartition n) xs → AllByRecursion (λ g. Le g q) xs → IsJoinOf (IsZeroOf n) IsJoin xs y
     → IsPartition n y × AllByRecursion (λ g. Le g y) xs × Le y q
 joined_between n q top [] y lawful below is =
-    (subst (IsPartition n) (sym is) (zero_of_is_partition n top.count), tt, subst (λ (r : List ℕ). Le r q) (sym is) (zero_below n q top))
+    (subst (IsPartition n) (sym is) (zero_of_is_partition n top.count), tt, subst (λ (r : List ℕ). Le r q) (sym is) (zero_of_below n q top))
 joined_between n q top (g ∷ xs) y (one, rest) (under, others) (z, of, joined) =
     let so_far = joined_between n q top xs z rest others of in
     let above = join_is_least g z y (so_far.0.length ∙ sym one.length) joined in (

@@ -10,7 +10,7 @@ use Rattle.kiss2.specs.Machine.{next}
 use Rattle.partition.specs.Partition.{IsHold, IsPartition, Together, Le, zero_of}
 use Rattle.partition.specs.Inside.{least_of}
 use Rattle.partition.specs.Laws.Chains.{together_turned, join_is_least}
-use Rattle.partition.specs.Laws.Extremes.{zero_of_is_partition}
+use Rattle.partition.specs.Laws.Extremes.{zero_of_below, zero_of_is_partition}
 use Rattle.partition.specs.Laws.Labels.{IsPartition-of, same_labels}
 use Rattle.partition.specs.Laws.World.{join_fits}
 use Rattle.partition.specs.MeetAndJoin.{IsJoin}
@@ -20,7 +20,7 @@ use Rattle.pair_operators.specs.Pair.{Pair}
 use Rattle.pair_operators.specs.Laws.Pairs.{pair_monotone}
 use Rattle.mm_lattice.specs.Generators.{IsRightOf}
 use Rattle.mm_lattice.specs.Inner.Collected.{HaveRights}
-use Rattle.mm_lattice.specs.Laws.{mm_joins_fit, mm_least_fits, same_right, zero_below}
+use Rattle.mm_lattice.specs.Laws.{mm_joins_fit, mm_least_fits, same_right}
 use Rattle.mm_lattice.specs.MmPairs.{IsLeastMmPair, IsMmJoin, IsMmPair}
 use Rattle.mm_lattice.specs.Sides.{Sides}
 use Rattle.mm_lattice.specs.Top.{IsRightSide}
@@ -63,7 +63,7 @@ joined_between : {X : Type 0} (n : ℕ) (right : X → List ℕ) (least : X → 
     (xs : List X) (y : X) → AreLawful n right xs → AreBelow right q xs → IsJoinOf least joins xs y → IsPartition n (right y) × AreBelow right (right y) xs × Le (right y) q
 joined_between n right least joins q world top [] y lawful below is =
     let at : right y ≡ zero_of n = world.bottom y is in
-    (subst (IsPartition n) (sym at) (zero_of_is_partition n top.count), tt, subst (λ (r : List ℕ). Le r q) (sym at) (zero_below n q top))
+    (subst (IsPartition n) (sym at) (zero_of_is_partition n top.count), tt, subst (λ (r : List ℕ). Le r q) (sym at) (zero_of_below n q top))
 joined_between n right least joins q world top (x ∷ xs) y (one, rest) (under, others) (z, of, joined) =
     let so_far = joined_between n right least joins q world top xs z rest others of in
     let is = world.joined x z y joined in
