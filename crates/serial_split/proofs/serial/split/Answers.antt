@@ -6,6 +6,7 @@ use Rattle.partition.specs.Laws.Extremes.{zero_of_is_zero, zero_of_is_partition}
 use Rattle.closed_lattice.specs.Limits.{IsGreatestGrown}
 use Rattle.closed_lattice.proofs.ZeroBlocks.{zero_blocks, zero_by_blocks}
 use Rattle.state_codes.specs.declared.split.Part.{Part}
+use Rattle.serial_split.specs.Choice.{partitions_of}
 use Rattle.serial_split.specs.Kind.{HasNoneNontrivial}
 use Rattle.serial_split.specs.Inner.Chain.{part_after}
 use Rattle.serial_split.proofs.Greatest.{greatest_nontrivial, none_above_zero, none_of_one_state, one_zero_or_not}
@@ -87,3 +88,15 @@ returns-clause-lawful c =
     serial_lawful F c.in_ok-first.first c.in_ok-second.second c.push-2.new.self
     (two c.new-parts.result c.push.new.self c.push-2.new.self _ _ c.in_ok-first.first c.in_ok-second.second c.new-parts.ensures c.in_ok-push.ensures.ok c.in_ok-push-2.ensures.ok c.in_ok-part_after.ensures c.in_ok-part_after-2.ensures)
     greatest.closed.0 c.in_ok-second.ensures.inside
+
+pub returns-clause-choice : goal.returns-clause-choice
+returns-clause-choice c = record {
+  one = c.in_ok-one.one;
+  one_lawful = subst (λ (k : ℕ). IsPartition k c.in_ok-one.one) c.states.ensures.count c.in_ok-one.ensures.lawful;
+  one_is = c.in_ok-one.ensures.one;
+  first = c.in_ok-first.first;
+  grown = c.in_ok-first.ensures.growth;
+  second = c.in_ok-second.second;
+  complement = c.in_ok-second.ensures.inside;
+  partitions = ap partitions_of (two c.new-parts.result c.push.new.self c.push-2.new.self _ _ c.in_ok-first.first c.in_ok-second.second c.new-parts.ensures c.in_ok-push.ensures.ok c.in_ok-push-2.ensures.ok c.in_ok-part_after.ensures c.in_ok-part_after-2.ensures);
+}
