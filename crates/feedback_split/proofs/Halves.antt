@@ -1,14 +1,13 @@
 -- The two parts of a feedback split.
 use Rattle.std.proofs.Common.{◌≡◌, ℕ, All, List, [], ◌∷◌, length, refl, sym, ◌∙◌, subst, inl, inr, arith}
-use Rattle.std.proofs.lemmas.List.Elements.{All-head, All-tail}
+use Rattle.std.proofs.lemmas.List.Elements.{All-cons, All-head, All-nil, All-tail}
 use Rattle.kiss2.specs.declared.kiss_file.KissFile.{KissFile}
-use Rattle.partition.specs.Partition.{IsPartition, IsZero, Together, zero_of}
-use Rattle.partition.specs.Inside.{IsComplement}
-use Rattle.partition.specs.Laws.Extremes.{zero_of_is_partition, zero_of_is_zero}
+use Rattle.partition.specs.Partition.{IsPartition, IsZero, Together}
 use Rattle.partition.specs.Laws.Labels.{IsPartition-of}
 use Rattle.mm_lattice.specs.Top.{IsGreatestRight}
 use Rattle.state_codes.specs.declared.split.Part.{Part}
 use Rattle.state_codes.specs.Kinds.{PartsMeetInZero}
+use Rattle.state_codes.specs.Split.{IsPart}
 use Rattle.state_codes.specs.Laws.InnerLabels.{complement_apart}
 use Rattle.feedback_split.specs.Best.{IsBestFeedback}
 use Rattle.feedback_split.specs.Inner.Parts.{AreHalves, part_reading}
@@ -50,3 +49,13 @@ module _ (F : KissFile) (first : List ℕ) (parts : List Part) (lawful : IsParti
     second_carrier = greatest_breaks F first halves.second halves.second_carrier halves.second_greatest;
     first_carrier = greatest_breaks F halves.second first halves.first_carrier halves.first_greatest;
   }
+
+  pub halves_lawful : All (IsPart (length F.states)) parts
+  halves_lawful =
+      let P : Part → Type 0 = IsPart (length F.states) in
+      let one : Part = part_reading first halves.first_carrier 1 in
+      let other : Part = part_reading halves.second halves.second_carrier 0 in
+      let inner : IsPartition (length F.states) halves.second = IsPartition-of lawful.length halves.complement.lawful in
+      subst (All P) (sym halves.two) (All-cons P one (other ∷ [])
+      (record { partition = lawful; carrier = halves.first_greatest.lawful; above = halves.first_greatest.above })
+      (All-cons P other [] (record { partition = inner; carrier = halves.second_greatest.lawful; above = halves.second_greatest.above }) (All-nil P)))

@@ -5,7 +5,6 @@ use Rattle.std.proofs.lemmas.Option.{slice_get-get_or, slice_get_within}
 use Rattle.kiss2.specs.declared.kiss_file.KissFile.{KissFile}
 use Rattle.machine_table.specs.Staying.{NeverLeaves}
 use Rattle.pair_operators.specs.Extremes.{IsHigh}
-use Rattle.partition.specs.Laws.Labels.{same_labels}
 use Rattle.partition.specs.Partition.{IsPartition}
 use Rattle.shift_real.specs.Chain.{AreTogetherAfter, IsChain, TellsAfter}
 use Rattle.shift_real.specs.Definite.{AreFirstApart, Definite, IsOrder}
@@ -51,13 +50,10 @@ module _ (F : KissFile) (members : List (List ℕ)) (p : List ℕ) (chain : IsCh
           let step = chain.each fewer r q at behind in
           let below = tell fewer r at in
           let above = tell (fewer + 1) q behind in
-          step.1.1 (same_labels r q below.0.numbered above.0.numbered (below.0.length ∙ sym above.0.length) (λ s t. (
-            step.1.0 s t,
-            λ held.
-                let in_s : s < length F.states = omega (arith, held.0, above.0.length) in
-                let in_t : t < length F.states = omega (arith, held.1, above.0.length) in
-                (below.1 s t in_s in_t).1 (definite s t in_s in_t),
-          )))
+          step.1.1 (λ s t held.
+          let in_s : s < length F.states = omega (arith, held.0, above.0.length) in
+          let in_t : t < length F.states = omega (arith, held.1, above.0.length) in
+          (below.1 s t in_s in_t).1 (definite s t in_s in_t))
 
   -- and else the first state apart from state 0 stays apart from it
   pub first_apart_is : (t : ℕ) → NeverLeaves F → t < length p → slice_index p t ≢ slice_index p 0 → ((u : ℕ) → u < t → slice_index p u ≡ slice_index p 0) → AreFirstApart F 0 t

@@ -5,7 +5,7 @@ use Rattle.partition.specs.Partition.{IsPartition, IsZero}
 use Rattle.partition.specs.Laws.Extremes.{zero_once}
 use Rattle.partition.specs.Laws.Labels.{IsPartition-of}
 use Rattle.mm_lattice.specs.Top.{IsGreatestRight}
-use Rattle.feedback_split.proofs.Halves.{halves_best, halves_feedback}
+use Rattle.feedback_split.proofs.Halves.{halves_best, halves_feedback, halves_lawful}
 use Rattle.feedback_split.proofs.feedback.split.Goals as goal
 
 -- what is not the one zero is not zero
@@ -32,3 +32,6 @@ pub returns-clause-best : goal.returns-clause-best
 returns-clause-best c =
     let greatest = c.in_ok-first.ensures.greatest in
     halves_best c.args.m.now c.in_ok-first.first c.in_ok-two_parts.field-0 greatest.right.1.low.lawful c.in_ok-two_parts.ensures greatest
+
+pub returns-clause-lawful : goal.returns-clause-lawful
+returns-clause-lawful c = halves_lawful c.args.m.now c.in_ok-first.first c.in_ok-two_parts.field-0 c.in_ok-first.ensures.greatest.right.1.low.lawful c.in_ok-two_parts.ensures
