@@ -4,14 +4,14 @@ use hs_io::{LoadFail, Shelf};
 use hsdec_program::InputShelf;
 use std::alloc::AllocError;
 
-/// The bytes of the input.
+/// The input, of nine bytes.
 const INPUT: &[u8] = b"one line\n";
 
 /// Whether the first load of `-` gives the whole input and the second nothing, and whether a load that is over its
 /// limit gives one byte more and leaves nothing for the next.
 pub(crate) fn is_read_once(rt: &HostRuntime) -> Result<bool, AllocError> {
     let mut whole = InputShelf::new(rt, INPUT);
-    let first = load(rt, &mut whole, INPUT.len())?;
+    let first = load(rt, &mut whole, 9)?;
     let second = load(rt, &mut whole, 1)?;
     let mut longer = InputShelf::new(rt, INPUT);
     let front = load(rt, &mut longer, 4)?;
@@ -41,13 +41,13 @@ impl Loaded {
     }
 }
 
-/// A load of standard input.
+/// A load of standard input, of at most `limit` bytes.
 fn load<'a>(
     rt: &HostRuntime,
     shelf: &mut InputShelf<&'a HostRuntime, &'static [u8]>,
-    limit: usize,
+    limit: u16,
 ) -> Result<Loaded, AllocError> {
     let mut bytes = Vec::new(rt.alloc());
-    let answer = shelf.load(b"-", limit, &mut bytes);
+    let answer = shelf.load(b"-", usize::from(limit), &mut bytes);
     Ok(Loaded { answer, bytes })
 }
