@@ -1,0 +1,2 @@
+-- Definitions for private functions and proofs; no public contract cites them.
+pub mod Plane
