@@ -63,10 +63,17 @@ columns() {
         }'
 }
 
-# so many states, each with as many rows as the second number says: the leaves of a tree of the inputs, drawn for each state
+# so many states, each with as many rows as the second number says: the leaves of a tree of the inputs, drawn for each
+# state. With `still` no state moves; with a number, there are as many outputs, and a row leaves half of them open.
 tree() {
-    awk -v states="$1" -v rows="$2" -v inputs="$3" '
+    awk -v states="$1" -v rows="$2" -v inputs="$3" -v form="${4:-}" '
         function word() { seed = (seed * 16807) % 2147483647; return seed }
+        function next_of(s) { return form == "still" ? s : word() % states }
+        function outputs(  text, b) {
+            if (form + 0 == 0) return word() % 2
+            text = ""; for (b = 0; b < form; b++) text = text (int(word() / 7) % 2 ? "-" : int(word() / 7) % 2)
+            return text
+        }
         function split_leaf(at,  place) {
             do place = word() % inputs; while (substr(leaf[at], place + 1, 1) != "-")
             leaf[count++] = substr(leaf[at], 1, place) "1" substr(leaf[at], place + 2)
@@ -74,23 +81,27 @@ tree() {
         }
         BEGIN {
             seed = 3; all = ""; for (i = 0; i < inputs; i++) all = all "-"
-            print ".i " inputs "\n.o 1"
+            print ".i " inputs "\n.o " (form + 0 ? form + 0 : 1)
             for (s = 0; s < states; s++) {
                 count = 0; leaf[count++] = all
                 while (count < rows) { at = word() % count; if (index(leaf[at], "-")) split_leaf(at) }
-                for (i = 0; i < rows; i++) print leaf[i], "s" s, "s" word() % states, word() % 2
+                for (i = 0; i < rows; i++) print leaf[i], "s" s, "s" next_of(s), outputs()
             }
             print ".e"
         }'
 }
 
-# one state with a row for each symbol, or with the same row as often
+# one state with a row for each symbol. With `same`, all rows are equal. With `mixed`, a row looks at one input alone, and
+# the rows with 0 and those with 1 there go to two states in turn. With `last`, the last row conflicts with the first.
 long() {
-    awk -v inputs="$1" -v same="${2:-}" '
+    awk -v inputs="$1" -v form="${2:-}" '
         function text(x,  bits, k) { for (k = 0; k < inputs; k++) { bits = (x % 2) bits; x = int(x / 2) } return bits }
+        function cube(x) { return form == "same" ? dashes : form == "mixed" ? substr(dashes, 2) x % 2 : text(x) }
         BEGIN {
             print ".i " inputs "\n.o 1"; dashes = text(0); gsub("0", "-", dashes)
-            for (x = 0; x < 2 ^ inputs; x++) print (same == "same" ? dashes : text(x)), "a a 0"
+            for (x = 0; x < 2 ^ inputs - 1; x++) print cube(x), "a", (form == "mixed" && x % 2 ? "b" : "a"), 0
+            print (form == "last" ? text(0) : cube(x)), "a", (form == "mixed" ? "b" : "a"), (form == "last")
+            if (form == "mixed") print dashes, "b b 0"
             print ".e"
         }'
 }
@@ -150,6 +161,10 @@ tree 64 128 16 >"$room/tree64"
 tree 256 256 32 >"$room/tree256"
 long 16 >"$room/long16"
 long 16 same >"$room/long_same"
+long 15 mixed >"$room/long_mixed"
+long 16 last >"$room/long_last"
+tree 256 256 32 still >"$room/tree_still"
+tree 16 256 16 64 >"$room/tree_outputs"
 long 14 >"$room/long14"
 crossed 8 >"$room/crossed8"
 crossed 15 >"$room/crossed15"
@@ -174,8 +189,12 @@ compare 'closed, trees of 16 inputs' random64 tree64 closed @
 compare 'the same with --fill hold' random64 tree64 closed @ --fill hold
 compare 'check, trees of 32 inputs' random tree256 check @
 compare 'closed, trees of 32 inputs' random tree256 closed @
+compare 'closed, trees of 32 inputs, still' random tree_still closed @
+compare 'code, 64 outputs, half of them open' random64 tree_outputs code @ --fill hold
 compare 'code, trees of 32 inputs' random tree256 code @
 compare 'check, 65,536 rows of one state' random long16 check @
 compare 'check, 65,536 equal rows' random long_same check @
+compare 'check, 32,768 rows of two kinds' random long_mixed check @
+compare 'check, the last of 65,536 rows conflicts' random long_last check @
 compare 'low, two states that look at other inputs' crossed8 crossed15 low @ 0,0
 printf '%-44s %s %s\n' 'walk, 100,000 symbols, 2 and 16,384 rows' "$(measured walk "$room/still1" "$room/symbols1")" "$(measured walk "$room/long14" "$room/symbols14")"
