@@ -15,8 +15,6 @@ pub mod Made
 pub mod Exact
 pub mod ReadLawful
 pub mod Written
-pub mod Scanning
-pub mod Worked
 pub mod ReadBack
 pub mod Header
 pub mod RowsBack

@@ -6,5 +6,4 @@ pub mod Standing
 pub mod Faults
 pub mod Kiss
 pub mod Written
-pub mod Worked
 pub mod Inner

@@ -4,9 +4,9 @@ use Rattle.kiss2.specs.Faults.{fault_in}
 use Rattle.kiss2.specs.Kiss.{lines_read}
 use Rattle.kiss2.specs.Standing.{each_once, state_names}
 use Rattle.kiss2.specs.Words.{kind_of_field}
-use Rattle.kiss2.specs.Worked.{text, words_last_lines}
-use Rattle.kiss2.proofs.Worked.{reset_said, said_by, states_said}
-use Rattle.kiss2.proofs.laws.worked_ends.Goals as goal
+use Rattle.kiss2_laws.specs.Worked.{text, words_last_lines}
+use Rattle.kiss2_laws.proofs.WorkedTexts.{reset_said, said_by, states_said}
+use Rattle.kiss2_laws.proofs.worked.worked_ends.Goals as goal
 
 pub returns-clause-said : goal.returns-clause-said
 unfolding lines_read fault_in kind_of_field state_names each_once

@@ -5,11 +5,11 @@ use Rattle.kiss2.specs.declared.fault.KissLimit.TheVariants.{Rows}
 use Rattle.kiss2.specs.Faults.{fault_in, first_of, row_fault}
 use Rattle.kiss2.specs.Kiss.{lines_read}
 use Rattle.kiss2.specs.Standing.{each_once, inputs_said, outputs_said, row_lines, state_names}
-use Rattle.kiss2.specs.Worked.{bad_cube_line}
+use Rattle.kiss2_laws.specs.Worked.{bad_cube_line}
 use Rattle.kiss2.specs.Words.{kind_of_field}
 use Rattle.kiss2.proofs.Ending.{faultless_none}
-use Rattle.kiss2.proofs.Scanning.{scanned}
-use Rattle.kiss2.proofs.laws.worked_rows.Goals as goal
+use Rattle.kiss2_laws.proofs.Scanning.{scanned}
+use Rattle.kiss2_laws.proofs.worked.worked_rows.Goals as goal
 
 pub returns-clause-inputs_missing : goal.returns-clause-inputs_missing
 unfolding lines_read fault_in kind_of_field state_names each_once

@@ -9,12 +9,12 @@ use Rattle.kiss2.specs.Faults.{fault_in}
 use Rattle.kiss2.specs.Kiss.{HaveNoFault, Kiss, closing_fault, lines_read}
 use Rattle.kiss2.specs.Standing.{each_once, state_names}
 use Rattle.kiss2.specs.Words.{care_in, kind_of_field, value_in}
-use Rattle.kiss2.specs.Worked.{text, worked_lines}
+use Rattle.kiss2_laws.specs.Worked.{text, worked_lines}
 use Rattle.kiss2.proofs.Ending.{faultless_none}
 use Rattle.kiss2.proofs.Made.{a_record}
-use Rattle.kiss2.proofs.Scanning.{scanned_none, three_mapped, three_rows}
+use Rattle.kiss2_laws.proofs.Scanning.{scanned_none, three_mapped, three_rows}
 use Rattle.kiss2.proofs.SameRecord.{next_once, number_once, states_distinct}
-use Rattle.kiss2.proofs.laws.worked_text.Goals as goal
+use Rattle.kiss2_laws.proofs.worked.worked_text.Goals as goal
 
 fine : HaveNoFault (lines_read (text worked_lines)) × (closing_fault (lines_read (text worked_lines)) ≡ None)
 unfolding lines_read fault_in kind_of_field state_names each_once

@@ -4,8 +4,8 @@ use Rattle.kiss2.specs.Kiss.{lines_read}
 use Rattle.kiss2.specs.Standing.{each_once, state_names}
 use Rattle.kiss2.specs.Words.{kind_of_field}
 use Rattle.kiss2.proofs.Ending.{faultless_none}
-use Rattle.kiss2.proofs.Scanning.{scanned}
-use Rattle.kiss2.proofs.laws.worked_names.Goals as goal
+use Rattle.kiss2_laws.proofs.Scanning.{scanned}
+use Rattle.kiss2_laws.proofs.worked.worked_names.Goals as goal
 
 pub returns-clause-input_names_need_inputs : goal.returns-clause-input_names_need_inputs
 unfolding lines_read fault_in kind_of_field state_names each_once

@@ -8,7 +8,7 @@ use Rattle.kiss2.specs.Standing.{reset_name, state_names}
 use Rattle.kiss2.specs.Words.{is_open}
 use Rattle.kiss2.proofs.Ending.{faultless_none}
 use Rattle.kiss2.proofs.Made.{a_record}
-use Rattle.kiss2.proofs.Scanning.{scan, scanned_none}
+use Rattle.kiss2_laws.proofs.Scanning.{scan, scanned_none}
 use Rattle.kiss2.proofs.SameRecord.{next_once, number_once, states_distinct}
 
 -- a text without a fault says a machine

@@ -6,10 +6,10 @@ use Rattle.kiss2.specs.Faults.{fault_in}
 use Rattle.kiss2.specs.Kiss.{Kiss, lines_read}
 use Rattle.kiss2.specs.Standing.{each_once, state_names}
 use Rattle.kiss2.specs.Words.{kind_of_field}
-use Rattle.kiss2.specs.Worked.{text, unset_lines}
-use Rattle.kiss2.proofs.Worked.{next_said, number_said, reset_said, said_by, states_said}
-use Rattle.kiss2.proofs.Scanning.{three_mapped, three_rows}
-use Rattle.kiss2.proofs.laws.worked_start.Goals as goal
+use Rattle.kiss2_laws.specs.Worked.{text, unset_lines}
+use Rattle.kiss2_laws.proofs.WorkedTexts.{next_said, number_said, reset_said, said_by, states_said}
+use Rattle.kiss2_laws.proofs.Scanning.{three_mapped, three_rows}
+use Rattle.kiss2_laws.proofs.worked.worked_start.Goals as goal
 
 pub returns-clause-said : goal.returns-clause-said
 unfolding lines_read fault_in kind_of_field state_names each_once
