@@ -1,5 +1,5 @@
 -- The fault of statements as a whole.
-use Rattle.std.proofs.Common.{◌≡◌, ℕ, ◌+◌, ◌<◌, ◌||◌, Bool, true, false, cond, eqb, List, [], ◌∷◌, length, get_or, drop, map, Option, Some, None, sym, ◌∙◌, refl, ap, arith}
+use Rattle.std.proofs.Common.{◌≡◌, ℕ, ◌<◌, ◌||◌, Bool, true, false, cond, eqb, List, [], ◌∷◌, length, map, Some, sym, ◌∙◌, refl, ap, arith}
 use Rattle.std.specs.Prelude.{find}
 use Rattle.std.specs.List.{list_any}
 use Rattle.std.specs.Str.{bytes_eq}
@@ -9,13 +9,11 @@ use Rattle.hs_io.specs.declared.lines.Line.{Line}
 use Rattle.net_core.specs.declared.Network.{Network}
 use Rattle.net_core.specs.declared.Gate.{Gate}
 use Rattle.net_core.specs.declared.Latch.{Latch}
-use Rattle.net_core.specs.Statements.{Statement, clocks_in, numbered_of}
+use Rattle.net_core.specs.Statements.{Statement}
 use Rattle.net_core.specs.Sound.{driven_by}
-use Rattle.blif_in.specs.declared.fault.BlifFault.{BlifFault}
-use Rattle.blif_in.specs.declared.fault.BlifKind.TheVariants.{Clocks, NoModel}
+use Rattle.blif_in.specs.declared.fault.BlifKind.TheVariants.{NoModel}
 use Rattle.blif_in.specs.Inner.Saying.{numbered, says}
 use Rattle.blif_in.specs.Text.{clock_fault, closing_fault, driven_within, names_clock, network_of}
-use Rattle.blif_in.proofs.Names.{front_at}
 
 -- a test of what is made of items
 list_any-map : {X Y : Type 0} (p : Y → Bool) (f : X → Y) (xs : List X) → list_any p (map f xs) ≡ list_any (λ x. p (f x)) xs
@@ -41,31 +39,13 @@ gate_drives N name latches gates by_latch found same is lacks same_gates found_i
     ∙ ap (λ (gs : List Gate). list_any (λ gate. bytes_eq name gate.output) gs) same_gates
     ∙ sym (drives_either N name ∙ ap (λ b. b || list_any (λ gate. bytes_eq name gate.output) N.gates) here)
 
--- no line up to a place names a clock
-pub record IsClocklessTo (lines : List Line) (place : ℕ) : Type 0 where
-  pub is : find names_clock (numbered (drop place lines)) ≡ find names_clock (numbered lines)
-
 pub said_numbered : (lines : List Line) → map (λ statement. statement.says) (numbered lines) ≡ map says lines
 said_numbered [] = refl
 said_numbered (line ∷ lines) = ap (λ (said : List Statement). says line ∷ said) (said_numbered lines)
 
-some_lines : (lines : List Line) → 0 < length lines → closing_fault (numbered lines) ≡ clock_fault (network_of (map says lines)) (find names_clock (numbered lines))
+pub some_lines : (lines : List Line) → 0 < length lines → closing_fault (numbered lines) ≡ clock_fault (network_of (map says lines)) (find names_clock (numbered lines))
 some_lines [] some = absurd (omega arith)
 some_lines (line ∷ lines) some =
     let none : eqb (length (numbered (line ∷ lines))) 0 ≡ false = grind (arith, nat_tests) in
     ap (λ b. cond b (Some (record { line = 0; kind = NoModel })) (clock_fault (network_of (map (λ statement. statement.says) (numbered (line ∷ lines)))) (find names_clock (numbered (line ∷ lines))))) none
     ∙ ap (λ (said : List Statement). clock_fault (network_of said) (find names_clock (numbered (line ∷ lines)))) (said_numbered (line ∷ lines))
-
-pub clock_told : (lines : List Line) (place : ℕ) (line : Line) (N : Network) (driven : Bool) (fault : Option BlifFault) → IsClocklessTo lines place → place < length lines → line ≡ get_or lines place line → N ≡ network_of (map says lines)
-    → names_clock (numbered_of line) ≡ true → driven ≡ list_any (λ clock. list_any (bytes_eq clock) (driven_within N)) (clocks_in (says line)) → fault ≡ cond driven (Some (record { line = line.number; kind = Clocks })) None
-    → fault ≡ closing_fault (numbered lines)
-clock_told lines place line N driven fault so_far lt is net_is does driven_is fault_is =
-    let found : find names_clock (numbered lines) ≡ Some (numbered_of line) =
-    sym so_far.is
-    ∙ ap (λ (ls : List Line). find names_clock (numbered ls)) (front_at lines place line lt is)
-    ∙ ap (λ b. cond b (Some (numbered_of line)) (find names_clock (numbered (drop (place + 1) lines)))) does in
-    fault_is
-    ∙ ap (λ b. cond b (Some (record { line = line.number; kind = Clocks })) None) driven_is
-    ∙ ap (λ (M : Network). clock_fault M (Some (numbered_of line))) net_is
-    ∙ ap (clock_fault (network_of (map says lines))) (sym found)
-    ∙ sym (some_lines lines (omega arith))

@@ -3,16 +3,14 @@ use Rattle.std.proofs.Common.{◌≡◌, ℕ, List, [], Option, None, Result, Ok
 use Rattle.std.specs.Prelude.{IfOk, MatchResult, OnOk}
 use Rattle.std.specs.Option.{option_or}
 use Rattle.hs_io.specs.declared.lines.Line.{Line}
-use Rattle.hs_io.specs.Lines.{lines_of}
 use Rattle.net_core.specs.declared.Network.{Network}
 use Rattle.net_core.specs.Blif.{Blif}
-use Rattle.net_core.specs.Joined.{joined}
 use Rattle.net_core.specs.Sound.{Sound}
 use Rattle.net_core.specs.Statements.{said_in, statements_of}
 use Rattle.blif_in.specs.declared.fault.BlifFail.{BlifFail}
 use Rattle.blif_in.specs.declared.fault.BlifFail.TheVariants.{NoMemory, Refused}
 use Rattle.blif_in.specs.declared.fault.BlifFault.{BlifFault}
-use Rattle.blif_in.specs.Inner.Joining.{statement_lines}
+use Rattle.blif_in.specs.Inner.Joining.{lines_read}
 use Rattle.blif_in.specs.Inner.Saying.{numbered, says}
 use Rattle.blif_in.specs.Text.{IsBlifFault, IsFaultOf, IsStructureFault, TellsOf, closing_fault, first_fault, network_of, text_fault}
 use Rattle.blif_in.proofs.Closing.{said_numbered}
@@ -25,7 +23,7 @@ pub record IsRight (bytes : List ℕ) (result : Result Network BlifFail) : Type 
   pub refused : (fault : BlifFault) → result ≡ Err (Refused fault) → IsBlifFault bytes fault
 
 -- a network that lines say, where they have no fault and it is sound
-good : (bytes : List ℕ) (lines : List Line) (result : Result Network BlifFail) → lines ≡ statement_lines (joined (lines_of bytes)) → OnOk result (text_fault (numbered lines) ≡ None) → IfOk result (λ net. net ≡ network_of (map says lines)) → IfOk result Sound
+good : (bytes : List ℕ) (lines : List Line) (result : Result Network BlifFail) → lines ≡ lines_read bytes → OnOk result (text_fault (numbered lines) ≡ None) → IfOk result (λ net. net ≡ network_of (map says lines)) → IfOk result Sound
     → IfOk result (λ net. Blif bytes net)
 good bytes lines (Err fail) are faultless is sound = tt
 good bytes lines (Ok net) are faultless is sound =
@@ -36,7 +34,7 @@ good bytes lines (Ok net) are faultless is sound =
     let text = (faultless_text bytes).denotes none in
     subst (Blif bytes) (sym whole) (record { denotes = text.0; sound = subst Sound whole sound; within = text.1 })
 
-pub right : (bytes : List ℕ) (lines : List Line) (result : Result Network BlifFail) → lines ≡ statement_lines (joined (lines_of bytes)) → OnOk result (text_fault (numbered lines) ≡ None) → IfOk result (λ net. net ≡ network_of (map says lines)) → IfOk result Sound
+pub right : (bytes : List ℕ) (lines : List Line) (result : Result Network BlifFail) → lines ≡ lines_read bytes → OnOk result (text_fault (numbered lines) ≡ None) → IfOk result (λ net. net ≡ network_of (map says lines)) → IfOk result Sound
     → ((fault : BlifFault) → result ≡ Err (Refused fault) → IsFaultOf (numbered lines) fault) → IsRight bytes result
 right bytes lines result are faultless is sound refused =
     record {
@@ -55,10 +53,10 @@ never_read bytes (Err (Refused other)) is fault has = one_fault bytes fault othe
 never_read bytes (Err NoMemory) is fault has = tt
 
 -- statements without a fault whose network is not sound
-pub unsound : (lines : List Line) (first closing : Option BlifFault) (N : Network) (fault : BlifFault) → first ≡ first_fault [] (numbered lines) → closing ≡ closing_fault (numbered lines) → first ≡ None → closing ≡ None → N ≡ network_of (map says lines)
-    → IsStructureFault N fault → IsFaultOf (numbered lines) fault
-unsound lines first closing N fault first_is closing_is none closed is structure =
+pub unsound : (lines : List Line) (closing : Option BlifFault) (N : Network) (fault : BlifFault) → first_fault [] (numbered lines) ≡ None → closing ≡ closing_fault (numbered lines) → closing ≡ None → N ≡ network_of (map says lines) → IsStructureFault N fault
+    → IsFaultOf (numbered lines) fault
+unsound lines closing N fault none closing_is closed is structure =
     inr (
-      ap (λ (found : Option BlifFault). option_or found (closing_fault (numbered lines))) (sym first_is ∙ none) ∙ sym closing_is ∙ closed,
+      ap (λ (found : Option BlifFault). option_or found (closing_fault (numbered lines))) none ∙ sym closing_is ∙ closed,
       subst (λ M. IsStructureFault M fault) (is ∙ sym (ap network_of (said_numbered lines))) structure,
     )

@@ -1,8 +1,8 @@
 pub mod Lines
 pub mod Names
-pub mod FirstFault
 pub mod Networks
 pub mod Closing
+pub mod Progressing
 pub mod Forms
 pub mod Clocks
 pub mod Texts

@@ -1,11 +1,11 @@
 -- Lines that go on, and what is joined to them.
-use Rattle.std.proofs.Common.{◌≡◌, ℕ, ◌+◌, ◌-◌, ◌<◌, ◌≤◌, ◌||◌, Bool, true, false, cond, List, [], ◌∷◌, ◌++◌, length, get_or, take, append_assoc, arith, subst, Option, Some, None, sym, ◌∙◌, refl, ap}
+use Rattle.std.proofs.Common.{◌≡◌, ℕ, ◌+◌, ◌-◌, ◌<◌, ◌≤◌, ◌||◌, Bool, true, false, cond, List, [], ◌∷◌, ◌++◌, length, get_or, take, append_assoc, arith, Option, Some, None, sym, ◌∙◌, refl, ap}
+use Rattle.std.specs.Prelude.{IfSome}
 use Rattle.std.proofs.lemmas.List.{take_all, take_more}
 use Rattle.hs_io.specs.declared.lines.Line.{Line}
 use Rattle.hs_io.specs.Lines.{fields_in}
-use Rattle.net_core.specs.Joined.{ends_in_backslash, ends_text, in_front, is_continued, joined, part_of, without_backslash}
-use Rattle.net_core.specs.Statements.{is_skipped}
-use Rattle.blif_in.specs.Inner.Joining.{behind, lines_behind, merged, statement_lines}
+use Rattle.net_core.specs.Joined.{ends_in_backslash, in_front, is_continued, joined, part_of, without_backslash}
+use Rattle.blif_in.specs.Inner.Joining.{behind, lines_behind, merged}
 
 -- the last field decides whether a line goes on
 pub continued_last : (front : List (List ℕ)) (last : List ℕ) → is_continued (front ++ last ∷ []) ≡ ends_in_backslash last
@@ -45,31 +45,29 @@ behind_more (Some front) line lines = by (is_continued line.fields) where
   by true = in_front_twice front (part_of line) (joined lines)
   by false = refl
 
--- what the first joined line gives to the statements
-abbrev statements_with : Line → List Line → List Line
-statements_with line lines = cond (ends_text line) [] (cond (is_skipped line) (statement_lines lines) (line ∷ statement_lines lines))
+-- a line that goes on is the front of the next joined line
+pub joined_more : (front : Option Line) (line whole : Line) (items lines all : List Line) → lines_behind front (joined items) ≡ all → items ≡ line ∷ lines → whole ≡ behind front (part_of line) → is_continued line.fields ≡ true
+    → lines_behind (Some whole) (joined lines) ≡ all
+joined_more front line whole items lines all so_far first is more =
+    ap (λ w. lines_behind (Some w) (joined lines)) is
+    ∙ sym (behind_more front line lines ∙ ap (λ b. cond b (lines_behind (Some (behind front (part_of line))) (joined lines)) (behind front (part_of line) ∷ joined lines)) more)
+    ∙ ap (λ (ls : List Line). lines_behind front (joined ls)) (sym first)
+    ∙ so_far
 
--- The lines so far that are statements, the front of a joined line, and the lines to come: all of them give the statements.
-pub record IsOnTheWay (kept : List Line) (front : Option Line) (lines all : List Line) : Type 0 where
-  pub is : kept ++ statement_lines (lines_behind front (joined lines)) ≡ all
+-- any other line ends it
+pub joined_here : (front : Option Line) (line whole : Line) (items lines all : List Line) → lines_behind front (joined items) ≡ all → items ≡ line ∷ lines → whole ≡ behind front (part_of line) → is_continued line.fields ≡ false → all ≡ whole ∷ joined lines
+joined_here front line whole items lines all so_far first is alone =
+    sym so_far
+    ∙ ap (λ (ls : List Line). lines_behind front (joined ls)) first
+    ∙ behind_more front line lines
+    ∙ ap (λ b. cond b (lines_behind (Some (behind front (part_of line))) (joined lines)) (behind front (part_of line) ∷ joined lines)) alone
+    ∙ ap (λ w. w ∷ joined lines) (sym is)
 
--- a line that ends a joined one
-ended : (kept : List Line) (front : Option Line) (line whole : Line) (lines all : List Line) → IsOnTheWay kept front (line ∷ lines) all → whole ≡ behind front (part_of line) → is_continued line.fields ≡ false
-    → kept ++ statements_with whole (joined lines) ≡ all
-ended kept front line whole lines all way is alone =
-    ap (λ (w : Line). kept ++ statements_with w (joined lines)) is
-    ∙ sym (ap (λ (ls : List Line). kept ++ statement_lines ls) (behind_more front line lines ∙ ap (λ b. cond b (lines_behind (Some (behind front (part_of line))) (joined lines)) (behind front (part_of line) ∷ joined lines)) alone))
-    ∙ way.is
-
-pub goes_on : (kept : List Line) (front : Option Line) (items : List Line) (line whole : Line) (lines all : List Line) → IsOnTheWay kept front items all → items ≡ line ∷ lines → whole ≡ behind front (part_of line) → is_continued line.fields ≡ true
-    → IsOnTheWay kept (Some whole) lines all
-goes_on kept front items line whole lines all way items_are is more =
-    record {
-      is =
-          ap (λ (w : Line). kept ++ statement_lines (in_front w (joined lines))) is
-          ∙ sym (ap (λ (ls : List Line). kept ++ statement_lines ls) (behind_more front line lines ∙ ap (λ b. cond b (lines_behind (Some (behind front (part_of line))) (joined lines)) (behind front (part_of line) ∷ joined lines)) more))
-          ∙ (subst (λ ls. IsOnTheWay kept front ls all) items_are way).is;
-    }
+-- at the end of the text the front is the last joined line
+pub joined_last : (front : Option Line) (items ended all : List Line) → lines_behind front (joined items) ≡ all → items ≡ [] → ended ≡ [] → IfSome front (λ line. all ≡ line ∷ joined ended)
+joined_last None items ended all so_far none empty = tt
+joined_last (Some front) items ended all so_far none empty =
+    sym so_far ∙ ap (λ (ls : List Line). in_front front (joined ls)) none ∙ ap (λ (ls : List Line). front ∷ joined ls) (sym empty)
 
 -- a list up to its last item, and that item
 split_last : {X : Type 0} (xs : List X) (x : X) → 1 ≤ length xs → x ≡ get_or xs (length xs - 1) x → xs ≡ take (length xs - 1) xs ++ x ∷ []

@@ -10,7 +10,7 @@ use Rattle.hs_io.specs.declared.lines.Line.{Line}
 use Rattle.hs_io.specs.Lines.{begins_comment, content, ends_line, fields_of, is_blank, is_field, lines_from, lines_of, lines_of_pieces, physical_lines}
 use Rattle.net_core.specs.Joined.{ends_text, in_front, is_continued, joined, part_of, read_fields, without_backslash}
 use Rattle.net_core.specs.Statements.{is_skipped, statements_of}
-use Rattle.blif_in.specs.Inner.Joining.{statement_lines}
+use Rattle.blif_in.specs.Inner.Joining.{lines_read, statement_lines}
 use Rattle.blif_in.specs.Inner.Measuring.{AreMeasurable}
 use Rattle.blif_in.specs.Inner.Saying.{numbered}
 
@@ -109,7 +109,7 @@ kept_short most (line ∷ lines) (h, hs) = by (ends_text line) (is_skipped line)
   by false false rest = (h, rest)
 
 -- the fields of the statements of a text that can be measured can be measured
-pub statements_measurable : (bytes : List ℕ) → length bytes < 2 ^ 32 → All (λ line. AreMeasurable line.fields) (statement_lines (joined (lines_of bytes)))
+pub statements_measurable : (bytes : List ℕ) → length bytes < 2 ^ 32 → All (λ line. AreMeasurable line.fields) (lines_read bytes)
 statements_measurable bytes short =
     All-from_recursion (λ line. AreMeasurable line.fields) (statement_lines (joined (lines_of bytes)))
     (weaker (HasShort (length bytes)) (λ line. AreMeasurable line.fields)
@@ -134,5 +134,5 @@ lines_are (line ∷ lines) =
       by true rest = refl
       by false rest = kept (is_skipped line) (statement_lines lines) (filter (λ l. not (is_skipped l)) (take_while (λ l. not (ends_text l)) lines)) rest
 
-pub statements_are : (bytes : List ℕ) → numbered (statement_lines (joined (lines_of bytes))) ≡ statements_of bytes
+pub statements_are : (bytes : List ℕ) → numbered (lines_read bytes) ≡ statements_of bytes
 statements_are bytes = ap numbered (lines_are (joined (lines_of bytes)))

@@ -1,14 +1,10 @@
 -- Names that are too long, and names of clocks.
-use Rattle.std.proofs.Common.{◌≡◌, ℕ, ◌+◌, ◌<◌, ◌||◌, Bool, true, false, not, List, [], ◌∷◌, length, get_or, drop, drop-cons, add-one, suc, Some, sym, ◌∙◌, refl, ap, arith}
+use Rattle.std.proofs.Common.{◌≡◌, ℕ, ◌||◌, Bool, true, false, not, List, [], ◌∷◌, suc, Some, ◌∙◌, refl, ap, arith}
 use Rattle.std.specs.List.{AllByRecursion, list_any}
 use Rattle.std.specs.Str.{bytes_eq}
 use Rattle.net_core.specs.Faults.{names_another}
 use Rattle.blif_in.specs.Inner.Judging.{IsClock}
 use Rattle.blif_in.specs.Inner.Measuring.{AreMeasurable}
-
--- what is left at a place begins with the item there
-pub front_at : {X : Type 0} (xs : List X) (i : ℕ) (x : X) → i < length xs → x ≡ get_or xs i x → drop i xs ≡ x ∷ drop (i + 1) xs
-front_at xs i x lt is = rw add-one (drop-cons xs i x lt ∙ ap (λ y. y ∷ drop (suc i) xs) (sym is))
 
 -- among names of one clock another name is one that differs from it
 pub another_clock : (clock name : List ℕ) (names : List (List ℕ)) → IsClock (Some clock) names → names_another names (name ∷ []) ≡ not (bytes_eq name clock)

@@ -4,3 +4,4 @@ pub mod Saying
 pub mod Judging
 pub mod Measuring
 pub mod Building
+pub mod Progressing

@@ -1,48 +1,127 @@
-//! Builds the network of statements without a fault.
-ghost use Rattle.std.specs.Prelude.{◌≡◌, ◌++◌, IfOk, OnOk, map};
+//! Builds the network, statement after statement.
+ghost use Rattle.std.specs.Prelude.{◌≡◌, ℕ, ◌∷◌, ◌++◌, [], IfOk, List, OnOk};
 ghost use Rattle.std.specs.Option.{option_to_list};
 ghost use Rattle.net_core.specs.Statements as said;
 ghost use Rattle.blif_in.specs.Text as text;
-ghost use Rattle.blif_in.specs.Inner.Building.{with_statement};
-ghost use Rattle.blif_in.specs.Inner.Saying.{said_by, says};
+ghost use Rattle.blif_in.specs.Inner.Building.{Adds, closed, gate_by, gates_by, network_by};
+ghost use Rattle.blif_in.specs.Inner.Saying.{said_by};
 
-use crate::statement::{Statement, latch_parts, start_said, statement_of};
-use hs_io::{Line, Name, Names};
+use crate::statement::{Statement, latch_parts, start_said};
+use hs_io::{Name, Names};
 use net_core::{Gate, Gates, Latch, Latches, Network};
 use std::alloc::{AllocError, Global};
 
-/// The network of the statements in lines.
-pub(crate) fn network_of(alloc: Global, lines: &[Line]) -> Result<Network, AllocError>
-    ensures { IfOk result (λ net. net ≡ text.network_of (map says lines.now)) }
-{
-    let mut net = Network {
-        inputs: Names::new(alloc),
-        outputs: Names::new(alloc),
-        latches: Latches::new(alloc),
-        gates: Gates::new(alloc),
-    };
-    for (place, line) in lines.iter().enumerate() {
-        add_statement(alloc, &mut net, statement_of(line), &lines[place + 1..])?;
-    }
-    Ok(net)
+/// A gate, as far as its rows were read.
+#[derive(Drop)]
+pub(crate) struct DraftGate {
+    pub inputs: Names,
+    pub output: Name,
+    pub rows: Names,
+    /// The output bit of its first row.
+    pub bit: Option<bool>,
 }
 
-/// Adds what a statement says, given the lines after it.
-fn add_statement(
-    alloc: Global,
-    net: &mut Network,
-    statement: Statement<'_>,
-    behind: &[Line],
-) -> Result<(), AllocError>
-    ensures { OnOk result (net.new ≡ with_statement net.old (said_by statement.entry) (map says behind.now)) }
-{
-    match statement {
-        Statement::Inputs(names) => add_names(alloc, &mut net.inputs, names),
-        Statement::Outputs(names) => add_names(alloc, &mut net.outputs, names),
-        Statement::Latch(operands) => add_latch(alloc, &mut net.latches, operands),
-        Statement::Names(names) => { net.gates.push(gate_of(alloc, names, behind)?) }
-        _ => Ok(()),
+/// A network, as far as its statements were read.
+#[derive(Drop)]
+pub(crate) struct Draft {
+    pub inputs: Names,
+    pub outputs: Names,
+    pub latches: Latches,
+    pub gates: Gates,
+    /// The gate to which a row belongs that comes next.
+    pub open_gate: Option<DraftGate>,
+}
+
+impl Draft {
+    /// Before the first statement.
+    pub fn new(alloc: Global) -> Draft
+        ensures { (statements : List said.Statement) → network_by result statements ≡ text.network_of statements }
+    {
+        Draft {
+            inputs: Names::new(alloc),
+            outputs: Names::new(alloc),
+            latches: Latches::new(alloc),
+            gates: Gates::new(alloc),
+            open_gate: None,
+        }
     }
+
+    /// Adds what a statement says.
+    pub fn add(&mut self, alloc: Global, statement: Statement<'_>) -> Result<(), AllocError>
+        ensures { OnOk result (Adds (said_by statement.entry) self.old self.new) }
+    {
+        match statement {
+            Statement::Row(fields) => add_row(alloc, &mut self.open_gate, fields),
+            Statement::Inputs(names) => {
+                self.close()?;
+                add_names(alloc, &mut self.inputs, names)
+            }
+            Statement::Outputs(names) => {
+                self.close()?;
+                add_names(alloc, &mut self.outputs, names)
+            }
+            Statement::Latch(operands) => {
+                self.close()?;
+                add_latch(alloc, &mut self.latches, operands)
+            }
+            Statement::Names(names) => {
+                self.close()?;
+                self.open_gate = Some(gate_of(alloc, names)?);
+                Ok(())
+            }
+            Statement::Model(_) | Statement::Clock(_) | Statement::Other => self.close(),
+        }
+    }
+
+    /// Ends the gate whose rows were read, if there is one.
+    fn close(&mut self) -> Result<(), AllocError>
+        ensures { OnOk result (self.new ≡ closed self.old) }
+    {
+        if let Some(gate) = self.open_gate.take() {
+            self.gates.push(whole_gate(gate))?;
+        }
+        Ok(())
+    }
+
+    /// The network of the statements.
+    pub fn finish(mut self) -> Result<Network, AllocError>
+        ensures { IfOk result (λ net. net ≡ network_by self []) }
+    {
+        self.close()?;
+        Ok(Network {
+            inputs: self.inputs,
+            outputs: self.outputs,
+            latches: self.latches,
+            gates: self.gates,
+        })
+    }
+}
+
+/// The gate of which all rows were read.
+fn whole_gate(gate: DraftGate) -> Gate
+    ensures { result ≡ gate_by gate [] }
+{
+    Gate {
+        inputs: gate.inputs,
+        output: gate.output,
+        rows: gate.rows,
+        on: gate.bit.unwrap_or(true),
+    }
+}
+
+/// Adds a row to the open gate, if there is one.
+fn add_row(
+    alloc: Global,
+    open_gate: &mut Option<DraftGate>,
+    fields: &[Name],
+) -> Result<(), AllocError>
+    ensures { OnOk result ((rows : List (List (List ℕ))) → gates_by open_gate.new rows ≡ gates_by open_gate.old (fields.now ∷ rows)) }
+{
+    if let Some(gate) = open_gate {
+        gate.rows.push(Name::new(alloc, plane_of(fields))?)?;
+        gate.bit = Some(gate.bit.unwrap_or(has_bit_one(fields)));
+    }
+    Ok(())
 }
 
 /// Adds copies of names.
@@ -72,9 +151,9 @@ fn add_latch(alloc: Global, latches: &mut Latches, operands: &[Name]) -> Result<
     })
 }
 
-/// The gate of these names with the rows after them.
-fn gate_of(alloc: Global, names: &[Name], behind: &[Line]) -> Result<Gate, AllocError>
-    ensures { IfOk result (λ gate. gate ≡ said.gate_from names.now (said.rows_of (map says behind.now))) }
+/// The gate of these names, before its first row.
+fn gate_of(alloc: Global, names: &[Name]) -> Result<DraftGate, AllocError>
+    ensures { IfOk result (λ gate. (rows : List (List (List ℕ))) → gate_by gate rows ≡ said.gate_from names.now rows) }
 {
     let mut inputs = Names::new(alloc);
     let (front, output) = match names {
@@ -82,26 +161,12 @@ fn gate_of(alloc: Global, names: &[Name], behind: &[Line]) -> Result<Gate, Alloc
         [] => (names, b"".as_slice()),
     };
     add_names(alloc, &mut inputs, front)?;
-    Ok(Gate {
+    Ok(DraftGate {
         inputs,
         output: Name::new(alloc, output)?,
-        rows: planes_of(alloc, behind)?,
-        on: lists_on_set(behind),
+        rows: Names::new(alloc),
+        bit: None,
     })
-}
-
-/// The planes of the rows before any other statement.
-fn planes_of(alloc: Global, lines: &[Line]) -> Result<Names, AllocError>
-    ensures { IfOk result (λ planes. planes ≡ map said.plane_of (said.rows_of (map says lines.now))) }
-{
-    let mut planes = Names::new(alloc);
-    for line in lines {
-        let Statement::Row(fields) = statement_of(line) else {
-            return Ok(planes);
-        };
-        planes.push(Name::new(alloc, plane_of(fields))?)?;
-    }
-    Ok(planes)
 }
 
 /// The plane of a row.
@@ -111,19 +176,6 @@ fn plane_of(fields: &[Name]) -> &[u8]
     match fields {
         [plane, _] => plane.bytes(),
         _ => &[],
-    }
-}
-
-/// Whether the rows before any other statement list the on-set: their output bit is 1, or there are none.
-fn lists_on_set(lines: &[Line]) -> bool
-    ensures { result ≡ said.lists_on (said.rows_of (map says lines.now)) }
-{
-    match lines {
-        [line, ..] => match statement_of(line) {
-            Statement::Row(fields) => has_bit_one(fields),
-            _ => true,
-        },
-        [] => true,
     }
 }
 

@@ -1,5 +1,5 @@
-//! Joins lines that end in a backslash with the next ones, and keeps the lines that are statements.
-ghost use Rattle.std.specs.Prelude.{◌≡◌, ◌++◌, ◌∷◌, ◌-◌, [], IfOk, OnOk, length, take};
+//! Joins lines that end in a backslash with the next ones, and gives the lines that are statements one by one.
+ghost use Rattle.std.specs.Prelude.{◌≡◌, ◌++◌, ◌∷◌, ◌-◌, [], IfNone, IfOk, IfSome, OnOk, length, take};
 ghost use Rattle.std.specs.List.{list_any};
 ghost use Rattle.hs_io.specs.Lines.{fields_in};
 ghost use Rattle.net_core.specs.Joined.{is_backslash, is_continued, ends_in_backslash, ends_text, joined, part_of, without_backslash};
@@ -7,35 +7,45 @@ ghost use Rattle.net_core.specs.Joined as joining;
 ghost use Rattle.net_core.specs.Statements.{is_skipped};
 ghost use Rattle.blif_in.specs.Inner.Joining.{behind, merged, statement_lines};
 
-use hs_io::{Fields, Line, Name};
+use hs_io::{Fields, Line, LineReader, Name};
 use std::alloc::{AllocError, Global};
 
-/// The joined lines that are statements, up to the one that ends the text. Lines that end in a backslash are
-/// copied.
-pub(crate) fn joined_statements(alloc: Global, lines: Vec<Line>) -> Result<Vec<Line>, AllocError>
-    ensures { IfOk result (λ kept. kept.items ≡ statement_lines (joined lines.items)) }
+/// The next joined line that is a statement, or `None` where there is none before the text ends.
+pub(crate) fn next_statement(
+    alloc: Global,
+    lines: &mut LineReader<'_>,
+) -> Result<Option<Line>, AllocError>
+    ensures some { IfOk result (λ next. IfSome next (λ line. statement_lines (joined lines.old) ≡ line ∷ statement_lines (joined lines.new))) }
+    ensures none { IfOk result (λ next. IfNone next (statement_lines (joined lines.old) ≡ [])) }
 {
-    let mut kept = Vec::new(alloc);
-    let mut front: Option<Line> = None;
-    let mut rest = lines.into_iter();
-    while let Some(line) = rest.next() {
-        let goes_on = is_joined_to_next(line.fields.as_slice());
-        let whole = line_behind(alloc, front.take(), line)?;
-        if goes_on {
-            front = Some(whole);
-        } else if ends(&whole) {
-            return Ok(kept);
-        } else if !is_blank(&whole) {
-            kept.push(whole)?;
+    while let Some(line) = next_joined(alloc, lines)? {
+        if ends(&line) {
+            return Ok(None);
+        }
+        if !is_blank(&line) {
+            return Ok(Some(line));
         }
     }
-    let Some(last) = front else {
-        return Ok(kept);
-    };
-    if !ends(&last) && !is_blank(&last) {
-        kept.push(last)?;
+    Ok(None)
+}
+
+/// The next joined line, or `None` after the last one. The fields of a line that ends in a backslash are copied.
+fn next_joined(alloc: Global, lines: &mut LineReader<'_>) -> Result<Option<Line>, AllocError>
+    ensures some { IfOk result (λ next. IfSome next (λ line. joined lines.old ≡ line ∷ joined lines.new)) }
+    ensures none { IfOk result (λ next. IfNone next (joined lines.old ≡ [])) }
+{
+    let mut front: Option<Line> = None;
+    while let Some(line) = lines.next_line(alloc)? {
+        let goes_on = is_joined_to_next(line.fields.as_slice());
+        let whole = line_behind(alloc, front.take(), line)?;
+        if !goes_on {
+            return Ok(Some(whole));
+        }
+        front = Some(whole);
     }
-    Ok(kept)
+    // Nothing is left. The reader does not promise that of itself.
+    *lines = LineReader::new(&[]);
+    Ok(front)
 }
 
 /// Whether the line with these fields ends in a backslash.

@@ -6,12 +6,11 @@ ghost use Rattle.net_core.specs.Faults.{has_other_kind, is_row_for, names_anothe
 ghost use Rattle.net_core.specs.Blif.{latch_names};
 ghost use Rattle.net_core.specs.Statements as said;
 ghost use Rattle.blif_in.specs.Faults.{fault_in, fault_where, long_name};
-ghost use Rattle.blif_in.specs.Text as text;
 ghost use Rattle.blif_in.specs.Inner.Judging.{IsClock, IsJudged, IsSmall, Judges, Stands};
 ghost use Rattle.blif_in.specs.Inner.Measuring.{AreMeasurable};
-ghost use Rattle.blif_in.specs.Inner.Saying.{fields_said, numbered, parts_said, said_by};
+ghost use Rattle.blif_in.specs.Inner.Saying.{fields_said, parts_said, said_by, says};
 
-use crate::fault::{BlifFault, BlifKind, NetLimit};
+use crate::fault::{BlifKind, NetLimit};
 use crate::statement::{LatchParts, Statement, clock_named, latch_parts, start_said, statement_of};
 use hs_io::{Line, Name};
 
@@ -24,17 +23,15 @@ pub(crate) struct OpenGate {
     pub bit: Option<bool>,
 }
 
-/// What the statements so far have set.
+/// What the statements so far have set, besides the clock.
 #[derive(Clone, Copy)]
-pub(crate) struct Standing<'a> {
+pub(crate) struct Summary {
     /// Whether there was a statement.
     pub begun: bool,
     /// Whether there was a model.
     pub model: bool,
     /// Whether there was a `.clock`.
     pub clock_word: bool,
-    /// The name of the clock.
-    pub clock: Option<&'a Name>,
     /// The gate to which a row belongs that comes next.
     pub gate: Option<OpenGate>,
     pub inputs: usize,
@@ -43,37 +40,17 @@ pub(crate) struct Standing<'a> {
     pub gates: usize,
 }
 
-/// The first fault of the statements in lines.
-pub(crate) fn fault_of_statements(lines: &[Line]) -> Option<BlifFault>
-    requires { All (λ line. AreMeasurable line.fields) lines.now }
-    ensures { result ≡ text.first_fault [] (numbered lines.now) }
-{
-    let mut standing = Standing::new();
-    for line in lines {
-        match standing.after_line(line) {
-            Ok(next) => standing = next,
-            Err(kind) => {
-                return Some(BlifFault {
-                    line: line.number,
-                    kind,
-                });
-            }
-        }
-    }
-    None
-}
-
-impl<'a> Standing<'a> {
+impl Summary {
     /// Before the first statement.
-    fn new() -> Standing<'a>
-        ensures stands { Stands result [] }
+    pub fn new() -> Summary
+        ensures stands { Stands result None [] }
         ensures small { IsSmall result }
+        ensures begun { result.begun ≡ false }
     {
-        Standing {
+        Summary {
             begun: false,
             model: false,
             clock_word: false,
-            clock: None,
             gate: None,
             inputs: 0,
             outputs: 0,
@@ -81,19 +58,29 @@ impl<'a> Standing<'a> {
             gates: 0,
         }
     }
+}
 
+/// What the statements so far have set.
+#[derive(Clone, Copy)]
+pub(crate) struct Standing<'a> {
+    pub summary: Summary,
+    /// The name of the clock.
+    pub clock: Option<&'a Name>,
+}
+
+impl<'a> Standing<'a> {
     /// The same after the statement of a line, or the fault of that statement.
-    fn after_line(&self, line: &'a Line) -> Result<Standing<'a>, BlifKind>
+    pub fn after_line(&self, line: &'a Line) -> Result<Standing<'a>, BlifKind>
         requires measurable { AreMeasurable line.now.fields }
-        requires small { IsSmall self.now }
-        ensures judged { (earlier : List said.Statement) → Stands self.now earlier → Judges result (fault_in earlier (said.numbered_of line.now)) (λ next. Stands next (said.statement_of line.now.fields ∷ earlier)) }
-        ensures small { IfOk result IsSmall }
+        requires small { IsSmall self.now.summary }
+        ensures judged { (earlier : List said.Statement) → Stands self.now.summary (option_copied self.now.clock) earlier → Judges result (fault_in earlier (said.numbered_of line.now)) (λ next. Stands next.summary (option_copied next.clock) (says line.now ∷ earlier)) }
+        ensures small { IfOk result (λ next. IsSmall next.summary) }
     {
         if line.bad {
             return Err(BlifKind::BadByte);
         }
         let statement = statement_of(line);
-        if !self.begun && !is_model(statement) {
+        if !self.summary.begun && !is_model(statement) {
             return Err(BlifKind::NoModel);
         }
         self.after(statement)
@@ -102,9 +89,9 @@ impl<'a> Standing<'a> {
     /// The same after a statement, or the fault of that statement.
     fn after(&self, statement: Statement<'a>) -> Result<Standing<'a>, BlifKind>
         requires measurable { AreMeasurable (fields_said statement) }
-        requires small { IsSmall self.now }
+        requires small { IsSmall self.now.summary }
         ensures judged { IsJudged self.now (said_by statement.entry) result }
-        ensures small { IfOk result IsSmall }
+        ensures small { IfOk result (λ next. IsSmall next.summary) }
     {
         match statement {
             Statement::Model(names) => self.after_model(names),
@@ -120,20 +107,23 @@ impl<'a> Standing<'a> {
 
     /// `.model`
     fn after_model(&self, names: &[Name]) -> Result<Standing<'a>, BlifKind>
-        requires { IsSmall self.now }
+        requires { IsSmall self.now.summary }
         ensures judged { IsJudged self.now (said.Model names.now) result }
-        ensures small { IfOk result IsSmall }
+        ensures small { IfOk result (λ next. IsSmall next.summary) }
     {
-        if self.model {
+        if self.summary.model {
             return Err(BlifKind::Unsupported);
         }
         if names.len() > 1 {
             return Err(BlifKind::BadFields);
         }
         Ok(Standing {
-            begun: true,
-            model: true,
-            gate: None,
+            summary: Summary {
+                begun: true,
+                model: true,
+                gate: None,
+                ..self.summary
+            },
             ..*self
         })
     }
@@ -141,18 +131,21 @@ impl<'a> Standing<'a> {
     /// `.inputs`
     fn after_inputs(&self, names: &[Name]) -> Result<Standing<'a>, BlifKind>
         requires measurable { AreMeasurable names.now }
-        requires small { IsSmall self.now }
+        requires small { IsSmall self.now.summary }
         ensures judged { IsJudged self.now (said.Inputs names.now) result }
-        ensures small { IfOk result IsSmall }
+        ensures small { IfOk result (λ next. IsSmall next.summary) }
     {
         judge_lengths(names)?;
-        if names.len() > 256 - self.inputs {
+        if names.len() > 256 - self.summary.inputs {
             return Err(over(NetLimit::Inputs, 257));
         }
         Ok(Standing {
-            begun: true,
-            gate: None,
-            inputs: self.inputs + names.len(),
+            summary: Summary {
+                begun: true,
+                gate: None,
+                inputs: self.summary.inputs + names.len(),
+                ..self.summary
+            },
             ..*self
         })
     }
@@ -160,18 +153,21 @@ impl<'a> Standing<'a> {
     /// `.outputs`
     fn after_outputs(&self, names: &[Name]) -> Result<Standing<'a>, BlifKind>
         requires measurable { AreMeasurable names.now }
-        requires small { IsSmall self.now }
+        requires small { IsSmall self.now.summary }
         ensures judged { IsJudged self.now (said.Outputs names.now) result }
-        ensures small { IfOk result IsSmall }
+        ensures small { IfOk result (λ next. IsSmall next.summary) }
     {
         judge_lengths(names)?;
-        if names.len() > 256 - self.outputs {
+        if names.len() > 256 - self.summary.outputs {
             return Err(over(NetLimit::Outputs, 257));
         }
         Ok(Standing {
-            begun: true,
-            gate: None,
-            outputs: self.outputs + names.len(),
+            summary: Summary {
+                begun: true,
+                gate: None,
+                outputs: self.summary.outputs + names.len(),
+                ..self.summary
+            },
             ..*self
         })
     }
@@ -179,9 +175,9 @@ impl<'a> Standing<'a> {
     /// `.clock`
     fn after_clock(&self, names: &'a [Name]) -> Result<Standing<'a>, BlifKind>
         requires measurable { AreMeasurable names.now }
-        requires small { IsSmall self.now }
+        requires small { IsSmall self.now.summary }
         ensures judged { IsJudged self.now (said.Clock names.now) result }
-        ensures small { IfOk result IsSmall }
+        ensures small { IfOk result (λ next. IsSmall next.summary) }
     {
         match names {
             [name] => self.after_clock_named(name),
@@ -192,29 +188,31 @@ impl<'a> Standing<'a> {
     /// `.clock` with one name.
     fn after_clock_named(&self, name: &'a Name) -> Result<Standing<'a>, BlifKind>
         requires measurable { length name.now < 2 ^ 32 }
-        requires small { IsSmall self.now }
+        requires small { IsSmall self.now.summary }
         ensures judged { IsJudged self.now (said.Clock (name.now ∷ [])) result }
-        ensures small { IfOk result IsSmall }
+        ensures small { IfOk result (λ next. IsSmall next.summary) }
     {
         judge_length(name)?;
-        if differs_from(self.clock, name) || self.clock_word {
+        if differs_from(self.clock, name) || self.summary.clock_word {
             return Err(BlifKind::Clocks);
         }
         Ok(Standing {
-            begun: true,
-            clock_word: true,
+            summary: Summary {
+                begun: true,
+                clock_word: true,
+                gate: None,
+                ..self.summary
+            },
             clock: Some(name),
-            gate: None,
-            ..*self
         })
     }
 
     /// `.latch`
     fn after_latch(&self, operands: &'a [Name]) -> Result<Standing<'a>, BlifKind>
         requires measurable { AreMeasurable operands.now }
-        requires small { IsSmall self.now }
+        requires small { IsSmall self.now.summary }
         ensures judged { IsJudged self.now (said.LatchLine operands.now) result }
-        ensures small { IfOk result IsSmall }
+        ensures small { IfOk result (λ next. IsSmall next.summary) }
     {
         let Some(parts) = latch_parts(operands) else {
             return Err(BlifKind::BadFields);
@@ -227,24 +225,26 @@ impl<'a> Standing<'a> {
         }
         judge_latch_names(&parts)?;
         let clock = self.clock_with(clock_named(parts.control))?;
-        if self.latches >= 256 {
+        if self.summary.latches >= 256 {
             return Err(over(NetLimit::Latches, 257));
         }
         Ok(Standing {
-            begun: true,
+            summary: Summary {
+                begun: true,
+                gate: None,
+                latches: self.summary.latches + 1,
+                ..self.summary
+            },
             clock,
-            gate: None,
-            latches: self.latches + 1,
-            ..*self
         })
     }
 
     /// `.names`
     fn after_names(&self, names: &[Name]) -> Result<Standing<'a>, BlifKind>
         requires measurable { AreMeasurable names.now }
-        requires small { IsSmall self.now }
+        requires small { IsSmall self.now.summary }
         ensures judged { IsJudged self.now (said.Names names.now) result }
-        ensures small { IfOk result IsSmall }
+        ensures small { IfOk result (λ next. IsSmall next.summary) }
     {
         if names.is_empty() {
             return Err(BlifKind::BadFields);
@@ -254,24 +254,27 @@ impl<'a> Standing<'a> {
         if inputs > 256 {
             return Err(over(NetLimit::GateInputs, 257));
         }
-        if self.gates >= 65536 {
+        if self.summary.gates >= 65536 {
             return Err(over(NetLimit::Gates, 65537));
         }
         Ok(Standing {
-            begun: true,
-            gate: Some(OpenGate { inputs, bit: None }),
-            gates: self.gates + 1,
+            summary: Summary {
+                begun: true,
+                gate: Some(OpenGate { inputs, bit: None }),
+                gates: self.summary.gates + 1,
+                ..self.summary
+            },
             ..*self
         })
     }
 
     /// A row.
     fn after_row(&self, fields: &[Name]) -> Result<Standing<'a>, BlifKind>
-        requires { IsSmall self.now }
+        requires { IsSmall self.now.summary }
         ensures judged { IsJudged self.now (said.Row fields.now) result }
-        ensures small { IfOk result IsSmall }
+        ensures small { IfOk result (λ next. IsSmall next.summary) }
     {
-        let Some(gate) = self.gate else {
+        let Some(gate) = self.summary.gate else {
             return Err(BlifKind::BadFields);
         };
         let Some(bit) = row_bit(gate.inputs, fields) else {
@@ -282,11 +285,14 @@ impl<'a> Standing<'a> {
             return Err(BlifKind::MixedCover);
         }
         Ok(Standing {
-            begun: true,
-            gate: Some(OpenGate {
-                inputs: gate.inputs,
-                bit: Some(first),
-            }),
+            summary: Summary {
+                begun: true,
+                gate: Some(OpenGate {
+                    inputs: gate.inputs,
+                    bit: Some(first),
+                }),
+                ..self.summary
+            },
             ..*self
         })
     }

@@ -16,6 +16,7 @@ mod fault;
 mod joining;
 mod judging;
 mod laws;
+mod progress;
 mod reading;
 mod statement;
 

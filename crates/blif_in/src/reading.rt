@@ -1,23 +1,24 @@
 //! Reads a BLIF text.
-ghost use Rattle.std.specs.Prelude.{◌≡◌, ◌<◌, ◌^◌, [], All, Err, IfOk, MatchOption, MatchResult, None, OnOk, Some, false, if◌then◌else◌, length, map, true};
+ghost use Rattle.std.specs.Prelude.{◌≡◌, ◌<◌, ◌^◌, [], Err, IfOk, List, MatchResult, None, OnOk, length, map};
 ghost use Rattle.std.specs.List.{list_any};
 ghost use Rattle.std.specs.Str.{bytes_eq};
+ghost use Rattle.hs_io.specs.declared.lines.Line.{Line};
 ghost use Rattle.net_core.specs.declared.Network.{Network};
 ghost use Rattle.net_core.specs.Blif.{Blif};
 ghost use Rattle.net_core.specs.Sound.{Sound};
-ghost use Rattle.net_core.specs.Statements as said;
 ghost use Rattle.blif_in.specs.declared.fault.BlifFault.{BlifFault};
-ghost use Rattle.blif_in.specs.Text.{IsBlifFault, IsFaultOf, IsStructureFault, TellsOf, driven_within, names_clock, text_fault};
+ghost use Rattle.blif_in.specs.Text.{IsBlifFault, IsFaultOf, IsStructureFault, TellsOf, driven_within, text_fault};
 ghost use Rattle.blif_in.specs.Text as text;
-ghost use Rattle.blif_in.specs.Inner.Measuring.{AreMeasurable};
+ghost use Rattle.blif_in.specs.Inner.Joining.{lines_read};
+ghost use Rattle.blif_in.specs.Inner.Progressing.{IsReadTo, Tells, fault_of};
 ghost use Rattle.blif_in.specs.Inner.Saying.{numbered, says};
 
-use crate::building::network_of;
+use crate::building::Draft;
 use crate::fault::{BlifFail, BlifFault, BlifKind};
-use crate::joining::joined_statements;
-use crate::judging::fault_of_statements;
-use crate::statement::{Statement, clock_named, latch_parts, statement_of};
-use hs_io::{Line, Name, cut_lines};
+use crate::joining::next_statement;
+use crate::progress::{FirstClock, Progress, after_line};
+use crate::statement::statement_of;
+use hs_io::LineReader;
 use net_core::{Gate, Latch, NetFail, Network, check};
 use std::alloc::Global;
 
@@ -30,26 +31,46 @@ pub fn read(alloc: Global, bytes: &[u8]) -> Result<Network, BlifFail>
     ensures never_refused { (net : Network) → Blif bytes.now net → MatchResult result (λ read. read ≡ net) (λ fail. fail ≡ BlifFail.NoMemory) }
     ensures never_read { (fault : BlifFault) → IsBlifFault bytes.now fault → MatchResult result (λ _. ⊥) (TellsOf fault) }
 {
-    let lines = joined_statements(alloc, cut_lines(alloc, bytes)?)?;
-    read_statements(alloc, &lines)
+    read_statements(alloc, bytes)
 }
 
-/// The network of the statements in lines, or their first fault.
-fn read_statements(alloc: Global, lines: &[Line]) -> Result<Network, BlifFail>
-    requires { All (λ line. AreMeasurable line.fields) lines.now }
-    ensures faultless { OnOk result (text_fault (numbered lines.now) ≡ None) }
-    ensures said { IfOk result (λ net. net ≡ text.network_of (map says lines.now)) }
+/// The network of the statements of a text, or their first fault.
+fn read_statements(alloc: Global, bytes: &[u8]) -> Result<Network, BlifFail>
+    requires { length bytes.now < 2 ^ 32 }
+    ensures faultless { OnOk result (text_fault (numbered (lines_read bytes.now)) ≡ None) }
+    ensures said { IfOk result (λ net. net ≡ text.network_of (map says (lines_read bytes.now))) }
     ensures sound { IfOk result Sound }
-    ensures refused { (fault : BlifFault) → result ≡ Err (BlifFail.Refused fault) → IsFaultOf (numbered lines.now) fault }
+    ensures refused { (fault : BlifFault) → result ≡ Err (BlifFail.Refused fault) → IsFaultOf (numbered (lines_read bytes.now)) fault }
 {
-    if let Some(fault) = fault_of_statements(lines) {
-        return Err(BlifFail::Refused(fault));
-    }
-    let net = network_of(alloc, lines)?;
-    if let Some(fault) = closing_fault(lines, &net) {
+    let Reading { progress, net } = judged_statements(alloc, bytes)?;
+    if let Some(fault) = closing_fault(&progress, &net) {
         return Err(BlifFail::Refused(fault));
     }
     checked(alloc, net)
+}
+
+/// What the statements without a fault come to.
+#[derive(Drop)]
+struct Reading {
+    progress: Progress,
+    net: Network,
+}
+
+/// What the statements of a text come to, or the first fault of a statement.
+fn judged_statements(alloc: Global, bytes: &[u8]) -> Result<Reading, BlifFail>
+    requires { length bytes.now < 2 ^ 32 }
+    ensures read { Tells result (text.first_fault [] (numbered (lines_read bytes.now))) (λ reading. IsReadTo (lines_read bytes.now) [] reading.progress) }
+    ensures said { IfOk result (λ reading. reading.net ≡ text.network_of (map says (lines_read bytes.now))) }
+{
+    let mut lines = LineReader::new(bytes);
+    let mut progress = Progress::new();
+    let mut draft = Draft::new(alloc);
+    while let Some(line) = next_statement(alloc, &mut lines)? {
+        progress = after_line(alloc, progress, &line)?;
+        draft.add(alloc, statement_of(&line))?;
+    }
+    let net = draft.finish()?;
+    Ok(Reading { progress, net })
 }
 
 /// The network, if it is sound.
@@ -69,65 +90,32 @@ fn checked(alloc: Global, net: Network) -> Result<Network, BlifFail>
 }
 
 /// The fault of the statements as a whole, if none of them has a fault of its own.
-fn closing_fault(lines: &[Line], net: &Network) -> Option<BlifFault>
-    requires { net.now ≡ text.network_of (map says lines.now) }
-    ensures { result ≡ text.closing_fault (numbered lines.now) }
+fn closing_fault(progress: &Progress, net: &Network) -> Option<BlifFault>
+    ensures { (lines : List Line) → IsReadTo lines [] progress.now → net.now ≡ text.network_of (map says lines) → result ≡ text.closing_fault (numbered lines) }
 {
-    if lines.is_empty() {
+    if !progress.summary.begun {
         return Some(BlifFault {
             line: 0,
             kind: BlifKind::NoModel,
         });
     }
-    for line in lines {
-        if let Some(driven) = drives_clock(net, line) {
-            return clock_fault(driven, line.number);
-        }
+    match &progress.clock {
+        Some(clock) => clock_fault(net, clock),
+        None => None,
     }
-    None
 }
 
 /// The fault of a driven clock, at the line that first names it.
-fn clock_fault(driven: bool, line: u32) -> Option<BlifFault>
-    ensures { result ≡ (if driven then Some (record { line = line; kind = BlifKind.Clocks }) else None) }
+fn clock_fault(net: &Network, clock: &FirstClock) -> Option<BlifFault>
+    ensures { result ≡ fault_of net.now clock.now }
 {
-    if driven {
+    if drives(net, clock.name.bytes()) {
         return Some(BlifFault {
-            line,
+            line: clock.line,
             kind: BlifKind::Clocks,
         });
     }
     None
-}
-
-/// Whether a latch or a gate drives the clock that a line names, if the line names one.
-fn drives_clock(net: &Network, line: &Line) -> Option<bool>
-    ensures { MatchOption result (names_clock (said.numbered_of line.now) ≡ false) (λ driven. (names_clock (said.numbered_of line.now) ≡ true) × (driven ≡ list_any (λ clock. list_any (bytes_eq clock) (driven_within net.now)) (said.clocks_in (says line.now)))) }
-{
-    match statement_of(line) {
-        Statement::Clock(names) => drives_any(net, names),
-        Statement::Latch(operands) => drives_control(net, operands),
-        _ => None,
-    }
-}
-
-/// Whether a latch or a gate drives one of these names, if there are any.
-fn drives_any(net: &Network, names: &[Name]) -> Option<bool>
-    ensures { MatchOption result (names.now ≡ []) (λ driven. (0 < length names.now) × (driven ≡ list_any (λ clock. list_any (bytes_eq clock) (driven_within net.now)) names.now)) }
-{
-    if names.is_empty() {
-        return None;
-    }
-    Some(names.iter().any(|name| drives(net, name.bytes())))
-}
-
-/// Whether a latch or a gate drives the control of a latch, if that is a clock.
-fn drives_control(net: &Network, operands: &[Name]) -> Option<bool>
-    ensures { MatchOption result (said.clocks_in (said.LatchLine operands.now) ≡ []) (λ driven. (0 < length (said.clocks_in (said.LatchLine operands.now))) × (driven ≡ list_any (λ clock. list_any (bytes_eq clock) (driven_within net.now)) (said.clocks_in (said.LatchLine operands.now)))) }
-{
-    let parts = latch_parts(operands)?;
-    let clock = clock_named(parts.control)?;
-    Some(drives(net, clock.bytes()))
 }
 
 /// Whether a latch or a gate drives the name.

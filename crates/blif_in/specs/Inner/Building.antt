@@ -1,31 +1,48 @@
 -- Networks, statement by statement.
-use Rattle.std.specs.Prelude.{List, [], ◌∷◌, ◌++◌}
-use Rattle.std.specs.Option.{option_to_list}
+use Rattle.std.specs.Prelude.{◌≡◌, ℕ, Option, Some, None, List, [], ◌∷◌, ◌++◌, map, unwrap_or}
+use Rattle.std.specs.List.{filter_map, flat_map}
 use Rattle.net_core.specs.declared.Gate.{Gate}
 use Rattle.net_core.specs.declared.Network.{Network}
-use Rattle.net_core.specs.Statements.{Statement, Names, inputs_in, outputs_in, latch_in, gate_from, rows_of}
+use Rattle.net_core.specs.Statements.{Statement, inputs_in, outputs_in, latch_in, gates_of, lists_on, plane_of, rows_of}
+use Rattle.blif_in.specs.declared.building.Draft.{Draft}
+use Rattle.blif_in.specs.declared.building.DraftGate.{DraftGate}
 
--- the gate that begins at a statement, given the statements after it
-abbrev pub gates_at : Statement → List Statement → List Gate
-gates_at (Names names) behind = gate_from names (rows_of behind) ∷ []
-gates_at _ behind = []
-
--- a network with what a statement adds to its lists
-abbrev pub with_statement : Network → Statement → List Statement → Network
-with_statement N statement behind =
+-- the gate that a draft of it becomes with these rows after its own
+abbrev pub gate_by : DraftGate → List (List (List ℕ)) → Gate
+gate_by gate rows =
     record {
-      inputs = N.inputs ++ inputs_in statement;
-      outputs = N.outputs ++ outputs_in statement;
-      latches = N.latches ++ option_to_list (latch_in statement);
-      gates = N.gates ++ gates_at statement behind;
+      inputs = gate.inputs;
+      output = gate.output;
+      rows = gate.rows ++ map plane_of rows;
+      on = unwrap_or gate.bit (lists_on rows);
     }
 
--- a network with the lists of another after its own
-abbrev pub with_more : Network → Network → Network
-with_more N more =
+-- the same, if there is a gate
+abbrev pub gates_by : Option DraftGate → List (List (List ℕ)) → List Gate
+gates_by None rows = []
+gates_by (Some gate) rows = gate_by gate rows ∷ []
+
+-- the network that a draft becomes with these statements behind it
+abbrev pub network_by : Draft → List Statement → Network
+network_by draft behind =
     record {
-      inputs = N.inputs ++ more.inputs;
-      outputs = N.outputs ++ more.outputs;
-      latches = N.latches ++ more.latches;
-      gates = N.gates ++ more.gates;
+      inputs = draft.inputs ++ flat_map inputs_in behind;
+      outputs = draft.outputs ++ flat_map outputs_in behind;
+      latches = draft.latches ++ filter_map latch_in behind;
+      gates = draft.gates ++ gates_by draft.open_gate (rows_of behind) ++ gates_of behind;
+    }
+
+-- the draft becomes the same with these statements as the one before it did with one statement more
+abbrev pub Adds : Statement → Draft → Draft → Type 0
+Adds statement before after = (behind : List Statement) → network_by after behind ≡ network_by before (statement ∷ behind)
+
+-- a draft whose open gate has all its rows
+abbrev pub closed : Draft → Draft
+closed draft =
+    record {
+      inputs = draft.inputs;
+      outputs = draft.outputs;
+      latches = draft.latches;
+      gates = draft.gates ++ gates_by draft.open_gate [];
+      open_gate = None;
     }

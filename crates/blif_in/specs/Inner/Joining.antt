@@ -1,7 +1,8 @@
 -- Joined lines, part by part, and those of them that are statements.
-use Rattle.std.specs.Prelude.{◌||◌, if◌then◌else◌, Option, Some, None, List, [], ◌∷◌, ◌++◌}
+use Rattle.std.specs.Prelude.{ℕ, ◌||◌, if◌then◌else◌, Option, Some, None, List, [], ◌∷◌, ◌++◌}
 use Rattle.hs_io.specs.declared.lines.Line.{Line}
-use Rattle.net_core.specs.Joined.{ends_text, in_front}
+use Rattle.hs_io.specs.Lines.{lines_of}
+use Rattle.net_core.specs.Joined.{ends_text, in_front, joined}
 use Rattle.net_core.specs.Statements.{is_skipped}
 
 -- the front of a joined line with one more part
@@ -22,3 +23,7 @@ abbrev pub statement_lines : List Line → List Line
 statement_lines [] = []
 statement_lines (line ∷ lines) =
     if ends_text line then [] else (if is_skipped line then statement_lines lines else line ∷ statement_lines lines)
+
+-- the lines of the statements of a text
+abbrev pub lines_read : List ℕ → List Line
+lines_read bytes = statement_lines (joined (lines_of bytes))

@@ -9,6 +9,7 @@ use Rattle.blif_in.specs.declared.fault.BlifKind.{BlifKind}
 use Rattle.blif_in.specs.Faults.{form_fault}
 use Rattle.blif_in.specs.declared.judging.OpenGate.{OpenGate}
 use Rattle.blif_in.specs.declared.judging.Standing.{Standing}
+use Rattle.blif_in.specs.declared.judging.Summary.{Summary}
 
 abbrev pub gate_seen : OpenGate → said.OpenGate
 gate_seen gate = record { inputs = gate.inputs; bit = gate.bit }
@@ -24,24 +25,24 @@ abbrev pub has_begun : List Statement → Bool
 has_begun [] = false
 has_begun (_ ∷ _) = true
 
--- what is kept after these statements, which begin with the last one
-pub record Stands (standing : Standing) (earlier : List Statement) : Type 0 where
-  pub begun : standing.begun ≡ has_begun earlier
-  pub model : standing.model ≡ list_any is_model earlier
-  pub clock_word : standing.clock_word ≡ list_any is_clock earlier
-  pub clock : IsClock (option_copied standing.clock) (flat_map clocks_in earlier)
-  pub gate : option_map gate_seen standing.gate ≡ open_gate earlier
-  pub inputs : standing.inputs ≡ length (flat_map inputs_in earlier)
-  pub outputs : standing.outputs ≡ length (flat_map outputs_in earlier)
-  pub latches : standing.latches ≡ length (filter_map latch_in earlier)
-  pub gates : standing.gates ≡ count_by is_names earlier
+-- the summary of these statements, which begin with the last one, and the name of their clock
+pub record Stands (summary : Summary) (clock_name : Option (List ℕ)) (earlier : List Statement) : Type 0 where
+  pub begun : summary.begun ≡ has_begun earlier
+  pub model : summary.model ≡ list_any is_model earlier
+  pub clock_word : summary.clock_word ≡ list_any is_clock earlier
+  pub clock : IsClock clock_name (flat_map clocks_in earlier)
+  pub gate : option_map gate_seen summary.gate ≡ open_gate earlier
+  pub inputs : summary.inputs ≡ length (flat_map inputs_in earlier)
+  pub outputs : summary.outputs ≡ length (flat_map outputs_in earlier)
+  pub latches : summary.latches ≡ length (filter_map latch_in earlier)
+  pub gates : summary.gates ≡ count_by is_names earlier
 
 -- the counts are within the limits
-pub record IsSmall (standing : Standing) : Type 0 where
-  pub inputs : standing.inputs ≤ 256
-  pub outputs : standing.outputs ≤ 256
-  pub latches : standing.latches ≤ 256
-  pub gates : standing.gates ≤ 65536
+pub record IsSmall (summary : Summary) : Type 0 where
+  pub inputs : summary.inputs ≤ 256
+  pub outputs : summary.outputs ≤ 256
+  pub latches : summary.latches ≤ 256
+  pub gates : summary.gates ≤ 65536
 
 -- the answer is the fault, if there is one, or else a value with the property
 abbrev pub Judges : {T : Type 0} → Result T BlifKind → Option BlifKind → (T → Type 0) → Type 0
@@ -51,4 +52,5 @@ Judges (Err kind) fault P = fault ≡ Some kind
 -- the answer for a statement is right after any statements after which this is kept
 abbrev pub IsJudged : Standing → Statement → Result Standing BlifKind → Type 0
 IsJudged standing statement result =
-    (earlier : List Statement) → Stands standing earlier → Judges result (form_fault earlier statement) (λ next. Stands next (statement ∷ earlier))
+    (earlier : List Statement) → Stands standing.summary (option_copied standing.clock) earlier
+    → Judges result (form_fault earlier statement) (λ next. Stands next.summary (option_copied next.clock) (statement ∷ earlier))
