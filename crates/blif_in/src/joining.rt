@@ -10,7 +10,7 @@ ghost use Rattle.blif_in.specs.Inner.Joining.{behind, merged, statement_lines};
 use hs_io::{Fields, Line, LineReader, Name};
 use std::alloc::{AllocError, Global};
 
-/// The next joined line that is a statement, or `None` where there is none before the text ends.
+/// The next joined line that is a statement, or `None` if there is no other before the text ends.
 pub(crate) fn next_statement(
     alloc: Global,
     lines: &mut LineReader<'_>,
@@ -43,7 +43,7 @@ fn next_joined(alloc: Global, lines: &mut LineReader<'_>) -> Result<Option<Line>
         }
         front = Some(whole);
     }
-    // Nothing is left. The reader does not promise that of itself.
+    // No line is left, but the contract of `next_line` does not say so of the reader.
     *lines = LineReader::new(&[]);
     Ok(front)
 }

@@ -1,4 +1,4 @@
-//! Finds the first fault of the statements.
+//! Judges a statement by what those before it have set.
 ghost use Rattle.std.specs.Prelude.{◌≡◌, ℕ, ◌^◌, ◌<◌, ◌≤◌, ◌==◌, ◌&&◌, [], ◌∷◌, ◌++◌, All, IfOk, List, MatchOption, MatchResult, None, Some, false, true, length, nat_le};
 ghost use Rattle.std.specs.List.{list_all};
 ghost use Rattle.std.specs.Option.{ForSome, option_copied, option_to_list};

@@ -6,9 +6,11 @@
 //! before it, and `specs/Text.antt` for the whole text. Its laws say that a text denotes such a network or has a
 //! first fault, and never both. `specs/Inner` is for private functions only.
 //!
-//! The reader works in layers, each with a contract of its own: physical lines, the joined lines that are
-//! statements (`joining`), the first fault of the statements (`judging`), their network (`building`), and
-//! whether the network is sound.
+//! The reader takes one line at a time, and keeps no line that it has read. It works in layers, each with a
+//! contract of its own. `joining` gives the joined lines that are statements, one after another. `judging` gives
+//! the fault of a statement, after a summary of those before it, and `progress` keeps that summary and the clock.
+//! `building` adds the statement to the network. `reading` combines these, and checks that the clock is not
+//! driven and that the network is sound.
 #![tactic(auto)]
 
 mod building;

@@ -1,4 +1,4 @@
-//! What is kept of the lines so far, and one line more.
+//! What is kept of the lines so far to judge the next one.
 ghost use Rattle.std.specs.Prelude.{◌≡◌, ◌∷◌, [], IfOk, List, None};
 ghost use Rattle.std.specs.Option.{option_copied, option_map, option_or};
 ghost use Rattle.hs_io.specs.declared.lines.Line.{Line};

@@ -32,7 +32,7 @@ network_by draft behind =
       gates = draft.gates ++ gates_by draft.open_gate (rows_of behind) ++ gates_of behind;
     }
 
--- the draft becomes the same with these statements as the one before it did with one statement more
+-- whatever comes behind, the draft after a statement becomes the network that the draft before it becomes with that statement
 abbrev pub Adds : Statement → Draft → Draft → Type 0
 Adds statement before after = (behind : List Statement) → network_by after behind ≡ network_by before (statement ∷ behind)
 

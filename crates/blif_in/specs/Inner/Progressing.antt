@@ -43,7 +43,7 @@ pub record IsReadTo (lines rest : List Line) (progress : Progress) : Type 0 wher
   pub nothing : progress.summary.begun ≡ false → rest ≡ lines
   pub some : progress.summary.begun ≡ true → 0 < length lines
 
--- the answer is the fault, or a value with the property where there is none, or that memory ran out
+-- the answer is a value with the property, or the fault, or that memory ran out
 abbrev pub Tells : {T : Type 0} → Result T BlifFail → Option BlifFault → (T → Type 0) → Type 0
 Tells (Ok value) fault P = P value
 Tells (Err (Refused told)) fault P = fault ≡ Some told
