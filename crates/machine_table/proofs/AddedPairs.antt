@@ -29,11 +29,6 @@ adds_as P Q old more same adds u v = (there, back) where
   back (inl before) = (adds u v).1 (inl before)
   back (inr new) = (adds u v).1 (inr ((same u v).1 new))
 
--- the same list of pairs, with each in it more or less often
-pub adds_thinned : (P : ℕ → ℕ → Type 0) (old more thin : List (ℕ × ℕ)) → ((pair : ℕ × ℕ) → Contains thin pair ↔ Contains more pair) → AddsPairs P old more → AddsPairs P old thin
-adds_thinned P old more thin same adds u v =
-    ((λ among. (adds u v).0 ((same (u, v)).0 among)), (λ added. (same (u, v)).1 ((adds u v).1 added)))
-
 -- pairs of one kind, and then those of another
 pub adds_then : (P Q : ℕ → ℕ → Type 0) (old some more : List (ℕ × ℕ)) → AddsPairs P old some → AddsPairs Q some more → AddsPairs (λ u v. P u v ⊎ Q u v) old more
 adds_then P Q old some more first second u v = (there, back) where

@@ -1,89 +1,150 @@
 -- The numbers of the rows of one state, and which of them contradict a row.
-use Rattle.std.proofs.Common.{◌≡◌, ℕ, ◌<◌, ◌≤◌, ◌⊎◌, List, [], length, get_or, Some, Contains, AllPairs, slice_get, inl, inr, sym, ◌∙◌, subst, refl, arith, ap}
+use Rattle.std.proofs.Common.{◌≡◌, ℕ, ◌+◌, ◌<◌, ◌≤◌, ◌^◌, ◌⊎◌, true, List, [], length, get_or, Option, None, Some, IfNone, IfSome, Contains, All, slice_get, inl, inr, sym, ◌∙◌, subst, refl, arith, ap}
+use Rattle.std.specs.Int.{bit_at}
 use Rattle.std.proofs.lemmas.Bool.{cases_lt}
 use Rattle.std.proofs.lemmas.List.{get_or_default}
-use Rattle.std.proofs.lemmas.Option.{slice_get_within, get_or_from_slice_get, slice_get_read}
+use Rattle.std.proofs.lemmas.Option.{slice_get_read}
+use Rattle.kiss2.specs.declared.kiss_file.KissFile.{KissFile}
 use Rattle.kiss2.specs.declared.kiss_file.KissRow.{KissRow}
+use Rattle.kiss2.specs.Lawful.{IsLawfulRow}
+use Rattle.pattern_bundles.specs.Pattern.{IsFirstMark}
+use Rattle.machine_table.specs.declared.bundles.RowBundle.{RowBundle}
 use Rattle.machine_table.specs.Conflict.{AreFirstTwo, ContradictAt, Contradicts}
-use Rattle.machine_table.specs.Inner.Places.{AreNumbersOf, ArePlaces, ContradictsRow, HaveOneWidth, places_of}
+use Rattle.machine_table.specs.Inner.Asked.{lesser_of}
+use Rattle.machine_table.specs.Inner.Bundles.{AreFit, IsComparable, IsFirstAgainst, IsFit, IsInBundles, ListBundles, MarksRows, bundles_of}
+use Rattle.machine_table.specs.Inner.Places.{ContradictsRow, places_of}
+use Rattle.machine_table.specs.Table.{IsTable}
+use Rattle.machine_table.proofs.RowBundles.{IsInFirst, of_row}
+use Rattle.machine_table.proofs.RowPatterns.{none_of_zero}
+use Rattle.machine_table.proofs.Sought.{lesser_has, met_left, met_right}
 
 -- one row stands at a number
 pub one_row : (rows : List KissRow) (i : ℕ) (row other : KissRow) → slice_get rows i ≡ Some row → slice_get rows i ≡ Some other → row ≡ other
 one_row rows i row other first second = let same : Some row ≡ Some other = sym first ∙ second in cc
 
--- what contradicts the row of a number contradicts any row that stands there
-pub contradicts_read : (rows : List KissRow) (row other : KissRow) (i : ℕ) → slice_get rows i ≡ Some other → ContradictsRow rows row i → Contradicts other row
-contradicts_read rows row other i at_i (found, at_found, contradicts) = subst (λ (r : KissRow). Contradicts r row) (one_row rows i found other at_found at_i) contradicts
+-- ---- one bundle
+module _ (rows : List KissRow) (row : KissRow) (bundle : RowBundle) (known : IsComparable rows row bundle) (word : ℕ)
+    (marks : MarksRows rows bundle.numbers (λ other. Contradicts other row) word) where
+  -- a number whose row contradicts the row is marked
+  pub marked_at : (i : ℕ) (among : Contains bundle.numbers i) → ContradictsRow rows row i → bit_at word among.0 ≡ 1
+  marked_at i (k, within, here) (other, at_other, contradicts) =
+      (marks.each k other (within, subst (λ (n : ℕ). slice_get rows n ≡ Some other) (sym here ∙ get_or_default bundle.numbers k i 0 within) at_other)).1 contradicts
 
-module _ (rows : List KissRow) (numbers : List ℕ) (row : KissRow) (ascending : AllPairs (λ i j. i < j) numbers) where
-  -- an element at a place at or behind another is no smaller
-  pub not_smaller : (k : ℕ) (x : ℕ) (place d : ℕ) → k < length numbers → get_or numbers k x ≡ x → place ≤ k → place < length numbers → get_or numbers place d ≤ x
-  not_smaller k x place d within here behind inside =
-      elim (cases_lt place k) [
-        | inl before ↦
-            let smaller : get_or numbers place x < get_or numbers k x = ascending place k x before within in
-            omega (arith, smaller, here, get_or_default numbers place d x inside)
-        | inr back ↦
-            let same : place ≡ k = omega arith in
-            omega (arith, here, ap (λ i. get_or numbers i x) same, get_or_default numbers place d x inside)
+  -- the row at a mark contradicts the row
+  pub contradicts_at : (k d : ℕ) → bit_at word k ≡ 1 → ContradictsRow rows row (get_or bundle.numbers k d)
+  contradicts_at k d one =
+      let within = marks.no_more k one in
+      let number = get_or bundle.numbers k d in
+      let found = known.state number (k, within, get_or_default bundle.numbers k number d within) in (
+        found.0,
+        found.1,
+        (marks.each k found.0 (within, subst (λ (n : ℕ). slice_get rows n ≡ Some found.0) (get_or_default bundle.numbers k d 0 within) found.1)).0 one,
+      )
+
+  -- no mark stands before the first
+  pub not_less : (k d : ℕ) → IsFirstMark word k → (i : ℕ) → Contains bundle.numbers i → ContradictsRow rows row i → get_or bundle.numbers k d ≤ i
+  not_less k d first i among contradicts =
+      let within = marks.no_more k first.marked in
+      let one = marked_at i among contradicts in
+      elim (cases_lt among.0 k) [
+        | inl before ↦ absurd (let none = first.before among.0 before in omega (arith, one, none))
+        | inr from ↦
+            elim (cases_lt k among.0) [
+              | inl behind ↦
+                  let less : get_or bundle.numbers k i < get_or bundle.numbers among.0 i = known.right.ascending k among.0 i behind among.1 in
+                  let here : get_or bundle.numbers among.0 i ≡ i = among.2 in
+                  let same = get_or_default bundle.numbers k d i within in
+                  omega (arith, less, here, same)
+              | inr back ↦
+                  let at : k ≡ among.0 = omega (arith, from, back) in
+                  let here : get_or bundle.numbers among.0 i ≡ i = among.2 in
+                  let same = get_or_default bundle.numbers k d i within in
+                  let there : get_or bundle.numbers k i ≡ get_or bundle.numbers among.0 i = ap (λ (n : ℕ). get_or bundle.numbers n i) at in
+                  omega (arith, here, same, there)
+            ]
       ]
 
-  -- with the first places free of contradictions, one at a number stands at or behind the place
-  pub not_before : (place : ℕ) → ((k d : ℕ) → k < place → ContradictsRow rows row (get_or numbers k d) → ⊥)
-      → (i : ℕ) (among : Contains numbers i) → ContradictsRow rows row i → place ≤ among.0
-  not_before place free i (k, within, here) contradicts =
-      elim (cases_lt k place) [
-        | inl before ↦ absurd (free k i before (subst (λ n. ContradictsRow rows row n) (sym here) contradicts))
-        | inr behind ↦ behind
-      ]
+  -- with no mark there is none
+  pub first_without_mark : (bound : ℕ) → word ≡ 0 → IsFirstAgainst rows (Contains bundle.numbers) bound row None
+  first_without_mark bound none = record {
+    some = tt;
+    least = λ i among below contradicts. absurd (none_of_zero among.0 (subst (λ (n : ℕ). bit_at n among.0 ≡ 1) none (marked_at i among contradicts)));
+  }
 
-module _ (rows : List KissRow) (places : List (List ℕ)) (stand : ArePlaces rows (length places) (length rows) places) where
-  -- the numbers of a state are those of its rows, and of the width of all
-  pub numbers_of_state : HaveOneWidth rows → (number : ℕ) (row : KissRow) → slice_get rows number ≡ Some row
-      → AreNumbersOf rows row.from row.cube.width (places_of places row.from)
-  numbers_of_state widths number row at_row i among =
-      let found = stand.own row.from i among in
-      (found.0, found.2, found.3, one_width i number found.0 row found.2 at_row)
-    where
-      one_width : (i j : ℕ) (row other : KissRow) → slice_get rows i ≡ Some row → slice_get rows j ≡ Some other → row.cube.width ≡ other.cube.width
-      one_width i j row other at_i at_j =
-          let first = get_or_from_slice_get rows i row row at_i in
-          let second = get_or_from_slice_get rows j other row at_j in
-          elim (cases_lt i j) [
-            | inl before ↦
-                ap (λ (r : KissRow). r.cube.width) (sym first)
-                ∙ widths i j row before (slice_get_within rows j other at_j)
-                ∙ ap (λ (r : KissRow). r.cube.width) second
-            | inr behind ↦
-                elim (cases_lt j i) [
-                  | inl after ↦
-                      ap (λ (r : KissRow). r.cube.width) (sym first)
-                      ∙ sym (widths j i row after (slice_get_within rows i row at_i))
-                      ∙ ap (λ (r : KissRow). r.cube.width) second
-                  | inr back ↦
-                      let same : i ≡ j = omega arith in
-                      ap (λ (r : KissRow). r.cube.width) (sym first ∙ ap (λ k. get_or rows k row) same ∙ second)
-                ]
-          ]
+  -- the number at the first mark, if it is below the bound
+  pub first_at_mark : (bound k number : ℕ) (result : Option ℕ) → IsFirstMark word k → number ≡ get_or bundle.numbers k number
+      → IfSome result (λ i. (i ≡ number) × (i < bound)) → IfNone result (bound ≤ number) → IsFirstAgainst rows (Contains bundle.numbers) bound row result
+  first_at_mark bound k number None first here is past = record {
+    some = tt;
+    least = λ i among below contradicts. absurd (let less = not_less k number first i among contradicts in omega (arith, less, here, past, below));
+  }
+  first_at_mark bound k number (Some x) first here is past = record {
+    some = subst (ContradictsRow rows row) (sym here ∙ sym is.0) (contradicts_at k number first.marked);
+    least = λ i among below contradicts asked. let less = not_less k number first i among contradicts in omega (arith, less, here, is.0);
+  }
 
-  -- a row that stands before another of its state and contradicts it is among the numbers of that state
+-- ---- several bundles
+pub first_of_none : (rows : List KissRow) (bundles : List RowBundle) (bound : ℕ) (row : KissRow) → IsFirstAgainst rows (IsInFirst bundles 0) bound row None
+first_of_none rows bundles bound row = record { some = tt; least = λ i among below contradicts. absurd (omega (arith, among.1)) }
+
+-- one bundle more
+pub first_of_more : (rows : List KissRow) (bundles : List RowBundle) (place bound : ℕ) (row : KissRow) (bundle : RowBundle) (found other result : Option ℕ)
+    → result ≡ lesser_of found other → bundle ≡ get_or bundles place bundle → place < length bundles
+    → IsFirstAgainst rows (IsInFirst bundles place) bound row found → IsFirstAgainst rows (Contains bundle.numbers) bound row other
+    → IsFirstAgainst rows (IsInFirst bundles (place + 1)) bound row result
+first_of_more rows bundles place bound row bundle found other result is here within known now =
+    subst (IsFirstAgainst rows (IsInFirst bundles (place + 1)) bound row) (sym is)
+    (record {
+      some = lesser_has (ContradictsRow rows row) found other known.some now.some;
+      least = λ i among below contradicts.
+          elim (cases_lt among.0 place) [
+            | inl before ↦ met_left found other true i (known.least i (among.0, before, among.2, among.3, among.4) below contradicts)
+            | inr last ↦
+                let at : among.0 ≡ place = omega (arith, last, among.1) in
+                let same : among.2 ≡ bundle =
+                sym among.3 ∙ ap (λ (k : ℕ). get_or bundles k among.2) at ∙ get_or_default bundles place among.2 bundle within ∙ sym here in
+                met_right found other true i (now.least i (subst (λ (b : RowBundle). Contains b.numbers i) same among.4) below contradicts)
+          ];
+    })
+
+-- with all bundles searched, each number in them was
+pub first_of_all : (rows : List KissRow) (bundles : List RowBundle) (place bound : ℕ) (row : KissRow) (found : Option ℕ) → length bundles ≤ place
+    → IsFirstAgainst rows (IsInFirst bundles place) bound row found → IsFirstAgainst rows (IsInBundles bundles) bound row found
+first_of_all rows bundles place bound row found all known = record {
+  some = known.some;
+  least = λ i (bundle, (k, within, is), own) below contradicts. known.least i (k, omega (arith, within, all), bundle, is, own) below contradicts;
+}
+
+module _ (rows : List KissRow) (bundles : List (List RowBundle)) (stand : ListBundles rows (length bundles) bundles) where
+  -- the bundles of the state of a row can be compared with it
+  pub comparable : AreFit rows → (number : ℕ) (row : KissRow) → slice_get rows number ≡ Some row
+      → (bundle : RowBundle) → Contains (bundles_of bundles row.from) bundle → IsComparable rows row bundle
+  comparable (width, fit) number row at_row bundle among =
+      let own = of_row rows (IsFit width) number row fit at_row in
+      record {
+        right = stand.right row.from bundle among;
+        state = λ i within. stand.own row.from i (bundle, among, within);
+        fit = subst (λ (w : ℕ). All (IsFit w) rows) (sym own.cube_width) fit;
+        row_fit = subst (λ (w : ℕ). IsFit w row) (sym own.cube_width) own;
+      }
+
+  -- a row that stands before another of its state and contradicts it is in a bundle of that state
   pub earlier_among : (i j : ℕ) (row : KissRow) → i < j → slice_get rows j ≡ Some row → ContradictAt rows i j
-      → Contains (places_of places row.from) i × ContradictsRow rows row i
+      → IsInBundles (bundles_of bundles row.from) i × ContradictsRow rows row i
   earlier_among i j row before at_j (earlier, later, at_i, at_later, contradicts) =
       let same = one_row rows j later row at_later at_j in
       let there : Contradicts earlier row = subst (λ (r : KissRow). Contradicts earlier r) same contradicts in (
-        subst (λ (s : ℕ). Contains (places_of places s) i) there.state (stand.each i earlier (slice_get_within rows i earlier at_i) at_i),
+        subst (λ (s : ℕ). IsInBundles (bundles_of bundles s) i) there.state (stand.each i earlier at_i),
         (earlier, at_i, there),
       )
 
   -- the first row that contradicts an earlier one, and the first that it contradicts
-  pub first_two : (i j : ℕ) (row : KissRow) → i < j → slice_get rows j ≡ Some row → ContradictsRow rows row i
-      → ((k : ℕ) → Contains (places_of places row.from) k → ContradictsRow rows row k → i ≤ k)
+  pub first_two : (i j : ℕ) (row : KissRow) → i < j → slice_get rows j ≡ Some row → IsFirstAgainst rows (IsInBundles (bundles_of bundles row.from)) j row (Some i)
       → ((k l : ℕ) → k < l → l < j → ContradictAt rows k l → ⊥)
       → AreFirstTwo rows i j
-  first_two i j row before at_j (earlier, at_i, contradicts) least none_before = record {
+  first_two i j row before at_j first none_before = record {
     order = before;
-    contradict = (earlier, row, at_i, at_j, contradicts);
+    contradict = (first.some.0, row, first.some.1, at_j, first.some.2);
     first = least_of;
   }
     where
@@ -96,9 +157,10 @@ module _ (rows : List KissRow) (places : List (List ℕ)) (stand : ArePlaces row
                   | inl above ↦ inl above
                   | inr back ↦
                       let same : j ≡ l = omega arith in
+                      let earlier : k < j = omega arith in
                       let at_them : ContradictAt rows k j = subst (λ (n : ℕ). ContradictAt rows k n) (sym same) pair in
-                      let among = earlier_among k j row (omega arith) at_j at_them in
-                      inr (same, least k among.0 among.1)
+                      let among = earlier_among k j row earlier at_j at_them in
+                      inr (same, first.least k among.0 earlier among.1 refl)
                 ]
           ]
 
@@ -108,6 +170,25 @@ pub list_at : (places : List (List ℕ)) (state at : ℕ) (list read : List ℕ)
 list_at places state at list read inside same is given =
     given ∙ is ∙ ap (λ (s : ℕ). get_or places s list) same ∙ get_or_default places state list [] inside
 
+pub bundles_at : (bundles : List (List RowBundle)) (state at : ℕ) (list read : List RowBundle) → state < length bundles → at ≡ state → list ≡ get_or bundles at list → read ≡ list
+    → read ≡ bundles_of bundles state
+bundles_at bundles state at list read inside same is given =
+    given ∙ is ∙ ap (λ (s : ℕ). get_or bundles s list) same ∙ get_or_default bundles state list [] inside
+
 -- the row that was read at a number
 pub row_at : (rows : List KissRow) (i : ℕ) (row : KissRow) → i < length rows → row ≡ get_or rows i row → slice_get rows i ≡ Some row
 row_at rows i row inside is = slice_get_read rows (length rows) i row refl inside is
+
+-- ---- the rows of a table are fit for its width
+pub fit_of_lawful : (inputs outputs states : ℕ) (row : KissRow) → states ≤ 256 → IsLawfulRow inputs outputs states row → IsFit inputs row
+fit_of_lawful inputs outputs states row few lawful = record {
+  cube_width = lawful.width;
+  next_state = below row.to lawful.to;
+}
+  where
+    below : (to : Option ℕ) → IfSome to (λ t. t < states) → IfSome to (λ t. t < 2 ^ 16)
+    below None known = tt
+    below (Some t) known = omega (arith, known, few)
+
+pub fit_of_table : (F : KissFile) → IsTable F → All (IsFit F.inputs) F.rows
+fit_of_table F table k d within = fit_of_lawful F.inputs F.outputs (length F.states) (get_or F.rows k d) table.states (table.rows k d within)

@@ -3,6 +3,7 @@ pub mod Against
 pub mod AlignedRows
 pub mod AlikeRows
 pub mod Asking
+pub mod BundleMarks
 pub mod Conflicts
 pub mod Copies
 pub mod FilledRows
@@ -10,6 +11,8 @@ pub mod GatheredOutputs
 pub mod KeptColumns
 pub mod Labels
 pub mod Lawful
+pub mod MarkedRows
+pub mod NamedIn
 pub mod NamedPairs
 pub mod NextLabels
 pub mod OpenCubes
@@ -19,7 +22,9 @@ pub mod OutputLabels
 pub mod OutputWords
 pub mod Outputs
 pub mod PairsOnce
+pub mod RowBundles
 pub mod RowNumbers
+pub mod RowPatterns
 pub mod RowPieces
 pub mod SettledCubes
 pub mod SharedCubes

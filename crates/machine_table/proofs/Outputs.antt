@@ -1,21 +1,13 @@
 -- Where two rows give 0 and 1 at one output.
-use Rattle.std.proofs.Common.{◌≡◌, ◌≢◌, ℕ, ◌+◌, ◌-◌, ◌%◌, ◌^◌, ◌<◌, ◌⊎◌, ◌↔◌, min, Bool, true, false, Some, None, IsSome, Option, subst, ap, sym, ◌∙◌, arith, bit_and, eqb, not, inl, inr, is_some, w64, refl}
+use Rattle.std.proofs.Common.{◌≡◌, ◌≢◌, ℕ, ◌+◌, ◌-◌, ◌%◌, ◌^◌, ◌<◌, ◌⊎◌, ◌↔◌, min, Bool, true, false, Some, None, IsSome, Option, subst, ap, sym, ◌∙◌, arith, bit_and, not, inl, inr, is_some, refl}
 use Rattle.std.proofs.lemmas.Bool.{cases_Bool, true≢false}
-use Rattle.std.proofs.lemmas.Bool.Decides.{nat_tests}
-use Rattle.std.proofs.lemmas.Nat.Bits.{bit_at_and, bit_at_xor, bit_at-lt, bit_at-zero, bit_at_ones, bit_at-trailing_zeros}
-use Rattle.std.specs.Int.{bit_at, trailing_zeros}
+use Rattle.std.proofs.lemmas.Nat.Bits.{bit_at_and, bit_at_xor, bit_at-lt, bit_at-zero, bit_at_ones}
+use Rattle.std.specs.Int.{bit_at}
 use Rattle.std.specs.Int.RustNames.{bit_xor}
 use Rattle.cubes.specs.Symbol.{bit}
 use Rattle.cubes.proofs.Bits.{one_from_bit, zero_from_bit, bit_from_one, bit_from_zero}
 use Rattle.kiss2.specs.declared.kiss_file.KissRow.{KissRow}
 use Rattle.kiss2.specs.Machine.{GiveBoth, given_bit}
-
--- the test of a number against 0
-pub some_from_test : (n : ℕ) → not (eqb n 0) ≡ true → n ≢ 0
-some_from_test n passed = grind (arith, nat_tests)
-
-pub test_from_some : (n : ℕ) → n ≢ 0 → not (eqb n 0) ≡ true
-test_from_some n some = grind (arith, nat_tests)
 
 -- the outputs that both rows give, and at which they differ
 abbrev pub clash_of : KissRow → KissRow → ℕ
@@ -38,14 +30,12 @@ clash_digit row other k =
 given_at : (row : KissRow) (k : ℕ) (b : Bool) → bit_at row.care k ≡ 1 → bit row.value k ≡ b → given_bit k row ≡ Some b
 given_at row k b cares value = rw (bit_from_one row.care k cares) (ap Some value)
 
--- a clash shows an output with 0 and 1
-pub both_from_clash : (row other : KissRow) → clash_of row other ≢ 0 → clash_of row other < 2 ^ 64 → GiveBoth row other ⊎ GiveBoth other row
-both_from_clash row other some below =
-    let k = trailing_zeros w64 (clash_of row other) in
-    let one = bit_at-trailing_zeros w64 (clash_of row other) (omega (arith, some)) below in
+-- a bit of the clash shows an output with 0 and 1
+pub both_at : (row other : KissRow) (k : ℕ) → bit_at (clash_of row other) k ≡ 1 → GiveBoth row other ⊎ GiveBoth other row
+both_at row other k one =
     let digits = digits_differ (bit_at row.care k) (bit_at other.care k) (bit_at row.value k) (bit_at other.value k)
     (bit_at-lt row.care k) (bit_at-lt other.care k) (bit_at-lt row.value k) (bit_at-lt other.value k)
-    (sym (clash_digit row other k) ∙ one.1) in
+    (sym (clash_digit row other k) ∙ one) in
     elim digits.2 [
       | inl up ↦ inl (k, given_at row k false digits.0 (bit_from_zero row.value k up.0), given_at other k true digits.1 (bit_from_one other.value k up.1))
       | inr down ↦ inr (k, given_at other k false digits.1 (bit_from_zero other.value k down.1), given_at row k true digits.0 (bit_from_one row.value k down.0))

@@ -1,46 +1,80 @@
--- What sorting and dropping equal neighbours leaves of a list of pairs of numbers.
-use Rattle.std.proofs.Common.{◌≡◌, ◌≢◌, ℕ, ◌&&◌, ◌==◌, Bool, true, false, List, get_or, Contains, AllPairs, sym, ◌∙◌, subst, ap, eqb-true, Ordering}
-use Rattle.std.specs.Cmp.{IsEquivalence, IsTotalOrder, both_tied, unsigned_ties}
-use Rattle.std.specs.List.{dedup}
-use Rattle.std.specs.List.Sorted.{IsSorted}
-use Rattle.std.specs.Ordering.{eq_by_cmp, nat_cmp, ordering_then}
-use Rattle.std.proofs.lemmas.Bool.{and_parts, true≢false}
-use Rattle.std.proofs.lemmas.Cmp.{and_equiv, nat_cmp_total, nat_eq_equiv, on_equiv, on_total, then_total}
-use Rattle.std.proofs.lemmas.List.Kept.{Contains-dedup, Contains-from_dedup, IsStrictlySortedBy-dedup}
-use Rattle.std.proofs.lemmas.Map.Keys.{IsDistinct-from_sorted, apart_from_distinct}
+-- Pairs of states are put into a list once, as a table says which are in it.
+use Rattle.std.proofs.Common.{◌≡◌, ◌≢◌, ℕ, ◌*◌, ◌<◌, ◌≤◌, Bool, true, false, List, [], ◌∷◌, ◌++◌, length, get_or, set, replicate, Contains, AllPairs, inl, inr, sym, ◌∙◌, subst, ap, arith, length-append, length-set}
+use Rattle.std.proofs.lemmas.Bool.{cases_eq, cases_lt, false≢true}
+use Rattle.std.proofs.lemmas.List.{get_or-replicate, length-replicate, get_or-set_same, get_or-set_other, get_or_append_left, get_or_push}
+use Rattle.std.proofs.lemmas.List.Elements.{Contains-append_left, Contains-get_or, Contains-push, Contains-push_cases}
+use Rattle.machine_table.specs.Inner.SeenPairs.{AreSeen, place_of_pair}
 
-abbrev pub same_pair : ℕ × ℕ → ℕ × ℕ → Bool
-same_pair a b = (a.0 == b.0) && (a.1 == b.1)
+-- a pair behind others from which it differs
+once_more : (pairs : List (ℕ × ℕ)) (pair : ℕ × ℕ) → AllPairs (λ a b. a ≢ b) pairs → (Contains pairs pair → ⊥) → AllPairs (λ a b. a ≢ b) (pairs ++ pair ∷ [])
+once_more pairs pair known new i j d before within =
+    elim (cases_lt j (length pairs)) [
+      | inl inside ↦
+          let earlier : i < length pairs = omega arith in
+          rw (get_or_append_left pairs (pair ∷ []) d i earlier) (rw (get_or_append_left pairs (pair ∷ []) d j inside) (known i j d before inside))
+      | inr last ↦
+          let at_end : length pairs ≡ j = omega (arith, length-append pairs (pair ∷ []), within, last) in
+          let earlier : i < length pairs = omega arith in
+          λ same.
+          new
+          (subst (λ (p : ℕ × ℕ). Contains pairs p)
+          (sym (get_or_append_left pairs (pair ∷ []) d i earlier) ∙ same ∙ get_or_push pairs pair d j at_end)
+          (Contains-get_or pairs i d earlier))
+    ]
 
-abbrev pub pair_order : ℕ × ℕ → ℕ × ℕ → Ordering
-pair_order a b = ordering_then (nat_cmp a.0 b.0) (nat_cmp a.1 b.1)
+-- at first the list is empty and the table says so
+pub seen_none : (pairs : List (ℕ × ℕ)) (seen : List Bool) (states : ℕ) → pairs ≡ [] → seen ≡ replicate (states * 256) false → states ≤ 256 → AreSeen pairs seen states
+seen_none pairs seen states none is few = record {
+  few = few;
+  size = ap (λ (list : List Bool). length list) is ∙ length-replicate (states * 256) false;
+  each = λ u v low also.
+      let place : place_of_pair u v < states * 256 = omega (arith, low, also, few) in
+      let there : get_or seen (place_of_pair u v) false ≡ false =
+      ap (λ (list : List Bool). get_or list (place_of_pair u v) false) is ∙ get_or-replicate (states * 256) (place_of_pair u v) false false place in (
+        λ seen_there. absurd (false≢true (sym there ∙ seen_there)),
+        λ among. absurd (let within = (subst (λ (list : List (ℕ × ℕ)). Contains list (u, v)) none among).1 in omega (arith, within)),
+      );
+  once = subst (λ (list : List (ℕ × ℕ)). AllPairs (λ a b. a ≢ b) list) (sym none) (λ i j d before within. absurd (omega (arith, within)));
+}
 
-pair_total : IsTotalOrder pair_order
-pair_total = then_total (on_total (λ (p : ℕ × ℕ). p.0) nat_cmp_total) (on_total (λ (p : ℕ × ℕ). p.1) nat_cmp_total)
+module _ (pairs : List (ℕ × ℕ)) (seen : List Bool) (states u v : ℕ) (known : AreSeen pairs seen states) (first : u < states) (second : v < states) where
+  -- the entry of a pair of states is in the table
+  pub place_inside : place_of_pair u v < length seen
+  place_inside = omega (arith, known.size, known.few)
 
-pair_equiv : IsEquivalence same_pair
-pair_equiv = and_equiv (on_equiv (λ (p : ℕ × ℕ). p.0) nat_eq_equiv) (on_equiv (λ (p : ℕ × ℕ). p.1) nat_eq_equiv)
+  -- a pair that is not in the list is put behind the others
+  pub seen_more : get_or seen (place_of_pair u v) false ≡ false → AreSeen (pairs ++ (u, v) ∷ []) (set seen (place_of_pair u v) true) states
+  seen_more not_there = record {
+    few = known.few;
+    size = length-set seen (place_of_pair u v) true ∙ known.size;
+    each = λ a b low also. (there a b low also, back a b low also);
+    once = once_more pairs (u, v) known.once (λ among. false≢true (sym not_there ∙ (known.each u v first second).1 among));
+  }
+    where
+      there : (a b : ℕ) → a < states → b < states → get_or (set seen (place_of_pair u v) true) (place_of_pair a b) false ≡ true → Contains (pairs ++ (u, v) ∷ []) (a, b)
+      there a b low also is =
+          elim (cases_eq (place_of_pair a b) (place_of_pair u v)) [
+            | inl same ↦
+                let few = known.few in
+                let left : u ≡ a = omega arith in
+                let right : v ≡ b = omega arith in
+                let it : (u, v) ≡ (a, b) = ap (λ (n : ℕ). (n, v)) left ∙ ap (λ (n : ℕ). (a, n)) right in
+                subst (λ (p : ℕ × ℕ). Contains (pairs ++ (u, v) ∷ []) p) it (Contains-push pairs (u, v))
+            | inr other ↦
+                Contains-append_left pairs ((u, v) ∷ []) (a, b)
+                ((known.each a b low also).0 (sym (get_or-set_other seen (place_of_pair u v) (place_of_pair a b) true false other) ∙ is))
+          ]
 
-pair_ties : (a b : ℕ × ℕ) → same_pair a b ≡ eq_by_cmp pair_order a b
-pair_ties a b =
-    both_tied (a.0 == b.0) (a.1 == b.1) (nat_cmp a.0 b.0) (nat_cmp a.1 b.1) (unsigned_ties a.0 b.0) (unsigned_ties a.1 b.1)
-
-equal_pairs : (a b : ℕ × ℕ) → same_pair a b ≡ true → a ≡ b
-equal_pairs (x, y) (u, v) same =
-    let parts = and_parts (x == u) (y == v) same in
-    let left : x ≡ u = eqb-true x u parts.0 in
-    let right : y ≡ v = eqb-true y v parts.1 in
-    ap (λ (n : ℕ). (n, y)) left ∙ ap (λ (n : ℕ). (u, n)) right
-
-pub in_dedup_pairs : (pairs : List (ℕ × ℕ)) (pair : ℕ × ℕ) → Contains pairs pair → Contains (dedup same_pair pairs) pair
-in_dedup_pairs = Contains-dedup pair_equiv equal_pairs
-
-pub from_dedup_pairs : (pairs : List (ℕ × ℕ)) (pair : ℕ × ℕ) → Contains (dedup same_pair pairs) pair → Contains pairs pair
-from_dedup_pairs = Contains-from_dedup same_pair
-
-pub distinct_pairs : (pairs : List (ℕ × ℕ)) → IsSorted pair_order pairs → AllPairs (λ a b. a ≢ b) (dedup same_pair pairs)
-distinct_pairs pairs sorted i j d before within same =
-    let kept = dedup same_pair pairs in
-    let strict = IsDistinct-from_sorted pair_order kept (IsStrictlySortedBy-dedup pair_total pair_ties pairs sorted) in
-    let apart = apart_from_distinct (eq_by_cmp pair_order) kept i j d strict before within in
-    true≢false (sym (sym (pair_ties (get_or kept j d) (get_or kept j d)) ∙ pair_equiv.refl (get_or kept j d)) ∙ subst (λ (p : ℕ × ℕ). eq_by_cmp pair_order p (get_or kept j d) ≡ false) same apart)
+      back : (a b : ℕ) → a < states → b < states → Contains (pairs ++ (u, v) ∷ []) (a, b) → get_or (set seen (place_of_pair u v) true) (place_of_pair a b) false ≡ true
+      back a b low also among =
+          elim (cases_eq (place_of_pair a b) (place_of_pair u v)) [
+            | inl same ↦
+                ap (λ (n : ℕ). get_or (set seen (place_of_pair u v) true) n false) same ∙ get_or-set_same seen (place_of_pair u v) true false place_inside
+            | inr other ↦
+                elim (Contains-push_cases pairs (u, v) (a, b) among) [
+                  | inl before ↦
+                      get_or-set_other seen (place_of_pair u v) (place_of_pair a b) true false other ∙ (known.each a b low also).1 before
+                  | inr here ↦
+                      absurd (other (ap (λ (p : ℕ × ℕ). place_of_pair p.0 p.1) (sym here)))
+                ]
+          ]

@@ -7,3 +7,5 @@ pub mod Step
 pub mod Filled
 pub mod AddedPairs
 pub mod Columns
+pub mod Bundles
+pub mod SeenPairs

@@ -4,6 +4,7 @@ ghost use Rattle.kiss2.specs.Machine.{Accepted, Conflicting};
 ghost use Rattle.machine_table.specs.Cause.{Caused, IsConflictOf};
 ghost use Rattle.machine_table.specs.Table.{IsTable};
 
+use crate::bundles::bundles_of_states;
 use crate::classes::leaders_of_states;
 use crate::columns::columns_of_states;
 use crate::contradiction::first_conflict;
@@ -79,7 +80,8 @@ impl Machine {
     {
         let rows = file.rows.as_slice();
         let places = places_of_states(alloc, rows, file.states.count())?;
-        if let Some((earlier, later)) = first_conflict(rows, &places) {
+        let bundles = bundles_of_states(alloc, rows, &places)?;
+        if let Some((earlier, later)) = first_conflict(rows, &bundles) {
             return Err(BuildFail::Conflict {
                 row_a: earlier as u32 + 1,
                 row_b: later as u32 + 1,
@@ -92,6 +94,7 @@ impl Machine {
         Ok(Machine {
             file,
             places: ordered,
+            bundles,
             leaders,
             columns,
             complete: false,

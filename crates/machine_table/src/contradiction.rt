@@ -1,71 +1,73 @@
 //! Rows that contradict one another.
-ghost use Rattle.std.specs.Prelude.{ℕ, ◌≡◌, ◌<◌, ◌≤◌, ◌⊎◌, ◌↔◌, All, AllPairs, Contains, IfNone, IfSome, IsTrue, length};
-ghost use Rattle.kiss2.specs.Machine.{GiveBoth, NameTwo};
-ghost use Rattle.machine_table.specs.Conflict.{AreFirstTwo, ContradictAt, Contradicts};
-ghost use Rattle.machine_table.specs.Inner.Places.{AreNumbersOf, ArePlaces, ContradictsRow, HaveOneWidth};
+ghost use Rattle.std.specs.Prelude.{ℕ, ◌≡◌, ◌<◌, ◌≤◌, All, Contains, IfNone, IfSome, List, length};
+ghost use Rattle.kiss2.specs.declared.kiss_file.KissRow.{KissRow};
+ghost use Rattle.machine_table.specs.Conflict.{AreFirstTwo, ContradictAt};
+ghost use Rattle.machine_table.specs.declared.bundles.RowBundle.{RowBundle};
+ghost use Rattle.machine_table.specs.Inner.Asked.{lesser_of};
+ghost use Rattle.machine_table.specs.Inner.Bundles.{AreFit, IsComparable, IsFirstAgainst, IsInBundles, ListBundles};
 
+use crate::bundles::RowBundle;
 use hs_list::Items;
 use kiss2::KissRow;
+use pattern_bundles::take_first;
 
-/// Whether the rows name different next states.
-fn name_two(row: &KissRow, other: &KissRow) -> bool
-    ensures { IsTrue result ↔ NameTwo row.now other.now }
+/// The lesser of two numbers, if any was found.
+fn earlier_of(first: Option<usize>, second: Option<usize>) -> Option<usize>
+    ensures { result ≡ lesser_of first second }
 {
-    match (row.to, other.to) {
-        (Some(t), Some(u)) => t != u,
-        _ => false,
+    match (first, second) {
+        (None, found) => found,
+        (Some(i), None) => Some(i),
+        (Some(i), Some(j)) => Some(i.min(j)),
     }
 }
 
-/// Whether at some output one row gives 0 and the other 1.
-fn give_both(row: &KissRow, other: &KissRow) -> bool
-    ensures { IsTrue result ↔ (GiveBoth row.now other.now ⊎ GiveBoth other.now row.now) }
+/// A number, if it is below the bound.
+fn below(number: usize, bound: usize) -> Option<usize>
+    ensures some { IfSome result (λ i. (i ≡ number) × (i < bound)) }
+    ensures none { IfNone result (bound ≤ number) }
 {
-    let clash = row.care & other.care & (row.value ^ other.value);
-    clash != 0
+    if number < bound { Some(number) } else { None }
 }
 
-/// Whether two rows of one state contradict one another.
-fn contradict(row: &KissRow, other: &KissRow) -> bool
-    requires state { row.now.from ≡ other.now.from }
-    requires width { row.now.cube.width ≡ other.now.cube.width }
-    ensures { IsTrue result ↔ Contradicts row.now other.now }
-{
-    row.cube.meets(&other.cube) && (name_two(row, other) || give_both(row, other))
-}
-
-/// The first of the numbers below `number` whose row contradicts the row.
-fn first_against(rows: &[KissRow], numbers: &[usize], number: usize, row: &KissRow) -> Option<usize>
-    requires rows { AreNumbersOf rows.now row.now.from row.now.cube.width numbers.now }
-    requires ascending { AllPairs (λ i j. i < j) numbers.now }
+/// The first number below `number` in the bundle whose row contradicts the row.
+fn first_in(bundle: &RowBundle, number: usize, row: &KissRow) -> Option<usize>
     ensures below { IfSome result (λ i. i < number) }
-    ensures some { IfSome result (λ i. ContradictsRow rows.now row.now i) }
-    ensures first { IfSome result (λ i. (k : ℕ) → Contains numbers.now k → ContradictsRow rows.now row.now k → i ≤ k) }
-    ensures none { IfNone result ((k : ℕ) → Contains numbers.now k → k < number → ContradictsRow rows.now row.now k → ⊥) }
+    ensures found { (rows : List KissRow) → IsComparable rows row.now bundle.now → IsFirstAgainst rows (Contains bundle.now.numbers) number row.now result }
 {
-    for earlier in numbers {
-        if *earlier >= number {
-            return None;
-        }
-        if contradict(&rows[*earlier], row) {
-            return Some(*earlier);
-        }
+    let mut marks = bundle.contradicting(row);
+    let place = take_first(&mut marks)?;
+    let earlier = bundle.numbers.as_slice().get(place)?;
+    below(*earlier, number)
+}
+
+/// The first number below `number` in any of the bundles whose row contradicts the row.
+fn first_against(bundles: &[RowBundle], number: usize, row: &KissRow) -> Option<usize>
+    ensures below { IfSome result (λ i. i < number) }
+    ensures found { (rows : List KissRow) → ((bundle : RowBundle) → Contains bundles.now bundle → IsComparable rows row.now bundle) → IsFirstAgainst rows (IsInBundles bundles.now) number row.now result }
+{
+    let mut first = None;
+    for bundle in bundles {
+        first = earlier_of(first, first_in(bundle, number, row));
     }
-    None
+    first
 }
 
 /// The numbers of the first two rows that contradict one another: the least later row, and then the least
 /// earlier row.
-pub fn first_conflict(rows: &[KissRow], places: &[Items<usize>]) -> Option<(usize, usize)>
-    requires places { ArePlaces rows.now (length places.now) (length rows.now) places.now }
-    requires widths { HaveOneWidth rows.now }
-    requires states { All (λ row. row.from < length places.now) rows.now }
+pub(crate) fn first_conflict(
+    rows: &[KissRow],
+    bundles: &[Items<RowBundle>],
+) -> Option<(usize, usize)>
+    requires bundles { ListBundles rows.now (length bundles.now) bundles.now }
+    requires fit { AreFit rows.now }
+    requires states { All (λ row. row.from < length bundles.now) rows.now }
     ensures some { IfSome result (λ found. AreFirstTwo rows.now found.0 found.1) }
     ensures none { IfNone result ((i j : ℕ) → i < j → ContradictAt rows.now i j → ⊥) }
 {
     for (number, row) in rows.iter().enumerate() {
-        let numbers = places[usize::from(row.from)].as_slice();
-        if let Some(earlier) = first_against(rows, numbers, number, row) {
+        let own = bundles[usize::from(row.from)].as_slice();
+        if let Some(earlier) = first_against(own, number, row) {
             return Some((earlier, number));
         }
     }

@@ -3,44 +3,32 @@
 //! Rows of both states that share a symbol name a pair. If rows may leave a next state open, the pairs at such
 //! symbols are added.
 ghost use Rattle.std.specs.Prelude.{ℕ, ◌≡◌, ◌≢◌, ◌<◌, ◌↔◌, All, AllPairs, Contains, IfOk, OnOk, length};
+ghost use Rattle.kiss2.specs.Lawful.{IsLawfulRow};
 ghost use Rattle.machine_table.specs.Covering.{IsImage};
-ghost use Rattle.machine_table.specs.Inner.AddedPairs.{AddsPairs, AreBothOpen, AreNamed, AreNamedAtPlaces, AreNamedBy, IsFound, IsNamedBeside, IsOpenImage, NamesAlone, OfSomeRow, pair_of};
+ghost use Rattle.machine_table.specs.Inner.AddedPairs.{AddsPairs, AreBothOpen, AreNamed, AreNamedAtPlaces, AreNamedBy, AreNamedIn, IsAddedAt, IsFound, IsNamedBeside, IsOpenImage, NamesAlone, OfSomeRow, pair_of};
+ghost use Rattle.machine_table.specs.Inner.Bundles.{IsBundle, IsFit};
+ghost use Rattle.machine_table.specs.Inner.SeenPairs.{AreStates};
 
 use crate::Machine;
+use crate::bundles::RowBundle;
+use crate::pair_list::PairList;
 use crate::question::NextState;
 use crate::searching::{least_of_both, whole};
+use cubes::Cube;
 use kiss2::KissRow;
+use pattern_bundles::take_first;
 use std::alloc::{AllocError, Global};
 
-/// Sorts the pairs and removes duplicates.
-fn keep_one_of_each(pairs: &mut Vec<(u16, u16)>)
-    ensures same { (pair : ℕ × ℕ) → Contains pairs.new.items pair ↔ Contains pairs.old.items pair }
-    ensures once { AllPairs (λ a b. a ≢ b) pairs.new.items }
-{
-    pairs.sort_unstable();
-    pairs.dedup();
-}
-
-/// The length above which a list of pairs is long: twice the number of pairs of 256 states.
-const LONG: usize = 131_072;
-
-/// Removes duplicates if the list is long.
-fn thin_out(pairs: &mut Vec<(u16, u16)>)
-    ensures { (pair : ℕ × ℕ) → Contains pairs.new.items pair ↔ Contains pairs.old.items pair }
-{
-    if pairs.len() > LONG {
-        keep_one_of_each(pairs);
-    }
-}
-
 /// Adds the pair, if one was found.
-fn add_found(found: Option<(u16, u16)>, pairs: &mut Vec<(u16, u16)>) -> Result<(), AllocError>
-    ensures { OnOk result (AddsPairs (IsFound found) pairs.old.items pairs.new.items) }
+fn add_found(found: Option<(u16, u16)>, pairs: &mut PairList) -> Result<(), AllocError>
+    requires { AreStates pairs.old.states (IsFound found) }
+    ensures pairs { OnOk result (AddsPairs (IsFound found) pairs.old.pairs pairs.new.pairs) }
+    ensures states { pairs.new.states ≡ pairs.old.states }
 {
-    if let Some(pair) = found {
-        pairs.push(pair)?;
+    match found {
+        Some(pair) => pairs.add(pair),
+        None => Ok(()),
     }
-    Ok(())
 }
 
 /// The pair, swapped if `turned` is set.
@@ -64,24 +52,25 @@ fn named_pair(row: &KissRow, other: &KissRow) -> Option<(u16, u16)>
 }
 
 impl Machine {
-    /// The pairs of next states of the two states, in ascending order.
+    /// The pairs of next states of the two states, each once.
     pub fn images(&self, alloc: Global, s: usize, t: usize) -> Result<Vec<(u16, u16)>, AllocError>
         requires s { s < length self.now.states }
         requires t { t < length self.now.states }
         ensures listed { IfOk result (λ images. (u v : ℕ) → Contains images.items (u, v) ↔ IsImage self.now s t u v) }
         ensures once { IfOk result (λ images. AllPairs (λ a b. a ≢ b) images.items) }
     {
-        let mut images = Vec::new(alloc);
+        let mut images = PairList::new(alloc, self.states())?;
         self.add_images(s, t, &mut images)?;
-        keep_one_of_each(&mut images);
-        Ok(images)
+        Ok(images.into_pairs())
     }
 
     /// Adds the pairs of next states of the two states.
-    fn add_images(&self, s: usize, t: usize, pairs: &mut Vec<(u16, u16)>) -> Result<(), AllocError>
+    fn add_images(&self, s: usize, t: usize, pairs: &mut PairList) -> Result<(), AllocError>
         requires s { s < length self.now.states }
         requires t { t < length self.now.states }
-        ensures { OnOk result (AddsPairs (IsImage self.now s t) pairs.old.items pairs.new.items) }
+        requires states { pairs.old.states ≡ length self.now.states }
+        ensures pairs { OnOk result (AddsPairs (IsImage self.now s t) pairs.old.pairs pairs.new.pairs) }
+        ensures states { pairs.new.states ≡ pairs.old.states }
     {
         let complete = self.is_complete();
         self.add_named(s, t, pairs)?;
@@ -92,10 +81,12 @@ impl Machine {
     }
 
     /// Adds the pairs that rows of both states name.
-    fn add_named(&self, s: usize, t: usize, pairs: &mut Vec<(u16, u16)>) -> Result<(), AllocError>
+    fn add_named(&self, s: usize, t: usize, pairs: &mut PairList) -> Result<(), AllocError>
         requires s { s < length self.now.states }
         requires t { t < length self.now.states }
-        ensures { OnOk result (AddsPairs (AreNamed self.now s t) pairs.old.items pairs.new.items) }
+        requires states { pairs.old.states ≡ length self.now.states }
+        ensures pairs { OnOk result (AddsPairs (AreNamed self.now s t) pairs.old.pairs pairs.new.pairs) }
+        ensures states { pairs.new.states ≡ pairs.old.states }
     {
         let question = NextState::new(self.states());
         if let Some(rows) = self.aligned_rows(&question, s, t, false)
@@ -111,12 +102,14 @@ impl Machine {
         &self,
         first: &[usize],
         second: &[usize],
-        pairs: &mut Vec<(u16, u16)>,
+        pairs: &mut PairList,
     ) -> Result<(), AllocError>
         requires first { All (λ i. i < length self.now.rows) first.now }
         requires second { All (λ i. i < length self.now.rows) second.now }
         requires count { length first.now ≡ length second.now }
-        ensures { OnOk result (AddsPairs (AreNamedAtPlaces self.now.rows first.now second.now) pairs.old.items pairs.new.items) }
+        requires states { pairs.old.states ≡ length self.now.states }
+        ensures pairs { OnOk result (AddsPairs (AreNamedAtPlaces self.now.rows first.now second.now) pairs.old.pairs pairs.new.pairs) }
+        ensures states { pairs.new.states ≡ pairs.old.states }
     {
         for i in 0..first.len() {
             let row = self.row(first[i]);
@@ -126,42 +119,94 @@ impl Machine {
         Ok(())
     }
 
-    /// Adds the pairs named by any row of the first state and any row of the second. Duplicates are removed
-    /// after each row, so that the list stays short.
-    fn add_by_rows(&self, s: usize, t: usize, pairs: &mut Vec<(u16, u16)>) -> Result<(), AllocError>
+    /// Adds the pairs named by any row of the first state and any row of the second.
+    fn add_by_rows(&self, s: usize, t: usize, pairs: &mut PairList) -> Result<(), AllocError>
         requires s { s < length self.now.states }
         requires t { t < length self.now.states }
-        ensures { OnOk result (AddsPairs (OfSomeRow self.now s (IsNamedBeside self.now t)) pairs.old.items pairs.new.items) }
+        requires states { pairs.old.states ≡ length self.now.states }
+        ensures pairs { OnOk result (AddsPairs (OfSomeRow self.now s (IsNamedBeside self.now t)) pairs.old.pairs pairs.new.pairs) }
+        ensures states { pairs.new.states ≡ pairs.old.states }
     {
         for number in self.numbers_of(s) {
             self.add_beside(self.row(*number), t, pairs)?;
-            thin_out(pairs);
         }
         Ok(())
     }
 
     /// Adds the pairs named by the row and any row of the state.
-    fn add_beside(
-        &self,
-        row: &KissRow,
-        t: usize,
-        pairs: &mut Vec<(u16, u16)>,
-    ) -> Result<(), AllocError>
+    fn add_beside(&self, row: &KissRow, t: usize, pairs: &mut PairList) -> Result<(), AllocError>
         requires t { t < length self.now.states }
-        requires width { row.now.cube.width ≡ self.now.inputs }
-        ensures { OnOk result (AddsPairs (IsNamedBeside self.now t row.now) pairs.old.items pairs.new.items) }
+        requires row { IsLawfulRow self.now.inputs self.now.outputs (length self.now.states) row.now }
+        requires states { pairs.old.states ≡ length self.now.states }
+        ensures pairs { OnOk result (AddsPairs (IsNamedBeside self.now t row.now) pairs.old.pairs pairs.new.pairs) }
+        ensures states { pairs.new.states ≡ pairs.old.states }
     {
-        for number in self.numbers_of(t) {
-            add_found(named_pair(row, self.row(*number)), pairs)?;
+        let Some(next) = row.to else {
+            return Ok(());
+        };
+        for bundle in self.bundles_of(t) {
+            self.add_in(&row.cube, next, bundle, pairs)?;
         }
         Ok(())
     }
 
+    /// Adds the pairs of the next state and of those that rows of a bundle name which share a symbol with the
+    /// cube. For each pair one row is asked; the others with its next state are passed over.
+    fn add_in(
+        &self,
+        cube: &Cube,
+        next: u16,
+        bundle: &RowBundle,
+        pairs: &mut PairList,
+    ) -> Result<(), AllocError>
+        requires next { next < length self.now.states }
+        requires width { cube.now.width ≡ self.now.inputs }
+        requires fit { All (IsFit self.now.inputs) self.now.rows }
+        requires bundle { IsBundle self.now.rows bundle.now }
+        requires states { pairs.old.states ≡ length self.now.states }
+        ensures pairs { OnOk result (AddsPairs (AreNamedIn self.now.rows bundle.now.numbers cube.now next) pairs.old.pairs pairs.new.pairs) }
+        ensures states { pairs.new.states ≡ pairs.old.states }
+    {
+        let mut marks = bundle.meeting(cube);
+        while let Some(place) = take_first(&mut marks) {
+            let done = self.add_marked(next, bundle, place, pairs)?;
+            marks &= !done;
+        }
+        Ok(())
+    }
+
+    /// Adds the pair of the next state and of the one that the row at the place names, and marks rows whose
+    /// pairs are then in the list.
+    fn add_marked(
+        &self,
+        next: u16,
+        bundle: &RowBundle,
+        place: usize,
+        pairs: &mut PairList,
+    ) -> Result<u64, AllocError>
+        requires next { next < length self.now.states }
+        requires place { place < length bundle.now.numbers }
+        requires fit { All (IsFit self.now.inputs) self.now.rows }
+        requires bundle { IsBundle self.now.rows bundle.now }
+        requires states { pairs.old.states ≡ length self.now.states }
+        ensures pairs { IfOk result (λ word. IsAddedAt self.now.rows bundle.now.numbers next place word pairs.old.pairs pairs.new.pairs) }
+        ensures states { pairs.new.states ≡ pairs.old.states }
+    {
+        let row = self.row(bundle.numbers.as_slice()[place]);
+        let Some(other) = row.to else {
+            return Ok(0);
+        };
+        pairs.add((next, other))?;
+        Ok(bundle.naming_no_other(other))
+    }
+
     /// Adds the pairs at symbols at which one of the states leaves the next state open.
-    fn add_open(&self, s: usize, t: usize, pairs: &mut Vec<(u16, u16)>) -> Result<(), AllocError>
+    fn add_open(&self, s: usize, t: usize, pairs: &mut PairList) -> Result<(), AllocError>
         requires s { s < length self.now.states }
         requires t { t < length self.now.states }
-        ensures { OnOk result (AddsPairs (IsOpenImage self.now s t) pairs.old.items pairs.new.items) }
+        requires states { pairs.old.states ≡ length self.now.states }
+        ensures pairs { OnOk result (AddsPairs (IsOpenImage self.now s t) pairs.old.pairs pairs.new.pairs) }
+        ensures states { pairs.new.states ≡ pairs.old.states }
     {
         self.add_alone(s, t, false, pairs)?;
         self.add_alone(t, s, true, pairs)?;
@@ -186,11 +231,13 @@ impl Machine {
         s: usize,
         t: usize,
         turned: bool,
-        pairs: &mut Vec<(u16, u16)>,
+        pairs: &mut PairList,
     ) -> Result<(), AllocError>
         requires s { s < length self.now.states }
         requires t { t < length self.now.states }
-        ensures { OnOk result (AddsPairs (OfSomeRow self.now s (NamesAlone self.now t turned)) pairs.old.items pairs.new.items) }
+        requires states { pairs.old.states ≡ length self.now.states }
+        ensures pairs { OnOk result (AddsPairs (OfSomeRow self.now s (NamesAlone self.now t turned)) pairs.old.pairs pairs.new.pairs) }
+        ensures states { pairs.new.states ≡ pairs.old.states }
     {
         for number in self.numbers_of(s) {
             add_found(self.alone_pair(self.row(*number), t, turned), pairs)?;

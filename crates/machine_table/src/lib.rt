@@ -3,16 +3,19 @@
 //! A [`Machine`] is built from a file whose rows do not contradict one another and, with `Fill::Refuse`,
 //! leave nothing open. Contracts see it as that file, so every question it answers is about the next states
 //! and outputs that `kiss2/specs/Machine` defines. There is no table indexed by symbols: answers come from
-//! the rows of the states in question.
+//! the rows of the states in question. The rows of each state are also kept in bundles of 64, which find all
+//! rows that share a symbol with a cube at once, so that only those rows are asked.
 //!
 //! `specs/Table` says which files have a machine, `specs/Conflict` which two rows a refusal names,
 //! `specs/Said` which open entry it names, and `specs/Cause` when each refusal occurs. `specs/Staying` says
 //! that a machine never leaves its states, `specs/Walk` how numbers encode outputs, `specs/Pairs` what is
-//! asked of two states at all symbols, and `specs/Covering` what the images and pieces list.
+//! asked of two states at all symbols, and `specs/Covering` what the images and pieces list and what filled
+//! rows say.
 #![tactic(auto)]
 
 mod aligned;
 mod building;
+mod bundles;
 mod classes;
 mod columns;
 mod contradiction;
@@ -25,6 +28,7 @@ mod machine;
 mod missing;
 mod open_entry;
 mod order;
+mod pair_list;
 mod pairs;
 mod places;
 mod question;

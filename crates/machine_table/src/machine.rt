@@ -5,10 +5,13 @@ ghost use Rattle.kiss2.specs.Lawful.{IsLawfulRow};
 ghost use Rattle.kiss2.specs.Machine.{Conflicting, Specified, given_bit, next, output_bit};
 ghost use Rattle.kiss2.specs.Names.{AreDistinct};
 ghost use Rattle.kiss2.specs.declared.kiss_file.KissRow.{KissRow};
+ghost use Rattle.machine_table.specs.declared.bundles.RowBundle.{RowBundle};
+ghost use Rattle.machine_table.specs.Inner.Bundles.{IsBundle, IsFit, IsInBundles};
 ghost use Rattle.machine_table.specs.Inner.Places.{IsNumberOf};
 ghost use Rattle.machine_table.specs.Staying.{NeverLeaves};
 ghost use Rattle.machine_table.specs.Table.{IsTable};
 
+use crate::bundles::RowBundle;
 use hs_list::Items;
 use kiss2::{KissFile, KissRow};
 use std::marker::Model;
@@ -21,6 +24,8 @@ pub struct Machine {
     pub(crate) file: KissFile,
     /// For each state, the numbers of its rows in the order of their cubes.
     pub(crate) places: Vec<Items<usize>>,
+    /// For each state, its rows in bundles, in the order of the file.
+    pub(crate) bundles: Vec<Items<RowBundle>>,
     /// For each state, the first state whose rows have the same cubes.
     pub(crate) leaders: Vec<usize>,
     /// For each state, the numbers of its rows at one place for each column of the states with its leader.
@@ -34,6 +39,7 @@ impl Model for Machine {
     ghost use Rattle.kiss2.specs.declared.kiss_file.KissFile.{KissFile};
     ghost use Rattle.kiss2.specs.Machine.{Conflicting, Specified};
     ghost use Rattle.machine_table.specs.Table.{IsTable};
+    ghost use Rattle.machine_table.specs.Inner.Bundles.{ListBundles};
     ghost use Rattle.machine_table.specs.Inner.Columns.{AreColumns};
     ghost use Rattle.machine_table.specs.Inner.Places.{ListRows};
 
@@ -43,7 +49,8 @@ impl Model for Machine {
 
     ghost invariant = { λ m. IsTable m.file × (Conflicting m.file → ⊥)
         × ListRows m.file.rows (length m.file.states) m.places.items × (IsTrue m.complete → Specified m.file)
-        × AreColumns m.file.rows m.places.items m.leaders.items m.columns.items };
+        × AreColumns m.file.rows m.places.items m.leaders.items m.columns.items
+        × ListBundles m.file.rows (length m.file.states) m.bundles.items };
 }
 
 /// The bit that a row gives at an output, if it gives one.
@@ -140,6 +147,7 @@ impl Machine {
         Machine {
             file: self.file,
             places: self.places,
+            bundles: self.bundles,
             leaders: self.leaders,
             columns: self.columns,
             complete: true,
@@ -165,6 +173,17 @@ impl Machine {
         ensures no_conflict { Conflicting self.now → ⊥ }
     {
         self.places[s].as_slice()
+    }
+
+    /// The rows of a state in bundles.
+    pub(crate) fn bundles_of(&self, s: usize) -> &[RowBundle]
+        requires { s < length self.now.states }
+        ensures right { (bundle : RowBundle) → Contains result.now bundle → IsBundle self.now.rows bundle }
+        ensures own { (i : ℕ) → IsInBundles result.now i → IsNumberOf self.now s i }
+        ensures each { (i : ℕ) (row : KissRow) → slice_get self.now.rows i ≡ Some row → row.from ≡ s → IsInBundles result.now i }
+        ensures fit { All (IsFit self.now.inputs) self.now.rows }
+    {
+        self.bundles[s].as_slice()
     }
 
     /// The row with that number.

@@ -8,11 +8,14 @@ ghost use Rattle.cubes.specs.Symbol.{bit};
 ghost use Rattle.kiss2.specs.Lawful.{IsLawfulRow};
 ghost use Rattle.kiss2.specs.Machine.{Specified};
 ghost use Rattle.machine_table.specs.Inner.Asked.{AllSay, ApartBelow, HaveOneLabel, MeetsApart, NoneIsOpen, AreApartAt, IsAloneAt, IsApartAt, AreOpenAt, SayApart, DifferAt, DifferBothOpen, DifferOpen, IsMetBy, IsOpenAt, SayTwo, SaysAlone, lesser_of};
+ghost use Rattle.machine_table.specs.Inner.Bundles.{IsBundle, IsFit, IsSearchedIn};
 
 use crate::Machine;
+use crate::bundles::RowBundle;
 use crate::question::Question;
 use cubes::Cube;
 use kiss2::KissRow;
+use pattern_bundles::take_first;
 
 /// The lesser of two numbers, if any was found.
 pub(crate) fn lesser(first: Option<u32>, second: Option<u32>) -> Option<u32>
@@ -261,8 +264,36 @@ impl Machine {
         ensures met { (y : ℕ) → IsApartAt (Q.said question.now) self.now t row.now y → IsMetBy result least y }
     {
         let mut found = None;
-        for number in self.numbers_of(t) {
-            found = lesser(found, first_between(question, row, self.row(*number)));
+        for bundle in self.bundles_of(t) {
+            found = lesser(found, self.first_apart_in(question, row, bundle, least));
+            if is_settled(found, least) {
+                return found;
+            }
+        }
+        found
+    }
+
+    /// The same, where the other row is one of a bundle. Only the rows that share a symbol with the row are
+    /// asked.
+    fn first_apart_in<Q: Question>(
+        &self,
+        question: &Q,
+        row: &KissRow,
+        bundle: &RowBundle,
+        least: bool,
+    ) -> Option<u32>
+        requires known { length self.now.states ≤ Q.states question.now }
+        requires row { IsLawfulRow self.now.inputs self.now.outputs (length self.now.states) row.now }
+        requires bundle { IsBundle self.now.rows bundle.now }
+        requires fit { All (IsFit row.now.cube.width) self.now.rows }
+        ensures { IsSearchedIn (Q.said question.now) self.now bundle.now.numbers row.now least result }
+    {
+        let numbers = bundle.numbers.as_slice();
+        let mut marks = bundle.meeting(&row.cube);
+        let mut found = None;
+        while let Some(place) = take_first(&mut marks) {
+            let other = self.row(numbers[place]);
+            found = lesser(found, first_between(question, row, other));
             if is_settled(found, least) {
                 return found;
             }

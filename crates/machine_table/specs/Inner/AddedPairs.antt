@@ -1,9 +1,14 @@
 -- Lists to which pairs of next states are added. Private functions need it; no public contract cites it.
-use Rattle.std.specs.Prelude.{ℕ, ◌≡◌, ◌<◌, ◌^◌, ◌↔◌, ◌⊎◌, Bool, true, false, Contains, List, Option, Some, length, slice_get, slice_index}
-use Rattle.cubes.specs.Cube.{HoldsNumber}
+use Rattle.std.specs.Prelude.{ℕ, ◌≡◌, ◌<◌, ◌^◌, ◌↔◌, ◌⊎◌, Bool, true, false, Contains, List, Option, Some, length, slice_get, slice_index, slice_index_or}
+use Rattle.std.specs.Int.{bit_at}
+use Rattle.cubes.specs.declared.cube.Cube.{Cube}
+use Rattle.cubes.specs.Cube.{HoldsNumber, Meets}
 use Rattle.kiss2.specs.declared.kiss_file.KissFile.{KissFile}
 use Rattle.kiss2.specs.declared.kiss_file.KissRow.{KissRow}
+use Rattle.machine_table.specs.declared.bundles.RowBundle.{RowBundle}
 use Rattle.machine_table.specs.Inner.Asked.{AreOpenAt, IsLabelAt, IsOpenAt, IsOfState}
+use Rattle.machine_table.specs.Inner.Bundles.{AreLeft}
+use Rattle.machine_table.specs.Inner.Columns.{IsAtPlace}
 
 -- the second list has the pairs of the first, and those of the relation
 abbrev pub AddsPairs : (ℕ → ℕ → Type 0) → List (ℕ × ℕ) → List (ℕ × ℕ) → Type 0
@@ -69,3 +74,34 @@ AreBothOpen F s t u v = (x : ℕ) × (x < 2 ^ F.inputs) × AreOpenAt to_of F s t
 abbrev pub IsOpenImage : KissFile → (s t u v : ℕ) → Type 0
 IsOpenImage F s t u v =
     OfSomeRow F s (NamesAlone F t false) u v ⊎ (OfSomeRow F t (NamesAlone F s true) u v ⊎ AreBothOpen F s t u v)
+
+-- the next state, and one that a row with one of these numbers names which shares a symbol with the cube
+abbrev pub AreNamedIn : List KissRow → List ℕ → Cube → (next : ℕ) → ℕ → ℕ → Type 0
+AreNamedIn rows numbers cube next u v =
+    (u ≡ next) × ((k : ℕ) × (other : KissRow) × IsAtPlace rows numbers k other × Meets cube other.cube × (other.to ≡ Some v))
+
+-- if the row names a next state, its pair with the next state of the first is in the list
+abbrev pub IsListed : List (ℕ × ℕ) → (next : ℕ) → KissRow → Type 0
+IsListed pairs next other = (v : ℕ) → other.to ≡ Some v → Contains pairs (next, v)
+
+-- pairs were added for the rows with these numbers, except those that the word has left
+pub record AreAddedTo (rows : List KissRow) (numbers : List ℕ) (cube : Cube) (next word : ℕ) (old now : List (ℕ × ℕ)) : Type 0 where
+  pub kept : (u v : ℕ) → Contains old (u, v) → Contains now (u, v)
+  pub right : (u v : ℕ) → Contains now (u, v) → Contains old (u, v) ⊎ AreNamedIn rows numbers cube next u v
+  pub left : AreLeft rows numbers (λ other. Meets cube other.cube) (IsListed now next) word
+  pub meet : (k : ℕ) (other : KissRow) → IsAtPlace rows numbers k other → bit_at word k ≡ 1 → Meets cube other.cube
+
+-- the pair of the next state and of one that the row at that place names was added, and the rows that the word marks have
+-- their pairs in the list
+pub record IsAddedAt (rows : List KissRow) (numbers : List ℕ) (next place word : ℕ) (old now : List (ℕ × ℕ)) : Type 0 where
+  pub added : (other : KissRow) → IsAtPlace rows numbers place other → AddsPairs (λ u v. (u ≡ next) × (other.to ≡ Some v)) old now
+  pub done : (k : ℕ) (other : KissRow) → IsAtPlace rows numbers k other → bit_at word k ≡ 1 → IsListed now next other
+  pub fits : word < 2 ^ 64
+
+-- the pairs that rows of a bundle name with the next state, told of the bundle at one place of a list
+abbrev pub AtBundle : List KissRow → List RowBundle → Cube → (next : ℕ) → ℕ → ℕ → ℕ → Type 0
+AtBundle rows bundles cube next k u v = (bundle : RowBundle) × (slice_index_or bundles k bundle ≡ bundle) × AreNamedIn rows bundle.numbers cube next u v
+
+-- the row names this next state or none
+abbrev pub NamesNoOther : ℕ → KissRow → Type 0
+NamesNoOther next row = (v : ℕ) → row.to ≡ Some v → v ≡ next

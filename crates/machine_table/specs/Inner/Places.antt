@@ -25,15 +25,10 @@ pub record ListRows (rows : List KissRow) (states : ℕ) (places : List (List �
 abbrev pub ContradictsRow : List KissRow → KissRow → ℕ → Type 0
 ContradictsRow rows row i = (other : KissRow) × (slice_get rows i ≡ Some other) × Contradicts other row
 
--- each number is that of a row of the state, with a cube of that width
-abbrev pub AreNumbersOf : List KissRow → (state width : ℕ) → List ℕ → Type 0
-AreNumbersOf rows state width numbers =
-    (i : ℕ) → Contains numbers i → (row : KissRow) × (slice_get rows i ≡ Some row) × (row.from ≡ state) × (row.cube.width ≡ width)
-
--- all cubes have the same width
-abbrev pub HaveOneWidth : List KissRow → Type 0
-HaveOneWidth rows = AllPairs (λ row other. row.cube.width ≡ other.cube.width) rows
-
 -- the row with that number belongs to the state
 abbrev pub IsNumberOf : KissFile → (state number : ℕ) → Type 0
 IsNumberOf F state number = (row : KissRow) × (slice_get F.rows number ≡ Some row) × (row.from ≡ state)
+
+-- each number is that of a row of the state
+abbrev pub AreOfState : List KissRow → (state : ℕ) → List ℕ → Type 0
+AreOfState rows state numbers = (i : ℕ) → Contains numbers i → (row : KissRow) × (slice_get rows i ≡ Some row) × (row.from ≡ state)

@@ -1,7 +1,7 @@
 use Rattle.std.proofs.Common.{rules, ℕ, ◌≡◌, ◌∷◌, ◌++◌, [], All, List, false, true, subst, sym, ◌∙◌}
 use Rattle.kiss2.specs.declared.kiss_file.KissRow.{KissRow}
 use Rattle.machine_table.specs.Covering.{IsSaidBy}
-use Rattle.machine_table.specs.Inner.Filled.{AreNear, AreThoseMet, Fills, IsFilling, SayNothing}
+use Rattle.machine_table.specs.Inner.Filled.{AreNear, Fills, IsFilling, SayNothing}
 use Rattle.machine_table.proofs.FilledRows.{filled, filled_before, filled_by_halves, near_half, near_met, widths_met}
 use Rattle.machine_table.proofs.machine.Machine.+fill_cube.Goals as goal
 

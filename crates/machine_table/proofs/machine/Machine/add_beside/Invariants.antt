@@ -1,6 +1,9 @@
-use Rattle.machine_table.specs.Inner.AddedPairs.{AddsPairs, AreNamedBy, AtPlace, BelowCount}
+use Rattle.std.proofs.Common.{◌≡◌}
+use Rattle.machine_table.specs.Inner.AddedPairs.{AddsPairs, AtBundle, BelowCount}
 use Rattle.machine_table.proofs.machine.Machine.add_beside.Given as goal
 
-abbrev pub invariant-loop-number : goal.invariant-loop-number
-invariant-loop-number l =
-    AddsPairs (BelowCount (AtPlace l.self.rows l.number-items (AreNamedBy l.row)) l.number-index) l.fn.pairs.items l.pairs.items
+abbrev pub invariant-loop-bundle : goal.invariant-loop-bundle
+invariant-loop-bundle l = record {
+  pairs : AddsPairs (BelowCount (AtBundle l.self.rows l.bundle-items l.row.cube l.next) l.bundle-index) l.fn.pairs.pairs l.pairs.pairs;
+  states : l.pairs.states ≡ l.fn.pairs.states;
+}

@@ -5,25 +5,25 @@ use Rattle.machine_table.proofs.AddedPairs.{adds_as, adds_then, on_ok}
 use Rattle.machine_table.proofs.NamedPairs.{image_is, image_is_named}
 use Rattle.machine_table.proofs.machine.Machine.add_images.Goals as goal
 
-pub returns-then-complete : goal.returns-then-complete
-returns-then-complete c =
+pub returns-then-complete-clause-pairs : goal.returns-then-complete-clause-pairs
+returns-then-complete-clause-pairs c =
     let F = c.args.self.now in
     let s = c.args.s in
     let t = c.args.t in
     let known = c.is_complete-complete.ensures in
-    adds_as (AreNamed F s t) (IsImage F s t) c.args.pairs.now.items c.add_named.new.pairs.items
-    (λ u v. image_is_named F known.table known.no_conflict s t u v (known.specified c.if-complete.true) c.requires.s c.requires.t) c.in_ok-add_named.ensures
+    adds_as (AreNamed F s t) (IsImage F s t) c.args.pairs.now.pairs c.add_named.new.pairs.pairs
+    (λ u v. image_is_named F known.table known.no_conflict s t u v (known.specified c.if-complete.true) c.requires.s c.requires.t) c.in_ok-add_named.ensures.pairs
 
-pub returns : goal.returns
-returns c =
+pub returns-clause-pairs : goal.returns-clause-pairs
+returns-clause-pairs c =
     let F = c.args.self.now in
     let s = c.args.s in
     let t = c.args.t in
     let known = c.is_complete-complete.ensures in
-    let old = c.args.pairs.now.items in
-    let some = c.add_named.new.pairs.items in
-    let all = c.add_open.new.pairs.items in
+    let old = c.args.pairs.now.pairs in
+    let some = c.add_named.new.pairs.pairs in
+    let all = c.add_open.new.pairs.pairs in
     on_ok c.add_open.result (AddsPairs (IsOpenImage F s t) some all) (AddsPairs (IsImage F s t) old all)
     (λ last.
     adds_as (λ u v. AreNamed F s t u v ⊎ IsOpenImage F s t u v) (IsImage F s t) old all (image_is F known.table known.no_conflict s t)
-    (adds_then (AreNamed F s t) (IsOpenImage F s t) old some all c.in_ok-add_named.ensures last)) c.add_open.ensures
+    (adds_then (AreNamed F s t) (IsOpenImage F s t) old some all c.in_ok-add_named.ensures.pairs last)) c.add_open.ensures.pairs

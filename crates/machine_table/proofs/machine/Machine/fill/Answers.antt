@@ -1,4 +1,4 @@
-use Rattle.std.proofs.Common.{◌+◌, arith}
+use Rattle.std.proofs.Common.{arith}
 use Rattle.machine_table.proofs.FilledRows.{first_part, next_part}
 use Rattle.machine_table.proofs.machine.Machine.fill.Goals as goal
 

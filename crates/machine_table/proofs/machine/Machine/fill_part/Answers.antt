@@ -1,4 +1,4 @@
-use Rattle.std.proofs.Common.{◌≡◌, ◌++◌, [], All, List, ap, subst, sym, ◌∙◌, arith}
+use Rattle.std.proofs.Common.{[], All, List, subst, sym, ◌∙◌, arith}
 use Rattle.kiss2.specs.declared.kiss_file.KissRow.{KissRow}
 use Rattle.machine_table.specs.Covering.{IsRightRow}
 use Rattle.machine_table.specs.Inner.Filled.{AreNear, Fills}

@@ -1,31 +1,47 @@
-use Rattle.std.proofs.Common.{ℕ, ◌<◌, ◌+◌, ◌^◌, IfSome, get_or, subst}
-use Rattle.std.proofs.lemmas.List.Elements.{Contains-get_or}
-use Rattle.machine_table.specs.Inner.Asked.{AreApartAt, IsApartAt, IsSearched}
-use Rattle.machine_table.proofs.Sought.{if_some_map, meets_all, met_least, row_of, searched_more}
+use Rattle.std.proofs.Common.{ℕ, ◌<◌, ◌+◌, ◌^◌, All, Contains, sym, subst}
+use Rattle.machine_table.specs.Inner.Asked.{IsApartAt, lesser_of}
+use Rattle.machine_table.specs.Inner.Bundles.{IsApartIn, IsFit, MeetsEach}
+use Rattle.machine_table.proofs.MarkedRows.{IsSearchedOver, apart_of_state, meets_each_row, meets_first_more}
+use Rattle.machine_table.proofs.Sought.{if_some_map, lesser_has, met_left, met_right}
 use Rattle.machine_table.proofs.machine.Machine.first_apart_from.Goals.{After-lesser-found}
 use Rattle.machine_table.proofs.machine.Machine.first_apart_from.Given as given
 use Rattle.machine_table.proofs.machine.Machine.first_apart_from.Goals as goal
 
-searched : (g : given.Over) (c : After-lesser-found g) → IsSearched c.args.self.now c.numbers_of-number-items.result.now (c.loop-number.number-index + 1)
-    (AreApartAt (g.Q.Question.said c.args.question.now) c.args.row.now) (IsApartAt (g.Q.Question.said c.args.question.now) c.args.self.now c.args.t c.args.row.now)
-    c.lesser-found.result c.args.least
+searched : (g : given.Over) (c : After-lesser-found g)
+    → IsSearchedOver (g.Q.Question.said c.args.question.now) c.args.self.now c.args.t c.bundles_of-bundle-items.result.now (c.loop-bundle.bundle-index + 1) c.args.row.now c.args.least c.lesser-found.result
 searched g c =
     let F = c.args.self.now in
     let said = g.Q.Question.said c.args.question.now in
-    let asked = c.numbers_of-number-items in
-    let i = get_or asked.result.now c.loop-number.number-index 0 in
-    let other = c.row.result.now in
-    let own = asked.ensures.own i (Contains-get_or asked.result.now c.loop-number.number-index 0 c.loop-number-test.true) in
-    searched_more F asked.result.now c.loop-number.number-index (AreApartAt said c.args.row.now) (IsApartAt said F c.args.t c.args.row.now)
-    c.loop-number.found c.first_between.result c.lesser-found.result c.args.least other
-    c.loop-number.invariant c.lesser-found.ensures c.loop-number-test.true c.row.ensures.row
-    (if_some_map (AreApartAt said c.args.row.now other) (IsApartAt said F c.args.t c.args.row.now) c.first_between.result
-    (λ x apart. (other, row_of F c.args.t i other own c.row.ensures.row, apart)) c.first_between.ensures.some)
-    (subst (λ (w : ℕ). IfSome c.first_between.result (λ x. x < 2 ^ w)) c.requires.row.width c.first_between.ensures.within)
-    (λ y wants. met_least c.first_between.result c.args.least y (c.first_between.ensures.least y wants))
+    let row = c.args.row.now in
+    let least = c.args.least in
+    let bundles = c.bundles_of-bundle-items.result.now in
+    let bundle = c.bundle-item.result in
+    let old = c.loop-bundle.found in
+    let more = c.first_apart_in.result in
+    let among : Contains bundles bundle = (c.loop-bundle.bundle-index, c.loop-bundle-test.true, sym c.bundle-item.is) in
+    let inner = c.first_apart_in.ensures in
+    subst (IsSearchedOver said F c.args.t bundles (c.loop-bundle.bundle-index + 1) row least) (sym c.lesser-found.ensures)
+    (record {
+      some = lesser_has (IsApartAt said F c.args.t row) old more c.loop-bundle.invariant.some
+          (if_some_map (IsApartIn said F.rows bundle.numbers row) (IsApartAt said F c.args.t row) more
+          (apart_of_state said F c.args.t bundles bundle row c.bundles_of-bundle-items.ensures.own among) inner.some);
+      within = lesser_has (λ x. x < 2 ^ F.inputs) old more c.loop-bundle.invariant.within inner.within;
+      met = meets_first_more F.rows bundles c.loop-bundle.bundle-index bundle (MeetsEach said row old least) (MeetsEach said row (lesser_of old more) least)
+          c.bundle-item.is c.loop-bundle-test.true c.loop-bundle.invariant.met
+          (λ r done y apart. met_left old more least y (done y apart))
+          (λ k r at y apart. met_right old more least y (inner.met k r at y apart));
+    })
 
-pub loop-number-preserved : goal.loop-number-preserved
-loop-number-preserved g c = searched g (goal.at.loop-number-preserved g c).After-lesser-found
+pub first_apart_in-requires-clause-bundle : goal.first_apart_in-requires-clause-bundle
+first_apart_in-requires-clause-bundle g c =
+    c.bundles_of-bundle-items.ensures.right c.bundle-item.result (c.loop-bundle.bundle-index, c.loop-bundle-test.true, sym c.bundle-item.is)
+
+pub first_apart_in-requires-clause-fit : goal.first_apart_in-requires-clause-fit
+first_apart_in-requires-clause-fit g c =
+    subst (λ (w : ℕ). All (IsFit w) c.args.self.now.rows) (sym c.requires.row.width) c.bundles_of-bundle-items.ensures.fit
+
+pub loop-bundle-preserved : goal.loop-bundle-preserved
+loop-bundle-preserved g c = searched g (goal.at.loop-bundle-preserved g c).After-lesser-found
 
 pub returns-then-is_settled-clause-some : goal.returns-then-is_settled-clause-some
 returns-then-is_settled-clause-some g c = (searched g (goal.at.returns-then-is_settled-clause-some g c).After-lesser-found).some
@@ -35,6 +51,7 @@ returns-then-is_settled-clause-within g c = (searched g (goal.at.returns-then-is
 
 pub returns-clause-met : goal.returns-clause-met
 returns-clause-met g c y (other, of_state, apart) =
-    let asked = c.numbers_of-number-items in
-    meets_all c.args.self.now c.args.t asked.result.now c.loop-number.number-index (AreApartAt (g.Q.Question.said c.args.question.now) c.args.row.now)
-    c.loop-number.found c.args.least asked.ensures.each c.loop-number.invariant.met c.loop-number-test.false other of_state y apart
+    let F = c.args.self.now in
+    let asked = c.bundles_of-bundle-items in
+    meets_each_row F c.args.t asked.result.now c.loop-bundle.bundle-index (MeetsEach (g.Q.Question.said c.args.question.now) c.args.row.now c.loop-bundle.found c.args.least)
+    asked.ensures.each c.loop-bundle-test.false c.loop-bundle.invariant.met other of_state y apart

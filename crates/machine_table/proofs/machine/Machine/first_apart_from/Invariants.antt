@@ -1,6 +1,5 @@
-use Rattle.machine_table.specs.Inner.Asked.{AreApartAt, IsApartAt, IsSearched}
+use Rattle.machine_table.proofs.MarkedRows.{IsSearchedOver}
 use Rattle.machine_table.proofs.machine.Machine.first_apart_from.Given as goal
 
-abbrev pub invariant-loop-number : goal.invariant-loop-number
-invariant-loop-number g l =
-    IsSearched l.self l.number-items l.number-index (AreApartAt (g.Q.Question.said l.question) l.row) (IsApartAt (g.Q.Question.said l.question) l.self l.t l.row) l.found l.least
+abbrev pub invariant-loop-bundle : goal.invariant-loop-bundle
+invariant-loop-bundle g l = IsSearchedOver (g.Q.Question.said l.question) l.self l.t l.bundle-items l.bundle-index l.row l.least l.found

@@ -1,0 +1,66 @@
+//! Pairs of states in a list that has each of them once.
+//!
+//! A table with an entry for each pair of states says which pairs are in the list.
+ghost use Rattle.std.specs.Prelude.{◌≡◌, ◌≢◌, ◌<◌, ◌≤◌, AllPairs, IfOk, OnOk, Some, []};
+ghost use Rattle.machine_table.specs.Inner.AddedPairs.{AddsPairs, IsFound};
+
+use std::alloc::{AllocError, Global};
+use std::marker::Model;
+
+/// Pairs of states, each once. Contracts see the pairs in order, and the number of states.
+#[derive(Drop)]
+pub(crate) struct PairList {
+    pairs: Vec<(u16, u16)>,
+    /// Whether a pair is in the list. There are 256 entries for each first state.
+    seen: Vec<bool>,
+    states: usize,
+}
+
+impl Model for PairList {
+    ghost use Rattle.machine_table.specs.Inner.SeenPairs.{AreSeen, PairsOf};
+
+    ghost Value = { PairsOf };
+
+    ghost view = { λ l. record { pairs = l.pairs.items; states = l.states } };
+
+    ghost invariant = { λ l. AreSeen l.pairs.items l.seen.items l.states };
+}
+
+impl PairList {
+    /// The empty list of pairs of that many states.
+    pub fn new(alloc: Global, states: usize) -> Result<PairList, AllocError>
+        requires { states ≤ 256 }
+        ensures pairs { IfOk result (λ list. list.pairs ≡ []) }
+        ensures states { IfOk result (λ list. list.states ≡ states) }
+    {
+        Ok(PairList {
+            pairs: Vec::new(alloc),
+            seen: vec![in alloc; false; states * 256]?,
+            states,
+        })
+    }
+
+    /// Adds the pair, unless it is in the list.
+    pub fn add(&mut self, pair: (u16, u16)) -> Result<(), AllocError>
+        requires first { pair.0 < self.old.states }
+        requires second { pair.1 < self.old.states }
+        ensures pairs { OnOk result (AddsPairs (IsFound (Some pair)) self.old.pairs self.new.pairs) }
+        ensures states { self.new.states ≡ self.old.states }
+    {
+        let place = usize::from(pair.0) * 256 + usize::from(pair.1);
+        if self.seen[place] {
+            return Ok(());
+        }
+        self.pairs.push(pair)?;
+        self.seen[place] = true;
+        Ok(())
+    }
+
+    /// The pairs.
+    pub fn into_pairs(self) -> Vec<(u16, u16)>
+        ensures pairs { result.items ≡ self.pairs }
+        ensures once { AllPairs (λ a b. a ≢ b) self.pairs }
+    {
+        self.pairs
+    }
+}
