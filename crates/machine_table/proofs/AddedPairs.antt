@@ -59,6 +59,13 @@ only : (x y : ℕ × ℕ) → Contains (x ∷ []) y → x ≡ y
 only x y (zero, lt, is) = is
 only x y (suc k, lt, is) = absurd (omega arith)
 
+-- a pair that is in the list
+pub adds_listed : (pair : ℕ × ℕ) (old : List (ℕ × ℕ)) → Contains old pair → AddsPairs (IsFound (Some pair)) old old
+adds_listed pair old listed u v = (λ among. inl among, back) where
+  back : Contains old (u, v) ⊎ IsFound (Some pair) u v → Contains old (u, v)
+  back (inl among) = among
+  back (inr is) = let it : pair ≡ (u, v) = cc in subst (λ (p : ℕ × ℕ). Contains old p) it listed
+
 -- the one that was found is put behind the others
 pub adds_found : (pair : ℕ × ℕ) (old : List (ℕ × ℕ)) → AddsPairs (IsFound (Some pair)) old (old ++ pair ∷ [])
 adds_found pair old u v = (there, back) where

@@ -4,7 +4,7 @@ use Rattle.std.specs.Int.{bit_at, bit_not, w64}
 use Rattle.std.proofs.lemmas.Bool.{cases_eq}
 use Rattle.std.proofs.lemmas.List.{get_or_default}
 use Rattle.std.proofs.lemmas.Nat.{and_le_l}
-use Rattle.std.proofs.lemmas.Nat.Bits.{bit_at-lt, bit_at_and, bit_at_not}
+use Rattle.std.proofs.lemmas.Nat.Bits.{bit_at-lt, bit_at-zero, bit_at_and, bit_at_not}
 use Rattle.std.proofs.lemmas.Option.{slice_get_cases}
 use Rattle.cubes.specs.declared.cube.Cube.{Cube}
 use Rattle.cubes.specs.Cube.{Meets}
@@ -160,6 +160,11 @@ module _ (rows : List KissRow) (numbers : List ℕ) (next place : ℕ) (row : Ki
         subst (λ (n : ℕ). Contains now (next, n)) (sym is) ((adds next found).1 (inr refl));
     fits = fits;
   }
+
+  -- the same with no mark
+  pub added_unmarked : (found : ℕ) (old now : List (ℕ × ℕ)) → row.to ≡ Some found → AddsPairs (IsFound (Some (next, found))) old now → IsAddedAt rows numbers next place 0 old now
+  added_unmarked found old now names adds =
+      added_at_some found 0 old now names (omega arith) adds (λ k other at one. absurd (let none = bit_at-zero k in omega (arith, none, one)))
 
 -- ---- the bundles of a state
 pub fit_among : (F : KissFile) (row : KissRow) → row.cube.width ≡ F.inputs → All (IsFit F.inputs) F.rows → (other : KissRow) → Contains F.rows other → row.cube.width ≡ other.cube.width

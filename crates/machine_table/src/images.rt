@@ -25,10 +25,10 @@ fn add_found(found: Option<(u16, u16)>, pairs: &mut PairList) -> Result<(), Allo
     ensures pairs { OnOk result (AddsPairs (IsFound found) pairs.old.pairs pairs.new.pairs) }
     ensures states { pairs.new.states ≡ pairs.old.states }
 {
-    match found {
-        Some(pair) => pairs.add(pair),
-        None => Ok(()),
+    if let Some(pair) = found {
+        pairs.add(pair)?;
     }
+    Ok(())
 }
 
 /// The pair, swapped if `turned` is set.
@@ -196,7 +196,9 @@ impl Machine {
         let Some(other) = row.to else {
             return Ok(0);
         };
-        pairs.add((next, other))?;
+        if pairs.add((next, other))? {
+            return Ok(0);
+        }
         Ok(bundle.naming_no_other(other))
     }
 

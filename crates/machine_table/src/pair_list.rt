@@ -1,6 +1,6 @@
 //! Pairs of states in a list that has each of them once.
 //!
-//! A table with an entry for each pair of states says which pairs are in the list.
+//! A table with a bit for each pair of states says which pairs are in the list.
 ghost use Rattle.std.specs.Prelude.{◌≡◌, ◌≢◌, ◌<◌, ◌≤◌, AllPairs, IfOk, OnOk, Some, []};
 ghost use Rattle.machine_table.specs.Inner.AddedPairs.{AddsPairs, IsFound};
 
@@ -11,8 +11,8 @@ use std::marker::Model;
 #[derive(Drop)]
 pub(crate) struct PairList {
     pairs: Vec<(u16, u16)>,
-    /// Whether a pair is in the list. There are 256 entries for each first state.
-    seen: Vec<bool>,
+    /// Which pairs are in the list: four words for each first state, with a bit for each second state.
+    seen: Vec<u64>,
     states: usize,
 }
 
@@ -35,25 +35,26 @@ impl PairList {
     {
         Ok(PairList {
             pairs: Vec::new(alloc),
-            seen: vec![in alloc; false; states * 256]?,
+            seen: vec![in alloc; 0u64; states * 4]?,
             states,
         })
     }
 
-    /// Adds the pair, unless it is in the list.
-    pub fn add(&mut self, pair: (u16, u16)) -> Result<(), AllocError>
+    /// Adds the pair, unless it is in the list. The answer is whether it was added.
+    pub fn add(&mut self, pair: (u16, u16)) -> Result<bool, AllocError>
         requires first { pair.0 < self.old.states }
         requires second { pair.1 < self.old.states }
         ensures pairs { OnOk result (AddsPairs (IsFound (Some pair)) self.old.pairs self.new.pairs) }
         ensures states { self.new.states ≡ self.old.states }
     {
-        let place = usize::from(pair.0) * 256 + usize::from(pair.1);
-        if self.seen[place] {
-            return Ok(());
+        let word = usize::from(pair.0) * 4 + usize::from(pair.1) / 64;
+        let place = pair.1 % 64;
+        if (self.seen[word] >> place) & 1 == 1 {
+            return Ok(false);
         }
         self.pairs.push(pair)?;
-        self.seen[place] = true;
-        Ok(())
+        self.seen[word] |= 1u64 << place;
+        Ok(true)
     }
 
     /// The pairs.

@@ -1,21 +1,22 @@
 -- Lists of pairs of states, with a table of those that are in the list. Private functions need it; no public contract
 -- cites it.
-use Rattle.std.specs.Prelude.{ℕ, ◌+◌, ◌*◌, ◌≡◌, ◌≢◌, ◌<◌, ◌≤◌, ◌↔◌, AllPairs, Bool, Contains, List, false, length, slice_index_or, true}
+use Rattle.std.specs.Prelude.{ℕ, ◌+◌, ◌*◌, ◌/◌, ◌%◌, ◌≡◌, ◌≢◌, ◌<◌, ◌≤◌, ◌↔◌, AllPairs, Contains, List, length, slice_index_or}
+use Rattle.std.specs.Int.{bit_at}
 
 -- pairs of so many states
 pub record PairsOf : Type 0 where
   pub pairs : List (ℕ × ℕ)
   pub states : ℕ
 
--- the entry of the table for a pair
-abbrev pub place_of_pair : ℕ → ℕ → ℕ
-place_of_pair u v = u * 256 + v
+-- the word of the table that has the bit of a pair; the bit is at the place of the second state modulo 64
+abbrev pub word_of_pair : ℕ → ℕ → ℕ
+word_of_pair u v = u * 4 + v / 64
 
 -- each pair is in the list once, and the table says of each pair of states whether it is
-pub record AreSeen (pairs : List (ℕ × ℕ)) (seen : List Bool) (states : ℕ) : Type 0 where
+pub record AreSeen (pairs : List (ℕ × ℕ)) (seen : List ℕ) (states : ℕ) : Type 0 where
   pub few : states ≤ 256
-  pub size : length seen ≡ states * 256
-  pub each : (u v : ℕ) → u < states → v < states → (slice_index_or seen (place_of_pair u v) false ≡ true) ↔ Contains pairs (u, v)
+  pub size : length seen ≡ states * 4
+  pub each : (u v : ℕ) → u < states → v < states → (bit_at (slice_index_or seen (word_of_pair u v) 0) (v % 64) ≡ 1) ↔ Contains pairs (u, v)
   pub once : AllPairs (λ a b. a ≢ b) pairs
 
 -- both states of each pair of the relation are below the count

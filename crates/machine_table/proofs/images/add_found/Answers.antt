@@ -1,4 +1,4 @@
-use Rattle.std.proofs.Common.{ℕ, OnOk, Option, sym, subst}
+use Rattle.std.proofs.Common.{ℕ, Option, sym, subst}
 use Rattle.machine_table.specs.Inner.AddedPairs.{AddsPairs, IsFound}
 use Rattle.machine_table.proofs.images.add_found.Goals as goal
 
@@ -8,6 +8,6 @@ add-requires-clause-first c = (c.requires c.in-Some.pair.0 c.in-Some.pair.1 c.in
 pub add-requires-clause-second : goal.add-requires-clause-second
 add-requires-clause-second c = (c.requires c.in-Some.pair.0 c.in-Some.pair.1 c.in-Some.is).1
 
-pub returns-in-Some-clause-pairs : goal.returns-in-Some-clause-pairs
-returns-in-Some-clause-pairs c =
-    subst (λ (o : Option (ℕ × ℕ)). OnOk c.add.result (AddsPairs (IsFound o) c.args.pairs.now.pairs c.add.new.self.pairs)) (sym c.in-Some.is) c.add.ensures.pairs
+pub returns-in_ok-add-clause-pairs : goal.returns-in_ok-add-clause-pairs
+returns-in_ok-add-clause-pairs c =
+    subst (λ (o : Option (ℕ × ℕ)). AddsPairs (IsFound o) c.args.pairs.now.pairs c.add.new.self.pairs) (sym c.in-Some.is) c.in_ok-add.ensures.pairs

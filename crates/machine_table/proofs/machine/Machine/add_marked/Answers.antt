@@ -1,5 +1,5 @@
 use Rattle.std.proofs.Common.{ℕ, ◌≡◌, ◌<◌, ◌^◌, List, Some, get_or, slice_get, subst, arith}
-use Rattle.machine_table.proofs.NamedIn.{added_at_none, added_at_some}
+use Rattle.machine_table.proofs.NamedIn.{added_at_none, added_at_some, added_unmarked}
 use Rattle.machine_table.proofs.machine.Machine.add_marked.Goals.{After-row-row}
 use Rattle.machine_table.proofs.machine.Machine.add_marked.Goals as goal
 
@@ -10,6 +10,11 @@ at_row c =
 pub returns-in_default-clause-pairs : goal.returns-in_default-clause-pairs
 returns-in_default-clause-pairs c =
     added_at_none c.args.self.now.rows c.args.bundle.now.numbers c.args.next c.args.place c.row-row.result.now (at_row (goal.at.returns-in_default-clause-pairs c).After-row-row) c.args.pairs.now.pairs c.in_default.is
+
+pub returns-then-branch-clause-pairs : goal.returns-then-branch-clause-pairs
+returns-then-branch-clause-pairs c =
+    added_unmarked c.args.self.now.rows c.args.bundle.now.numbers c.args.next c.args.place c.row-row.result.now (at_row (goal.at.returns-then-branch-clause-pairs c).After-row-row) c.in-Some.other
+    c.args.pairs.now.pairs c.add.new.self.pairs c.in-Some.is c.in_ok-add.ensures.pairs
 
 pub returns-clause-pairs : goal.returns-clause-pairs
 returns-clause-pairs c =
