@@ -6,7 +6,7 @@ use Rattle.std.proofs.lemmas.List.Elements.{Contains-append_cases, Contains-appe
 use Rattle.kiss2.specs.declared.kiss_file.KissFile.{KissFile}
 use Rattle.kiss2.specs.declared.kiss_file.KissRow.{KissRow}
 use Rattle.machine_table.specs.Inner.AddedPairs.{AddsPairs, AreNamedBy, AtBothPlaces, AtPlace, BelowCount, IsFound, OfSomeRow}
-use Rattle.machine_table.specs.Inner.Places.{IsNumberOf}
+use Rattle.state_rows.specs.Places.{IsNumberOf}
 use Rattle.machine_table.proofs.Asking.{number_of_row}
 use Rattle.machine_table.proofs.Sought.{row_of}
 

@@ -7,8 +7,9 @@ use Rattle.std.proofs.lemmas.Option.{slice_get_within}
 use Rattle.kiss2.specs.declared.kiss_file.KissFile.{KissFile}
 use Rattle.kiss2.specs.declared.kiss_file.KissRow.{KissRow}
 use Rattle.machine_table.specs.Inner.Asked.{IsOfState}
-use Rattle.machine_table.specs.Inner.Columns.{AreAligned, AreColumns, ArePicked, HaveSameCubes, RepresentBoth, IsAtPlace}
-use Rattle.machine_table.specs.Inner.Places.{IsNumberOf, ListRows, places_of}
+use Rattle.machine_table.specs.Inner.Aligned.{AreAligned}
+use Rattle.state_rows.specs.Columns.{AreColumns, ArePicked, HaveSameCubes, RepresentBoth, IsAtPlace}
+use Rattle.state_rows.specs.Places.{IsNumberOf, ListRows, places_of}
 use Rattle.machine_table.proofs.Asking.{number_of_row}
 use Rattle.machine_table.proofs.Sought.{row_of}
 

@@ -8,8 +8,10 @@ use Rattle.cubes.proofs.Ends.{least_held}
 use Rattle.cubes.proofs.Held.{held_from_mask, mask_from_held}
 use Rattle.kiss2.specs.declared.kiss_file.KissFile.{KissFile}
 use Rattle.kiss2.specs.declared.kiss_file.KissRow.{KissRow}
-use Rattle.machine_table.specs.Inner.Asked.{AllSay, ApartBelow, AreApartAt, HaveOneLabel, IsMetBy, MeetsApart, SayApart, SayTwo}
-use Rattle.machine_table.specs.Inner.Columns.{AreAligned, HaveOneCube, Represents}
+use Rattle.machine_table.specs.Inner.Asked.{AllSay, ApartBelow, AreApartAt, HaveOneLabel, MeetsApart, SayApart, SayTwo}
+use Rattle.state_rows.specs.Least.{IsMetBy}
+use Rattle.machine_table.specs.Inner.Aligned.{AreAligned, Represents}
+use Rattle.state_rows.specs.Columns.{HaveOneCube}
 use Rattle.machine_table.specs.Table.{IsTable}
 use Rattle.machine_table.proofs.Labels.{value_of_some}
 use Rattle.machine_table.proofs.Sought.{apart_wanted, at_from_held, row_of, two_of_row}

@@ -9,7 +9,7 @@ use Rattle.kiss2.specs.declared.kiss_file.KissFile.{KissFile}
 use Rattle.kiss2.specs.declared.kiss_file.KissRow.{KissRow}
 use Rattle.kiss2.specs.Lawful.{IsLawfulRow}
 use Rattle.kiss2.specs.Machine.{IsRowAt}
-use Rattle.machine_table.specs.Inner.Places.{IsNumberOf}
+use Rattle.state_rows.specs.Places.{IsNumberOf}
 use Rattle.machine_table.specs.Table.{IsTable}
 
 -- a row that stands at a number is lawful

@@ -5,7 +5,7 @@ use Rattle.std.proofs.lemmas.Option.{get_or_from_slice_get, slice_get_within}
 use Rattle.kiss2.specs.declared.kiss_file.KissFile.{KissFile}
 use Rattle.kiss2.specs.declared.kiss_file.KissRow.{KissRow}
 use Rattle.kiss2.specs.Machine.{Conflicting, GiveBoth, NameTwo}
-use Rattle.machine_table.specs.Conflict.{AreFirstTwo, ContradictAt}
+use Rattle.state_rows.specs.Conflict.{AreFirstTwo, ContradictAt}
 use Rattle.machine_table.proofs.Asking.{number_of_row}
 
 module _ (F : KissFile) where

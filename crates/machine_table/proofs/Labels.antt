@@ -6,7 +6,8 @@ use Rattle.cubes.specs.Cube.{HoldsNumber}
 use Rattle.cubes.proofs.Held.{held_from_mask, mask_from_held}
 use Rattle.kiss2.specs.declared.kiss_file.KissFile.{KissFile}
 use Rattle.kiss2.specs.declared.kiss_file.KissRow.{KissRow}
-use Rattle.machine_table.specs.Inner.Asked.{DifferAt, DifferOpen, NoneIsOpen, IsLabelAt, IsMetBy, IsOpenAt}
+use Rattle.machine_table.specs.Inner.Asked.{DifferAt, DifferOpen, NoneIsOpen, IsLabelAt, IsOpenAt}
+use Rattle.state_rows.specs.Least.{IsMetBy}
 use Rattle.machine_table.specs.Pairs.{AtEachSymbol, IsFirstWithout}
 use Rattle.machine_table.specs.Table.{IsTable}
 use Rattle.machine_table.proofs.Sought.{at_from_held, held_from_at}

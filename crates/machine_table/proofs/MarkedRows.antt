@@ -7,16 +7,19 @@ use Rattle.cubes.specs.Cube.{Meets}
 use Rattle.kiss2.specs.declared.kiss_file.KissFile.{KissFile}
 use Rattle.kiss2.specs.declared.kiss_file.KissRow.{KissRow}
 use Rattle.pattern_bundles.specs.Pattern.{IsWithoutMark}
-use Rattle.machine_table.specs.declared.bundles.RowBundle.{RowBundle}
-use Rattle.machine_table.specs.Inner.Asked.{AreApartAt, IsApartAt, IsMetBy, IsOfState, lesser_of}
-use Rattle.machine_table.specs.Inner.Bundles.{AreLeft, IsApartIn, IsFit, IsInBundles, IsSearchedIn, IsSearchedTo, MarksRows, MeetsEach}
-use Rattle.machine_table.specs.Inner.Columns.{IsAtPlace}
-use Rattle.machine_table.specs.Inner.Places.{IsNumberOf}
+use Rattle.state_rows.specs.declared.bundles.RowBundle.{RowBundle}
+use Rattle.machine_table.specs.Inner.Asked.{AreApartAt, IsApartAt, IsOfState}
+use Rattle.state_rows.specs.Least.{IsMetBy, lesser_of}
+use Rattle.machine_table.specs.Inner.MarkedRows.{AreLeft, IsApartIn, IsSearchedIn, IsSearchedTo, MeetsEach}
+use Rattle.state_rows.specs.Bundles.{IsFit, IsInBundles, MarksRows}
+use Rattle.state_rows.specs.Columns.{IsAtPlace}
+use Rattle.state_rows.specs.Places.{IsNumberOf}
 use Rattle.machine_table.proofs.Asking.{number_of_row}
-use Rattle.machine_table.proofs.RowBundles.{of_row}
-use Rattle.machine_table.proofs.RowPatterns.{none_of_zero}
+use Rattle.state_rows.proofs.RowBundles.{of_row}
+use Rattle.state_rows.proofs.RowPatterns.{none_of_zero}
 use Rattle.machine_table.proofs.SharedCubes.{meets_from_held}
-use Rattle.machine_table.proofs.Sought.{if_some_map, lesser_has, met_least, met_left, met_right, row_of}
+use Rattle.state_rows.proofs.Least.{if_some_map, lesser_has, met_least, met_left, met_right}
+use Rattle.machine_table.proofs.Sought.{row_of}
 
 module _ (rows : List KissRow) (numbers : List ℕ) (P : KissRow → Type 0) where
   -- at first all marked rows are left

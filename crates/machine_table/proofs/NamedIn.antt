@@ -11,16 +11,17 @@ use Rattle.cubes.specs.Cube.{Meets}
 use Rattle.kiss2.specs.declared.kiss_file.KissFile.{KissFile}
 use Rattle.kiss2.specs.declared.kiss_file.KissRow.{KissRow}
 use Rattle.pattern_bundles.specs.Pattern.{Agree, IsWithoutMark, Marks}
-use Rattle.machine_table.specs.declared.bundles.RowBundle.{RowBundle}
-use Rattle.machine_table.specs.Inner.AddedPairs.{AddsPairs, AreAddedTo, AreNamedBy, AreNamedIn, AtBundle, BelowCount, IsAddedAt, IsFound, IsListed, IsNamedBeside, NamesNoOther, pair_of}
-use Rattle.machine_table.specs.Inner.Bundles.{AreFit, AreLeft, IsBundle, IsFit, IsInBundles, MarksRows, next_pattern}
-use Rattle.machine_table.specs.Inner.Columns.{IsAtPlace}
-use Rattle.machine_table.specs.Inner.Places.{IsNumberOf}
+use Rattle.state_rows.specs.declared.bundles.RowBundle.{RowBundle}
+use Rattle.machine_table.specs.Inner.AddedPairs.{AddsPairs, AreAddedTo, AreNamedBy, AreNamedIn, AtBundle, BelowCount, IsAddedAt, IsFound, IsListed, IsNamedBeside, pair_of}
+use Rattle.state_rows.specs.Bundles.{NamesNoOther, AreFit, IsBundle, IsFit, IsInBundles, MarksRows, next_pattern}
+use Rattle.machine_table.specs.Inner.MarkedRows.{AreLeft}
+use Rattle.state_rows.specs.Columns.{IsAtPlace}
+use Rattle.state_rows.specs.Places.{IsNumberOf}
 use Rattle.machine_table.proofs.Asking.{number_of_row}
 use Rattle.machine_table.proofs.AddedPairs.{adds_as, adds_none}
 use Rattle.machine_table.proofs.MarkedRows.{left_first, left_less, left_none}
-use Rattle.machine_table.proofs.RowBundles.{of_row}
-use Rattle.machine_table.proofs.RowPatterns.{none_of_zero, one_from_agree}
+use Rattle.state_rows.proofs.RowBundles.{of_row}
+use Rattle.state_rows.proofs.RowPatterns.{none_of_zero, one_from_agree}
 use Rattle.machine_table.proofs.SharedCubes.{first_holds, least_below, meets_from_held, second_holds}
 use Rattle.machine_table.proofs.Sought.{row_of}
 
@@ -62,13 +63,6 @@ left_without rows numbers P Done word gone few fits left done = record {
             ]
       ];
 }
-
--- a row whose pattern agrees with that of a next state names no other
-pub names_no_other : (rows : List KissRow) (bundle : RowBundle) (next word : ℕ) → next < 2 ^ 16 → IsBundle rows bundle → AreFit rows
-    → Marks bundle.nexts (Agree (next_pattern (Some next))) word → (k : ℕ) (row : KissRow) → IsAtPlace rows bundle.numbers k row → bit_at word k ≡ 1 → NamesNoOther next row
-names_no_other rows bundle next word small right (width, fit) marks k row at one v names =
-    let agree = (marks.each k (next_pattern row.to) (right.nexts.each k row at.0 at.1)).0 one in
-    sym (one_from_agree (Some next) row.to next v small (of_row rows (IsFit width) (get_or bundle.numbers k 0) row fit at.1).next_state refl names agree)
 
 -- ---- one bundle
 module _ (rows : List KissRow) (bundle : RowBundle) (cube : Cube) (next : ℕ) (right : IsBundle rows bundle) where

@@ -13,7 +13,7 @@ use Rattle.kiss2.proofs.Machine.{next_not_said, next_said}
 use Rattle.machine_table.specs.Covering.{IsImage}
 use Rattle.machine_table.specs.Inner.AddedPairs.{AreNamed, AreNamedAtPlaces, AreNamedBy, IsNamedBeside, IsOpenImage, OfSomeRow, to_of}
 use Rattle.machine_table.specs.Inner.Asked.{AllSay, HaveOneLabel, IsOpenAt, IsOfState}
-use Rattle.machine_table.specs.Inner.Columns.{AreAligned}
+use Rattle.machine_table.specs.Inner.Aligned.{AreAligned}
 use Rattle.machine_table.specs.Table.{IsTable}
 use Rattle.machine_table.proofs.AlikeRows.{held_by_like}
 use Rattle.machine_table.proofs.Asking.{lawful_row, number_of_row}

@@ -8,13 +8,12 @@ use Rattle.cubes.specs.Symbol.{symbol_of}
 use Rattle.kiss2.specs.declared.kiss_file.KissFile.{KissFile}
 use Rattle.kiss2.specs.declared.kiss_file.KissRow.{KissRow}
 use Rattle.machine_table.specs.declared.missing.Missing.{Missing}
-use Rattle.machine_table.specs.Said.{IsSaid, Says}
+use Rattle.machine_table.specs.Said.{IsSaid, Says, place_of}
 use Rattle.machine_table.specs.Table.{IsTable}
-use Rattle.machine_table.specs.Said.{place_of}
 use Rattle.machine_table.specs.declared.missing.Missing.TheVariants.{Next, Output}
 use Rattle.machine_table.specs.Inner.Asked.{IsOfState}
 use Rattle.machine_table.specs.Inner.OpenSymbol.{AreCubesOf, AreFullCubes, IsFirstOf, IsFull, IsSaidEverywhere}
-use Rattle.machine_table.specs.Inner.Places.{IsNumberOf}
+use Rattle.state_rows.specs.Places.{IsNumberOf}
 use Rattle.machine_table.proofs.Asking.{is_row_at, lawful_row, looked_at, number_of_row}
 use Rattle.machine_table.proofs.Sought.{at_from_held}
 

@@ -8,11 +8,12 @@ use Rattle.kiss2.specs.declared.kiss_file.KissFile.{KissFile}
 use Rattle.kiss2.specs.declared.kiss_file.KissRow.{KissRow}
 use Rattle.kiss2.specs.Machine.{Conflicting, Specified, given_bit, output_bit}
 use Rattle.kiss2.proofs.Machine.{output_bit_not_said, output_bit_said}
-use Rattle.machine_table.specs.Inner.Asked.{HaveOneLabel, NoneIsOpen, IsLabelAt, IsMetBy, IsOpenAt, digit, lesser_of}
+use Rattle.machine_table.specs.Inner.Asked.{HaveOneLabel, NoneIsOpen, IsLabelAt, IsOpenAt, digit}
+use Rattle.state_rows.specs.Least.{IsMetBy, lesser_of}
 use Rattle.machine_table.specs.Pairs.{AgreeAt, AgreeInBit, AtEachSymbol, IsFirstWithout}
 use Rattle.machine_table.proofs.Labels.{AreLabels, if_some_each}
 use Rattle.machine_table.proofs.OutputWords.{same_map, same_values}
-use Rattle.machine_table.proofs.Sought.{lesser_has, met_left, met_right}
+use Rattle.state_rows.proofs.Least.{lesser_has, met_left, met_right}
 
 -- the bit behind a label
 mapped_bit : (o : Option Bool) (v : ℕ) → option_map digit o ≡ Some v → (bit : Bool) × (o ≡ Some bit) × (digit bit ≡ v)

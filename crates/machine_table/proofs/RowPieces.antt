@@ -19,7 +19,7 @@ use Rattle.machine_table.specs.Inner.OpenSymbol.{SaysAll}
 use Rattle.machine_table.specs.Table.{IsTable}
 use Rattle.machine_table.specs.Walk.{outputs_of}
 use Rattle.machine_table.proofs.Asking.{lawful_row, number_of_row}
-use Rattle.machine_table.proofs.Outputs.{given_value}
+use Rattle.state_rows.proofs.Outputs.{given_value}
 use Rattle.machine_table.proofs.OutputWords.{same_map}
 use Rattle.machine_table.proofs.Sought.{at_from_held}
 

@@ -17,7 +17,7 @@ use Rattle.machine_table.specs.Table.{IsTable}
 use Rattle.machine_table.specs.Walk.{outputs_of}
 use Rattle.machine_table.proofs.Asking.{lawful_row, number_of_row}
 use Rattle.machine_table.proofs.Labels.{AreLabels, label_or_open}
-use Rattle.machine_table.proofs.Outputs.{given_in_all, given_value}
+use Rattle.state_rows.proofs.Outputs.{given_in_all, given_value}
 use Rattle.machine_table.proofs.OutputLabels.{no_label}
 use Rattle.machine_table.proofs.OutputWords.{same_map, same_values}
 use Rattle.machine_table.proofs.RowPieces.{below_from_bits}

@@ -1,14 +1,14 @@
 //! The rows of two states, paired place by place.
 ghost use Rattle.std.specs.Prelude.{ℕ, ◌≡◌, ◌<◌, All, IfSome, length};
 ghost use Rattle.kiss2.specs.Machine.{Conflicting};
-ghost use Rattle.machine_table.specs.Inner.Columns.{AreAligned};
-ghost use Rattle.machine_table.specs.Inner.Places.{places_of};
+ghost use Rattle.machine_table.specs.Inner.Aligned.{AreAligned};
+ghost use Rattle.state_rows.specs.Places.{places_of};
 ghost use Rattle.machine_table.specs.Table.{IsTable};
 
 use crate::Machine;
-use crate::places::list_of;
 use crate::question::Question;
 use hs_list::Items;
+use state_rows::list_of;
 
 /// The numbers of rows of two states. At each place of the two lists the rows have the same cube.
 #[derive(Clone, Copy)]

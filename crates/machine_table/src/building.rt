@@ -4,15 +4,13 @@ ghost use Rattle.kiss2.specs.Machine.{Accepted, Conflicting};
 ghost use Rattle.machine_table.specs.Cause.{Caused, IsConflictOf};
 ghost use Rattle.machine_table.specs.Table.{IsTable};
 
-use crate::bundles::bundles_of_states;
-use crate::classes::leaders_of_states;
-use crate::columns::columns_of_states;
-use crate::contradiction::first_conflict;
 use crate::copying::copied_file;
-use crate::order::places_by_cubes;
-use crate::places::places_of_states;
 use crate::{Machine, Missing};
 use kiss2::{Fill, KissFile};
+use state_rows::{
+    bundles_of_states, columns_of_states, first_conflict, leaders_of_states, places_by_cubes,
+    places_of_states,
+};
 use std::alloc::{AllocError, AllocFailed, Global};
 
 /// Why a file has no machine.

@@ -6,17 +6,17 @@ ghost use Rattle.std.specs.Prelude.{ℕ, ◌≡◌, ◌≢◌, ◌<◌, ◌↔�
 ghost use Rattle.kiss2.specs.Lawful.{IsLawfulRow};
 ghost use Rattle.machine_table.specs.Covering.{IsImage};
 ghost use Rattle.machine_table.specs.Inner.AddedPairs.{AddsPairs, AreBothOpen, AreNamed, AreNamedAtPlaces, AreNamedBy, AreNamedIn, IsAddedAt, IsFound, IsNamedBeside, IsOpenImage, NamesAlone, OfSomeRow, pair_of};
-ghost use Rattle.machine_table.specs.Inner.Bundles.{IsBundle, IsFit};
+ghost use Rattle.state_rows.specs.Bundles.{IsBundle, IsFit};
 ghost use Rattle.machine_table.specs.Inner.SeenPairs.{AreStates};
 
 use crate::Machine;
-use crate::bundles::RowBundle;
 use crate::pair_list::PairList;
 use crate::question::NextState;
 use crate::searching::{least_of_both, whole};
 use cubes::Cube;
 use kiss2::KissRow;
 use pattern_bundles::take_first;
+use state_rows::RowBundle;
 use std::alloc::{AllocError, Global};
 
 /// Adds the pair, if one was found.

@@ -15,10 +15,6 @@
 
 mod aligned;
 mod building;
-mod bundles;
-mod classes;
-mod columns;
-mod contradiction;
 mod copying;
 mod covering;
 mod filling;
@@ -27,10 +23,8 @@ mod laws;
 mod machine;
 mod missing;
 mod open_entry;
-mod order;
 mod pair_list;
 mod pairs;
-mod places;
 mod question;
 mod row_tree;
 mod searching;

@@ -5,15 +5,15 @@ ghost use Rattle.kiss2.specs.Lawful.{IsLawfulRow};
 ghost use Rattle.kiss2.specs.Machine.{Conflicting, Specified, given_bit, next, output_bit};
 ghost use Rattle.kiss2.specs.Names.{AreDistinct};
 ghost use Rattle.kiss2.specs.declared.kiss_file.KissRow.{KissRow};
-ghost use Rattle.machine_table.specs.declared.bundles.RowBundle.{RowBundle};
-ghost use Rattle.machine_table.specs.Inner.Bundles.{IsBundle, IsFit, IsInBundles};
-ghost use Rattle.machine_table.specs.Inner.Places.{IsNumberOf};
+ghost use Rattle.state_rows.specs.declared.bundles.RowBundle.{RowBundle};
+ghost use Rattle.state_rows.specs.Bundles.{IsBundle, IsFit, IsInBundles};
+ghost use Rattle.state_rows.specs.Places.{IsNumberOf};
 ghost use Rattle.machine_table.specs.Staying.{NeverLeaves};
 ghost use Rattle.machine_table.specs.Table.{IsTable};
 
-use crate::bundles::RowBundle;
 use hs_list::Items;
 use kiss2::{KissFile, KissRow};
+use state_rows::RowBundle;
 use std::marker::Model;
 
 /// The machine of a file. Contracts see it as that file.
@@ -39,9 +39,9 @@ impl Model for Machine {
     ghost use Rattle.kiss2.specs.declared.kiss_file.KissFile.{KissFile};
     ghost use Rattle.kiss2.specs.Machine.{Conflicting, Specified};
     ghost use Rattle.machine_table.specs.Table.{IsTable};
-    ghost use Rattle.machine_table.specs.Inner.Bundles.{ListBundles};
-    ghost use Rattle.machine_table.specs.Inner.Columns.{AreColumns};
-    ghost use Rattle.machine_table.specs.Inner.Places.{ListRows};
+    ghost use Rattle.state_rows.specs.Bundles.{ListBundles};
+    ghost use Rattle.state_rows.specs.Columns.{AreColumns};
+    ghost use Rattle.state_rows.specs.Places.{ListRows};
 
     ghost Value = { KissFile };
 

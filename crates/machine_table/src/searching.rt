@@ -7,15 +7,17 @@ ghost use Rattle.cubes.specs.Cube.{HoldsNumber, IsHalf, Meets};
 ghost use Rattle.cubes.specs.Symbol.{bit};
 ghost use Rattle.kiss2.specs.Lawful.{IsLawfulRow};
 ghost use Rattle.kiss2.specs.Machine.{Specified};
-ghost use Rattle.machine_table.specs.Inner.Asked.{AllSay, ApartBelow, HaveOneLabel, MeetsApart, NoneIsOpen, AreApartAt, IsAloneAt, IsApartAt, AreOpenAt, SayApart, DifferAt, DifferBothOpen, DifferOpen, IsMetBy, IsOpenAt, SayTwo, SaysAlone, lesser_of};
-ghost use Rattle.machine_table.specs.Inner.Bundles.{IsBundle, IsFit, IsSearchedIn};
+ghost use Rattle.machine_table.specs.Inner.Asked.{AllSay, ApartBelow, HaveOneLabel, MeetsApart, NoneIsOpen, AreApartAt, IsAloneAt, IsApartAt, AreOpenAt, SayApart, DifferAt, DifferBothOpen, DifferOpen, IsOpenAt, SayTwo, SaysAlone};
+ghost use Rattle.state_rows.specs.Least.{IsMetBy, lesser_of};
+ghost use Rattle.state_rows.specs.Bundles.{IsBundle, IsFit};
+ghost use Rattle.machine_table.specs.Inner.MarkedRows.{IsSearchedIn};
 
 use crate::Machine;
-use crate::bundles::RowBundle;
 use crate::question::Question;
 use cubes::Cube;
 use kiss2::KissRow;
 use pattern_bundles::take_first;
+use state_rows::RowBundle;
 
 /// The lesser of two numbers, if any was found.
 pub(crate) fn lesser(first: Option<u32>, second: Option<u32>) -> Option<u32>
@@ -170,10 +172,14 @@ impl Machine {
         ensures within { IfSome result (λ x. x < 2 ^ self.now.inputs) }
         ensures met { (y : ℕ) → SayTwo (Q.said question.now) self.now s t y → IsMetBy result least y }
     {
-        if let Some(rows) = self.aligned_rows(question, s, t, least)
-            && self.all_say(question, rows.second)
-        {
-            return self.first_by_rows(question, rows.first, rows.second, least);
+        if let Some(rows) = self.aligned_rows(question, s, t, least) {
+            let found = self.first_by_rows(question, rows.first, rows.second, least);
+            if is_settled(found, least) {
+                return found;
+            }
+            if self.all_say(question, rows.second) {
+                return found;
+            }
         }
         self.first_by_pairs(question, s, t, least)
     }

@@ -5,10 +5,10 @@ use Rattle.cubes.specs.declared.cube.Cube.{Cube}
 use Rattle.cubes.specs.Cube.{HoldsNumber, Meets}
 use Rattle.kiss2.specs.declared.kiss_file.KissFile.{KissFile}
 use Rattle.kiss2.specs.declared.kiss_file.KissRow.{KissRow}
-use Rattle.machine_table.specs.declared.bundles.RowBundle.{RowBundle}
+use Rattle.state_rows.specs.declared.bundles.RowBundle.{RowBundle}
 use Rattle.machine_table.specs.Inner.Asked.{AreOpenAt, IsLabelAt, IsOpenAt, IsOfState}
-use Rattle.machine_table.specs.Inner.Bundles.{AreLeft}
-use Rattle.machine_table.specs.Inner.Columns.{IsAtPlace}
+use Rattle.machine_table.specs.Inner.MarkedRows.{AreLeft}
+use Rattle.state_rows.specs.Columns.{IsAtPlace}
 
 -- the second list has the pairs of the first, and those of the relation
 abbrev pub AddsPairs : (ℕ → ℕ → Type 0) → List (ℕ × ℕ) → List (ℕ × ℕ) → Type 0
@@ -101,7 +101,3 @@ pub record IsAddedAt (rows : List KissRow) (numbers : List ℕ) (next place word
 -- the pairs that rows of a bundle name with the next state, told of the bundle at one place of a list
 abbrev pub AtBundle : List KissRow → List RowBundle → Cube → (next : ℕ) → ℕ → ℕ → ℕ → Type 0
 AtBundle rows bundles cube next k u v = (bundle : RowBundle) × (slice_index_or bundles k bundle ≡ bundle) × AreNamedIn rows bundle.numbers cube next u v
-
--- the row names this next state or none
-abbrev pub NamesNoOther : ℕ → KissRow → Type 0
-NamesNoOther next row = (v : ℕ) → row.to ≡ Some v → v ≡ next

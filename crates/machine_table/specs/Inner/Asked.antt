@@ -67,17 +67,6 @@ IsApartAt said F t row x = (other : KissRow) × IsOfState F t other × AreApartA
 abbrev pub IsAloneAt : (KissRow → Option ℕ) → KissFile → (t other : ℕ) → KissRow → ℕ → Type 0
 IsAloneAt said F t other row x = (v : ℕ) × HoldsNumber row.cube x × (said row ≡ Some v) × (v ≢ other) × IsOpenAt said F t x
 
--- a search found something; if it looks for the least, it found nothing above the number
-abbrev pub IsMetBy : Option ℕ → Bool → ℕ → Type 0
-IsMetBy None least y = ⊥
-IsMetBy (Some x) least y = IsTrue least → x ≤ y
-
--- the lesser of two numbers, if any was found
-abbrev pub lesser_of : Option ℕ → Option ℕ → Option ℕ
-lesser_of None found = found
-lesser_of (Some x) None = Some x
-lesser_of (Some x) (Some y) = Some (min x y)
-
 -- a search over the first rows with these numbers has met every symbol wanted for one of the rows
 abbrev pub MeetsWanted : List KissRow → List ℕ → (count : ℕ) → (KissRow → ℕ → Type 0) → Option ℕ → Bool → Type 0
 MeetsWanted rows numbers count Wanted found least =

@@ -8,7 +8,7 @@ use Rattle.kiss2.specs.Machine.{given_bit}
 use Rattle.machine_table.specs.declared.missing.Missing.{Missing}
 use Rattle.machine_table.specs.Said.{IsSaid, Says, place_of}
 use Rattle.machine_table.specs.Inner.Asked.{IsOfState}
-use Rattle.machine_table.specs.Inner.Places.{IsNumberOf}
+use Rattle.state_rows.specs.Places.{IsNumberOf}
 
 -- at each symbol each part at the first places is given
 abbrev pub IsSaidEverywhere : KissFile → (s count : ℕ) → Type 0

@@ -1,5 +1,5 @@
 use Rattle.std.proofs.Common.{◌<◌, ℕ, get_or, length, refl, sym, subst, arith}
-use Rattle.machine_table.proofs.Against.{list_at}
+use Rattle.state_rows.proofs.Against.{list_at}
 use Rattle.partition.specs.Partition.{IsPartition}
 use Rattle.partition.specs.Laws.Labels.{IsPartition-of}
 use Rattle.io_pairs.specs.Inner.Families.{AreFunctions, functions_of, value_at}

@@ -4,9 +4,10 @@ use Rattle.cubes.specs.Cube.{HoldsNumber}
 use Rattle.cubes.specs.Symbol.{bit}
 use Rattle.cubes.proofs.Ends.{least_held, value_le}
 use Rattle.cubes.proofs.Parts.{half_from_whole, whole_from_half}
-use Rattle.machine_table.specs.Inner.Asked.{AreOpenAt, IsMetBy}
+use Rattle.machine_table.specs.Inner.Asked.{AreOpenAt}
+use Rattle.state_rows.specs.Least.{IsMetBy}
 use Rattle.machine_table.proofs.SharedCubes.{value_below}
-use Rattle.machine_table.proofs.Sought.{if_some_map, lesser_has, met_left, met_right}
+use Rattle.state_rows.proofs.Least.{if_some_map, lesser_has, met_left, met_right}
 use Rattle.machine_table.proofs.machine.Machine.+first_open_in.Goals as goal
 
 pub returns-in_default-clause-some : goal.returns-in_default-clause-some

@@ -1,5 +1,5 @@
 use Rattle.std.proofs.Common.{ℕ, All, ◌∙◌, refl, subst, sym}
-use Rattle.machine_table.specs.Inner.Bundles.{IsFit}
+use Rattle.state_rows.specs.Bundles.{IsFit}
 use Rattle.machine_table.proofs.NamedIn.{added_all, added_first, added_next, mask_less}
 use Rattle.machine_table.proofs.machine.Machine.add_in.Goals as goal
 

@@ -1,9 +1,10 @@
 use Rattle.std.proofs.Common.{ℕ, ◌≡◌, List, Contains, length, refl, sym, subst, arith}
 use Rattle.kiss2.specs.declared.kiss_file.KissFile.{KissFile}
-use Rattle.machine_table.specs.declared.bundles.RowBundle.{RowBundle}
-use Rattle.machine_table.specs.Inner.Bundles.{IsInBundles, ListBundles, bundles_of}
+use Rattle.state_rows.specs.declared.bundles.RowBundle.{RowBundle}
+use Rattle.state_rows.specs.Bundles.{IsInBundles, ListBundles, bundles_of}
 use Rattle.machine_table.specs.Table.{IsTable}
-use Rattle.machine_table.proofs.Against.{bundles_at, fit_of_table}
+use Rattle.state_rows.proofs.Against.{bundles_at}
+use Rattle.machine_table.proofs.Lawful.{fit_of_table}
 use Rattle.machine_table.proofs.machine.Machine.bundles_of.Goals as goal
 
 -- what stands in the bundles of a machine

@@ -1,7 +1,8 @@
 use Rattle.std.proofs.Common.{◌+◌, get_or}
 use Rattle.std.proofs.lemmas.List.Elements.{Contains-get_or}
 use Rattle.machine_table.specs.Inner.Asked.{IsAloneAt, IsSearched, SaysAlone}
-use Rattle.machine_table.proofs.Sought.{alone_wanted, alone_of_row, if_some_map, meets_all, row_of, searched_more}
+use Rattle.machine_table.proofs.Sought.{alone_wanted, alone_of_row, meets_all, row_of, searched_more}
+use Rattle.state_rows.proofs.Least.{if_some_map}
 use Rattle.machine_table.proofs.machine.Machine.first_alone.Goals.{After-lesser-found}
 use Rattle.machine_table.proofs.machine.Machine.first_alone.Given as given
 use Rattle.machine_table.proofs.machine.Machine.first_alone.Goals as goal

@@ -1,8 +1,10 @@
 use Rattle.std.proofs.Common.{ℕ, ◌<◌, ◌+◌, ◌^◌, All, Contains, sym, subst}
-use Rattle.machine_table.specs.Inner.Asked.{IsApartAt, lesser_of}
-use Rattle.machine_table.specs.Inner.Bundles.{IsApartIn, IsFit, MeetsEach}
+use Rattle.machine_table.specs.Inner.Asked.{IsApartAt}
+use Rattle.state_rows.specs.Least.{lesser_of}
+use Rattle.machine_table.specs.Inner.MarkedRows.{IsApartIn, MeetsEach}
+use Rattle.state_rows.specs.Bundles.{IsFit}
 use Rattle.machine_table.proofs.MarkedRows.{IsSearchedOver, apart_of_state, meets_each_row, meets_first_more}
-use Rattle.machine_table.proofs.Sought.{if_some_map, lesser_has, met_left, met_right}
+use Rattle.state_rows.proofs.Least.{if_some_map, lesser_has, met_left, met_right}
 use Rattle.machine_table.proofs.machine.Machine.first_apart_from.Goals.{After-lesser-found}
 use Rattle.machine_table.proofs.machine.Machine.first_apart_from.Given as given
 use Rattle.machine_table.proofs.machine.Machine.first_apart_from.Goals as goal

@@ -1,7 +1,7 @@
 use Rattle.std.proofs.Common.{ℕ, ◌≡◌, ◌<◌, ◌^◌, List, IfSome, Some, get_or, slice_get, length, subst, sym}
-use Rattle.machine_table.specs.Inner.Bundles.{IsSearchedTo}
+use Rattle.machine_table.specs.Inner.MarkedRows.{IsSearchedTo}
 use Rattle.machine_table.proofs.MarkedRows.{searched_first, searched_in, searched_next}
-use Rattle.machine_table.proofs.Sought.{met_settled}
+use Rattle.state_rows.proofs.Least.{met_settled}
 use Rattle.machine_table.proofs.machine.Machine.first_apart_in.Goals.{After-lesser-found}
 use Rattle.machine_table.proofs.machine.Machine.first_apart_in.Given as given
 use Rattle.machine_table.proofs.machine.Machine.first_apart_in.Goals as goal

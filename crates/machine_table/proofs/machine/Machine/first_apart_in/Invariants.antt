@@ -1,4 +1,4 @@
-use Rattle.machine_table.specs.Inner.Bundles.{IsSearchedTo}
+use Rattle.machine_table.specs.Inner.MarkedRows.{IsSearchedTo}
 use Rattle.machine_table.proofs.machine.Machine.first_apart_in.Given as goal
 
 abbrev pub invariant-loop-place : goal.invariant-loop-place

@@ -1,7 +1,8 @@
 use Rattle.std.proofs.Common.{◌+◌, get_or}
 use Rattle.std.proofs.lemmas.List.Elements.{Contains-get_or}
 use Rattle.machine_table.specs.Inner.Asked.{IsApartAt, IsSearched, SayTwo}
-use Rattle.machine_table.proofs.Sought.{apart_wanted, if_some_map, meets_all, row_of, searched_more, two_of_row}
+use Rattle.machine_table.proofs.Sought.{apart_wanted, meets_all, row_of, searched_more, two_of_row}
+use Rattle.state_rows.proofs.Least.{if_some_map}
 use Rattle.machine_table.proofs.machine.Machine.first_by_pairs.Goals.{After-lesser-found}
 use Rattle.machine_table.proofs.machine.Machine.first_by_pairs.Given as given
 use Rattle.machine_table.proofs.machine.Machine.first_by_pairs.Goals as goal

@@ -1,8 +1,9 @@
 use Rattle.std.proofs.Common.{ℕ, ◌<◌, ◌+◌, ◌^◌, IfSome, Option, length, subst, sym, arith}
 use Rattle.kiss2.specs.declared.kiss_file.KissRow.{KissRow}
-use Rattle.machine_table.specs.Inner.Asked.{ApartBelow, AreApartAt, IsMetBy, MeetsApart, lesser_of}
+use Rattle.machine_table.specs.Inner.Asked.{ApartBelow, AreApartAt, MeetsApart}
+use Rattle.state_rows.specs.Least.{IsMetBy, lesser_of}
 use Rattle.machine_table.proofs.AlikeRows.{pair_more}
-use Rattle.machine_table.proofs.Sought.{if_some_map, lesser_has, met_least, met_left, met_right, met_settled}
+use Rattle.state_rows.proofs.Least.{if_some_map, lesser_has, met_least, met_left, met_right, met_settled}
 use Rattle.machine_table.proofs.machine.Machine.first_by_rows.Goals.{After-lesser-found}
 use Rattle.machine_table.proofs.machine.Machine.first_by_rows.Given as given
 use Rattle.machine_table.proofs.machine.Machine.first_by_rows.Goals as goal

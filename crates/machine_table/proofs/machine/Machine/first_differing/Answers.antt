@@ -1,7 +1,8 @@
 use Rattle.std.proofs.Common.{ℕ, IfSome, Option, inl, inr, subst, sym}
-use Rattle.machine_table.specs.Inner.Asked.{DifferAt, DifferOpen, IsMetBy, SayTwo}
+use Rattle.machine_table.specs.Inner.Asked.{DifferAt, DifferOpen, SayTwo}
+use Rattle.state_rows.specs.Least.{IsMetBy}
 use Rattle.machine_table.proofs.Labels.{never_open}
-use Rattle.machine_table.proofs.Sought.{if_some_map, lesser_either, met_either}
+use Rattle.state_rows.proofs.Least.{if_some_map, lesser_either, met_either}
 use Rattle.machine_table.proofs.machine.Machine.first_differing.Goals as goal
 
 pub returns-clause-some : goal.returns-clause-some

@@ -1,6 +1,7 @@
 use Rattle.std.proofs.Common.{ℕ, IfSome, Option, inl, inr, subst, sym}
-use Rattle.machine_table.specs.Inner.Asked.{DifferBothOpen, DifferOpen, IsMetBy, SaysAlone}
-use Rattle.machine_table.proofs.Sought.{if_some_map, lesser_has, met_left, met_right}
+use Rattle.machine_table.specs.Inner.Asked.{DifferBothOpen, DifferOpen, SaysAlone}
+use Rattle.state_rows.specs.Least.{IsMetBy}
+use Rattle.state_rows.proofs.Least.{if_some_map, lesser_has, met_left, met_right}
 use Rattle.machine_table.proofs.machine.Machine.first_open_differing.Goals.{After-lesser-either}
 use Rattle.machine_table.proofs.machine.Machine.first_open_differing.Given as given
 use Rattle.machine_table.proofs.machine.Machine.first_open_differing.Goals as goal

@@ -1,7 +1,7 @@
 use Rattle.std.proofs.Common.{length}
 use Rattle.machine_table.specs.Inner.Asked.{ApartBelow, SayTwo}
 use Rattle.machine_table.proofs.AlikeRows.{met_by_places, two_from_places}
-use Rattle.machine_table.proofs.Sought.{if_some_map}
+use Rattle.state_rows.proofs.Least.{if_some_map}
 use Rattle.machine_table.proofs.machine.Machine.first_said.Goals as goal
 
 pub returns-clause-some : goal.returns-clause-some

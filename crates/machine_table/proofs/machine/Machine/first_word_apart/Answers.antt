@@ -1,7 +1,7 @@
 use Rattle.std.proofs.Common.{ℕ, ◌≡◌, ◌-◌, ◌^◌, ◌∙◌, ap, subst}
 use Rattle.kiss2.specs.declared.kiss_file.KissFile.{KissFile}
 use Rattle.kiss2.specs.Machine.{Conflicting}
-use Rattle.machine_table.specs.Inner.Asked.{IsMetBy}
+use Rattle.state_rows.specs.Least.{IsMetBy}
 use Rattle.machine_table.specs.Pairs.{AgreeAt}
 use Rattle.machine_table.specs.Table.{IsTable}
 use Rattle.machine_table.proofs.Labels.{each_from_none, first_not_so, none_from_each}

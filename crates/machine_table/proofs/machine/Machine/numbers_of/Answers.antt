@@ -3,9 +3,9 @@ use Rattle.std.proofs.lemmas.List.Elements.{Contains-get_or}
 use Rattle.std.proofs.lemmas.Option.{slice_get_within}
 use Rattle.kiss2.specs.declared.kiss_file.KissFile.{KissFile}
 use Rattle.kiss2.specs.Machine.{Conflicting}
-use Rattle.machine_table.specs.Inner.Places.{IsNumberOf, ListRows, places_of}
+use Rattle.state_rows.specs.Places.{IsNumberOf, ListRows, places_of}
 use Rattle.machine_table.specs.Table.{IsTable}
-use Rattle.machine_table.proofs.Against.{list_at}
+use Rattle.state_rows.proofs.Against.{list_at}
 use Rattle.machine_table.proofs.machine.Machine.numbers_of.Goals as goal
 
 -- what stands in the places of a machine

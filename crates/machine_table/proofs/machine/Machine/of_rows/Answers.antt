@@ -3,12 +3,12 @@ use Rattle.std.proofs.lemmas.Bool.{false≢true}
 use Rattle.kiss2.specs.declared.kiss_file.KissFile.{KissFile}
 use Rattle.kiss2.specs.declared.kiss_file.KissRow.{KissRow}
 use Rattle.kiss2.specs.Machine.{Conflicting, Specified}
-use Rattle.machine_table.specs.Conflict.{ContradictAt}
+use Rattle.state_rows.specs.Conflict.{ContradictAt}
 use Rattle.machine_table.specs.Table.{IsTable}
-use Rattle.machine_table.specs.Inner.Bundles.{IsFit, ListBundles}
-use Rattle.machine_table.specs.Inner.Columns.{AreColumns}
-use Rattle.machine_table.specs.Inner.Places.{ListRows}
-use Rattle.machine_table.proofs.Against.{fit_of_table}
+use Rattle.state_rows.specs.Bundles.{IsFit, ListBundles}
+use Rattle.state_rows.specs.Columns.{AreColumns}
+use Rattle.state_rows.specs.Places.{ListRows}
+use Rattle.machine_table.proofs.Lawful.{fit_of_table}
 use Rattle.machine_table.proofs.Conflicts.{few_rows, none_conflicting}
 use Rattle.machine_table.proofs.machine.Machine.of_rows.Goals as goal
 

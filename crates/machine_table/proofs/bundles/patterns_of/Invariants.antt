@@ -1,5 +1,0 @@
-use Rattle.machine_table.specs.Inner.Bundles.{ArePatterns}
-use Rattle.machine_table.proofs.bundles.patterns_of.Given as goal
-
-abbrev pub invariant-loop-number : goal.invariant-loop-number
-invariant-loop-number l = ArePatterns l.aspect l.rows l.numbers l.number-index l.patterns.items

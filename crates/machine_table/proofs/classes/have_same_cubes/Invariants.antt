@@ -1,7 +1,0 @@
-use Rattle.std.proofs.Common.{ℕ, ◌<◌}
-use Rattle.kiss2.specs.declared.kiss_file.KissRow.{KissRow}
-use Rattle.machine_table.specs.Inner.Columns.{HaveOneCube, IsAtPlace}
-use Rattle.machine_table.proofs.classes.have_same_cubes.Given as goal
-
-abbrev pub invariant-loop-i : goal.invariant-loop-i
-invariant-loop-i l = (place : ℕ) (row other : KissRow) → place < l.i → IsAtPlace l.rows l.first place row → IsAtPlace l.rows l.second place other → HaveOneCube row other

@@ -1,5 +1,0 @@
-use Rattle.machine_table.specs.Inner.Columns.{AreKept}
-use Rattle.machine_table.proofs.columns.kept_of_leaders.Given as goal
-
-abbrev pub invariant-loop-leader : goal.invariant-loop-leader
-invariant-loop-leader l = AreKept l.rows l.places l.leaders l.leader l.kept.items

@@ -1,6 +1,0 @@
-use Rattle.std.proofs.Common.{ℕ, ◌<◌}
-use Rattle.machine_table.specs.Conflict.{ContradictAt}
-use Rattle.machine_table.proofs.contradiction.first_conflict.Given as goal
-
-abbrev pub invariant-loop-number : goal.invariant-loop-number
-invariant-loop-number l = (i j : ℕ) → i < j → j < l.number → ContradictAt l.rows i j → ⊥

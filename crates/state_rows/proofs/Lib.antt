@@ -1,0 +1,9 @@
+pub mod Against
+pub mod BundleMarks
+pub mod KeptColumns
+pub mod Least
+pub mod Ordered
+pub mod Outputs
+pub mod RowBundles
+pub mod RowNumbers
+pub mod RowPatterns

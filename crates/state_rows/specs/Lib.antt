@@ -1,0 +1,5 @@
+pub mod Least
+pub mod Conflict
+pub mod Places
+pub mod Columns
+pub mod Bundles
