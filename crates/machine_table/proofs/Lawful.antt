@@ -1,7 +1,10 @@
--- A lawful file is a table.
+-- A lawful file is a table, and what the rows of a table have.
+use Rattle.std.proofs.Common.{ℕ, ◌≡◌, ◌<◌, ◌≤◌, ◌^◌, All, IfSome, Option, None, Some, arith, get_or, length}
 use Rattle.kiss2.specs.declared.kiss_file.KissFile.{KissFile}
-use Rattle.kiss2.specs.Lawful.{IsLawful}
+use Rattle.kiss2.specs.declared.kiss_file.KissRow.{KissRow}
+use Rattle.kiss2.specs.Lawful.{IsLawful, IsLawfulRow}
 use Rattle.machine_table.specs.Table.{IsTable}
+use Rattle.state_rows.specs.Bundles.{IsFit}
 
 pub table_of_lawful : (F : KissFile) → IsLawful F → IsTable F
 table_of_lawful F lawful = record {

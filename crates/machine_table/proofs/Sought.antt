@@ -12,6 +12,7 @@ use Rattle.state_rows.specs.Least.{IsMetBy, lesser_of}
 use Rattle.state_rows.specs.Places.{IsNumberOf}
 use Rattle.machine_table.specs.Table.{IsTable}
 use Rattle.machine_table.proofs.Asking.{lawful_row, looked_at, number_of_row}
+use Rattle.state_rows.proofs.Least.{lesser_has, met_left, met_right}
 
 module _ (rows : List KissRow) (numbers : List ℕ) (count : ℕ) (Wanted : KissRow → ℕ → Type 0) (found other : Option ℕ) (least : Bool) (row : KissRow) where
   -- one more row was searched

@@ -6,6 +6,7 @@ use Rattle.cubes.specs.Symbol.{symbol_of}
 use Rattle.kiss2.specs.declared.kiss_file.KissFile.{KissFile}
 use Rattle.kiss2.specs.declared.kiss_file.KissRow.{KissRow}
 use Rattle.kiss2.specs.Machine.{IsRowAt}
+use Rattle.state_rows.specs.Least.{IsMetBy}
 
 -- a bit as a number
 abbrev pub digit : Bool → ℕ
