@@ -3,8 +3,8 @@
 //! A [`Machine`] is built from a file whose rows do not contradict one another and, with `Fill::Refuse`,
 //! leave nothing open. Contracts see it as that file, so every question it answers is about the next states
 //! and outputs that `kiss2/specs/Machine` defines. There is no table indexed by symbols: answers come from
-//! the rows of the states in question. The rows of each state are also kept in bundles of 64, which find all
-//! rows that share a symbol with a cube at once, so that only those rows are asked.
+//! the rows of the states in question. `state_rows` arranges the rows of each state: in the order of their cubes, and
+//! in bundles of 64, which find all rows that share a symbol with a cube at once, so that only those rows are asked.
 //!
 //! `specs/Table` says which files have a machine, `specs/Conflict` which two rows a refusal names,
 //! `specs/Said` which open entry it names, and `specs/Cause` when each refusal occurs. `specs/Staying` says
