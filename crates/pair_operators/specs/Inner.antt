@@ -1,2 +1,3 @@
 -- What private functions and proofs need; no public contract cites it.
 pub mod Going
+pub mod Keys

@@ -1,5 +1,6 @@
 pub mod Pair
 pub mod Extremes
+pub mod Asked
 pub mod Consistent
 pub mod Growth
 pub mod Inner

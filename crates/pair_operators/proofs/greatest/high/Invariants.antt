@@ -1,7 +1,0 @@
-use Rattle.std.proofs.Common.{length}
-use Rattle.partition.specs.Inner.Splitting.{IsSplitUpTo}
-use Rattle.pair_operators.specs.Inner.Going.{Goes}
-use Rattle.pair_operators.proofs.greatest.high.Given as goal
-
-abbrev pub invariant-loop-s : goal.invariant-loop-s
-invariant-loop-s l = IsSplitUpTo (Goes l.m l.q) (length l.m.states) l.s l.p
