@@ -15,10 +15,11 @@ ghost use Rattle.partition.specs.Partition.{IsPartition};
 
 use crate::MmPair;
 use crate::collecting::rights;
-use crate::worlds::with_right;
+use crate::worlds::with_right_beside;
 use hs_lattice::{Listing, join_closure};
 use hs_list::Items;
 use machine_table::Machine;
+use pair_operators::AskedSymbols;
 use partition::{PartWorld, Partition};
 use std::alloc::{AllocError, Global};
 
@@ -51,9 +52,10 @@ fn with_lefts(
     requires { All (IsPartition (length m.now.states)) rights }
     ensures { IfOk result (λ pairs. HaveLefts m.now rights (map sides_of pairs)) }
 {
+    let mut asked = AskedSymbols::new(alloc);
     let mut pairs = Vec::new(alloc);
     for right in rights.into_vec() {
-        pairs.push(with_right(alloc, m, right)?)?;
+        pairs.push(with_right_beside(alloc, m, &mut asked, right)?)?;
     }
     Ok(Items::from(pairs))
 }

@@ -2,13 +2,14 @@
 
 ghost use Rattle.mm_lattice.specs.MmPairs.{IsLeastMmPair, IsMmJoin, IsMmPair, RightBefore};
 ghost use Rattle.mm_lattice.specs.Sides.{Sides, sides_of};
+ghost use Rattle.pair_operators.specs.Asked.{AreAsked};
 ghost use Rattle.pair_operators.specs.Extremes.{IsHigh};
-ghost use Rattle.std.specs.Prelude.{◌≡◌, ⊤, IfOk, length};
+ghost use Rattle.std.specs.Prelude.{◌≡◌, ⊤, IfOk, OnOk, length};
 ghost use Rattle.mm_lattice.specs.Laws.{mm_joins_associate, mm_joins_commute, mm_joins_fit, mm_joins_least, mm_joins_once, mm_joins_repeat, mm_least_fits, mm_least_once, right_before_chains, right_before_decides, right_never_before};
 
 use hs_lattice::JoinWorld;
 use machine_table::Machine;
-use pair_operators::high;
+use pair_operators::{AskedSymbols, high_beside};
 use partition::Partition;
 use std::alloc::{AllocError, Global};
 
@@ -35,7 +36,23 @@ pub(crate) fn with_right(alloc: Global, m: &Machine, right: Partition) -> Result
     ensures right { IfOk result (λ pair. pair.right ≡ right) }
     ensures left { IfOk result (λ pair. IsHigh m.now right pair.left) }
 {
-    let left = high(alloc, m, &right)?;
+    with_right_beside(alloc, m, &mut AskedSymbols::new(alloc), right)
+}
+
+/// The same, asking first the symbols that told states apart for earlier pairs.
+pub(crate) fn with_right_beside(
+    alloc: Global,
+    m: &Machine,
+    asked: &mut AskedSymbols,
+    right: Partition,
+) -> Result<MmPair, AllocError>
+    requires states { length right ≡ length m.now.states }
+    requires asked { AreAsked m.now asked.old }
+    ensures asked { OnOk result (AreAsked m.now asked.new) }
+    ensures right { IfOk result (λ pair. pair.right ≡ right) }
+    ensures left { IfOk result (λ pair. IsHigh m.now right pair.left) }
+{
+    let left = high_beside(alloc, m, asked, &right)?;
     Ok(MmPair { left, right })
 }
 
