@@ -1,5 +1,5 @@
 -- Lists to which pairs are added, one kind after another.
-use Rattle.std.proofs.Common.{◌≡◌, ℕ, ◌+◌, ◌↔◌, ◌⊎◌, List, [], ◌∷◌, ◌++◌, length, get_or, Some, Ok, Err, OnOk, Result, Contains, slice_get, inl, inr, sym, ◌∙◌, subst, refl, arith, ap, zero, suc}
+use Rattle.std.proofs.Common.{◌≡◌, ℕ, ◌+◌, ◌↔◌, ◌⊎◌, List, [], ◌∷◌, ◌++◌, length, get_or, None, Some, Ok, Err, OnOk, Result, Contains, slice_get, inl, inr, sym, ◌∙◌, subst, refl, arith, ap, zero, suc}
 use Rattle.std.proofs.lemmas.Bool.{cases_lt}
 use Rattle.std.proofs.lemmas.List.{get_or_default}
 use Rattle.std.proofs.lemmas.List.Elements.{Contains-append_cases, Contains-append_left, Contains-append_right, Contains-get_or}
@@ -54,6 +54,23 @@ adds_none P old none u v = ((λ among. inl among), back) where
   back : Contains old (u, v) ⊎ P u v → Contains old (u, v)
   back (inl before) = before
   back (inr new) = absurd (none u v new)
+
+-- of a search that found nothing
+pub adds_nothing : (old : List (ℕ × ℕ)) → AddsPairs (IsFound None) old old
+adds_nothing old = adds_none (IsFound None) old (λ u v is. none_is_some (u, v) is)
+  where
+    none_is_some : (pair : ℕ × ℕ) → None ≡ Some pair → ⊥
+    none_is_some pair is = cc
+
+-- what was added to no pair is all that is in the list
+pub listed_alone : (P : ℕ → ℕ → Type 0) (pairs : List (ℕ × ℕ)) → AddsPairs P [] pairs → (u v : ℕ) → Contains pairs (u, v) ↔ P u v
+listed_alone P pairs adds u v = (there, λ has. (adds u v).1 (inr has)) where
+  there : Contains pairs (u, v) → P u v
+  there among =
+      elim ((adds u v).0 among) [
+        | inl none ↦ absurd (omega (arith, none.1))
+        | inr has ↦ has
+      ]
 
 only : (x y : ℕ × ℕ) → Contains (x ∷ []) y → x ≡ y
 only x y (zero, lt, is) = is

@@ -64,6 +64,50 @@ impl Machine {
         Ok(images.into_pairs())
     }
 
+    /// The pairs of next states of the two states. A pair may be listed more than once, which saves time where the
+    /// states have the same cubes.
+    pub fn image_pairs(
+        &self,
+        alloc: Global,
+        s: usize,
+        t: usize,
+    ) -> Result<Vec<(u16, u16)>, AllocError>
+        requires s { s < length self.now.states }
+        requires t { t < length self.now.states }
+        ensures { IfOk result (λ pairs. (u v : ℕ) → Contains pairs.items (u, v) ↔ IsImage self.now s t u v) }
+    {
+        let question = NextState::new(self.states());
+        let complete = self.is_complete();
+        if complete
+            && let Some(rows) = self.aligned_rows(&question, s, t, false)
+            && self.all_say(&question, rows.second)
+        {
+            return self.pairs_by_places(alloc, rows.first, rows.second);
+        }
+        self.images(alloc, s, t)
+    }
+
+    /// The pairs named by the rows at the same place of both lists.
+    fn pairs_by_places(
+        &self,
+        alloc: Global,
+        first: &[usize],
+        second: &[usize],
+    ) -> Result<Vec<(u16, u16)>, AllocError>
+        requires first { All (λ i. i < length self.now.rows) first.now }
+        requires second { All (λ i. i < length self.now.rows) second.now }
+        requires count { length first.now ≡ length second.now }
+        ensures { IfOk result (λ pairs. (u v : ℕ) → Contains pairs.items (u, v) ↔ AreNamedAtPlaces self.now.rows first.now second.now u v) }
+    {
+        let mut pairs = Vec::with_capacity(alloc, first.len())?;
+        for i in 0..first.len() {
+            if let Some(pair) = named_pair(self.row(first[i]), self.row(second[i])) {
+                pairs.push(pair)?;
+            }
+        }
+        Ok(pairs)
+    }
+
     /// Adds the pairs of next states of the two states.
     fn add_images(&self, s: usize, t: usize, pairs: &mut PairList) -> Result<(), AllocError>
         requires s { s < length self.now.states }
