@@ -110,7 +110,7 @@ fn add_images(
     ensures added { OnOk result (AddsImages m.now s t waiting.old.items waiting.new.items) }
     ensures joined { OnOk result (Joins m.now (λ q. AreTogether q waiting.new.items) p.old p.new) }
 {
-    let images = m.images(alloc, s, t)?;
+    let images = m.image_pairs(alloc, s, t)?;
     let pairs = images.as_slice();
     join_known(alloc, m, known, pairs, p)?;
     waiting.extend_from_slice(pairs)?;

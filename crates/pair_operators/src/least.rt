@@ -41,7 +41,7 @@ fn hold_next(
     requires lawful { IsPartition (length m.now.states) q.old }
     ensures { OnOk result (HoldsNext m.now s t q.old q.new) }
 {
-    for (u, v) in m.images(alloc, s, t)?.as_slice() {
+    for (u, v) in m.image_pairs(alloc, s, t)?.as_slice() {
         q.merge(usize::from(*u), usize::from(*v));
     }
     Ok(())

@@ -10,14 +10,14 @@ use Rattle.closed_lattice.proofs.closing.add_images.Goals as goal
 pub join_known-requires-clause-states : goal.join_known-requires-clause-states
 join_known-requires-clause-states c u v among =
     let listed : (u v : ℕ) → (Contains {X = ℕ × ℕ} c.as_slice-pairs.result.now (u, v) → IsImage c.args.m.now c.args.s c.args.t u v) × (IsImage c.args.m.now c.args.s c.args.t u v → Contains {X = ℕ × ℕ} c.as_slice-pairs.result.now (u, v)) =
-    rw c.as_slice-pairs.ensures.value c.in_ok-images.ensures.listed in
+    rw c.as_slice-pairs.ensures.value c.in_ok-images.ensures in
     image_inside c.args.m.now c.requires.stays c.args.s c.args.t u v c.requires.s c.requires.t ((listed u v).0 among)
 
 pub returns-clause-added : goal.returns-clause-added
 returns-clause-added c =
     rw c.in_ok-extend_from_slice.ensures.items
     (adds_images c.args.m.now c.args.s c.args.t c.args.waiting.now.items c.as_slice-pairs.result.now
-    (rw c.as_slice-pairs.ensures.value c.in_ok-images.ensures.listed))
+    (rw c.as_slice-pairs.ensures.value c.in_ok-images.ensures))
 
 pub returns-clause-joined : goal.returns-clause-joined
 returns-clause-joined c =
