@@ -1,12 +1,11 @@
 -- Numbers of blocks of zero, which has as many as states, and of partitions strictly above others.
-use Rattle.std.proofs.Common.{◌≡◌, ℕ, zero, suc, ◌<◌, ◌≤◌, inl, inr, List, length, get_or, take, sym, ap, ◌∙◌, subst, arith}
+use Rattle.std.proofs.Common.{◌≡◌, ℕ, zero, suc, ◌<◌, ◌≤◌, inl, inr, List, length, get_or, take, sym, ap, ◌∙◌, arith}
 use Rattle.std.proofs.lemmas.List.{take_all}
 use Rattle.std.proofs.lemmas.Bool.{cases_eq, cases_lt}
-use Rattle.partition.specs.Partition.{blocks_of, IsPartition, IsZero, Together, Le, zero_of}
+use Rattle.partition.specs.Partition.{blocks_of, IsPartition, IsZero, Le, zero_of}
 use Rattle.partition.specs.Laws.Extremes.{zero_of_below, zero_of_is_zero, zero_of_is_partition}
 use Rattle.partition.specs.Laws.Labels.{blocks_of-take-suc, new_label}
 use Rattle.closed_lattice.proofs.Blocks.{fewer_blocks}
-use Rattle.closed_lattice.proofs.Growing.{together_itself}
 
 -- where no two states are together, each begins a block
 first_blocks : (p : List ℕ) (n : ℕ) → IsPartition n p → IsZero p → (k : ℕ) → k ≤ length p → blocks_of (take k p) ≡ k

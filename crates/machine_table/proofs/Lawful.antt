@@ -1,5 +1,5 @@
 -- A lawful file is a table, and what the rows of a table have.
-use Rattle.std.proofs.Common.{ℕ, ◌≡◌, ◌<◌, ◌≤◌, ◌^◌, All, IfSome, Option, None, Some, arith, get_or, length}
+use Rattle.std.proofs.Common.{ℕ, ◌<◌, ◌≤◌, ◌^◌, All, IfSome, Option, None, Some, arith, get_or, length}
 use Rattle.kiss2.specs.declared.kiss_file.KissFile.{KissFile}
 use Rattle.kiss2.specs.declared.kiss_file.KissRow.{KissRow}
 use Rattle.kiss2.specs.Lawful.{IsLawful, IsLawfulRow}

@@ -10,10 +10,10 @@ use Rattle.cubes.specs.declared.cube.Cube.{Cube}
 use Rattle.cubes.specs.Cube.{Meets}
 use Rattle.kiss2.specs.declared.kiss_file.KissFile.{KissFile}
 use Rattle.kiss2.specs.declared.kiss_file.KissRow.{KissRow}
-use Rattle.pattern_bundles.specs.Pattern.{Agree, IsWithoutMark, Marks}
+use Rattle.pattern_bundles.specs.Pattern.{IsWithoutMark}
 use Rattle.state_rows.specs.declared.bundles.RowBundle.{RowBundle}
 use Rattle.machine_table.specs.Inner.AddedPairs.{AddsPairs, AreAddedTo, AreNamedBy, AreNamedIn, AtBundle, BelowCount, IsAddedAt, IsFound, IsListed, IsNamedBeside, pair_of}
-use Rattle.state_rows.specs.Bundles.{NamesNoOther, AreFit, IsBundle, IsFit, IsInBundles, MarksRows, next_pattern}
+use Rattle.state_rows.specs.Bundles.{NamesNoOther, IsBundle, IsFit, IsInBundles, MarksRows}
 use Rattle.machine_table.specs.Inner.MarkedRows.{AreLeft}
 use Rattle.state_rows.specs.Columns.{IsAtPlace}
 use Rattle.state_rows.specs.Places.{IsNumberOf}
@@ -21,7 +21,7 @@ use Rattle.machine_table.proofs.Asking.{number_of_row}
 use Rattle.machine_table.proofs.AddedPairs.{adds_as, adds_none}
 use Rattle.machine_table.proofs.MarkedRows.{left_first, left_less, left_none}
 use Rattle.state_rows.proofs.RowBundles.{of_row}
-use Rattle.state_rows.proofs.RowPatterns.{none_of_zero, one_from_agree}
+use Rattle.state_rows.proofs.RowPatterns.{none_of_zero}
 use Rattle.machine_table.proofs.SharedCubes.{first_holds, least_below, meets_from_held, second_holds}
 use Rattle.machine_table.proofs.Sought.{row_of}
 

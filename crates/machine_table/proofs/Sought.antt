@@ -1,6 +1,5 @@
 -- Searches over the rows of a state, which keep the lesser of what they found.
-use Rattle.std.proofs.Common.{◌≡◌, ℕ, ◌+◌, ◌<◌, ◌≤◌, ◌^◌, ◌⊎◌, min, Bool, true, false, List, length, get_or, Option, Some, None, IsSome, IfSome, Contains, slice_get, inl, inr, sym, ◌∙◌, subst, refl, arith, ap}
-use Rattle.std.proofs.lemmas.Bool.{cases_lt, true≢false}
+use Rattle.std.proofs.Common.{◌≡◌, ℕ, ◌+◌, ◌<◌, ◌≤◌, ◌^◌, Bool, List, length, get_or, Option, Some, IfSome, Contains, slice_get, sym, ◌∙◌, subst, arith, ap}
 use Rattle.std.proofs.lemmas.Option.{slice_get_within, get_or_from_slice_get}
 use Rattle.cubes.specs.Cube.{Holds, HoldsNumber}
 use Rattle.cubes.specs.Symbol.{symbol_of}

@@ -1,11 +1,11 @@
 -- The laws of the Mm pairs of a machine as a world of values that can be joined. An Mm pair is decided by its
 -- right side, and the join of two right sides is a right side.
-use Rattle.std.proofs.Common.{◌≡◌, ℕ, ◌<◌, ◌⊎◌, inl, inr, List, length, refl, sym, ap, ◌∙◌, subst, arith}
+use Rattle.std.proofs.Common.{◌≡◌, ℕ, ◌⊎◌, inl, inr, List, length, sym, ap, ◌∙◌, subst}
 use Rattle.kiss2.specs.declared.kiss_file.KissFile.{KissFile}
-use Rattle.partition.specs.Partition.{IsPartition, Together, Le, zero_of}
+use Rattle.partition.specs.Partition.{IsPartition, Le}
 use Rattle.partition.specs.MeetAndJoin.{IsLeastAbove}
 use Rattle.partition.specs.Laws.Chains.{join_is_least}
-use Rattle.partition.specs.Laws.Extremes.{zero_of_below, zero_of_is_zero, zero_of_is_partition}
+use Rattle.partition.specs.Laws.Extremes.{zero_of_below, zero_of_is_partition}
 use Rattle.partition.specs.Laws.Labels.{IsPartition-of}
 use Rattle.partition.specs.Laws.World.{join_fits, join_once, join_commutes, join_associates, join_repeats, join_zero, before_never, before_chains, before_decides}
 use Rattle.pair_operators.specs.Extremes.{IsHigh}

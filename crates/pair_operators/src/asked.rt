@@ -61,12 +61,7 @@ impl Keys {
     }
 
     /// The numbers after the labels in q of the next states of the column.
-    fn after(
-        &self,
-        alloc: Global,
-        q: &Partition,
-        column: &NextColumn,
-    ) -> Result<Keys, AllocError>
+    fn after(&self, alloc: Global, q: &Partition, column: &NextColumn) -> Result<Keys, AllocError>
         requires size { length self.now.numbers.items ≡ length column.now.states.items }
         requires inside { All (λ t. t < length q.now) column.now.states.items }
         ensures { IfOk result (λ keys. AreMixed self.now.numbers.items q.now column.now.states.items keys.numbers.items) }

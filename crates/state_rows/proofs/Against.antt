@@ -1,12 +1,10 @@
 -- The numbers of the rows of one state, and which of them contradict a row.
-use Rattle.std.proofs.Common.{◌≡◌, ℕ, ◌+◌, ◌<◌, ◌≤◌, ◌^◌, ◌⊎◌, true, List, [], length, get_or, Option, None, Some, IfNone, IfSome, Contains, All, slice_get, inl, inr, sym, ◌∙◌, subst, refl, arith, ap}
+use Rattle.std.proofs.Common.{◌≡◌, ℕ, ◌+◌, ◌<◌, ◌≤◌, ◌⊎◌, true, List, [], length, get_or, Option, None, Some, IfNone, IfSome, Contains, All, slice_get, inl, inr, sym, ◌∙◌, subst, refl, arith, ap}
 use Rattle.std.specs.Int.{bit_at}
 use Rattle.std.proofs.lemmas.Bool.{cases_lt}
 use Rattle.std.proofs.lemmas.List.{get_or_default}
 use Rattle.std.proofs.lemmas.Option.{get_or_from_slice_get, slice_get_read}
-use Rattle.kiss2.specs.declared.kiss_file.KissFile.{KissFile}
 use Rattle.kiss2.specs.declared.kiss_file.KissRow.{KissRow}
-use Rattle.kiss2.specs.Lawful.{IsLawfulRow}
 use Rattle.pattern_bundles.specs.Pattern.{IsFirstMark}
 use Rattle.state_rows.specs.declared.bundles.RowBundle.{RowBundle}
 use Rattle.state_rows.specs.Conflict.{AreFirstTwo, ContradictAt, Contradicts}

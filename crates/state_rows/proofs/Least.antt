@@ -1,5 +1,5 @@
 -- Searches that keep the lesser of what they found.
-use Rattle.std.proofs.Common.{◌≡◌, ℕ, ◌≤◌, ◌⊎◌, min, Bool, true, false, Option, Some, None, IsSome, IfSome, inl, inr, sym, ◌∙◌, subst, refl, arith}
+use Rattle.std.proofs.Common.{◌≡◌, ℕ, ◌⊎◌, min, Bool, true, false, Option, Some, None, IsSome, IfSome, inl, inr, sym, ◌∙◌, subst, refl, arith}
 use Rattle.std.proofs.lemmas.Bool.{cases_lt, true≢false}
 use Rattle.state_rows.specs.Least.{IsMetBy, lesser_of}
 

@@ -1,5 +1,5 @@
 -- Where two rows give 0 and 1 at one output.
-use Rattle.std.proofs.Common.{◌≡◌, ◌≢◌, ℕ, ◌+◌, ◌-◌, ◌%◌, ◌^◌, ◌<◌, ◌⊎◌, ◌↔◌, min, Bool, true, false, Some, None, IsSome, Option, subst, ap, sym, ◌∙◌, arith, bit_and, not, inl, inr, is_some, refl}
+use Rattle.std.proofs.Common.{◌≡◌, ◌≢◌, ℕ, ◌+◌, ◌-◌, ◌%◌, ◌^◌, ◌<◌, ◌⊎◌, ◌↔◌, min, Bool, true, false, Some, None, IsSome, Option, subst, ap, sym, ◌∙◌, arith, bit_and, inl, inr, is_some, refl}
 use Rattle.std.proofs.lemmas.Bool.{cases_Bool, true≢false}
 use Rattle.std.proofs.lemmas.Nat.Bits.{bit_at_and, bit_at_xor, bit_at-lt, bit_at-zero, bit_at_ones}
 use Rattle.std.specs.Int.{bit_at}

@@ -1,9 +1,7 @@
 -- Rows in bundles, and what a word marks of them.
-use Rattle.std.specs.Prelude.{ℕ, ◌≡◌, ◌<◌, ◌≤◌, ◌^◌, ◌↔◌, ◌⊎◌, All, Bool, AllPairs, Contains, IfSome, List, None, Option, true, Some, [], length, slice_get, slice_index, slice_index_or}
+use Rattle.std.specs.Prelude.{ℕ, ◌≡◌, ◌<◌, ◌≤◌, ◌^◌, ◌↔◌, All, AllPairs, Contains, IfSome, List, None, Option, true, Some, [], length, slice_get, slice_index, slice_index_or}
 use Rattle.std.specs.Int.{bit_at}
 use Rattle.cubes.specs.declared.cube.Cube.{Cube}
-use Rattle.cubes.specs.Cube.{Meets}
-use Rattle.kiss2.specs.declared.kiss_file.KissFile.{KissFile}
 use Rattle.kiss2.specs.declared.kiss_file.KissRow.{KissRow}
 use Rattle.pattern_bundles.specs.declared.pattern.Pattern.{Pattern}
 use Rattle.state_rows.specs.declared.bundles.Aspect.{Aspect}

@@ -1,8 +1,7 @@
 -- States with the same cubes, and the places kept for each column of their next states.
-use Rattle.std.specs.Prelude.{ℕ, ◌≡◌, ◌<◌, Bool, Contains, IsTrue, List, Option, Some, length, slice_get, slice_index}
-use Rattle.kiss2.specs.declared.kiss_file.KissFile.{KissFile}
+use Rattle.std.specs.Prelude.{ℕ, ◌≡◌, ◌<◌, Contains, List, Some, length, slice_get, slice_index}
 use Rattle.kiss2.specs.declared.kiss_file.KissRow.{KissRow}
-use Rattle.state_rows.specs.Places.{IsNumberOf, places_of}
+use Rattle.state_rows.specs.Places.{places_of}
 
 -- the row at a place of a list of numbers
 abbrev pub IsAtPlace : List KissRow → List ℕ → ℕ → KissRow → Type 0

@@ -58,10 +58,7 @@ fn first_against(bundles: &[RowBundle], number: usize, row: &KissRow) -> Option<
 
 /// The numbers of the first two rows that contradict one another: the least later row, and then the least
 /// earlier row.
-pub fn first_conflict(
-    rows: &[KissRow],
-    bundles: &[Items<RowBundle>],
-) -> Option<(usize, usize)>
+pub fn first_conflict(rows: &[KissRow], bundles: &[Items<RowBundle>]) -> Option<(usize, usize)>
     requires bundles { ListBundles rows.now (length bundles.now) bundles.now }
     requires fit { AreFit rows.now }
     requires states { All (λ row. row.from < length bundles.now) rows.now }

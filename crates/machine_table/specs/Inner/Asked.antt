@@ -1,6 +1,6 @@
 -- What rows of two states give at a symbol. A function gives the label of what a row gives, if it gives the part.
 -- Private functions need it; no public contract cites it.
-use Rattle.std.specs.Prelude.{ℕ, ◌≡◌, ◌≢◌, ◌<◌, ◌≤◌, ◌^◌, ◌⊎◌, min, Bool, false, true, Contains, IfSome, IsNone, IsTrue, List, Option, None, Some, length, slice_get, slice_index_or, IsSome, slice_index}
+use Rattle.std.specs.Prelude.{ℕ, ◌≡◌, ◌≢◌, ◌<◌, ◌^◌, ◌⊎◌, Bool, false, true, Contains, IfSome, IsNone, List, Option, Some, length, slice_get, slice_index_or, IsSome, slice_index}
 use Rattle.cubes.specs.Cube.{HoldsNumber}
 use Rattle.cubes.specs.Symbol.{symbol_of}
 use Rattle.kiss2.specs.declared.kiss_file.KissFile.{KissFile}

@@ -1,8 +1,6 @@
 -- For private functions and proofs alone: two states whose next states are together.
-use Rattle.std.specs.Prelude.{ℕ, ◌≡◌, ◌<◌, ◌^◌, List, length, slice_index}
-use Rattle.cubes.specs.Symbol.{symbol_of}
+use Rattle.std.specs.Prelude.{ℕ, List, length}
 use Rattle.kiss2.specs.declared.kiss_file.KissFile.{KissFile}
-use Rattle.kiss2.specs.Machine.{next}
 use Rattle.machine_table.specs.Pairs.{AtEachSymbol, GoInto}
 use Rattle.partition.specs.Partition.{IsPartition, Together, Le}
 

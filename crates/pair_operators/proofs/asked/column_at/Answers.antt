@@ -1,4 +1,4 @@
-use Rattle.std.proofs.Common.{ℕ, ◌<◌, length, arith, ◌∙◌}
+use Rattle.std.proofs.Common.{arith}
 use Rattle.pair_operators.proofs.asked.column_at.Goals as goal
 
 pub returns : goal.returns

@@ -1,4 +1,4 @@
-use Rattle.std.proofs.Common.{ℕ, ◌↔◌, Contains, Vec, Global}
+use Rattle.std.proofs.Common.{ℕ, ◌↔◌, Contains}
 use Rattle.std.proofs.lemmas.Result.{IfOk-weaker}
 use Rattle.machine_table.specs.Covering.{IsImage}
 use Rattle.machine_table.specs.Inner.AddedPairs.{AreNamedAtPlaces}

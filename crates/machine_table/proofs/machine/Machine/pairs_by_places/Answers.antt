@@ -1,4 +1,4 @@
-use Rattle.std.proofs.Common.{ℕ, ◌≡◌, ◌++◌, ◌∷◌, [], Contains, List, None, Option, Some, length, inl, inr, ap, sym, ◌∙◌, subst, arith}
+use Rattle.std.proofs.Common.{ℕ, ◌≡◌, ◌++◌, ◌∷◌, [], List, Option, Some, length, ap, sym, ◌∙◌, subst, arith}
 use Rattle.machine_table.specs.Inner.AddedPairs.{AddsPairs, AreNamedAtPlaces, AreNamedBy, AtBothPlaces, BelowCount, IsFound}
 use Rattle.machine_table.proofs.AddedPairs.{adds_as, adds_found, adds_more, adds_nothing, at_these_places, listed_alone}
 use Rattle.machine_table.proofs.machine.Machine.pairs_by_places.Goals as goal
