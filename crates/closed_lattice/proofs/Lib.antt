@@ -11,4 +11,3 @@ pub mod Conditions
 pub mod Existing
 pub mod Passing
 pub mod Sifting
-pub mod Symbols

@@ -14,6 +14,9 @@ use std::alloc::{AllocError, Global};
 /// The most pairs that are followed.
 const MOST_AHEAD: usize = 256;
 
+/// The most columns that are asked for a pair ahead.
+const MOST_COLUMNS: usize = 8;
+
 /// The number of a state. There are at most 256.
 pub(crate) fn numbered(m: &Machine, s: usize) -> u16
     requires { s < length m.now.states }
@@ -22,14 +25,15 @@ pub(crate) fn numbered(m: &Machine, s: usize) -> u16
     s.min(m.states() - 1) as u16
 }
 
-/// Two states that the two go to at one of the first symbols, other than the two themselves, and whose least closed
-/// partition is not known.
+/// Two states that the two go to at a symbol of one of the first columns of s, other than the two themselves, and
+/// whose least closed partition is not known.
 fn pair_ahead(m: &Machine, known: &Principals, s: u16, t: u16) -> Option<(u16, u16)>
     requires s { s < length m.now.states }
     requires t { t < length m.now.states }
     ensures { IfSome result (λ pair. (pair.0 < length m.now.states) × (pair.1 < length m.now.states)) }
 {
-    for x in 0..1u32 << m.inputs().min(3) {
+    for k in 0..MOST_COLUMNS {
+        let x = m.symbol_of_column(usize::from(s), k)?;
         let u = numbered(m, m.next(usize::from(s), x));
         let v = numbered(m, m.next(usize::from(t), x));
         if u != v && number_of(u, v) != number_of(s, t) && known.find(u, v).is_none() {

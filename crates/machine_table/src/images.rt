@@ -2,7 +2,7 @@
 //!
 //! Rows of both states that share a symbol name a pair. If rows may leave a next state open, the pairs at such
 //! symbols are added.
-ghost use Rattle.std.specs.Prelude.{ℕ, ◌≡◌, ◌≢◌, ◌<◌, ◌↔◌, All, AllPairs, Contains, IfOk, OnOk, length};
+ghost use Rattle.std.specs.Prelude.{ℕ, ◌≡◌, ◌≢◌, ◌<◌, ◌↔◌, ◌^◌, All, AllPairs, Contains, IfOk, IfSome, OnOk, length};
 ghost use Rattle.kiss2.specs.Lawful.{IsLawfulRow};
 ghost use Rattle.machine_table.specs.Covering.{IsImage};
 ghost use Rattle.machine_table.specs.Inner.AddedPairs.{AddsPairs, AreBothOpen, AreNamed, AreNamedAtPlaces, AreNamedBy, AreNamedIn, IsAddedAt, IsFound, IsNamedBeside, IsOpenImage, NamesAlone, OfSomeRow, pair_of};
@@ -85,6 +85,19 @@ impl Machine {
             return self.pairs_by_places(alloc, rows.first, rows.second);
         }
         self.images(alloc, s, t)
+    }
+
+    /// A symbol of the k-th column of next states that is kept for the state, if there are so many. States with the
+    /// same cubes have the same columns, and each symbol leads them as some column does.
+    pub fn symbol_of_column(&self, s: usize, k: usize) -> Option<u32>
+        requires { s < length self.now.states }
+        ensures { IfSome result (λ x. x < 2 ^ self.now.inputs) }
+    {
+        let question = NextState::new(self.states());
+        let rows = self.aligned_rows(&question, s, s, false)?;
+        let number = rows.first.get(k)?;
+        let row = self.row(*number);
+        least_of_both(&row.cube, &row.cube)
     }
 
     /// The pairs named by the rows at the same place of both lists.
