@@ -8,7 +8,8 @@ use crate::Case;
 use crate::forms::{form_of, text_of};
 use crate::plain::count_ones;
 use anyhow::{Error, bail};
-use net_core::{Network, Order, check};
+use blif_in::{OrderedNetwork, read_ordered};
+use net_core::{Network, Order};
 use net_sim::run;
 use std::alloc::Global;
 
@@ -16,17 +17,11 @@ use std::alloc::Global;
 pub(crate) fn answer(alloc: Global, text: &[u8], case: Case<'_>) -> Result<(usize, usize), Error>
     requires { length text.now < 2 ^ 32 }
 {
-    match blif_in::read(alloc, text) {
-        Ok(net) => ordered(alloc, &net, case),
+    match read_ordered(alloc, text) {
+        Ok(OrderedNetwork { net, order }) => {
+            Ok((order.gates.len(), ones(alloc, &net, &order, case)?))
+        }
         Err(_) => bail!("the text is no network"),
-    }
-}
-
-/// The same two numbers for a network.
-fn ordered(alloc: Global, net: &Network, case: Case<'_>) -> Result<(usize, usize), Error> {
-    match check(alloc, net) {
-        Ok(order) => Ok((order.gates.len(), ones(alloc, net, &order, case)?)),
-        Err(_) => bail!("the network is not sound"),
     }
 }
 

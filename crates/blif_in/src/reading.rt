@@ -5,6 +5,7 @@ ghost use Rattle.std.specs.Str.{bytes_eq};
 ghost use Rattle.hs_io.specs.declared.lines.Line.{Line};
 ghost use Rattle.net_core.specs.declared.Network.{Network};
 ghost use Rattle.net_core.specs.Blif.{Blif};
+ghost use Rattle.net_core.specs.Order.{IsOrderOf};
 ghost use Rattle.net_core.specs.Sound.{Sound};
 ghost use Rattle.blif_in.specs.declared.fault.BlifFault.{BlifFault};
 ghost use Rattle.blif_in.specs.Text.{IsBlifFault, IsFaultOf, IsStructureFault, TellsOf, driven_within, text_fault};
@@ -19,8 +20,15 @@ use crate::joining::next_statement;
 use crate::progress::{FirstClock, Progress, after_line};
 use crate::statement::statement_of;
 use hs_io::LineReader;
-use net_core::{Gate, Latch, NetFail, Network, check};
+use net_core::{Gate, Latch, NetFail, Network, Order, check};
 use std::alloc::Global;
+
+/// A network, and an order in which its gates are evaluated.
+#[derive(Drop)]
+pub struct OrderedNetwork {
+    pub net: Network,
+    pub order: Order,
+}
 
 /// The network of a BLIF text, or the first fault of the text. Where the network has several cycles, the fault
 /// may name any of them.
@@ -31,22 +39,35 @@ pub fn read(alloc: Global, bytes: &[u8]) -> Result<Network, BlifFail>
     ensures never_refused { (net : Network) → Blif bytes.now net → MatchResult result (λ read. read ≡ net) (λ fail. fail ≡ BlifFail.NoMemory) }
     ensures never_read { (fault : BlifFault) → IsBlifFault bytes.now fault → MatchResult result (λ _. ⊥) (TellsOf fault) }
 {
+    read_ordered(alloc, bytes).map(|ordered| ordered.net)
+}
+
+/// The network that [`read`] gives, with an order of its gates, or the first fault of the text.
+pub fn read_ordered(alloc: Global, bytes: &[u8]) -> Result<OrderedNetwork, BlifFail>
+    requires { length bytes.now < 2 ^ 32 }
+    ensures read { IfOk result (λ ordered. Blif bytes.now ordered.net) }
+    ensures order { IfOk result (λ ordered. IsOrderOf ordered.net ordered.order) }
+    ensures refused { (fault : BlifFault) → result ≡ Err (BlifFail.Refused fault) → IsBlifFault bytes.now fault }
+    ensures never_refused { (net : Network) → Blif bytes.now net → MatchResult result (λ ordered. ordered.net ≡ net) (λ fail. fail ≡ BlifFail.NoMemory) }
+    ensures never_read { (fault : BlifFault) → IsBlifFault bytes.now fault → MatchResult result (λ _. ⊥) (TellsOf fault) }
+{
     read_statements(alloc, bytes)
 }
 
-/// The network of the statements of a text, or their first fault.
-fn read_statements(alloc: Global, bytes: &[u8]) -> Result<Network, BlifFail>
+/// The network of the statements of a text with an order of its gates, or their first fault.
+fn read_statements(alloc: Global, bytes: &[u8]) -> Result<OrderedNetwork, BlifFail>
     requires { length bytes.now < 2 ^ 32 }
     ensures faultless { OnOk result (text_fault (numbered (lines_read bytes.now)) ≡ None) }
-    ensures said { IfOk result (λ net. net ≡ text.network_of (map says (lines_read bytes.now))) }
-    ensures sound { IfOk result Sound }
+    ensures said { IfOk result (λ ordered. ordered.net ≡ text.network_of (map says (lines_read bytes.now))) }
+    ensures sound { IfOk result (λ ordered. Sound ordered.net) }
+    ensures order { IfOk result (λ ordered. IsOrderOf ordered.net ordered.order) }
     ensures refused { (fault : BlifFault) → result ≡ Err (BlifFail.Refused fault) → IsFaultOf (numbered (lines_read bytes.now)) fault }
 {
     let Reading { progress, net } = judged_statements(alloc, bytes)?;
     if let Some(fault) = closing_fault(&progress, &net) {
         return Err(BlifFail::Refused(fault));
     }
-    checked(alloc, net)
+    put_in_order(alloc, net)
 }
 
 /// What the statements without a fault come to.
@@ -73,14 +94,15 @@ fn judged_statements(alloc: Global, bytes: &[u8]) -> Result<Reading, BlifFail>
     Ok(Reading { progress, net })
 }
 
-/// The network, if it is sound.
-fn checked(alloc: Global, net: Network) -> Result<Network, BlifFail>
-    ensures same { IfOk result (λ same. same ≡ net) }
+/// The network with an order of its gates, if it is sound.
+fn put_in_order(alloc: Global, net: Network) -> Result<OrderedNetwork, BlifFail>
+    ensures same { IfOk result (λ ordered. ordered.net ≡ net) }
     ensures sound { OnOk result (Sound net) }
+    ensures order { IfOk result (λ ordered. IsOrderOf ordered.net ordered.order) }
     ensures refused { (fault : BlifFault) → result ≡ Err (BlifFail.Refused fault) → IsStructureFault net fault }
 {
     match check(alloc, &net) {
-        Ok(_) => Ok(net),
+        Ok(order) => Ok(OrderedNetwork { net, order }),
         Err(NetFail::NoMemory) => Err(BlifFail::NoMemory),
         Err(fail) => Err(BlifFail::Refused(BlifFault {
             line: 0,

@@ -6,17 +6,15 @@ ghost use Rattle.hsdec_core.specs.Fill.{fill_of};
 ghost use Rattle.hsdec_core.specs.Inner.Opened.{IsBuiltOf, IsEntryRefusal, IsNetOpened, IsOpened, IsReadAs, IsReadOf};
 ghost use Rattle.hsdec_core.specs.Loading.{IsShortText};
 ghost use Rattle.kiss2.specs.Lawful.{IsLawful};
-ghost use Rattle.net_core.specs.Order.{IsOrderOf};
-ghost use Rattle.net_core.specs.Sound.{Sound};
 
 use crate::loading::load_operand;
 use answers::{Refusal, symbol_text};
-use blif_in::BlifFail;
+use blif_in::{BlifFail, OrderedNetwork, read_ordered};
 use hs_io::{Name, Shelf};
 use job_words::Job;
 use kiss2::{Fill, KissFail, KissFile, read};
 use machine_table::{BuildFail, Machine, Missing};
-use net_core::{NetFail, Network, Order, check};
+use net_core::{Network, Order};
 use std::alloc::{AllocError, Global};
 
 /// The record of FILE, and its machine.
@@ -134,24 +132,9 @@ fn read_network(alloc: Global, text: &[u8]) -> Result<OpenedNetwork, Refusal>
     requires { IsShortText text.now }
     ensures { IsReadAs text.now result }
 {
-    match blif_in::read(alloc, text) {
-        Ok(net) => {
-            let order = order_of(alloc, &net)?;
-            Ok(OpenedNetwork { net, order })
-        }
+    match read_ordered(alloc, text) {
+        Ok(OrderedNetwork { net, order }) => Ok(OpenedNetwork { net, order }),
         Err(BlifFail::Refused(fault)) => Err(Refusal::NoNetwork(fault)),
         Err(BlifFail::NoMemory) => Err(Refusal::NoMemory),
-    }
-}
-
-/// An order of the gates of a sound network.
-fn order_of(alloc: Global, net: &Network) -> Result<Order, AllocError>
-    requires { Sound net.now }
-    ensures { IfOk result (IsOrderOf net.now) }
-{
-    match check(alloc, net) {
-        Ok(order) => Ok(order),
-        Err(NetFail::NoMemory) => Err(AllocError),
-        Err(_) => unreachable!(),
     }
 }

@@ -12,3 +12,4 @@ pub mod FormValues
 pub mod ReadSymbols
 pub mod WorkedRuns
 pub mod WideRows
+pub mod SmallGates

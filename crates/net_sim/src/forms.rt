@@ -1,13 +1,14 @@
 //! Makes the forms by which gates are evaluated.
 
-ghost use Rattle.std.specs.Prelude.{◌≡◌, ◌<◌, ◌≤◌, ◌||◌, true, All, Bool, List, IfOk, OnOk, length};
+ghost use Rattle.std.specs.Prelude.{◌≡◌, ◌<◌, ◌≤◌, ◌^◌, ◌||◌, true, All, Bool, List, IfOk, OnOk, length};
 ghost use Rattle.std.specs.List.{list_any};
 ghost use Rattle.cubes.specs.Cube.{holds};
 ghost use Rattle.net_core.specs.Step.{row_holds};
-ghost use Rattle.net_sim.specs.Inner.Forms.{AreForms, IsCubes, IsForm, IsTable};
+ghost use Rattle.net_sim.specs.Inner.Forms.{AreForms, HasValues, IsCubes, IsForm, IsSmall, IsTable};
 
 use crate::gate_values::value_of_cubes;
 use crate::pieces::{Pieces, wide_rows};
+use crate::small::{MOST_SMALL, SmallGate};
 use cubes::Cube;
 use hs_list::Items;
 use net_core::NumberedGate;
@@ -16,6 +17,8 @@ use std::alloc::{AllocError, Global};
 /// The form by which a gate is evaluated.
 #[derive(Drop)]
 pub(crate) enum GateForm {
+    /// The gate with its values in a word.
+    Small(SmallGate),
     /// Its values, by the numbers whose bits are those of its inputs.
     Table(Items<bool>),
     /// Its rows as cubes.
@@ -65,10 +68,12 @@ fn form_of(alloc: Global, gate: &NumberedGate, symbols: usize) -> Result<GateFor
         return Ok(GateForm::Wide(wide_rows(alloc, gate)?));
     }
     let cubes = cubes_of(alloc, gate, inputs as u8)?;
-    if has_table(gate, symbols) {
-        Ok(GateForm::Table(table_of(alloc, gate, cubes.as_slice())?))
-    } else {
+    if !has_table(gate, symbols) {
         Ok(GateForm::Cubes(cubes))
+    } else if inputs <= MOST_SMALL {
+        Ok(GateForm::Small(small_gate(gate, cubes.as_slice())))
+    } else {
+        Ok(GateForm::Table(table_of(alloc, gate, cubes.as_slice())?))
     }
 }
 
@@ -121,4 +126,28 @@ fn table_of(alloc: Global, gate: &NumberedGate, cubes: &[Cube]) -> Result<Items<
         table.push(value_of_cubes(gate, cubes, number))?;
     }
     Ok(table)
+}
+
+/// A gate with its values in a word.
+fn small_gate(gate: &NumberedGate, cubes: &[Cube]) -> SmallGate
+    requires few { length gate.now.inputs.items ≤ 6 }
+    requires cubes { IsCubes gate.now cubes.now }
+    ensures { IsSmall gate.now result }
+{
+    SmallGate::new(&gate.inputs, word_of(gate, cubes))
+}
+
+/// The values of a gate as the bits of a word, by the numbers whose bits are those of its inputs.
+fn word_of(gate: &NumberedGate, cubes: &[Cube]) -> u64
+    requires few { length gate.now.inputs.items ≤ 6 }
+    requires cubes { IsCubes gate.now cubes.now }
+    ensures { HasValues gate.now (2 ^ length gate.now.inputs.items) result }
+{
+    let mut values = 0;
+    for number in 0..1 << gate.inputs.len() {
+        if value_of_cubes(gate, cubes, number) {
+            values |= 1 << number;
+        }
+    }
+    values
 }

@@ -39,6 +39,7 @@ fn value_by(form: &GateForm, gate: &NumberedGate, signals: &[bool]) -> bool
     ensures { result ≡ value_at signals.now gate.now }
 {
     match form {
+        GateForm::Small(small) => small.value(signals),
         GateForm::Table(table) => table.as_slice()[number_at(&gate.inputs, signals) as usize],
         GateForm::Cubes(cubes) => {
             value_of_cubes(gate, cubes.as_slice(), number_at(&gate.inputs, signals))

@@ -13,7 +13,7 @@
 //! - `Inner` is for private functions only.
 //!
 //! Before the first symbol a run makes tables of the gates with few inputs, and cubes of the rows of most others
-//! (`forms`). It reads the file line by line (`said`).
+//! (`forms`). A gate of at most six inputs is one record (`small`). It reads the file line by line (`said`).
 #![tactic(auto)]
 
 mod bit_texts;
@@ -24,6 +24,7 @@ mod laws;
 mod pieces;
 mod running;
 mod said;
+mod small;
 mod starting;
 mod stepping;
 mod symbols;

@@ -1,13 +1,14 @@
 -- The forms by which gates are evaluated.
-use Rattle.std.specs.Prelude.{◌≡◌, ℕ, ◌^◌, ◌<◌, ◌≤◌, ⊤, All, Bool, false, List, Some, length, slice_get, slice_index_or}
+use Rattle.std.specs.Prelude.{◌≡◌, ℕ, ◌^◌, ◌<◌, ◌≤◌, ⊤, All, Bool, false, List, Some, length, take, slice_get, slice_index_or}
 use Rattle.std.specs.List.{list_any}
 use Rattle.cubes.specs.declared.cube.Cube.{Cube}
 use Rattle.cubes.specs.Cube.{holds}
-use Rattle.cubes.specs.Symbol.{symbol_of}
+use Rattle.cubes.specs.Symbol.{bit, symbol_of}
 use Rattle.net_core.specs.declared.ordering.NumberedGate.{NumberedGate}
 use Rattle.net_core.specs.Step.{row_holds}
 use Rattle.net_sim.specs.declared.forms.GateForm.{GateForm}
-use Rattle.net_sim.specs.declared.forms.GateForm.TheVariants.{Table, Cubes, Wide, Rows}
+use Rattle.net_sim.specs.declared.forms.GateForm.TheVariants.{Small, Table, Cubes, Wide, Rows}
+use Rattle.net_sim.specs.declared.small.SmallGate.{SmallGate}
 use Rattle.net_sim.specs.Inner.Evaluated.{value_for}
 use Rattle.net_sim.specs.Inner.Pieces.{IsWide}
 
@@ -23,8 +24,19 @@ pub record IsCubes (gate : NumberedGate) (cubes : List Cube) : Type 0 where
   pub widths : All (λ cube. cube.width ≡ length gate.inputs.items) cubes
   pub held : (symbol : List Bool) → length symbol ≡ length gate.inputs.items → list_any (λ cube. holds cube symbol) cubes ≡ list_any (λ row. row_holds row symbol) gate.rows
 
+-- the word has as its bits the values of the gate for the bits of the numbers below this one, and zeros from there on
+pub record HasValues (gate : NumberedGate) (number word : ℕ) : Type 0 where
+  pub below : (k : ℕ) → k < number → bit word k ≡ value_for gate (symbol_of (length gate.inputs.items) k)
+  pub above : (k : ℕ) → number ≤ k → bit word k ≡ false
+
+-- the small gate has the inputs of the gate and its values
+pub record IsSmall (gate : NumberedGate) (small : SmallGate) : Type 0 where
+  pub inputs : take small.count small.inputs ≡ gate.inputs.items
+  pub values : HasValues gate (2 ^ length gate.inputs.items) small.values
+
 -- the form gives the values of the gate
 abbrev pub IsForm : NumberedGate → GateForm → Type 0
+IsForm gate (Small small) = IsSmall gate small
 IsForm gate (Table table) = IsTable gate table
 IsForm gate (Cubes cubes) = IsCubes gate cubes
 IsForm gate (Wide rows) = (length gate.inputs.items ≤ 256) × IsWide gate rows

@@ -3,6 +3,7 @@ use Rattle.cubes.specs.Symbol.{number_of}
 use Rattle.net_sim.specs.Inner.Evaluated.{bits_at}
 use Rattle.net_sim.specs.Inner.Forms.{IsForm}
 use Rattle.net_sim.proofs.FormValues.{bits_of_number, number_within, place_within, value_there}
+use Rattle.net_sim.proofs.SmallGates.{value_of_small}
 use Rattle.net_sim.proofs.gate_values.value_by.Goals as goal
 
 pub bounds-as_slice-number_at : goal.bounds-as_slice-number_at
@@ -29,3 +30,8 @@ returns-in-Cubes c =
     c.value_of_cubes.ensures
     ∙ bits_of_number c.args.gate.now c.args.signals.now c.number_at-in-Cubes.result
     (c.number_at-in-Cubes.ensures ∙ ap (λ (numbers : List ℕ). number_of (bits_at c.args.signals.now numbers)) c.deref-in-Cubes.ensures.value)
+
+pub returns-in-Small : goal.returns-in-Small
+returns-in-Small c =
+    let gate = c.args.gate.now in
+    c.value.ensures ∙ value_of_small gate c.in-Small.small c.args.signals.now (subst (IsForm gate) c.in-Small.is c.requires.form)
