@@ -4,11 +4,11 @@ use Rattle.answers.specs.declared.refusals.Refusal.{Refusal}
 use Rattle.answers.specs.declared.refusals.Refusal.TheVariants.{Conflict}
 use Rattle.answers.specs.Cause.{CallsForNone}
 use Rattle.answers.specs.Laws.Causes.{none_first}
+use Rattle.blif_in.specs.declared.reading.OrderedNetwork.{OrderedNetwork}
 use Rattle.blif_in.proofs.Texts.{never_both}
 use Rattle.cubes.specs.Symbol.{symbol_of}
 use Rattle.cubes.proofs.Numbers.{length-symbol_of}
 use Rattle.hsdec_core.specs.declared.opening.OpenedMachine.{OpenedMachine}
-use Rattle.hsdec_core.specs.declared.opening.OpenedNetwork.{OpenedNetwork}
 use Rattle.hsdec_core.specs.Causes.{Conflicts, LeavesOpen, NoMachineOf, NoNetworkOf, OfFile, SaysNoMachine, SaysNoNetwork}
 use Rattle.hsdec_core.specs.Fill.{fill_of}
 use Rattle.hsdec_core.specs.Inner.Opened.{IsBuiltOf, IsEntryRefusal, IsNetOpened, IsOpened, IsReadAs, IsReadOf}
@@ -104,7 +104,7 @@ opened_of_read job holds Faulted bytes (Ok opened) is_text (kiss, lawful, accept
 opened_of_read job holds Faulted bytes (Err refusal) is_text (inl wanting) = inl wanting
 opened_of_read job holds Faulted bytes (Err refusal) is_text (inr h) = inr (inr (bytes, is_text.1, called_of_read job.file bytes (fill_of job) refusal is_text.0 h))
 
-pub net_opened_of_read : (job : Job) (holds : List ℕ → Option (List ℕ)) (Faulted : Type 0) (bytes : List ℕ) (result : Result OpenedNetwork Refusal) → IsText (holds job.file) bytes → IsReadAs bytes result → IsNetOpened job holds Faulted result
+pub net_opened_of_read : (job : Job) (holds : List ℕ → Option (List ℕ)) (Faulted : Type 0) (bytes : List ℕ) (result : Result OrderedNetwork Refusal) → IsText (holds job.file) bytes → IsReadAs bytes result → IsNetOpened job holds Faulted result
 net_opened_of_read job holds Faulted bytes (Ok opened) is_text (blif, ordered) = ((bytes, (is_text, blif)), ordered)
 net_opened_of_read job holds Faulted bytes (Err refusal) is_text (inl wanting) = inl wanting
 net_opened_of_read job holds Faulted bytes (Err refusal) is_text (inr h) = inr (inr (bytes, is_text.1, inr (not_long job.file bytes is_text.0, inl h)))

@@ -14,7 +14,6 @@ use hs_io::{Name, Shelf};
 use job_words::Job;
 use kiss2::{Fill, KissFail, KissFile, read};
 use machine_table::{BuildFail, Machine, Missing};
-use net_core::{Network, Order};
 use std::alloc::{AllocError, Global};
 
 /// The record of FILE, and its machine.
@@ -22,13 +21,6 @@ use std::alloc::{AllocError, Global};
 pub struct OpenedMachine {
     pub file: KissFile,
     pub machine: Machine,
-}
-
-/// The network of NET, and an order in which its gates are evaluated.
-#[derive(Drop)]
-pub struct OpenedNetwork {
-    pub net: Network,
-    pub order: Order,
 }
 
 /// The fill of a job.
@@ -115,7 +107,7 @@ pub fn open_network<F: Shelf>(
     alloc: Global,
     job: &Job,
     shelf: &mut F,
-) -> Result<OpenedNetwork, Refusal>
+) -> Result<OrderedNetwork, Refusal>
     requires { F.grants shelf.old job.now.file }
     ensures opened { IsNetOpened
         job.now (F.holds shelf.old) (Rose (F.faults shelf.old) (F.faults shelf.new)) result }
@@ -128,12 +120,12 @@ pub fn open_network<F: Shelf>(
 }
 
 /// The network that a text denotes, with an order of its gates.
-fn read_network(alloc: Global, text: &[u8]) -> Result<OpenedNetwork, Refusal>
+fn read_network(alloc: Global, text: &[u8]) -> Result<OrderedNetwork, Refusal>
     requires { IsShortText text.now }
     ensures { IsReadAs text.now result }
 {
     match read_ordered(alloc, text) {
-        Ok(OrderedNetwork { net, order }) => Ok(OpenedNetwork { net, order }),
+        Ok(ordered) => Ok(ordered),
         Err(BlifFail::Refused(fault)) => Err(Refusal::NoNetwork(fault)),
         Err(BlifFail::NoMemory) => Err(Refusal::NoMemory),
     }

@@ -11,8 +11,9 @@ ghost use Rattle.hsdec_core.specs.Task.{task_of};
 ghost use Rattle.net_core.specs.Order.{IsOrderOf};
 
 use crate::loading::load_operand;
-use crate::opening::{OpenedNetwork, open_machine, open_network};
+use crate::opening::{open_machine, open_network};
 use answers::{Bytes, Refusal, Report};
+use blif_in::OrderedNetwork;
 use hs_io::Shelf;
 use job_words::Job;
 use machine_table::Machine;
@@ -73,7 +74,7 @@ pub fn sim<F: Shelf>(alloc: Global, job: &Job, shelf: &mut F) -> Result<Report, 
 fn run_network<F: Shelf>(
     alloc: Global,
     job: &Job,
-    opened: &OpenedNetwork,
+    opened: &OrderedNetwork,
     shelf: &mut F,
 ) -> Result<Report, Refusal>
     requires task { task_of job.now.command ≡ tasks.Sim }

@@ -4,9 +4,9 @@ use Rattle.answers.specs.declared.refusals.Refusal.{Refusal}
 use Rattle.answers.specs.declared.refusals.Refusal.TheVariants.{NoMemory, Unspecified}
 use Rattle.answers.specs.Digits.{digit}
 use Rattle.answers.specs.Judged.{IsStop}
+use Rattle.blif_in.specs.declared.reading.OrderedNetwork.{OrderedNetwork}
 use Rattle.cubes.specs.Symbol.{symbol_of}
 use Rattle.hsdec_core.specs.declared.opening.OpenedMachine.{OpenedMachine}
-use Rattle.hsdec_core.specs.declared.opening.OpenedNetwork.{OpenedNetwork}
 use Rattle.hsdec_core.specs.Causes.{Conflicts, LeavesOpen, NoMachineOf, NoNetworkOf, OfFile, SaysNoMachine, SaysNoNetwork}
 use Rattle.hsdec_core.specs.Fill.{fill_of}
 use Rattle.hsdec_core.specs.Inner.Load.{IsStopAt}
@@ -44,12 +44,12 @@ IsOpened job holds Faulted (Ok opened) =
 IsOpened job holds Faulted (Err refusal) = IsStopAt (holds job.file) Faulted job.file (NoMachineOf job.file (fill_of job)) refusal
 
 -- the network that bytes denote with an order of its gates, or the refusal that they call for
-abbrev pub IsReadAs : List ℕ → Result OpenedNetwork Refusal → Type 0
+abbrev pub IsReadAs : List ℕ → Result OrderedNetwork Refusal → Type 0
 IsReadAs bytes (Ok opened) = Blif bytes opened.net × IsOrderOf opened.net opened.order
 IsReadAs bytes (Err refusal) = IsStop (SaysNoNetwork bytes) refusal
 
 -- the network of the operand NET with an order of its gates, or why there is none
-abbrev pub IsNetOpened : Job → (List ℕ → Option (List ℕ)) → Type 0 → Result OpenedNetwork Refusal → Type 0
+abbrev pub IsNetOpened : Job → (List ℕ → Option (List ℕ)) → Type 0 → Result OrderedNetwork Refusal → Type 0
 IsNetOpened job holds Faulted (Ok opened) =
     ((bytes : List ℕ) × HoldsNetwork (holds job.file) bytes opened.net) × IsOrderOf opened.net opened.order
 IsNetOpened job holds Faulted (Err refusal) = IsStopAt (holds job.file) Faulted job.file (NoNetworkOf job.file) refusal
