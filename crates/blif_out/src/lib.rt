@@ -3,7 +3,8 @@
 //! [`text`] gives the text of a network after its header, which is comments that say how the network was made.
 //! It promises that the text is the one that `specs/Head.antt` and `specs/NetText.antt` lay out line by line,
 //! that the text denotes the network, and that its head is that of the header. [`append`] gives only the
-//! network. `specs/Writable.antt` and `specs/Order.antt` say which networks can be written.
+//! network. [`append_field`] and the calls beside it give single fields of a comment, for texts with other heads.
+//! `specs/Writable.antt` and `specs/Order.antt` say which networks can be written.
 //!
 //! Why the text denotes the network: each line of the header begins with the mark of a comment and otherwise
 //! has only visible bytes and spaces, so a reader skips it. Each statement is read as the fields that spell it.
@@ -18,6 +19,7 @@ mod header_text;
 mod network_text;
 mod writing;
 
+pub use fields::{append_code_field, append_field, append_number, append_number_field};
 pub use header::{Header, LatchNote, LatchNotes};
 pub use header_text::{append_notes, word_of_kind};
 pub use writing::{append, text};

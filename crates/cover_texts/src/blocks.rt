@@ -6,7 +6,7 @@ ghost use Rattle.cover_texts.specs.Inner.Pieces.{block_line, comma_number};
 ghost use Rattle.hs_io.specs.Spelling.{spaced};
 ghost use Rattle.partition.specs.Text.{labels_text};
 
-use crate::fields::{append_number, append_number_field};
+use blif_out::{append_number, append_number_field};
 use cover_split::Block;
 use std::alloc::AllocError;
 

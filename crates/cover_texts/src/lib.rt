@@ -10,7 +10,6 @@
 
 mod blocks;
 mod covers;
-mod fields;
 mod flaws;
 mod lines;
 mod pairs;

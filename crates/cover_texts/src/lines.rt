@@ -9,8 +9,7 @@ ghost use Rattle.cover_texts.specs.Lines.{cover_lines};
 ghost use Rattle.hs_io.specs.Spelling.{ended};
 
 use crate::blocks::append_blocks;
-use crate::fields::{append_code_field, append_field, append_number_field};
-use blif_out::{LatchNote, append_notes};
+use blif_out::{LatchNote, append_code_field, append_field, append_notes, append_number_field};
 use cover_split::{Cover, pairs_of};
 use kiss2::{KissFile, StateNames};
 use state_codes::Codes;
