@@ -6,8 +6,9 @@ use Rattle.std.proofs.lemmas.List.Elements.{Contains-append_cases, Contains-appe
 use Rattle.std.proofs.lemmas.Option.{same_Some}
 use Rattle.kiss2.specs.declared.kiss_file.KissRow.{KissRow}
 use Rattle.dependence.specs.declared.effects.Effect.{Effect}
-use Rattle.dependence.specs.declared.gate.Gate.{Gate}
-use Rattle.dependence.specs.Inner.Effects.{Adds, AreApart, DifferMore, Show, ShowAcross, ShowBeside, row_value}
+use Rattle.dependence.specs.declared.bit.Bit.{Bit}
+use Rattle.dependence.specs.Inner.Effects.{Adds, AreApart, DifferMore, Show, ShowAcross, ShowBeside}
+use Rattle.dependence.specs.Inner.Said.{row_value}
 use Rattle.dependence.proofs.Adding.{adds_as, adds_none, adds_then, turned}
 
 contains_one : (one other : KissRow) → Contains (one ∷ []) other → one ≡ other
@@ -24,32 +25,32 @@ one_more rows k row within is = sym (ap (λ (n : ℕ). take n rows) (add-one k) 
 
 module _ (inputs : ℕ) (words : List ℕ) where
   -- ---- one row beside others
-  beside_left : (front back : List KissRow) (row : KissRow) (a : ℕ) (gate : Gate) → ShowBeside inputs words front row a gate → ShowBeside inputs words (front ++ back) row a gate
+  beside_left : (front back : List KissRow) (row : KissRow) (a : ℕ) (gate : Bit) → ShowBeside inputs words front row a gate → ShowBeside inputs words (front ++ back) row a gate
   beside_left front back row a gate shown = record { other = shown.other; among = Contains-append_left front back shown.other shown.among; show = shown.show }
 
-  beside_right : (front back : List KissRow) (row : KissRow) (a : ℕ) (gate : Gate) → ShowBeside inputs words back row a gate → ShowBeside inputs words (front ++ back) row a gate
+  beside_right : (front back : List KissRow) (row : KissRow) (a : ℕ) (gate : Bit) → ShowBeside inputs words back row a gate → ShowBeside inputs words (front ++ back) row a gate
   beside_right front back row a gate shown = record { other = shown.other; among = Contains-append_right front back shown.other shown.among; show = shown.show }
 
-  beside_cases : (front back : List KissRow) (row : KissRow) (a : ℕ) (gate : Gate) → ShowBeside inputs words (front ++ back) row a gate → ShowBeside inputs words front row a gate ⊎ ShowBeside inputs words back row a gate
+  beside_cases : (front back : List KissRow) (row : KissRow) (a : ℕ) (gate : Bit) → ShowBeside inputs words (front ++ back) row a gate → ShowBeside inputs words front row a gate ⊎ ShowBeside inputs words back row a gate
   beside_cases front back row a gate shown = elim (Contains-append_cases front back shown.other shown.among) [
     | inl in_front ↦ inl (record { other = shown.other; among = in_front; show = shown.show })
     | inr in_back ↦ inr (record { other = shown.other; among = in_back; show = shown.show })
   ]
 
   -- ---- one of some rows beside others
-  across_left : (front back others : List KissRow) (a : ℕ) (gate : Gate) → ShowAcross inputs words front others a gate → ShowAcross inputs words (front ++ back) others a gate
+  across_left : (front back others : List KissRow) (a : ℕ) (gate : Bit) → ShowAcross inputs words front others a gate → ShowAcross inputs words (front ++ back) others a gate
   across_left front back others a gate shown = record { row = shown.row; among = Contains-append_left front back shown.row shown.among; shown = shown.shown }
 
-  across_right : (front back others : List KissRow) (a : ℕ) (gate : Gate) → ShowAcross inputs words back others a gate → ShowAcross inputs words (front ++ back) others a gate
+  across_right : (front back others : List KissRow) (a : ℕ) (gate : Bit) → ShowAcross inputs words back others a gate → ShowAcross inputs words (front ++ back) others a gate
   across_right front back others a gate shown = record { row = shown.row; among = Contains-append_right front back shown.row shown.among; shown = shown.shown }
 
-  across_cases : (front back others : List KissRow) (a : ℕ) (gate : Gate) → ShowAcross inputs words (front ++ back) others a gate → ShowAcross inputs words front others a gate ⊎ ShowAcross inputs words back others a gate
+  across_cases : (front back others : List KissRow) (a : ℕ) (gate : Bit) → ShowAcross inputs words (front ++ back) others a gate → ShowAcross inputs words front others a gate ⊎ ShowAcross inputs words back others a gate
   across_cases front back others a gate shown = elim (Contains-append_cases front back shown.row shown.among) [
     | inl in_front ↦ inl (record { row = shown.row; among = in_front; shown = shown.shown })
     | inr in_back ↦ inr (record { row = shown.row; among = in_back; shown = shown.shown })
   ]
 
-  across_turned : (rows others : List KissRow) (a : ℕ) (gate : Gate) → ShowAcross inputs words rows others a gate → ShowAcross inputs words others rows a gate
+  across_turned : (rows others : List KissRow) (a : ℕ) (gate : Bit) → ShowAcross inputs words rows others a gate → ShowAcross inputs words others rows a gate
   across_turned rows others a gate shown = record {
     row = shown.shown.other;
     among = shown.shown.among;
@@ -101,7 +102,7 @@ module _ (inputs : ℕ) (words : List ℕ) where
       (λ a gate shown. more shown.row shown.shown.other shown.shown.show.differ.place shown.among shown.shown.among shown.shown.show.differ.clash)
 
   -- within each half, and between the two
-  within_halves : (front back : List KissRow) (a : ℕ) (gate : Gate) → ShowAcross inputs words (front ++ back) (front ++ back) a gate → (ShowAcross inputs words front front a gate ⊎ ShowAcross inputs words back back a gate) ⊎ ShowAcross inputs words front back a gate
+  within_halves : (front back : List KissRow) (a : ℕ) (gate : Bit) → ShowAcross inputs words (front ++ back) (front ++ back) a gate → (ShowAcross inputs words front front a gate ⊎ ShowAcross inputs words back back a gate) ⊎ ShowAcross inputs words front back a gate
   within_halves front back a gate shown = elim (across_cases front back (front ++ back) a gate shown) [
     | inl here ↦ elim (beside_cases front back here.row a gate here.shown) [
       | inl inside ↦ inl (inl (record { row = here.row; among = here.among; shown = inside }))
@@ -113,15 +114,15 @@ module _ (inputs : ℕ) (words : List ℕ) where
     ]
   ]
 
-  widened : (front back : List KissRow) (a : ℕ) (gate : Gate) → ShowAcross inputs words front back a gate → ShowAcross inputs words (front ++ back) (front ++ back) a gate
+  widened : (front back : List KissRow) (a : ℕ) (gate : Bit) → ShowAcross inputs words front back a gate → ShowAcross inputs words (front ++ back) (front ++ back) a gate
   widened front back a gate shown =
       across_left front back (front ++ back) a gate (record { row = shown.row; among = shown.among; shown = beside_right front back shown.row a gate shown.shown })
 
-  in_front : (front back : List KissRow) (a : ℕ) (gate : Gate) → ShowAcross inputs words front front a gate → ShowAcross inputs words (front ++ back) (front ++ back) a gate
+  in_front : (front back : List KissRow) (a : ℕ) (gate : Bit) → ShowAcross inputs words front front a gate → ShowAcross inputs words (front ++ back) (front ++ back) a gate
   in_front front back a gate shown =
       across_left front back (front ++ back) a gate (record { row = shown.row; among = shown.among; shown = beside_left front back shown.row a gate shown.shown })
 
-  in_back : (front back : List KissRow) (a : ℕ) (gate : Gate) → ShowAcross inputs words back back a gate → ShowAcross inputs words (front ++ back) (front ++ back) a gate
+  in_back : (front back : List KissRow) (a : ℕ) (gate : Bit) → ShowAcross inputs words back back a gate → ShowAcross inputs words (front ++ back) (front ++ back) a gate
   in_back front back a gate shown =
       across_right front back (front ++ back) a gate (record { row = shown.row; among = shown.among; shown = beside_right front back shown.row a gate shown.shown })
 

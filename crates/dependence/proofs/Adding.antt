@@ -13,13 +13,14 @@ use Rattle.cubes.proofs.Bits.{bit-and, bit-or, bit-xor, bit-zero}
 use Rattle.kiss2.specs.declared.kiss_file.KissRow.{KissRow}
 use Rattle.kiss2.specs.Machine.{given_bit}
 use Rattle.dependence.specs.declared.effects.Effect.{Effect}
-use Rattle.dependence.specs.declared.gate.Gate.{Gate}
-use Rattle.dependence.specs.declared.gate.Gate.TheVariants.{Latch, Output}
-use Rattle.dependence.specs.Inner.Effects.{ActsBy, Adds, AreApart, IsActed, Show, acts_in, acts_on, next_bit, row_value}
+use Rattle.dependence.specs.declared.bit.Bit.{Bit}
+use Rattle.dependence.specs.declared.bit.Bit.TheVariants.{Latch, Output}
+use Rattle.dependence.specs.Inner.Effects.{ActsBy, Adds, AreApart, IsActed, Show, acts_in, acts_on}
+use Rattle.dependence.specs.Inner.Said.{next_bit, row_value}
 use Rattle.dependence.proofs.Symbols.{clash_turned, one_place}
 
 -- ---- what is added in turn
-pub adds_none : (effects : List Effect) (Shown : ℕ → Gate → Type 0) → ((a : ℕ) (gate : Gate) → Shown a gate → ⊥) → Adds effects effects Shown
+pub adds_none : (effects : List Effect) (Shown : ℕ → Bit → Type 0) → ((a : ℕ) (gate : Bit) → Shown a gate → ⊥) → Adds effects effects Shown
 adds_none effects Shown none = record {
   size = refl;
   keeps = λ a gate acts. acts;
@@ -27,7 +28,7 @@ adds_none effects Shown none = record {
   only = λ a gate acts. inl acts;
 }
 
-pub adds_as : (old new : List Effect) (Shown Other : ℕ → Gate → Type 0) → ((a : ℕ) (gate : Gate) → Shown a gate → Other a gate) → ((a : ℕ) (gate : Gate) → Other a gate → Shown a gate) → Adds old new Shown → Adds old new Other
+pub adds_as : (old new : List Effect) (Shown Other : ℕ → Bit → Type 0) → ((a : ℕ) (gate : Bit) → Shown a gate → Other a gate) → ((a : ℕ) (gate : Bit) → Other a gate → Shown a gate) → Adds old new Shown → Adds old new Other
 adds_as old new Shown Other to from added = record {
   size = added.size;
   keeps = added.keeps;
@@ -35,7 +36,7 @@ adds_as old new Shown Other to from added = record {
   only = λ a gate acts. elim (added.only a gate acts) [ inl before ↦ inl before | inr shown ↦ inr (to a gate shown) ];
 }
 
-pub adds_then : (old mid new : List Effect) (First Second Both : ℕ → Gate → Type 0) → ((a : ℕ) (gate : Gate) → First a gate → Both a gate) → ((a : ℕ) (gate : Gate) → Second a gate → Both a gate) → ((a : ℕ) (gate : Gate) → Both a gate → First a gate ⊎ Second a gate) → Adds old mid First → Adds mid new Second → Adds old new Both
+pub adds_then : (old mid new : List Effect) (First Second Both : ℕ → Bit → Type 0) → ((a : ℕ) (gate : Bit) → First a gate → Both a gate) → ((a : ℕ) (gate : Bit) → Second a gate → Both a gate) → ((a : ℕ) (gate : Bit) → Both a gate → First a gate ⊎ Second a gate) → Adds old mid First → Adds mid new Second → Adds old new Both
 adds_then old mid new First Second Both of_first of_second split first second = record {
   size = second.size ∙ first.size;
   keeps = λ a gate acts. second.keeps a gate (first.keeps a gate acts);
@@ -47,25 +48,25 @@ adds_then old mid new First Second Both of_first of_second split first second = 
 }
 
 -- ---- one effect
-pub acts_from : (effects : List Effect) (a : ℕ) (gate : Gate) (d : Effect) → a < length effects → acts_on (get_or effects a d) gate ≡ true → ActsBy effects a gate
+pub acts_from : (effects : List Effect) (a : ℕ) (gate : Bit) (d : Effect) → a < length effects → acts_on (get_or effects a d) gate ≡ true → ActsBy effects a gate
 acts_from effects a gate d within acts = record { effect = get_or effects a d; there = slice_get-get_or effects a d within; acts = acts }
 
-pub acts_within : (effects : List Effect) (a : ℕ) (gate : Gate) → ActsBy effects a gate → a < length effects
+pub acts_within : (effects : List Effect) (a : ℕ) (gate : Bit) → ActsBy effects a gate → a < length effects
 acts_within effects a gate acts = slice_get_within effects a acts.effect acts.there
 
-pub acts_there : (effects : List Effect) (a : ℕ) (gate : Gate) (d : Effect) → ActsBy effects a gate → acts_on (get_or effects a d) gate ≡ true
+pub acts_there : (effects : List Effect) (a : ℕ) (gate : Bit) (d : Effect) → ActsBy effects a gate → acts_on (get_or effects a d) gate ≡ true
 acts_there effects a gate d acts = ap (λ (e : Effect). acts_on e gate) (get_or_from_slice_get effects a acts.effect d acts.there) ∙ acts.acts
 
 -- the effect with more latches and outputs
 abbrev pub joined : Effect → ℕ → ℕ → Effect
 joined effect latches outputs = record { latches = bit_or effect.latches latches; outputs = bit_or effect.outputs outputs }
 
-acts_joined : (effect : Effect) (latches outputs : ℕ) (gate : Gate) → acts_on (joined effect latches outputs) gate ≡ (acts_on effect gate || acts_in latches outputs gate)
+acts_joined : (effect : Effect) (latches outputs : ℕ) (gate : Bit) → acts_on (joined effect latches outputs) gate ≡ (acts_on effect gate || acts_in latches outputs gate)
 acts_joined effect latches outputs (Latch i) = bit-or effect.latches latches i
 acts_joined effect latches outputs (Output b) = bit-or effect.outputs outputs b
 
 module _ (effects : List Effect) (input latches outputs : ℕ) (d : Effect) (within : input < length effects) where
-  there : (gate : Gate) → acts_on (get_or (set effects input (joined (get_or effects input d) latches outputs)) input d) gate ≡ (acts_on (get_or effects input d) gate || acts_in latches outputs gate)
+  there : (gate : Bit) → acts_on (get_or (set effects input (joined (get_or effects input d) latches outputs)) input d) gate ≡ (acts_on (get_or effects input d) gate || acts_in latches outputs gate)
   there gate = ap (λ (e : Effect). acts_on e gate) (get_or-set_same effects input (joined (get_or effects input d) latches outputs) d within) ∙ acts_joined (get_or effects input d) latches outputs gate
 
   size : length (set effects input (joined (get_or effects input d) latches outputs)) ≡ length effects
@@ -100,12 +101,12 @@ module _ (effects : List Effect) (input latches outputs : ℕ) (d : Effect) (wit
   }
 
 -- no effect acts
-pub none_acts : (inputs : ℕ) (d : Effect) → d.latches ≡ 0 → d.outputs ≡ 0 → (a : ℕ) (gate : Gate) → ActsBy (replicate inputs d) a gate → ⊥
+pub none_acts : (inputs : ℕ) (d : Effect) → d.latches ≡ 0 → d.outputs ≡ 0 → (a : ℕ) (gate : Bit) → ActsBy (replicate inputs d) a gate → ⊥
 none_acts inputs d no_latch no_output a gate acts =
     let size : length (replicate inputs d) ≡ inputs = length-replicate inputs d in
     let at : get_or (replicate inputs d) a d ≡ d = get_or-replicate inputs a d d (omega (arith, size, acts_within (replicate inputs d) a gate acts)) in
     by_gate gate (sym (ap (λ (e : Effect). acts_on e gate) at) ∙ acts_there (replicate inputs d) a gate d acts) where
-      by_gate : (gate : Gate) → acts_on d gate ≡ true → ⊥
+      by_gate : (gate : Bit) → acts_on d gate ≡ true → ⊥
       by_gate (Latch i) acts = false≢true (sym (ap (λ n. bit n i) no_latch ∙ bit-zero i) ∙ acts)
       by_gate (Output b) acts = false≢true (sym (ap (λ n. bit n b) no_output ∙ bit-zero b) ∙ acts)
 
@@ -113,7 +114,7 @@ none_acts inputs d no_latch no_output a gate acts =
 apart_turned : (first second : Option Bool) → AreApart first second → AreApart second first
 apart_turned first second (v, w, is_v, is_w, apart) = (w, v, is_w, is_v, λ same. apart (sym same))
 
-pub turned : (inputs : ℕ) (words : List ℕ) (one other : KissRow) (a : ℕ) (gate : Gate) → Show inputs words one other a gate → Show inputs words other one a gate
+pub turned : (inputs : ℕ) (words : List ℕ) (one other : KissRow) (a : ℕ) (gate : Bit) → Show inputs words one other a gate → Show inputs words other one a gate
 turned inputs words one other a gate show = record {
   differ = record { place = show.differ.place; of_input = show.differ.of_input; clash = clash_turned other.cube one.cube ∙ show.differ.clash };
   values = apart_turned (row_value words gate one) (row_value words gate other) show.values;
@@ -122,18 +123,18 @@ turned inputs words one other a gate show = record {
 module _ (words : List ℕ) (one other : KissRow) (latches outputs : ℕ)
     (of_latches : (i : ℕ) → (bit latches i ≡ true) ↔ AreApart (next_bit words i one) (next_bit words i other))
     (of_outputs : (b : ℕ) → (bit outputs b ≡ true) ↔ AreApart (given_bit b one) (given_bit b other)) where
-  acts_by_values : (gate : Gate) → (acts_in latches outputs gate ≡ true) ↔ AreApart (row_value words gate one) (row_value words gate other)
+  acts_by_values : (gate : Bit) → (acts_in latches outputs gate ≡ true) ↔ AreApart (row_value words gate one) (row_value words gate other)
   acts_by_values (Latch i) = of_latches i
   acts_by_values (Output b) = of_outputs b
 
   -- the effect at the place where their cubes differ
-  pub acted_shows : (inputs place : ℕ) → clash_of one.cube other.cube ≡ 2 ^ place → place < inputs → (a : ℕ) (gate : Gate) → IsActed (inputs - 1 - place) latches outputs a gate → Show inputs words one other a gate
+  pub acted_shows : (inputs place : ℕ) → clash_of one.cube other.cube ≡ 2 ^ place → place < inputs → (a : ℕ) (gate : Bit) → IsActed (inputs - 1 - place) latches outputs a gate → Show inputs words one other a gate
   acted_shows inputs place clash within a gate acted = record {
     differ = record { place = place; of_input = omega (arith, within, acted.0); clash = clash };
     values = (acts_by_values gate).0 acted.1;
   }
 
-  pub shows_acted : (inputs place : ℕ) → clash_of one.cube other.cube ≡ 2 ^ place → (a : ℕ) (gate : Gate) → Show inputs words one other a gate → IsActed (inputs - 1 - place) latches outputs a gate
+  pub shows_acted : (inputs place : ℕ) → clash_of one.cube other.cube ≡ 2 ^ place → (a : ℕ) (gate : Bit) → Show inputs words one other a gate → IsActed (inputs - 1 - place) latches outputs a gate
   shows_acted inputs place clash a gate show =
       let at : show.differ.place ≡ place = one_place show.differ.place place (sym show.differ.clash ∙ clash) in
       (omega (arith, at, show.differ.of_input), (acts_by_values gate).1 show.values)

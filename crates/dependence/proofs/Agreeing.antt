@@ -8,7 +8,8 @@ use Rattle.cubes.proofs.Numbers.{length-symbol_of, number_below, symbol_of-numbe
 use Rattle.kiss2.specs.declared.kiss_file.KissFile.{KissFile}
 use Rattle.machine_table.specs.Pairs.{AtEachSymbol}
 use Rattle.dependence.specs.Permits.{AgreeOn, InWord, PermitsValue}
-use Rattle.dependence.specs.Inner.Asking.{GiveTheSame, IsFirstLike}
+use Rattle.dependence.specs.Bit.{GiveTheSame}
+use Rattle.dependence.specs.Inner.Asking.{IsFirstLike}
 
 -- the same bits of a set, by one mask
 pub agree_from_masks : (words : List ℕ) (set s t : ℕ) → bit_and (get_or words s 0) set ≡ bit_and (get_or words t 0) set → AgreeOn words (InWord set) s t

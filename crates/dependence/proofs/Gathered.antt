@@ -14,11 +14,11 @@ use Rattle.machine_table.specs.declared.missing.Missing.{Missing}
 use Rattle.machine_table.specs.Covering.{IsRightRow, IsSaidBy}
 use Rattle.machine_table.specs.Said.{place_of}
 use Rattle.dependence.specs.declared.effects.Effect.{Effect}
-use Rattle.dependence.specs.declared.gate.Gate.{Gate}
+use Rattle.dependence.specs.declared.bit.Bit.{Bit}
 use Rattle.dependence.specs.declared.sets.ReadSet.{ReadSet}
 use Rattle.dependence.specs.Inputs.{Matters}
 use Rattle.dependence.specs.Inner.Effects.{ActsBy, Adds, AreEffects, MattersAt, MattersBelow, ShowAcross}
-use Rattle.dependence.specs.Inner.Gates.{IsGate, value_of}
+use Rattle.dependence.specs.Bit.{IsBit, value_of}
 use Rattle.dependence.specs.Inner.Judging.{AreListed}
 use Rattle.dependence.specs.Permits.{InWord}
 use Rattle.dependence.specs.ReadRule.{Beside, IsReadRule}
@@ -56,7 +56,7 @@ matters_below F value a = (
 )
 
 -- what one gate reads
-pub read_set_from : (F : KissFile) (words : List ℕ) (effects : List Effect) (candidates : ℕ) (gate : Gate) (bits inputs : ℕ) (set : ReadSet) → IsGate F gate → AreEffects F words effects (length F.states)
+pub read_set_from : (F : KissFile) (words : List ℕ) (effects : List Effect) (candidates : ℕ) (gate : Bit) (bits inputs : ℕ) (set : ReadSet) → IsBit F gate → AreEffects F words effects (length F.states)
     → bits < 2 ^ 64 → inputs < 2 ^ 64 → IsReadRule F words (InWord candidates) (InWord bits) (value_of F words gate)
     → ((a : ℕ) → InWord inputs a ↔ ActsBy effects a gate) → AreListed set.inputs inputs 64 → AreListed set.latches bits 64 → IsReadSet F words (InWord candidates) (value_of F words gate) set
 read_set_from F words effects candidates gate bits inputs set of_gate are small_bits small_inputs rule acts listed_inputs listed_bits = record {
@@ -106,7 +106,7 @@ ones_below bits few c =
     ])
 
 -- ---- the effects of all states
-pub effects_none : (F : KissFile) (words : List ℕ) (effects : List Effect) → length effects ≡ F.inputs → F.inputs ≤ 64 → ((a : ℕ) (gate : Gate) → ActsBy effects a gate → ⊥) → AreEffects F words effects 0
+pub effects_none : (F : KissFile) (words : List ℕ) (effects : List Effect) → length effects ≡ F.inputs → F.inputs ≤ 64 → ((a : ℕ) (gate : Bit) → ActsBy effects a gate → ⊥) → AreEffects F words effects 0
 effects_none F words effects size few none = record {
   size = size;
   few = omega (arith, size, few);

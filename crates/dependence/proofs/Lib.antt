@@ -8,5 +8,6 @@ pub mod Symbols
 pub mod Adding
 pub mod Across
 pub mod Shared
+pub mod Said
 pub mod Showing
 pub mod Gathered

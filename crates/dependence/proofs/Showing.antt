@@ -1,70 +1,34 @@
 -- What the rows of a state show is what matters at the state.
-use Rattle.std.proofs.Common.{◌≡◌, ◌≢◌, ◌∙◌, ℕ, ◌+◌, ◌-◌, ◌^◌, ◌<◌, ◌≤◌, All, Bool, Contains, IsSome, List, Option, Some, None, length, get_or, inl, inr, ap, refl, sym, subst, arith}
-use Rattle.std.proofs.lemmas.Bool.{cases_lt, false≢true}
+use Rattle.std.proofs.Common.{◌≡◌, ◌≢◌, ◌∙◌, ℕ, ◌+◌, ◌-◌, ◌^◌, ◌<◌, ◌≤◌, All, Bool, Contains, List, Some, length, inl, inr, sym, subst, arith}
+use Rattle.std.proofs.lemmas.Bool.{cases_lt}
 use Rattle.std.proofs.lemmas.List.Elements.{All-contains}
 use Rattle.std.proofs.lemmas.Option.{slice_get_past}
-use Rattle.std.specs.Option.{option_map}
-use Rattle.cubes.specs.Symbol.{bit, number_of, symbol_of}
+use Rattle.cubes.specs.Symbol.{number_of, symbol_of}
 use Rattle.cubes.specs.Cube.{Holds, HoldsNumber, Meets}
 use Rattle.cubes.proofs.Held.{agrees_from_held, held_from_agrees}
 use Rattle.cubes.proofs.Meeting.{length_of_held, meets_from_clash}
 use Rattle.cubes.proofs.Numbers.{length-symbol_of, number_below, symbol_of-number_of}
 use Rattle.kiss2.specs.declared.kiss_file.KissFile.{KissFile}
 use Rattle.kiss2.specs.declared.kiss_file.KissRow.{KissRow}
-use Rattle.kiss2.specs.Machine.{given_bit}
 use Rattle.machine_table.specs.declared.missing.Missing.{Missing}
-use Rattle.machine_table.specs.declared.missing.Missing.TheVariants.{Next, Output as MissingOutput}
 use Rattle.machine_table.specs.Covering.{IsRightRow, IsSaidBy}
-use Rattle.machine_table.specs.Said.{Says, place_of}
-use Rattle.dependence.specs.declared.gate.Gate.{Gate}
-use Rattle.dependence.specs.declared.gate.Gate.TheVariants.{Latch, Output}
+use Rattle.machine_table.specs.Said.{place_of}
+use Rattle.dependence.specs.declared.bit.Bit.{Bit}
 use Rattle.dependence.specs.Inputs.{DifferAlone}
-use Rattle.dependence.specs.Inner.Effects.{MattersAt, Show, ShowAcross, row_value}
-use Rattle.dependence.specs.Inner.Gates.{IsGate, value_of}
+use Rattle.dependence.specs.Bit.{IsBit, value_of}
+use Rattle.dependence.specs.Inner.Effects.{MattersAt, Show, ShowAcross}
+use Rattle.dependence.specs.Inner.Said.{row_value}
+use Rattle.dependence.proofs.Said.{part_counted, part_of, row_gives, says_value}
 use Rattle.dependence.proofs.Symbols.{clash_of-differing, differ_alone, parted}
 
--- the part of which a gate tells
-abbrev part_of : Gate → Missing
-part_of (Latch i) = Next
-part_of (Output b) = MissingOutput b
-
-part_counted : (F : KissFile) (gate : Gate) → IsGate F gate → place_of (part_of gate) < F.outputs + 1
-part_counted F (Latch i) gate = omega arith
-part_counted F (Output b) gate = omega (arith, gate)
-
--- a value behind a next state
-mapped : (f : ℕ → Bool) (o : Option ℕ) (v : Bool) → option_map f o ≡ Some v → (t : ℕ) × (o ≡ Some t) × (f t ≡ v)
-mapped f None v is = absurd (cc)
-mapped f (Some t) v is = (t, refl, (cc))
-
-some_mapped : (f : ℕ → Bool) (o : Option ℕ) → IsSome o → (v : Bool) × (option_map f o ≡ Some v)
-some_mapped f None some = absurd (false≢true some)
-some_mapped f (Some t) some = (f t, refl)
-
-some_bit : (o : Option Bool) → IsSome o → (v : Bool) × (o ≡ Some v)
-some_bit None some = absurd (false≢true some)
-some_bit (Some v) some = (v, refl)
-
--- a row that says the part says what the gate gives
-says_value : (words : List ℕ) (gate : Gate) (row : KissRow) → Says (part_of gate) row → (v : Bool) × (row_value words gate row ≡ Some v)
-says_value words (Latch i) row says = some_mapped (λ t. bit (get_or words t 0) i) row.to says
-says_value words (Output b) row says = some_bit (given_bit b row) says
-
--- what a gate gives at each symbol of a row that says it, by its number
-gives : (F : KissFile) (words : List ℕ) (gate : Gate) (s : ℕ) (row : KissRow) → IsRightRow F s row → (v : Bool) → row_value words gate row ≡ Some v → (x : ℕ) → x < 2 ^ F.inputs → HoldsNumber row.cube x → value_of F words gate s (symbol_of F.inputs x) ≡ v
-gives F words (Latch i) s row is v says x below held =
-    let state = mapped (λ t. bit (get_or words t 0) i) row.to v says in
-    ap (λ (t : ℕ). bit (get_or words t 0) i) (is.next_state x state.0 below held state.1) ∙ state.2
-gives F words (Output b) s row is v says x below held = is.output x b v below held says
-
-module _ (F : KissFile) (words : List ℕ) (gate : Gate) (of_gate : IsGate F gate) (s : ℕ) where
+module _ (F : KissFile) (words : List ℕ) (gate : Bit) (of_gate : IsBit F gate) (s : ℕ) where
   -- at each symbol
   gives_at : (row : KissRow) → IsRightRow F s row → (v : Bool) → row_value words gate row ≡ Some v → (x : List Bool) → length x ≡ F.inputs → Holds row.cube x → value_of F words gate s x ≡ v
   gives_at row is v says x size held =
       let written : symbol_of F.inputs (number_of x) ≡ x = subst (λ (k : ℕ). symbol_of k (number_of x) ≡ x) size (symbol_of-number_of x) in
       let below : number_of x < 2 ^ F.inputs = subst (λ (k : ℕ). number_of x < 2 ^ k) size (number_below x) in
       let number : HoldsNumber row.cube (number_of x) = subst (λ (k : ℕ). Holds row.cube (symbol_of k (number_of x))) (sym is.lawful.width) (subst (Holds row.cube) (sym written) held) in
-      subst (λ (y : List Bool). value_of F words gate s y ≡ v) written (gives F words gate s row is v says (number_of x) below number)
+      subst (λ (y : List Bool). value_of F words gate s y ≡ v) written (row_gives F words gate s (number_of x) row v is below number says)
 
   -- two rows that show it
   shown_matters : (one other : KissRow) (a : ℕ) → IsRightRow F s one → IsRightRow F s other → Show F.inputs words one other a gate → MattersAt F (value_of F words gate) s a

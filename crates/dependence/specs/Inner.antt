@@ -1,6 +1,6 @@
 -- Definitions that only private functions and proofs need.
-pub mod Gates
 pub mod Asking
 pub mod Judging
+pub mod Said
 pub mod Effects
 pub mod Sets

@@ -1,4 +1,5 @@
 pub mod Permits
+pub mod Bit
 pub mod Candidates
 pub mod ReadRule
 pub mod Inputs

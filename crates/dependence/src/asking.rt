@@ -4,9 +4,9 @@ ghost use Rattle.std.specs.Prelude.{◌≡◌, ◌↔◌, ◌<◌, ◌≤◌, �
 ghost use Rattle.dependence.specs.Permits as permitted;
 ghost use Rattle.dependence.specs.Permits.{InWord, PermitsValue};
 ghost use Rattle.dependence.specs.Inner.Asking.{AreFirsts, IsFirstLike};
-ghost use Rattle.dependence.specs.Inner.Gates.{IsGate, value_of};
+ghost use Rattle.dependence.specs.Bit.{IsBit, value_of};
 
-use crate::gate::Gate;
+use crate::bit::Bit;
 use machine_table::Machine;
 use state_codes::Codes;
 
@@ -21,7 +21,7 @@ pub fn permits(m: &Machine, codes: &Codes, set: u64, i: usize) -> bool
     requires bit { i < 64 }
     ensures { IsTrue result ↔ permitted.Permits m.now codes.now.words (InWord set) i }
 {
-    permits_gate(m, codes.words.as_slice(), set, Gate::Latch(i))
+    permits_gate(m, codes.words.as_slice(), set, Bit::Latch(i))
 }
 
 /// Whether the bits of the set permit output b: any two states whose codes agree on the set have that
@@ -31,14 +31,14 @@ pub fn permits_output(m: &Machine, codes: &Codes, set: u64, b: u8) -> bool
     requires output { b < m.now.outputs }
     ensures { IsTrue result ↔ permitted.PermitsOutput m.now codes.now.words (InWord set) b }
 {
-    permits_gate(m, codes.words.as_slice(), set, Gate::Output(b))
+    permits_gate(m, codes.words.as_slice(), set, Bit::Output(b))
 }
 
 /// Whether the bits of the set permit what the gate gives. Each state is compared with the first state whose
 /// word has the same bits of the set.
-pub(crate) fn permits_gate(m: &Machine, words: &[u64], set: u64, gate: Gate) -> bool
+pub(crate) fn permits_gate(m: &Machine, words: &[u64], set: u64, gate: Bit) -> bool
     requires words { length words.now ≡ length m.now.states }
-    requires gate { IsGate m.now gate }
+    requires gate { IsBit m.now gate }
     ensures { IsTrue result ↔ PermitsValue m.now words.now (InWord set) (value_of m.now words.now gate) }
 {
     let mut firsts = [None; PLACES];

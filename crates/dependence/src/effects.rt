@@ -4,10 +4,10 @@ ghost use Rattle.std.specs.Prelude.{◌≡◌, ◌≢◌, ◌↔◌, ◌+◌, �
 ghost use Rattle.cubes.specs.Symbol.{bit};
 ghost use Rattle.kiss2.specs.Machine.{given_bit};
 ghost use Rattle.dependence.specs.Permits.{InWord};
-ghost use Rattle.dependence.specs.Inner.Gates.{HasPlace};
-ghost use Rattle.dependence.specs.Inner.Effects.{ActsBy, Adds, AreApart, AreEffects, DifferMore, HasBits, IsActed, Show, ShowAcross, ShowBeside, acts_on, next_bit};
+ghost use Rattle.dependence.specs.Inner.Effects.{ActsBy, Adds, AreApart, AreEffects, DifferMore, HasBits, IsActed, Show, ShowAcross, ShowBeside, acts_on};
+ghost use Rattle.dependence.specs.Inner.Said.{HasPlace, next_bit};
 
-use crate::gate::Gate;
+use crate::bit::Bit;
 use crate::judging::{has, with};
 use kiss2::KissRow;
 use machine_table::Machine;
@@ -52,7 +52,7 @@ pub(crate) fn effects_of(
 /// A list of no effects, one for each input.
 fn no_effects(alloc: Global, inputs: u8) -> Result<Vec<Effect>, AllocError>
     ensures size { IfOk result (λ effects. length effects.items ≡ inputs) }
-    ensures none { IfOk result (λ effects. (a : ℕ) (gate : Gate) → ActsBy effects.items a gate → ⊥) }
+    ensures none { IfOk result (λ effects. (a : ℕ) (gate : Bit) → ActsBy effects.items a gate → ⊥) }
 {
     let none = Effect {
         latches: 0,
@@ -236,7 +236,7 @@ fn lone_place(bits: u32) -> Option<u32>
 }
 
 /// The inputs that matter for the gate, input a at 2^a.
-pub(crate) fn inputs_of(effects: &[Effect], gate: Gate) -> u64
+pub(crate) fn inputs_of(effects: &[Effect], gate: Bit) -> u64
     requires few { length effects.now ≤ 64 }
     requires gate { HasPlace gate }
     ensures { (a : ℕ) → InWord result a ↔ ActsBy effects.now a gate }
@@ -252,13 +252,13 @@ pub(crate) fn inputs_of(effects: &[Effect], gate: Gate) -> u64
 
 impl Effect {
     /// Whether the effect is one on the gate.
-    fn acts_on(self, gate: Gate) -> bool
+    fn acts_on(self, gate: Bit) -> bool
         requires { HasPlace gate }
         ensures { result ≡ acts_on self gate }
     {
         match gate {
-            Gate::Latch(i) => has(self.latches, i as u32),
-            Gate::Output(b) => has(self.outputs, u32::from(b)),
+            Bit::Latch(i) => has(self.latches, i as u32),
+            Bit::Output(b) => has(self.outputs, u32::from(b)),
         }
     }
 }

@@ -1,22 +1,22 @@
 //! Which candidates a gate reads.
 
 ghost use Rattle.std.specs.Prelude.{◌≡◌, ◌↔◌, ◌<◌, ◌⊎◌, ℕ, IfOk, IsTrue, length};
-ghost use Rattle.dependence.specs.Inner.Gates.{IsGate, value_of};
+ghost use Rattle.dependence.specs.Bit.{IsBit, value_of};
 ghost use Rattle.dependence.specs.Inner.Judging.{AreListed, IsJudged};
 ghost use Rattle.dependence.specs.Permits.{InWord};
 ghost use Rattle.dependence.specs.ReadRule.{IsReadRule, Without};
 
 use crate::Numbers;
 use crate::asking::permits_gate;
-use crate::gate::Gate;
+use crate::bit::Bit;
 use machine_table::Machine;
 use std::alloc::{AllocError, Global};
 
 /// The candidates that the gate reads. They are judged from the highest down: a candidate is left out where
 /// the others that are still in the set permit the gate.
-pub(crate) fn read_bits(m: &Machine, words: &[u64], candidates: u64, gate: Gate) -> u64
+pub(crate) fn read_bits(m: &Machine, words: &[u64], candidates: u64, gate: Bit) -> u64
     requires words { length words.now ≡ length m.now.states }
-    requires gate { IsGate m.now gate }
+    requires gate { IsBit m.now gate }
     ensures { IsReadRule m.now words.now (InWord candidates) (InWord result) (value_of m.now words.now gate) }
 {
     let mut set = candidates;
@@ -27,9 +27,9 @@ pub(crate) fn read_bits(m: &Machine, words: &[u64], candidates: u64, gate: Gate)
 }
 
 /// The set without bit c if that permits the gate, otherwise the set.
-fn judged(m: &Machine, words: &[u64], set: u64, c: u32, gate: Gate) -> u64
+fn judged(m: &Machine, words: &[u64], set: u64, c: u32, gate: Bit) -> u64
     requires words { length words.now ≡ length m.now.states }
-    requires gate { IsGate m.now gate }
+    requires gate { IsBit m.now gate }
     requires bit { c < 64 }
     ensures { IsJudged m.now words.now (value_of m.now words.now gate) set c result }
 {

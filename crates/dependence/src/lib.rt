@@ -3,20 +3,21 @@
 //! The codes of the states are given, and with them the bits that the gate of each latch may read, its
 //! candidates. A set of bits permits a latch where states whose codes agree on it have next states whose
 //! codes agree at that latch, and an output where such states have that output equal. [`permits`] and
-//! [`permits_output`] decide it.
+//! [`permits_output`] decide it. A [`Bit`] is a latch or an output, and stands for its gate.
 //!
 //! [`reads`] gives each gate a [`ReadSet`]. A candidate is read exactly where the candidates below it and the
 //! read ones above it do not permit, so that none can be left out. An input is read where some state and two
 //! symbols that differ in it alone give different values.
 //!
-//! The definitions are in `specs/`: `Permits` has what a set permits, `Candidates` which bits a gate may
-//! read, `ReadRule` which of them it reads and that it can spare none, and `Inputs` where an input matters.
-//! `Reads` puts them together. The functions of `laws` promise what follows from them.
+//! The definitions are in `specs/`: `Permits` has what a set permits, `Bit` what the gate of a bit gives,
+//! `Candidates` which bits a gate may read, `ReadRule` which of them it reads and that it can spare none, and
+//! `Inputs` where an input matters. `Reads` puts them together. The functions of `laws` promise what follows
+//! from them.
 #![tactic(auto)]
 
 mod asking;
+mod bit;
 mod effects;
-mod gate;
 mod judging;
 mod laws;
 mod numbers;
@@ -24,6 +25,7 @@ mod reading;
 mod sets;
 
 pub use asking::{permits, permits_output};
+pub use bit::Bit;
 pub use laws::rule_is_irredundant;
 pub use numbers::Numbers;
 pub use reading::reads;

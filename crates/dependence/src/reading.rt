@@ -3,15 +3,16 @@
 ghost use Rattle.std.specs.Prelude.{ℕ, ◌≡◌, ◌↔◌, ◌<◌, ◌≤◌, All, IfOk, IsTrue, length, slice_index};
 ghost use Rattle.state_codes.specs.Code.{IsCode};
 ghost use Rattle.state_codes.specs.Split.{IsPart};
+ghost use Rattle.dependence.specs.Bit.{IsBit, value_of};
 ghost use Rattle.dependence.specs.Candidates.{IsBitOfCode, IsCandidate, IsOpenTo, MayReadPart};
 ghost use Rattle.dependence.specs.Inner.Effects.{AreEffects};
-ghost use Rattle.dependence.specs.Inner.Gates.{HasPlace, IsGate, value_of};
+ghost use Rattle.dependence.specs.Inner.Said.{HasPlace};
 ghost use Rattle.dependence.specs.Inner.Sets.{AreLatchSets, AreOutputSets};
 ghost use Rattle.dependence.specs.Permits.{InWord};
 ghost use Rattle.dependence.specs.Reads.{AreReads, IsReadSet};
 
+use crate::bit::Bit;
 use crate::effects::{Effect, effects_of, inputs_of};
-use crate::gate::Gate;
 use crate::judging::{numbers_of, read_bits, with};
 use crate::{ReadSet, ReadSets, Reads};
 use machine_table::Machine;
@@ -53,7 +54,7 @@ fn latch_sets(
     let mut sets = ReadSets::new(alloc);
     for i in 0..codes.bits {
         let candidates = candidates_of(split, codes, i);
-        sets.push(read_set(alloc, m, codes, effects, candidates, Gate::Latch(i))?)?;
+        sets.push(read_set(alloc, m, codes, effects, candidates, Bit::Latch(i))?)?;
     }
     Ok(sets)
 }
@@ -73,7 +74,7 @@ fn output_sets(
     let mut sets = ReadSets::new(alloc);
     let candidates = bits_below(codes.bits);
     for b in 0..m.outputs() {
-        sets.push(read_set(alloc, m, codes, effects, candidates, Gate::Output(b))?)?;
+        sets.push(read_set(alloc, m, codes, effects, candidates, Bit::Output(b))?)?;
     }
     Ok(sets)
 }
@@ -85,10 +86,10 @@ fn read_set(
     codes: &Codes,
     effects: &[Effect],
     candidates: u64,
-    gate: Gate,
+    gate: Bit,
 ) -> Result<ReadSet, AllocError>
     requires words { length codes.now.words ≡ length m.now.states }
-    requires gate { IsGate m.now gate }
+    requires gate { IsBit m.now gate }
     requires place { HasPlace gate }
     requires effects { AreEffects m.now codes.now.words effects.now (length m.now.states) }
     ensures { IfOk result (IsReadSet m.now codes.now.words (InWord candidates) (value_of m.now codes.now.words gate)) }

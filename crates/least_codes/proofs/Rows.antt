@@ -11,7 +11,7 @@ use Rattle.machine_table.specs.Covering.{IsImage}
 use Rattle.machine_table.specs.Pairs.{HaveOneBit}
 use Rattle.machine_table.specs.Staying.{NeverLeaves}
 use Rattle.dependence.specs.Permits.{next_value}
-use Rattle.dependence.specs.Inner.Asking.{GiveTheSame}
+use Rattle.dependence.specs.Bit.{GiveTheSame}
 use Rattle.dependence.proofs.Agreeing.{same_each}
 use Rattle.least_codes.specs.declared.two_states.TwoStates.{TwoStates}
 use Rattle.least_codes.specs.declared.table.Images.{Images}

@@ -1,4 +1,3 @@
-pub mod Bits
 pub mod LeastReads
 pub mod Cost
 pub mod LeastCode

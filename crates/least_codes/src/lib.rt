@@ -21,7 +21,6 @@
 //! where its symbols lead them.
 #![tactic(auto)]
 
-mod bit;
 mod bit_parts;
 mod choice;
 mod code;
@@ -32,7 +31,7 @@ mod reads;
 mod table;
 mod two_states;
 
-pub use bit::Bit;
+pub use dependence::Bit;
 pub use laws::{
     all_bits_permit, choice_is_one, least_code_exists, least_reads_are_one, parts_tell_all,
     rule_gives_least,

@@ -1,13 +1,13 @@
 //! The least sets of bits that permit what a gate gives.
 
 ghost use Rattle.std.specs.Prelude.{◌≡◌, IfOk, length};
+ghost use Rattle.dependence.specs.Bit.{IsBit, value_of};
 ghost use Rattle.dependence.specs.Permits.{InWord, PermitsValue};
-ghost use Rattle.least_codes.specs.Bits.{IsBit, value_of};
 ghost use Rattle.least_codes.specs.LeastReads.{IsLeastReadSet};
 
-use crate::Bit;
 use crate::choice::{Question, least_choice};
 use crate::two_states::states_apart;
+use dependence::Bit;
 use machine_table::Machine;
 use state_codes::Codes;
 use std::alloc::{AllocError, Global};

@@ -1,11 +1,10 @@
 //! Two states at a time.
 
 ghost use Rattle.std.specs.Prelude.{◌≡◌, ◌↔◌, ◌+◌, ◌<◌, ℕ, All, Contains, IfOk, IsTrue, OnOk, length};
-ghost use Rattle.dependence.specs.Inner.Asking.{GiveTheSame};
-ghost use Rattle.least_codes.specs.Bits.{IsBit, value_of};
+ghost use Rattle.dependence.specs.Bit.{IsBit, value_of};
 ghost use Rattle.least_codes.specs.Inner.Apart.{AreApart, ArePairs, IsPair};
 
-use crate::Bit;
+use dependence::Bit;
 use machine_table::Machine;
 use std::alloc::{AllocError, Global};
 
@@ -52,7 +51,7 @@ pub(crate) fn states_apart(
     let pairs = all_pairs(alloc, m.states())?;
     let mut apart = Vec::new(alloc);
     for pair in &pairs {
-        if !bit.agrees(m, words, pair.s, pair.t) {
+        if !bit.gives_the_same(m, words, pair.s, pair.t) {
             apart.push(*pair)?;
         }
     }

@@ -1,5 +1,5 @@
 -- Gates that are added one by one, the latches, and the network of both.
-use Rattle.std.proofs.Common.{◌≡◌, ℕ, zero, suc, ◌+◌, ◌<◌, inl, inr, Bool, true, false, if◌then◌else◌, Option, Some, List, [], ◌∷◌, ◌++◌, length, map, get_or, slice_get, slice_index, take, All, IsPermutation, refl, ap, sym, ◌∙◌, subst, arith, length-append}
+use Rattle.std.proofs.Common.{◌≡◌, ℕ, zero, suc, ◌+◌, ◌<◌, inl, inr, Bool, true, false, if◌then◌else◌, Option, Some, List, [], ◌∷◌, ◌++◌, length, map, get_or, slice_get, slice_index, take, All, refl, ap, sym, ◌∙◌, subst, arith, length-append}
 use Rattle.std.specs.Cmp.Lexicographic.{slice_cmp}
 use Rattle.std.specs.List.{range_with_len}
 use Rattle.std.specs.List.Sorted.{IsSorted}
@@ -12,6 +12,7 @@ use Rattle.std.proofs.lemmas.Simd.{map-map}
 use Rattle.cubes.specs.Symbol.{bit}
 use Rattle.dependence.specs.declared.sets.ReadSet.{ReadSet}
 use Rattle.dependence.specs.declared.sets.Reads.{Reads}
+use Rattle.dependence.specs.Bit.{value_of}
 use Rattle.dependence.specs.Permits.{next_value, output_value}
 use Rattle.gate_rows.specs.Covers.{IsGoodCover}
 use Rattle.gate_rows.proofs.Items.{get_behind, get_cases, get_first}
@@ -22,12 +23,11 @@ use Rattle.net_core.specs.declared.Network.{Network}
 use Rattle.net_core.specs.declared.SignalNames.{SignalNames}
 use Rattle.net_core.specs.declared.Start.TheVariants.{Zero, One}
 use Rattle.net_core.specs.Step.{bit_of_start}
-use Rattle.realise.specs.declared.signals.Signal.{Signal}
+use Rattle.dependence.specs.declared.bit.Bit.{Bit}
 use Rattle.realise.specs.Realised.{AreEnough, IsGateFor, IsRealised, name_at}
 use Rattle.realise.specs.Rows.{GivesAt}
 use Rattle.realise.specs.Inner.Adding.{AddsGates, IsGateAt}
 use Rattle.realise.specs.Inner.Lists.{width_of}
-use Rattle.realise.specs.Inner.Signals.{value_of}
 use Rattle.realise.specs.Inner.Latches.{AreLatches, latch_of}
 
 -- one gate more
@@ -128,6 +128,10 @@ pub item_there : {X : Type 0} (xs items : List X) (i : ℕ) (x : X) → items �
 item_there {X} xs items i x same inside is =
     subst (λ (list : List X). slice_get list i ≡ Some x) same (slice_get-get_or items i x inside ∙ ap (λ (y : X). Some y) (sym is))
 
+pub item_numbered : {X : Type 0} (xs items : List X) (i number : ℕ) (x : X) → items ≡ xs → number ≡ i → i < length xs → x ≡ get_or items number x → slice_get xs i ≡ Some x
+item_numbered {X} xs items i number x same at inside is =
+    subst (λ (n : ℕ). slice_get xs n ≡ Some x) at (item_there xs items number x same (omega (arith, ap length same)) is)
+
 pub items_more : {X : Type 0} (xs : List X) (i : ℕ) (x : X) → slice_get xs i ≡ Some x → take (i + 1) xs ≡ take i xs ++ x ∷ []
 items_more {X} xs i x is = take_more xs i x (slice_get_within xs i x is) ∙ ap (λ (y : X). take i xs ++ y ∷ []) (get_or_from_slice_get xs i x x is)
 
@@ -157,10 +161,10 @@ gate_of F words names set value name gate on output inputs cover widths in_order
       in_order = in_order;
     }
 
-pub signal_gate : (F : KissFile) (words used : List ℕ) (names : SignalNames) (set : ReadSet) (signal : Signal) (name : List ℕ) (gate : Gate)
+pub bit_gate : (F : KissFile) (words used : List ℕ) (names : SignalNames) (set : ReadSet) (bit : Bit) (name : List ℕ) (gate : Gate)
     → gate.on ≡ true → gate.output ≡ name → gate.inputs ≡ map (name_at names.inputs) set.inputs ++ map (name_at names.latch_outputs) set.latches → used ≡ words
-    → IsGoodCover (GivesAt F used set (value_of F used signal) true) (GivesAt F used set (value_of F used signal) false) gate.rows → All (λ row. length row ≡ width_of set) gate.rows
-    → IsSorted (slice_cmp nat_cmp) gate.rows → IsGateFor F words names set (value_of F words signal) name gate
-signal_gate F words used names set signal name gate on output inputs is_used cover widths in_order =
-    gate_of F words names set (value_of F words signal) name gate on output inputs
-    (subst (λ (list : List ℕ). IsGoodCover (GivesAt F list set (value_of F list signal) true) (GivesAt F list set (value_of F list signal) false) gate.rows) is_used cover) widths in_order
+    → IsGoodCover (GivesAt F used set (value_of F used bit) true) (GivesAt F used set (value_of F used bit) false) gate.rows → All (λ row. length row ≡ width_of set) gate.rows
+    → IsSorted (slice_cmp nat_cmp) gate.rows → IsGateFor F words names set (value_of F words bit) name gate
+bit_gate F words used names set bit name gate on output inputs is_used cover widths in_order =
+    gate_of F words names set (value_of F words bit) name gate on output inputs
+    (subst (λ (list : List ℕ). IsGoodCover (GivesAt F list set (value_of F list bit) true) (GivesAt F list set (value_of F list bit) false) gate.rows) is_used cover) widths in_order

@@ -1,6 +1,5 @@
 -- Definitions that only private functions and proofs need.
 pub mod Free
-pub mod Signals
 pub mod Filled
 pub mod Lists
 pub mod Latches

@@ -2,18 +2,17 @@
 
 ghost use Rattle.std.specs.Prelude.{◌≡◌, ◌<◌, ◌≤◌, ◌++◌, if◌then◌else◌, All, IfOk, OnOk, length, map, slice_index};
 ghost use Rattle.net_core.specs.declared.Start.TheVariants.{Zero, One};
+ghost use Rattle.dependence.specs.Bit.{IsBit, value_of};
 ghost use Rattle.dependence.specs.Permits.{next_value, output_value};
 ghost use Rattle.realise.specs.Realised.{AreCounted, AreEnough, IsEnough, IsGateFor, IsRealised, IsWithin, name_at};
 ghost use Rattle.realise.specs.Inner.Adding.{AddsGates};
 ghost use Rattle.realise.specs.Inner.Filled.{AreFilled};
-ghost use Rattle.realise.specs.Inner.Signals.{IsAmong, value_of};
 ghost use Rattle.realise.specs.Inner.Latches.{AreLatches, latch_of};
 
 use crate::copying::{copied, copied_name};
 use crate::filled::state_rows;
 use crate::lists::gate_rows_of;
-use crate::signals::Signal;
-use dependence::{ReadSet, Reads};
+use dependence::{Bit, ReadSet, Reads};
 use gate_rows::bit;
 use hs_io::{Name, Names};
 use kiss2::KissRow;
@@ -120,7 +119,7 @@ fn add_latch_gates(
 {
     for (i, set) in reads.latches.as_slice().iter().enumerate() {
         let name = name_from(alloc, &names.latch_inputs, i)?;
-        gates.push(gate(alloc, m, codes, names, filled, set, Signal::Next(i), name)?)?;
+        gates.push(gate(alloc, m, codes, names, filled, set, Bit::Latch(i), name)?)?;
     }
     Ok(())
 }
@@ -142,14 +141,15 @@ fn add_output_gates(
     requires filled { AreFilled m.now filled.now }
     ensures { OnOk result (AddsGates m.now codes.now.words names.now (output_value m.now) names.now.outputs reads.now.outputs gates.old gates.new) }
 {
-    for (b, set) in reads.outputs.as_slice().iter().enumerate() {
-        let name = name_from(alloc, &names.outputs, b)?;
-        gates.push(gate(alloc, m, codes, names, filled, set, Signal::Output(b), name)?)?;
+    for b in 0..m.outputs() {
+        let set = &reads.outputs.as_slice()[usize::from(b)];
+        let name = name_from(alloc, &names.outputs, usize::from(b))?;
+        gates.push(gate(alloc, m, codes, names, filled, set, Bit::Output(b), name)?)?;
     }
     Ok(())
 }
 
-/// The gate of a signal, with this name for its output.
+/// The gate of a bit, with this name for its output.
 fn gate(
     alloc: Global,
     m: &Machine,
@@ -157,7 +157,7 @@ fn gate(
     names: &SignalNames,
     filled: &[KissRow],
     set: &ReadSet,
-    signal: Signal,
+    bit: Bit,
     name: Name,
 ) -> Result<Gate, AllocError>
     requires words { length codes.now.words ≡ length m.now.states }
@@ -165,9 +165,9 @@ fn gate(
     requires names { AreCounted m.now codes.now.bits names.now }
     requires filled { AreFilled m.now filled.now }
     requires within { IsWithin m.now.inputs codes.now.bits set.now }
-    requires enough { IsEnough m.now codes.now.words (value_of m.now codes.now.words signal) set.now }
-    requires signal { IsAmong codes.now.bits m.now.outputs signal }
-    ensures { IfOk result (IsGateFor m.now codes.now.words names.now set.now (value_of m.now codes.now.words signal) name) }
+    requires enough { IsEnough m.now codes.now.words (value_of m.now codes.now.words bit) set.now }
+    requires bit { IsBit m.now bit }
+    ensures { IfOk result (IsGateFor m.now codes.now.words names.now set.now (value_of m.now codes.now.words bit) name) }
 {
     let rows = gate_rows_of(
         alloc,
@@ -176,7 +176,7 @@ fn gate(
         codes.words.as_slice(),
         codes.bits,
         set,
-        signal,
+        bit,
     )?;
     Ok(Gate {
         inputs: listed_names(alloc, names, set)?,

@@ -20,7 +20,7 @@ mod filled;
 mod laws;
 mod lists;
 mod own_names;
-mod signals;
+mod said;
 
 pub use building::network;
 pub use laws::{carried_answers, equal_reads, names_apart, realised_carries, realised_is_flat};

@@ -4,16 +4,17 @@ ghost use Rattle.std.specs.Prelude.{◌≡◌, ◌<◌, ◌≤◌, All, IfOk, le
 ghost use Rattle.std.specs.Cmp.Lexicographic.{slice_cmp};
 ghost use Rattle.std.specs.List.Sorted.{IsSorted};
 ghost use Rattle.std.specs.Ordering.{nat_cmp};
+ghost use Rattle.dependence.specs.Bit.{IsBit, value_of};
+ghost use Rattle.dependence.specs.Inner.Said.{HasPlace};
 ghost use Rattle.gate_rows.specs.Covers.{IsGoodCover};
 ghost use Rattle.realise.specs.Realised.{IsEnough, IsWithin};
 ghost use Rattle.realise.specs.Rows.{GivesAt};
 ghost use Rattle.realise.specs.Inner.Lists.{HoldWhatIsRead, width_of};
 ghost use Rattle.realise.specs.Inner.Filled.{AreFilled, IsRight};
-ghost use Rattle.realise.specs.Inner.Signals.{IsAmong, number_of, value_of};
 
-use crate::signals::{Signal, says_bit};
+use crate::said::says_bit;
 use cover_logic::Term;
-use dependence::ReadSet;
+use dependence::{Bit, ReadSet};
 use gate_rows::{rows, term_of};
 use hs_io::Names;
 use kiss2::KissRow;
@@ -28,22 +29,22 @@ pub fn gate_rows_of(
     words: &[u64],
     bits: usize,
     set: &ReadSet,
-    signal: Signal,
+    bit: Bit,
 ) -> Result<Names, AllocError>
     requires filled { AreFilled m.now filled.now }
     requires words { length words.now ≡ length m.now.states }
     requires short { bits ≤ 64 }
     requires within { IsWithin m.now.inputs bits set.now }
-    requires enough { IsEnough m.now words.now (value_of m.now words.now signal) set.now }
-    requires signal { IsAmong bits m.now.outputs signal }
-    ensures cover { IfOk result (IsGoodCover (GivesAt m.now words.now set.now (value_of m.now words.now signal) true)
-        (GivesAt m.now words.now set.now (value_of m.now words.now signal) false)) }
+    requires enough { IsEnough m.now words.now (value_of m.now words.now bit) set.now }
+    requires bit { IsBit m.now bit }
+    ensures cover { IfOk result (IsGoodCover (GivesAt m.now words.now set.now (value_of m.now words.now bit) true)
+        (GivesAt m.now words.now set.now (value_of m.now words.now bit) false)) }
     ensures widths { IfOk result (All (λ row. length row ≡ width_of set.now)) }
     ensures in_order { IfOk result (IsSorted (slice_cmp nat_cmp)) }
 {
     let _limits = (m.inputs(), m.outputs());
-    let on = terms(alloc, m, filled, words, set, signal, true)?;
-    let off = terms(alloc, m, filled, words, set, signal, false)?;
+    let on = terms(alloc, m, filled, words, set, bit, true)?;
+    let off = terms(alloc, m, filled, words, set, bit, false)?;
     rows(alloc, &on, &off, column_count(set) as u8)
 }
 
@@ -62,20 +63,20 @@ fn terms(
     filled: &[KissRow],
     words: &[u64],
     set: &ReadSet,
-    signal: Signal,
+    bit: Bit,
     given: bool,
 ) -> Result<Vec<Term>, AllocError>
     requires filled { All (IsRight m.now) filled.now }
     requires words { length words.now ≡ length m.now.states }
     requires within { IsWithin m.now.inputs 64 set.now }
     requires width { width_of set.now ≤ 128 }
-    requires signal { number_of signal < 64 }
-    ensures { IfOk result (λ terms. HoldWhatIsRead words.now set.now signal given filled.now terms.items) }
+    requires place { HasPlace bit }
+    ensures { IfOk result (λ terms. HoldWhatIsRead words.now set.now bit given filled.now terms.items) }
 {
     let _inputs = m.inputs();
     let mut terms = Vec::new(alloc);
     for at in filled {
-        if says_bit(at, words, signal, given) {
+        if says_bit(at, words, bit, given) {
             terms.push(term_of(
                 &at.cube,
                 set.inputs.as_slice(),

@@ -1,10 +1,5 @@
 -- States that are compared because their words have the same bits of a set.
-use Rattle.std.specs.Prelude.{◌≡◌, ◌≢◌, ℕ, ◌<◌, ◌≤◌, ◌%◌, Bool, List, Option, Some, bit_and, length, slice_get, slice_index}
-use Rattle.kiss2.specs.declared.kiss_file.KissFile.{KissFile}
-
--- a value is the same at two states, for each symbol
-abbrev pub GiveTheSame : KissFile → (ℕ → List Bool → Bool) → ℕ → ℕ → Type 0
-GiveTheSame F value s t = (x : List Bool) → length x ≡ F.inputs → value s x ≡ value t x
+use Rattle.std.specs.Prelude.{◌≡◌, ◌≢◌, ℕ, ◌<◌, ◌≤◌, ◌%◌, List, Option, Some, bit_and, slice_get, slice_index}
 
 -- t is the first state whose word has the same bits of the set as the word of s
 pub record IsFirstLike (words : List ℕ) (set s t : ℕ) : Type 0 where

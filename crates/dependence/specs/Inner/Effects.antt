@@ -1,38 +1,28 @@
 -- For which gates each input matters.
-use Rattle.std.specs.Prelude.{◌≡◌, ◌≢◌, ◌⊎◌, ◌↔◌, ℕ, ◌+◌, ◌^◌, ◌<◌, ◌≤◌, Bool, true, Contains, List, Option, length, slice_get, slice_index, Some, bit_xor}
+use Rattle.std.specs.Prelude.{◌≡◌, ◌≢◌, ◌⊎◌, ◌↔◌, ℕ, ◌+◌, ◌^◌, ◌<◌, ◌≤◌, Bool, true, Contains, List, Option, length, slice_get, Some, bit_xor}
 use Rattle.std.specs.Int.{bit_at}
-use Rattle.std.specs.Option.{option_map}
 use Rattle.cubes.specs.Symbol.{bit}
 use Rattle.cubes.specs.Inner.Region.{clash_of}
 use Rattle.kiss2.specs.declared.kiss_file.KissFile.{KissFile}
-use Rattle.kiss2.specs.Machine.{given_bit}
 use Rattle.kiss2.specs.declared.kiss_file.KissRow.{KissRow}
 use Rattle.dependence.specs.declared.effects.Effect.{Effect}
-use Rattle.dependence.specs.declared.gate.Gate.{Gate}
-use Rattle.dependence.specs.declared.gate.Gate.TheVariants.{Latch, Output}
+use Rattle.dependence.specs.declared.bit.Bit.{Bit}
+use Rattle.dependence.specs.declared.bit.Bit.TheVariants.{Latch, Output}
+use Rattle.dependence.specs.Bit.{IsBit, value_of}
 use Rattle.dependence.specs.Inputs.{DifferAlone}
-use Rattle.dependence.specs.Inner.Gates.{IsGate, value_of}
+use Rattle.dependence.specs.Inner.Said.{row_value}
 
 -- the effect is one on the gate
-abbrev pub acts_on : Effect → Gate → Bool
+abbrev pub acts_on : Effect → Bit → Bool
 acts_on effect (Latch i) = bit effect.latches i
 acts_on effect (Output b) = bit effect.outputs b
-
--- the bit of the word of the next state that a row names, if it names one
-abbrev pub next_bit : List ℕ → ℕ → KissRow → Option Bool
-next_bit words i row = option_map (λ t. bit (slice_index words t) i) row.to
-
--- what the gate gives at each symbol of a row, if the row says it
-abbrev pub row_value : List ℕ → Gate → KissRow → Option Bool
-row_value words (Latch i) row = next_bit words i row
-row_value words (Output b) row = given_bit b row
 
 -- both are given, and they differ
 abbrev pub AreApart : Option Bool → Option Bool → Type 0
 AreApart first second = (v w : Bool) × (first ≡ Some v) × (second ≡ Some w) × (v ≢ w)
 
 -- the list of effects says that input a matters for the gate
-pub record ActsBy (effects : List Effect) (a : ℕ) (gate : Gate) : Type 0 where
+pub record ActsBy (effects : List Effect) (a : ℕ) (gate : Bit) : Type 0 where
   pub effect : Effect
   pub there : slice_get effects a ≡ Some effect
   pub acts : acts_on effect gate ≡ true
@@ -44,18 +34,18 @@ pub record DifferAt (inputs : ℕ) (one other : KissRow) (a : ℕ) : Type 0 wher
   pub clash : clash_of one.cube other.cube ≡ 2 ^ place
 
 -- two rows of one state show that input a matters for the gate
-pub record Show (inputs : ℕ) (words : List ℕ) (one other : KissRow) (a : ℕ) (gate : Gate) : Type 0 where
+pub record Show (inputs : ℕ) (words : List ℕ) (one other : KissRow) (a : ℕ) (gate : Bit) : Type 0 where
   pub differ : DifferAt inputs one other a
   pub values : AreApart (row_value words gate one) (row_value words gate other)
 
 -- the row and one of the others show it
-pub record ShowBeside (inputs : ℕ) (words : List ℕ) (others : List KissRow) (row : KissRow) (a : ℕ) (gate : Gate) : Type 0 where
+pub record ShowBeside (inputs : ℕ) (words : List ℕ) (others : List KissRow) (row : KissRow) (a : ℕ) (gate : Bit) : Type 0 where
   pub other : KissRow
   pub among : Contains others other
   pub show : Show inputs words other row a gate
 
 -- one of the rows and one of the others show it
-pub record ShowAcross (inputs : ℕ) (words : List ℕ) (rows others : List KissRow) (a : ℕ) (gate : Gate) : Type 0 where
+pub record ShowAcross (inputs : ℕ) (words : List ℕ) (rows others : List KissRow) (a : ℕ) (gate : Bit) : Type 0 where
   pub row : KissRow
   pub among : Contains rows row
   pub shown : ShowBeside inputs words others row a gate
@@ -70,20 +60,20 @@ abbrev pub DifferMore : List KissRow → List KissRow → Type 0
 DifferMore rows others = (row other : KissRow) (place : ℕ) → Contains rows row → Contains others other → clash_of other.cube row.cube ≢ 2 ^ place
 
 -- the gate is that of one of these latches or outputs, given as bits of a word
-abbrev pub acts_in : ℕ → ℕ → Gate → Bool
+abbrev pub acts_in : ℕ → ℕ → Bit → Bool
 acts_in latches outputs (Latch i) = bit latches i
 acts_in latches outputs (Output b) = bit outputs b
 
 -- the input is this one, and the gate is that of one of these latches or outputs
-abbrev pub IsActed : ℕ → ℕ → ℕ → ℕ → Gate → Type 0
+abbrev pub IsActed : ℕ → ℕ → ℕ → ℕ → Bit → Type 0
 IsActed input latches outputs a gate = (a ≡ input) × (acts_in latches outputs gate ≡ true)
 
 -- what is shown was added to the list of effects, and nothing else was
-pub record Adds (old new : List Effect) (Shown : ℕ → Gate → Type 0) : Type 0 where
+pub record Adds (old new : List Effect) (Shown : ℕ → Bit → Type 0) : Type 0 where
   pub size : length new ≡ length old
-  pub keeps : (a : ℕ) (gate : Gate) → ActsBy old a gate → ActsBy new a gate
-  pub adds : (a : ℕ) (gate : Gate) → Shown a gate → ActsBy new a gate
-  pub only : (a : ℕ) (gate : Gate) → ActsBy new a gate → ActsBy old a gate ⊎ Shown a gate
+  pub keeps : (a : ℕ) (gate : Bit) → ActsBy old a gate → ActsBy new a gate
+  pub adds : (a : ℕ) (gate : Bit) → Shown a gate → ActsBy new a gate
+  pub only : (a : ℕ) (gate : Bit) → ActsBy new a gate → ActsBy old a gate ⊎ Shown a gate
 
 -- at this state two symbols that differ at the input alone give different values
 pub record MattersAt (F : KissFile) (value : ℕ → List Bool → Bool) (s a : ℕ) : Type 0 where
@@ -103,4 +93,4 @@ pub record MattersBelow (F : KissFile) (value : ℕ → List Bool → Bool) (s a
 pub record AreEffects (F : KissFile) (words : List ℕ) (effects : List Effect) (s : ℕ) : Type 0 where
   pub size : length effects ≡ F.inputs
   pub few : length effects ≤ 64
-  pub each : (a : ℕ) (gate : Gate) → IsGate F gate → ActsBy effects a gate ↔ MattersBelow F (value_of F words gate) s a
+  pub each : (a : ℕ) (gate : Bit) → IsBit F gate → ActsBy effects a gate ↔ MattersBelow F (value_of F words gate) s a

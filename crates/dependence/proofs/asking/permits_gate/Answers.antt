@@ -1,6 +1,6 @@
 use Rattle.std.proofs.Common.{ℕ, List, Bool, length, refl, sym, ◌∙◌, arith}
 use Rattle.std.proofs.lemmas.Bool.{true≢false}
-use Rattle.dependence.specs.Inner.Gates.{value_of}
+use Rattle.dependence.specs.Bit.{value_of}
 use Rattle.dependence.proofs.Agreeing.{FirstGives, FirstsGive, first_itself, firsts_more, permits_from_firsts, same_from_permits}
 use Rattle.dependence.proofs.Firsts.{firsts_none}
 use Rattle.dependence.proofs.asking.permits_gate.Goals as goal

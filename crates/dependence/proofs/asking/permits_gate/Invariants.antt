@@ -1,5 +1,5 @@
 use Rattle.dependence.specs.Inner.Asking.{AreFirsts}
-use Rattle.dependence.specs.Inner.Gates.{value_of}
+use Rattle.dependence.specs.Bit.{value_of}
 use Rattle.dependence.proofs.Agreeing.{FirstsGive}
 use Rattle.dependence.proofs.asking.permits_gate.Given as goal
 

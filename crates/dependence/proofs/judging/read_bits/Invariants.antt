@@ -1,4 +1,4 @@
-use Rattle.dependence.specs.Inner.Gates.{value_of}
+use Rattle.dependence.specs.Bit.{value_of}
 use Rattle.dependence.specs.Inner.Judging.{AreJudgedFrom}
 use Rattle.dependence.proofs.judging.read_bits.Given as goal
 

@@ -1,5 +1,5 @@
 use Rattle.std.proofs.Common.{List, ℕ, subst, arith}
-use Rattle.dependence.specs.Inner.Gates.{value_of}
+use Rattle.dependence.specs.Bit.{value_of}
 use Rattle.dependence.specs.Permits.{InWord}
 use Rattle.dependence.specs.ReadRule.{IsReadRule}
 use Rattle.dependence.proofs.Gathered.{read_set_from}

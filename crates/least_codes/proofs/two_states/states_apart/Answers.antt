@@ -1,11 +1,11 @@
 use Rattle.std.proofs.Common.{◌+◌, ◌∙◌, List, [], subst, sym, ap, take, length}
 use Rattle.std.proofs.lemmas.Bool.{true≢false}
 use Rattle.least_codes.specs.declared.two_states.TwoStates.{TwoStates}
-use Rattle.least_codes.specs.Bits.{value_of}
+use Rattle.dependence.specs.Bit.{value_of}
 use Rattle.least_codes.specs.Inner.Apart.{AreApartOf, ArePairs}
 use Rattle.least_codes.proofs.Pairs.{apart_all, apart_differ, apart_none, apart_same}
 use Rattle.least_codes.proofs.two_states.states_apart.Goals as goal
-use Rattle.least_codes.proofs.two_states.states_apart.Goals.{then-not-agrees+in_ok-push, else-not-agrees}
+use Rattle.least_codes.proofs.two_states.states_apart.Goals.{then-not-gives_the_same+in_ok-push, else-not-gives_the_same}
 
 pub loop-pair-init : goal.loop-pair-init
 loop-pair-init c =
@@ -19,15 +19,15 @@ pub loop-pair-preserved : goal.loop-pair-preserved
 loop-pair-preserved c =
     let pairs : ArePairs c.deref-pair-items.result.now (length c.args.m.now.states) =
     subst (λ (list : List TwoStates). ArePairs list (length c.args.m.now.states)) (sym c.deref-pair-items.ensures.value) (subst (ArePairs c.in_ok-pairs.pairs.items) c.states.ensures.count c.in_ok-pairs.ensures) in
-    elim c.if-not-agrees.branch [
-      | then-not-agrees+in_ok-push w ↦
+    elim c.if-not-gives_the_same.branch [
+      | then-not-gives_the_same+in_ok-push w ↦
           subst (AreApartOf c.args.m.now (value_of c.args.m.now c.args.words.now c.args.bit) (take (c.loop-pair.pair-index + 1) c.deref-pair-items.result.now)) (sym (ap (λ v. v.items) w.apart-is ∙ w.in_ok-push.ensures.items))
           (apart_differ c.args.m.now (value_of c.args.m.now c.args.words.now c.args.bit) c.deref-pair-items.result.now c.loop-pair.apart.items c.loop-pair.pair-index _ c.loop-pair-test.true c.loop-pair.invariant
-          (pairs.lawful c.loop-pair.pair-index _ c.loop-pair-test.true) (λ same. true≢false (sym (c.agrees.ensures.1 same) ∙ w.if-not-agrees.true)))
-      | else-not-agrees w ↦
+          (pairs.lawful c.loop-pair.pair-index _ c.loop-pair-test.true) (λ same. true≢false (sym (c.gives_the_same.ensures.1 same) ∙ w.if-not-gives_the_same.true)))
+      | else-not-gives_the_same w ↦
           subst (AreApartOf c.args.m.now (value_of c.args.m.now c.args.words.now c.args.bit) (take (c.loop-pair.pair-index + 1) c.deref-pair-items.result.now)) (ap (λ v. v.items) (sym w.apart-is))
           (apart_same c.args.m.now (value_of c.args.m.now c.args.words.now c.args.bit) c.deref-pair-items.result.now c.loop-pair.apart.items c.loop-pair.pair-index _ c.loop-pair-test.true c.loop-pair.invariant
-          (c.agrees.ensures.0 w.if-not-agrees.false))
+          (c.gives_the_same.ensures.0 w.if-not-gives_the_same.false))
     ]
 
 pub returns : goal.returns

@@ -1,5 +1,5 @@
 use Rattle.std.proofs.Common.{take}
-use Rattle.least_codes.specs.Bits.{value_of}
+use Rattle.dependence.specs.Bit.{value_of}
 use Rattle.least_codes.specs.Inner.Apart.{AreApartOf}
 use Rattle.least_codes.proofs.two_states.states_apart.Given as goal
 

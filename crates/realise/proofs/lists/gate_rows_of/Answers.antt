@@ -18,19 +18,19 @@ column_count-requires c =
 
 pub rows-requires : goal.rows-requires
 rows-requires c =
-    can_cover_at c.args.m.now c.args.words.now c.args.bits c.args.set.now c.args.signal c.args.filled.now _ _ _ c.requires.filled c.requires.within c.requires.signal c.requires.enough
+    can_cover_at c.args.m.now c.args.words.now c.args.bits c.args.set.now c.args.bit c.args.filled.now _ _ _ c.requires.filled c.requires.within c.requires.bit c.requires.enough
     (omega (arith, c.inputs.ensures.count, c.inputs.ensures.limit)) c.requires.short c.column_count.ensures
-    (subst (HoldWhatIsRead c.args.words.now c.args.set.now c.args.signal true c.args.filled.now) (sym c.deref.ensures.value) c.in_ok-on.ensures)
-    (subst (HoldWhatIsRead c.args.words.now c.args.set.now c.args.signal false c.args.filled.now) (sym c.deref-2.ensures.value) c.in_ok-off.ensures)
+    (subst (HoldWhatIsRead c.args.words.now c.args.set.now c.args.bit true c.args.filled.now) (sym c.deref.ensures.value) c.in_ok-on.ensures)
+    (subst (HoldWhatIsRead c.args.words.now c.args.set.now c.args.bit false c.args.filled.now) (sym c.deref-2.ensures.value) c.in_ok-off.ensures)
 
 pub returns-clause-cover : goal.returns-clause-cover
 returns-clause-cover c =
     IfOk-weaker c.rows.result _ _
     (λ names good.
-    gives_cover_at c.args.m.now c.args.words.now c.args.bits c.args.set.now c.args.signal c.args.filled.now _ c.deref.result.now c.deref-2.result.now names
-    c.requires.filled c.requires.within c.requires.signal c.requires.enough c.column_count.ensures
-    (subst (HoldWhatIsRead c.args.words.now c.args.set.now c.args.signal true c.args.filled.now) (sym c.deref.ensures.value) c.in_ok-on.ensures)
-    (subst (HoldWhatIsRead c.args.words.now c.args.set.now c.args.signal false c.args.filled.now) (sym c.deref-2.ensures.value) c.in_ok-off.ensures)
+    gives_cover_at c.args.m.now c.args.words.now c.args.bits c.args.set.now c.args.bit c.args.filled.now _ c.deref.result.now c.deref-2.result.now names
+    c.requires.filled c.requires.within c.requires.bit c.requires.enough c.column_count.ensures
+    (subst (HoldWhatIsRead c.args.words.now c.args.set.now c.args.bit true c.args.filled.now) (sym c.deref.ensures.value) c.in_ok-on.ensures)
+    (subst (HoldWhatIsRead c.args.words.now c.args.set.now c.args.bit false c.args.filled.now) (sym c.deref-2.ensures.value) c.in_ok-off.ensures)
     good)
     c.rows.ensures.cover
 

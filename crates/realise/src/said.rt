@@ -1,0 +1,58 @@
+//! What a row says of a bit.
+
+ghost use Rattle.std.specs.Prelude.{◌≡◌, ◌<◌, ◌↔◌, IfSome, IsTrue, Some, length};
+ghost use Rattle.kiss2.specs.Machine.{given_bit};
+ghost use Rattle.dependence.specs.Inner.Said as said;
+ghost use Rattle.dependence.specs.Inner.Said.{HasPlace, row_value};
+
+use dependence::Bit;
+use gate_rows::bit;
+use kiss2::KissRow;
+
+/// Whether the row says that the gate of a bit gives this value. The words are the codes of the states.
+pub fn says_bit(row: &KissRow, words: &[u64], bit: Bit, given: bool) -> bool
+    requires place { HasPlace bit }
+    requires states { IfSome row.now.to (λ t. t < length words.now) }
+    ensures { IsTrue result ↔ (row_value words.now bit row.now ≡ Some given) }
+{
+    match value_at(row, words, bit) {
+        Some(value) => value == given,
+        None => false,
+    }
+}
+
+/// What the gate of a bit gives at the symbols of a row, if the row says it.
+fn value_at(row: &KissRow, words: &[u64], bit: Bit) -> Option<bool>
+    requires place { HasPlace bit }
+    requires states { IfSome row.now.to (λ t. t < length words.now) }
+    ensures { result ≡ row_value words.now bit row.now }
+{
+    match bit {
+        Bit::Latch(i) => next_bit(row, words, i),
+        Bit::Output(b) => given_output(row, usize::from(b)),
+    }
+}
+
+/// The bit of the code of the next state, if the row names one.
+fn next_bit(row: &KissRow, words: &[u64], i: usize) -> Option<bool>
+    requires place { i < 64 }
+    requires states { IfSome row.now.to (λ t. t < length words.now) }
+    ensures { result ≡ said.next_bit words.now i row.now }
+{
+    match row.to {
+        Some(t) => Some(bit(words[usize::from(t)], i)),
+        None => None,
+    }
+}
+
+/// The bit that the row gives at an output, if it gives one.
+fn given_output(row: &KissRow, b: usize) -> Option<bool>
+    requires { b < 64 }
+    ensures { result ≡ given_bit b row.now }
+{
+    if bit(row.care, b) {
+        Some(bit(row.value, b))
+    } else {
+        None
+    }
+}
