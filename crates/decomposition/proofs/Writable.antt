@@ -123,7 +123,7 @@ file_names F bits names lawful are = record {
 
 -- ---- rows
 -- a character that holds a bit is one of a plane
-plane_character : (c : ℕ) (bit : Bool) → character_holds c bit ≡ true → IsTrue (is_plane_character c)
+pub plane_character : (c : ℕ) (bit : Bool) → character_holds c bit ≡ true → IsTrue (is_plane_character c)
 plane_character c true held = grind (arith, nat_tests)
 plane_character c false held = grind (arith, nat_tests)
 
@@ -156,7 +156,7 @@ only_here test (x ∷ xs) (suc k) d lt some none = by (test x) some none (only_h
     by false some none rest = rest some none
 
 -- each row of a good cover holds some values, so it is a plane
-cover_planes : (On Off : List Bool → Type 0) (rows : List (List ℕ)) → IsGoodCover On Off rows → All (λ row. AllByRecursion (λ c. IsTrue (is_plane_character c)) row) rows
+pub cover_planes : (On Off : List Bool → Type 0) (rows : List (List ℕ)) → IsGoodCover On Off rows → All (λ row. AllByRecursion (λ c. IsTrue (is_plane_character c)) row) rows
 cover_planes On Off rows good k d lt =
     let needed = good.rows_needed k lt in
     held_plane (get_or rows k d) needed.0
@@ -164,7 +164,7 @@ cover_planes On Off rows good k d lt =
 
 -- ---- the network
 -- what holds of each image holds of what it is the image of
-all_of_map : {X : Type 0} (P : List ℕ → Type 0) (f : X → List ℕ) (xs : List X) → All P (map f xs) → All (λ x. P (f x)) xs
+pub all_of_map : {X : Type 0} (P : List ℕ → Type 0) (f : X → List ℕ) (xs : List X) → All P (map f xs) → All (λ x. P (f x)) xs
 all_of_map P f xs all k d lt =
     let within : k < length (map f xs) = omega (arith, lt, length-map xs f) in
     subst P (get_or-map f xs k d (f d) lt) (all k (f d) within)

@@ -1,77 +1,24 @@
 -- The network of a register can be written.
-use Rattle.std.proofs.Common.{◌≡◌, ℕ, zero, suc, ◌+◌, ◌-◌, ◌*◌, ◌<◌, ◌||◌, ◌&&◌, inl, inr, Bool, true, false, Some, List, [], ◌∷◌, ◌++◌, length, map, get_or, remove, slice_get, IsTrue, All, refl, sym, ap, ◌∙◌, subst, arith}
+use Rattle.std.proofs.Common.{◌≡◌, ℕ, zero, suc, ◌+◌, ◌-◌, ◌*◌, ◌<◌, inl, inr, true, Some, List, [], ◌++◌, length, map, get_or, slice_get, All, refl, sym, ap, ◌∙◌, subst, arith}
 use Rattle.std.specs.Cmp.Lexicographic.{slice_cmp}
-use Rattle.std.specs.List.{AllByRecursion, list_any}
 use Rattle.std.specs.List.Sorted.{IsSorted}
 use Rattle.std.specs.Ordering.{nat_cmp}
 use Rattle.std.proofs.Math.Nat.{add-mul, suc-mul}
 use Rattle.std.proofs.lemmas.Bool.{cases_lt}
-use Rattle.std.proofs.lemmas.Bool.Decides.{nat_tests}
-use Rattle.std.proofs.lemmas.List.{get_or-map, length-map}
 use Rattle.std.proofs.lemmas.List.Elements.{All-append, All-map, All-same, All-weaker, recursion_from_All}
 use Rattle.std.proofs.lemmas.Option.{get_or_from_slice_get}
 use Rattle.blif_out.specs.Order.{HasKnownStarts, HasRowsInOrder}
 use Rattle.blif_out.specs.Writable.{IsPlane, IsSignalName, IsWritable, IsWritableGate, IsWritableLatch}
-use Rattle.decomposition.proofs.Writable.{AreSignalNames, known_starts}
+use Rattle.decomposition.proofs.Writable.{AreSignalNames, all_of_map, cover_planes, known_starts, plane_character}
 use Rattle.dependence.specs.declared.sets.ReadSet.{ReadSet}
-use Rattle.gate_rows.specs.Covers.{IsGoodCover}
 use Rattle.kiss2.specs.declared.kiss_file.KissFile.{KissFile}
 use Rattle.net_core.specs.declared.Gate.{Gate}
 use Rattle.net_core.specs.declared.Latch.{Latch}
 use Rattle.net_core.specs.declared.Network.{Network}
 use Rattle.net_core.specs.declared.SignalNames.{SignalNames}
-use Rattle.net_core.specs.Statements.{is_plane_character}
-use Rattle.net_core.specs.Step.{character_holds, row_holds}
 use Rattle.shift_real.specs.Gates.{IsOutputGate, name_at, taking}
 use Rattle.shift_real.specs.Register.{latch_values}
 use Rattle.shift_real.specs.ShiftNetwork.{AreNamesFor, IsRegister}
-
--- ---- rows
--- a character that holds a bit is one of a plane
-plane_character : (c : ℕ) (bit : Bool) → character_holds c bit ≡ true → IsTrue (is_plane_character c)
-plane_character c true held = grind (arith, nat_tests)
-plane_character c false held = grind (arith, nat_tests)
-
-both_true : (a b : Bool) → (a && b) ≡ true → (a ≡ true) × (b ≡ true)
-both_true true true held = (refl, refl)
-both_true true false held = cc
-both_true false b held = cc
-
--- a row that holds some values is a plane
-held_plane : (row : List ℕ) (read : List Bool) → row_holds row read ≡ true → AllByRecursion (λ c. IsTrue (is_plane_character c)) row
-held_plane [] read held = tt
-held_plane (c ∷ cs) [] held = cc
-held_plane (c ∷ cs) (bit ∷ bits) held =
-    let both = both_true (character_holds c bit) (row_holds cs bits) held in
-    (plane_character c bit both.0, held_plane cs bits both.1)
-
--- what holds of some item and of none but one holds of that one
-only_here : {X : Type 0} (test : X → Bool) (xs : List X) (k : ℕ) (d : X) → k < length xs → list_any test xs ≡ true → (list_any test (remove xs k) ≡ true → ⊥) → test (get_or xs k d) ≡ true
-only_here test [] k d lt some none = absurd (omega arith)
-only_here test (x ∷ xs) zero d lt some none = by (test x) some none
-  where
-    by : (b : Bool) → (b || list_any test xs) ≡ true → (list_any test xs ≡ true → ⊥) → b ≡ true
-    by true some none = refl
-    by false some none = absurd (none some)
-only_here test (x ∷ xs) (suc k) d lt some none = by (test x) some none (only_here test xs k d (omega arith))
-  where
-    by : (b : Bool) → (b || list_any test xs) ≡ true → ((b || list_any test (remove xs k)) ≡ true → ⊥) → (list_any test xs ≡ true → (list_any test (remove xs k) ≡ true → ⊥) → test (get_or xs k d) ≡ true)
-        → test (get_or xs k d) ≡ true
-    by true some none rest = absurd (none refl)
-    by false some none rest = rest some none
-
--- each row of a good cover holds some values, so it is a plane
-cover_planes : (On Off : List Bool → Type 0) (rows : List (List ℕ)) → IsGoodCover On Off rows → All (λ row. AllByRecursion (λ c. IsTrue (is_plane_character c)) row) rows
-cover_planes On Off rows good k d lt =
-    let needed = good.rows_needed k lt in
-    held_plane (get_or rows k d) needed.0
-    (only_here (λ (row : List ℕ). row_holds row needed.0) rows k d lt (good.on_held needed.0 needed.1) needed.2)
-
--- ---- lists
-all_of_map : {X : Type 0} (P : List ℕ → Type 0) (f : X → List ℕ) (xs : List X) → All P (map f xs) → All (λ x. P (f x)) xs
-all_of_map P f xs all k d lt =
-    let within : k < length (map f xs) = omega (arith, lt, length-map xs f) in
-    subst P (get_or-map f xs k d (f d) lt) (all k (f d) within)
 
 -- names at numbers below their count
 named_at : (names : List (List ℕ)) (count : ℕ) (numbers : List ℕ) → length names ≡ count → All IsSignalName names → All (λ a. a < count) numbers → All IsSignalName (map (name_at names) numbers)
