@@ -44,15 +44,6 @@ impl Limits {
         Ok(())
     }
 
-    /// Adds such columns where no set of the limits lies within them.
-    pub(crate) fn add_new(&mut self, set: u128) -> Result<(), AllocError> {
-        if self.sets.iter().any(|known| *known & !set == 0) {
-            return Ok(());
-        }
-        self.sets.push(set)?;
-        Ok(())
-    }
-
     /// The limits of a row that has literals at these columns alone: it keeps the last that is left of a set.
     pub fn narrow(&mut self, care: u128) {
         let mut literals = self.literals;

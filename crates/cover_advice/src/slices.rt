@@ -91,6 +91,13 @@ pub struct Advice {
     pub reasons: Vec<Option<usize>>,
 }
 
+/// The terms with the other literal than a row at a column, and those that have it at a later column.
+#[derive(Drop)]
+struct Step {
+    against: Vec<u128>,
+    later: Vec<u128>,
+}
+
 /// The number of sets that are asked of all terms: the terms that are left are few enough to be asked one by one.
 const ASKED_SETS: usize = 32;
 
@@ -99,6 +106,8 @@ const ASKED_SETS: usize = 32;
 pub struct Slices {
     terms: Vec<Pattern>,
     columns: Vec<Column>,
+    /// For each word a pattern that holds all values of its terms.
+    hulls: Vec<Pattern>,
     /// The terms that still count.
     live: Vec<u128>,
 }
@@ -120,6 +129,7 @@ impl Slices {
         Ok(Slices {
             terms: Vec::from_slice(alloc, terms)?,
             columns,
+            hulls: hulls(alloc, terms)?,
             live: places(alloc, terms, 0, 0)?,
         })
     }
@@ -138,52 +148,110 @@ impl Slices {
         row: Pattern,
         columns: u128,
     ) -> Result<Vec<u128>, AllocError> {
-        let mut having = self.live.clone()?;
-        for column in &self.columns {
-            if columns & column.bit != 0 {
-                keep(&mut having, column.with(row));
-            }
+        let mut having = Vec::new(alloc);
+        for (number, hull) in self.hulls.iter().enumerate() {
+            let is_apart = row.apart(*hull) & columns != 0;
+            let word = if is_apart {
+                0
+            } else {
+                self.having_at(number, row, columns)
+            };
+            having.push(word)?;
         }
         Ok(having)
     }
 
-    /// The terms that no longer count, and those that have the other literal than the row at one of the columns.
-    fn without(&self, alloc: Global, row: Pattern, columns: u128) -> Result<Vec<u128>, AllocError> {
-        let mut without = Vec::new(alloc);
-        for word in &self.live {
-            without.push(!*word)?;
+    /// Those terms in the word of that number.
+    fn having_at(&self, number: usize, row: Pattern, columns: u128) -> u128 {
+        let mut having = word_at(&self.live, number);
+        for column in self.columns.iter().rev() {
+            if having == 0 {
+                break;
+            }
+            if columns & column.bit != 0 {
+                having &= word_at(column.with(row), number);
+            }
         }
+        having
+    }
+
+    /// The terms in the word of that number that no longer count, and those that have the other literal than the row
+    /// at one of the columns.
+    fn gone_at(&self, number: usize, row: Pattern, columns: u128) -> u128 {
+        let mut gone = !word_at(&self.live, number);
         for column in &self.columns {
             if columns & column.bit != 0 {
-                unite(&mut without, column.against(row));
+                gone |= word_at(column.against(row), number);
             }
         }
-        Ok(without)
+        gone
     }
 
-    /// The terms that have the other literal than the row at one column alone.
-    fn sole(&self, alloc: Global, row: Pattern) -> Result<Vec<u128>, AllocError> {
-        let mut once = vec![in alloc; 0u128; self.live.len()]?;
-        let mut gone = self.without(alloc, row, 0)?;
-        for column in &self.columns {
+    /// The terms in the word of that number that have the other literal than the row at one column alone.
+    fn sole_at(&self, number: usize, row: Pattern) -> u128 {
+        let mut once = 0;
+        let mut gone = !word_at(&self.live, number);
+        for column in self.columns.iter().rev() {
+            if gone == u128::MAX {
+                break;
+            }
             if column.is_literal_of(row) {
-                count_once(&mut once, &mut gone, column.against(row));
+                let against = word_at(column.against(row), number);
+                gone |= once & against;
+                once |= against;
             }
         }
-        remove(&mut once, &gone);
-        Ok(once)
+        once & !gone
     }
 
-    /// The literals that each wider row has to keep: at their columns alone some term has the other literal.
-    pub(crate) fn limits(&self, alloc: Global, row: Pattern) -> Result<Limits, AllocError> {
-        let sole = self.sole(alloc, row)?;
-        let mut literals = 0;
-        for column in &self.columns {
-            if column.is_literal_of(row) && do_meet(&sole, column.against(row)) {
-                literals |= column.bit;
+    /// For each column the number of a term that has the other literal than the row there and at no other column. A
+    /// word is passed over where each of its terms has it at two columns, or at one that is known.
+    fn soles(&self, alloc: Global, row: Pattern) -> Result<Vec<Option<usize>>, AllocError> {
+        let mut soles = vec![in alloc; None; self.columns.len()]?;
+        let mut known = 0;
+        for (number, hull) in self.hulls.iter().enumerate() {
+            let apart = row.apart(*hull);
+            if apart == 0 || apart.is_power_of_two() && apart & known == 0 {
+                known |= self.put_soles(&mut soles, row, number);
             }
         }
-        Ok(Limits::new(alloc, literals))
+        Ok(soles)
+    }
+
+    /// Puts the terms of one word there, and gives their columns.
+    fn put_soles(&self, soles: &mut [Option<usize>], row: Pattern, number: usize) -> u128 {
+        let sole = self.sole_at(number, row);
+        if sole == 0 {
+            return 0;
+        }
+        let mut found = 0;
+        for (column, place_of) in self.columns.iter().zip(soles.iter_mut()) {
+            if column.is_literal_of(row) {
+                let open = word_at(column.against(row), number) & sole;
+                if open != 0 {
+                    *place_of = Some(place(number, open));
+                    found |= column.bit;
+                }
+            }
+        }
+        found
+    }
+
+    /// The columns for which a term is there.
+    fn columns_with(&self, soles: &[Option<usize>]) -> u128 {
+        let mut columns = 0;
+        for (column, sole) in self.columns.iter().zip(soles) {
+            if sole.is_some() {
+                columns |= column.bit;
+            }
+        }
+        columns
+    }
+
+    /// The literals that each wider row has to keep: some term has the other literal there and nowhere else.
+    pub(crate) fn limits(&self, alloc: Global, row: Pattern) -> Result<Limits, AllocError> {
+        let soles = self.soles(alloc, row)?;
+        Ok(Limits::new(alloc, self.columns_with(&soles)))
     }
 
     /// Adds the columns at which terms have the other literal than the row, for at most `most` terms that have the
@@ -205,7 +273,7 @@ impl Slices {
         Ok(())
     }
 
-    /// The counts of the terms that have the literal of the row at each of those columns, or a dash.
+    /// The counts of the terms that do not have the other literal at one of those columns.
     fn counts(
         &self,
         alloc: Global,
@@ -213,12 +281,12 @@ impl Slices {
         columns: u128,
     ) -> Result<Vec<Count>, AllocError> {
         let mut counts = Vec::new(alloc);
-        for more in &self.without(alloc, row, columns)? {
+        for number in 0..self.live.len() {
             counts.push(Count {
                 ones: 0,
                 twos: 0,
                 fours: 0,
-                more: *more,
+                more: self.gone_at(number, row, columns),
             })?;
         }
         for column in &self.columns {
@@ -245,7 +313,7 @@ impl Slices {
                 break;
             }
             if let Some(term) = self.term_at(word, found) {
-                limits.add_new(row.apart(term))?;
+                limits.add(row.apart(term), row.care)?;
             }
             found &= found - 1;
             left = left.saturating_sub(1);
@@ -314,24 +382,27 @@ impl Slices {
         Ok(())
     }
 
-    /// How far the row is widened when each literal in turn becomes a dash where the row then touches no term.
+    /// How far the row is widened when each literal in turn becomes a dash where the row then touches no term. Terms
+    /// with the other literal at a column that surely stays are left out.
     pub fn advice(&self, alloc: Global, row: Pattern) -> Result<Advice, AllocError> {
-        let mut later = self.later(alloc, row)?;
-        let mut kept = self.without(alloc, row, 0)?;
+        let mut reasons = self.soles(alloc, row)?;
+        let literals = self.columns_with(&reasons);
+        let open = row.care & !literals;
+        let near = self.near(alloc, row, literals)?;
+        let mut kept = self.gone(alloc, row, literals, &near)?;
+        let mut steps = self.steps(alloc, row, open, &near)?;
         let mut dashes = 0;
-        let mut reasons = Vec::new(alloc);
-        for column in &self.columns {
-            let mut reason = None;
-            if column.is_literal_of(row) {
-                let rest = later.pop().unwrap_or(Vec::new(alloc));
-                reason = first_open(&kept, &rest);
-                if reason.is_some() {
-                    unite(&mut kept, column.against(row));
-                } else {
-                    dashes |= column.bit;
+        for (column, reason) in self.columns.iter().zip(reasons.iter_mut()) {
+            if open & column.bit != 0 {
+                if let Some(step) = steps.pop() {
+                    *reason = first_open(&kept, &step.later, &near);
+                    if reason.is_some() {
+                        unite(&mut kept, &step.against);
+                    } else {
+                        dashes |= column.bit;
+                    }
                 }
             }
-            reasons.push(reason)?;
         }
         Ok(Advice {
             wide: Pattern {
@@ -342,26 +413,92 @@ impl Slices {
         })
     }
 
-    /// For each literal of the row, from the last to the first, the terms that have the other literal at a later column.
-    fn later(&self, alloc: Global, row: Pattern) -> Result<Vec<Vec<u128>>, AllocError> {
-        let mut later = Vec::new(alloc);
-        let mut all = vec![in alloc; 0u128; self.live.len()]?;
-        for column in self.columns.iter().rev() {
-            if column.is_literal_of(row) {
-                later.push(all.clone()?)?;
-                unite(&mut all, column.against(row));
+    /// The numbers of the words of which not every term has the other literal than the row at one of the columns.
+    fn near(&self, alloc: Global, row: Pattern, columns: u128) -> Result<Vec<usize>, AllocError> {
+        let mut near = Vec::new(alloc);
+        for (number, hull) in self.hulls.iter().enumerate() {
+            if row.apart(*hull) & columns == 0 {
+                near.push(number)?;
             }
         }
-        Ok(later)
+        Ok(near)
+    }
+
+    /// For the words of those numbers, what `gone_at` gives.
+    fn gone(
+        &self,
+        alloc: Global,
+        row: Pattern,
+        columns: u128,
+        near: &[usize],
+    ) -> Result<Vec<u128>, AllocError> {
+        let mut gone = Vec::new(alloc);
+        for number in near {
+            gone.push(self.gone_at(*number, row, columns))?;
+        }
+        Ok(gone)
+    }
+
+    /// The steps for the literals of the row at those columns, from the last to the first.
+    fn steps(
+        &self,
+        alloc: Global,
+        row: Pattern,
+        columns: u128,
+        near: &[usize],
+    ) -> Result<Vec<Step>, AllocError> {
+        let mut steps = Vec::new(alloc);
+        let mut all = vec![in alloc; 0u128; near.len()]?;
+        for column in self.columns.iter().rev() {
+            if columns & column.bit != 0 {
+                let against = picked(alloc, column.against(row), near)?;
+                let later = all.clone()?;
+                unite(&mut all, &against);
+                steps.push(Step { against, later })?;
+            }
+        }
+        Ok(steps)
     }
 }
 
-/// The number of the first term in neither set.
-fn first_open(kept: &[u128], later: &[u128]) -> Option<usize> {
-    for (i, (a, b)) in kept.iter().zip(later).enumerate() {
+/// The words of those numbers.
+fn picked(alloc: Global, words: &[u128], numbers: &[usize]) -> Result<Vec<u128>, AllocError> {
+    let mut picked = Vec::new(alloc);
+    for number in numbers {
+        picked.push(word_at(words, *number))?;
+    }
+    Ok(picked)
+}
+
+/// The word of that number, or an empty one.
+fn word_at(words: &[u128], number: usize) -> u128 {
+    words.get(number).copied().unwrap_or(0)
+}
+
+/// For each word of terms a pattern that holds all their values.
+fn hulls(alloc: Global, terms: &[Pattern]) -> Result<Vec<Pattern>, AllocError> {
+    let mut hulls = Vec::new(alloc);
+    for chunk in terms.chunks(128) {
+        hulls.push(hull(chunk))?;
+    }
+    Ok(hulls)
+}
+
+/// A pattern that holds the values of all terms.
+fn hull(terms: &[Pattern]) -> Pattern {
+    let mut hull = terms.first().copied().unwrap_or(Pattern { care: 0, value: 0 });
+    for term in terms {
+        hull = hull.joined(*term);
+    }
+    hull
+}
+
+/// The number of the first term in neither set. The words of both have those numbers.
+fn first_open(kept: &[u128], later: &[u128], near: &[usize]) -> Option<usize> {
+    for ((a, b), number) in kept.iter().zip(later).zip(near) {
         let open = !(*a | *b);
         if open != 0 {
-            return Some(place(i, open));
+            return Some(place(*number, open));
         }
     }
     None
@@ -412,19 +549,6 @@ fn remove(all: &mut [u128], set: &[u128]) {
     for (word, less) in all.iter_mut().zip(set) {
         *word &= !*less;
     }
-}
-
-/// Adds the set to `once`, and what was there already to `more`.
-fn count_once(once: &mut [u128], more: &mut [u128], set: &[u128]) {
-    for ((once, more), word) in once.iter_mut().zip(more.iter_mut()).zip(set) {
-        *more |= *once & *word;
-        *once |= *word;
-    }
-}
-
-/// Whether some term is in both sets.
-fn do_meet(one: &[u128], other: &[u128]) -> bool {
-    one.iter().zip(other).any(|(a, b)| *a & *b != 0)
 }
 
 /// Adds one to the count of each term of the set.
