@@ -148,58 +148,79 @@ impl Slices {
         row: Pattern,
         columns: u128,
     ) -> Result<Vec<u128>, AllocError> {
+        let sets = self.with(alloc, row, columns)?;
         let mut having = Vec::new(alloc);
         for (number, hull) in self.hulls.iter().enumerate() {
             let is_apart = row.apart(*hull) & columns != 0;
             let word = if is_apart {
                 0
             } else {
-                self.having_at(number, row, columns)
+                self.having_at(number, &sets)
             };
             having.push(word)?;
         }
         Ok(having)
     }
 
-    /// Those terms in the word of that number.
-    fn having_at(&self, number: usize, row: Pattern, columns: u128) -> u128 {
-        let mut having = word_at(&self.live, number);
+    /// For each of the columns, from the last to the first, the terms with the literal of the row.
+    fn with(&self, alloc: Global, row: Pattern, columns: u128) -> Result<Vec<&[u128]>, AllocError> {
+        let mut sets = Vec::new(alloc);
         for column in self.columns.iter().rev() {
+            if columns & column.bit != 0 {
+                sets.push(column.with(row))?;
+            }
+        }
+        Ok(sets)
+    }
+
+    /// For each of the columns, from the last to the first, the terms with the other literal.
+    fn against(
+        &self,
+        alloc: Global,
+        row: Pattern,
+        columns: u128,
+    ) -> Result<Vec<&[u128]>, AllocError> {
+        let mut sets = Vec::new(alloc);
+        for column in self.columns.iter().rev() {
+            if columns & column.bit != 0 {
+                sets.push(column.against(row))?;
+            }
+        }
+        Ok(sets)
+    }
+
+    /// The terms in the word of that number that are in each of the sets.
+    fn having_at(&self, number: usize, sets: &[&[u128]]) -> u128 {
+        let mut having = word_at(&self.live, number);
+        for set in sets {
             if having == 0 {
                 break;
             }
-            if columns & column.bit != 0 {
-                having &= word_at(column.with(row), number);
-            }
+            having &= word_at(set, number);
         }
         having
     }
 
-    /// The terms in the word of that number that no longer count, and those that have the other literal than the row
-    /// at one of the columns.
-    fn gone_at(&self, number: usize, row: Pattern, columns: u128) -> u128 {
+    /// The terms in the word of that number that no longer count, and those that are in one of the sets.
+    fn gone_at(&self, number: usize, sets: &[&[u128]]) -> u128 {
         let mut gone = !word_at(&self.live, number);
-        for column in &self.columns {
-            if columns & column.bit != 0 {
-                gone |= word_at(column.against(row), number);
-            }
+        for set in sets {
+            gone |= word_at(set, number);
         }
         gone
     }
 
-    /// The terms in the word of that number that have the other literal than the row at one column alone.
-    fn sole_at(&self, number: usize, row: Pattern) -> u128 {
+    /// The terms in the word of that number that are in one of the sets alone.
+    fn sole_at(&self, number: usize, sets: &[&[u128]]) -> u128 {
         let mut once = 0;
         let mut gone = !word_at(&self.live, number);
-        for column in self.columns.iter().rev() {
+        for set in sets {
             if gone == u128::MAX {
                 break;
             }
-            if column.is_literal_of(row) {
-                let against = word_at(column.against(row), number);
-                gone |= once & against;
-                once |= against;
-            }
+            let word = word_at(set, number);
+            gone |= once & word;
+            once |= word;
         }
         once & !gone
     }
@@ -207,23 +228,29 @@ impl Slices {
     /// For each column the number of a term that has the other literal than the row there and at no other column. A
     /// word is passed over where each of its terms has it at two columns, or at one that is known.
     fn soles(&self, alloc: Global, row: Pattern) -> Result<Vec<Option<usize>>, AllocError> {
+        let sets = self.against(alloc, row, row.care)?;
         let mut soles = vec![in alloc; None; self.columns.len()]?;
         let mut known = 0;
         for (number, hull) in self.hulls.iter().enumerate() {
             let apart = row.apart(*hull);
             if apart == 0 || apart.is_power_of_two() && apart & known == 0 {
-                known |= self.put_soles(&mut soles, row, number);
+                let sole = self.sole_at(number, &sets);
+                if sole != 0 {
+                    known |= self.put_soles(&mut soles, row, number, sole);
+                }
             }
         }
         Ok(soles)
     }
 
-    /// Puts the terms of one word there, and gives their columns.
-    fn put_soles(&self, soles: &mut [Option<usize>], row: Pattern, number: usize) -> u128 {
-        let sole = self.sole_at(number, row);
-        if sole == 0 {
-            return 0;
-        }
+    /// Puts such terms of the word of that number there, and gives their columns.
+    fn put_soles(
+        &self,
+        soles: &mut [Option<usize>],
+        row: Pattern,
+        number: usize,
+        sole: u128,
+    ) -> u128 {
         let mut found = 0;
         for (column, place_of) in self.columns.iter().zip(soles.iter_mut()) {
             if column.is_literal_of(row) {
@@ -280,13 +307,14 @@ impl Slices {
         row: Pattern,
         columns: u128,
     ) -> Result<Vec<Count>, AllocError> {
+        let sets = self.against(alloc, row, columns)?;
         let mut counts = Vec::new(alloc);
         for number in 0..self.live.len() {
             counts.push(Count {
                 ones: 0,
                 twos: 0,
                 fours: 0,
-                more: self.gone_at(number, row, columns),
+                more: self.gone_at(number, &sets),
             })?;
         }
         for column in &self.columns {
@@ -424,7 +452,8 @@ impl Slices {
         Ok(near)
     }
 
-    /// For the words of those numbers, what `gone_at` gives.
+    /// For the words of those numbers, the terms that no longer count or have the other literal than the row at one
+    /// of the columns.
     fn gone(
         &self,
         alloc: Global,
@@ -432,9 +461,10 @@ impl Slices {
         columns: u128,
         near: &[usize],
     ) -> Result<Vec<u128>, AllocError> {
+        let sets = self.against(alloc, row, columns)?;
         let mut gone = Vec::new(alloc);
         for number in near {
-            gone.push(self.gone_at(*number, row, columns))?;
+            gone.push(self.gone_at(*number, &sets))?;
         }
         Ok(gone)
     }
