@@ -301,12 +301,7 @@ impl Slices {
     }
 
     /// The counts of the terms that do not have the other literal at one of those columns.
-    fn counts(
-        &self,
-        alloc: Global,
-        row: Pattern,
-        columns: u128,
-    ) -> Result<Vec<Count>, AllocError> {
+    fn counts(&self, alloc: Global, row: Pattern, columns: u128) -> Result<Vec<Count>, AllocError> {
         let sets = self.against(alloc, row, columns)?;
         let mut counts = Vec::new(alloc);
         for number in 0..self.live.len() {
@@ -382,7 +377,11 @@ impl Slices {
     }
 
     /// The terms of those words.
-    pub(crate) fn terms_of(&self, alloc: Global, words: &[u128]) -> Result<Vec<Pattern>, AllocError> {
+    pub(crate) fn terms_of(
+        &self,
+        alloc: Global,
+        words: &[u128],
+    ) -> Result<Vec<Pattern>, AllocError> {
         let mut terms = Vec::new(alloc);
         for (i, word) in words.iter().enumerate() {
             self.put_terms(&mut terms, i, *word)?;
@@ -516,7 +515,10 @@ fn hulls(alloc: Global, terms: &[Pattern]) -> Result<Vec<Pattern>, AllocError> {
 
 /// A pattern that holds the values of all terms.
 fn hull(terms: &[Pattern]) -> Pattern {
-    let mut hull = terms.first().copied().unwrap_or(Pattern { care: 0, value: 0 });
+    let mut hull = terms
+        .first()
+        .copied()
+        .unwrap_or(Pattern { care: 0, value: 0 });
     for term in terms {
         hull = hull.joined(*term);
     }

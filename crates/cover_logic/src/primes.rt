@@ -97,8 +97,12 @@ fn guided_growth(alloc: Global, seed: Term, guide: &Guide, off: &Index) -> Resul
     requires { IsClear (terms_of off.now) seed }
     ensures { IfOk result (IsGrown seed (terms_of off.now)) }
 {
-    let Prospects { others, limits } =
-        Prospects::new(alloc, seed.pattern(), &guide.on, &guide.off)?;
+    let Prospects { others, limits } = Prospects::new(
+        alloc,
+        seed.pattern(),
+        &guide.on,
+        &guide.off,
+    )?;
     let others = terms_of_patterns(alloc, &others)?;
     grow(seed, &others, limits, off)
 }
