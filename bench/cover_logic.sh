@@ -39,4 +39,7 @@ terms 4000 1
 terms 8000 1
 terms 16000 1
 terms 32000 1
+trees 64 20
+trees 128 4
+trees 256 1
 CASES

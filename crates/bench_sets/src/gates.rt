@@ -3,6 +3,7 @@
 ghost use Rattle.std.specs.Prelude.{◌≡◌, ◌<◌, ◌≤◌, bit_and};
 
 use crate::drawing::drawn;
+use crate::trees::leaves;
 use cover_logic::{Term, can_cover};
 use std::alloc::{AllocError, Global};
 
@@ -37,6 +38,8 @@ pub(crate) fn gates_of(kind: &str, size: usize) -> usize {
 /// - `counter` has `size` bits of state, and a gate for each.
 /// - `terms` are random terms of 40 columns with about 30 literals: `size` of them in on, and at most `size` in
 ///   off.
+/// - `trees` are the leaves of `size` trees, but at most 256, with as many leaves each, over 32 inputs and 8 columns
+///   for the number of the tree. Each leaf is in on or in off, at random.
 pub(crate) fn gate_of(
     alloc: Global,
     kind: &str,
@@ -53,6 +56,7 @@ pub(crate) fn gate_of(
         "minterms" => add_values(&mut gate, 10, Rule::First(size))?,
         "dense" => add_values(&mut gate, columns, Rule::Drawn)?,
         "counter" => add_values(&mut gate, columns + 1, Rule::Counter(number))?,
+        "trees" => add_trees(alloc, &mut gate, size.min(256))?,
         _ => add_terms(&mut gate, size)?,
     }
     Ok(gate)
@@ -107,6 +111,32 @@ fn add_terms(gate: &mut Gate, size: usize) -> Result<(), AllocError> {
         if can_cover(&gate.on, &[candidate], 40) {
             gate.off.push(candidate)?;
         }
+    }
+    Ok(())
+}
+
+/// Puts the leaves of trees into the lists.
+fn add_trees(alloc: Global, gate: &mut Gate, size: usize) -> Result<(), AllocError> {
+    for number in 0..size as u64 {
+        for leaf in &leaves(alloc, number, size)? {
+            add_leaf(gate, number, *leaf)?;
+        }
+    }
+    Ok(())
+}
+
+/// Puts a leaf of the tree of that number into one of the lists.
+fn add_leaf(gate: &mut Gate, number: u64, leaf: (u32, u32)) -> Result<(), AllocError> {
+    let (care, value) = leaf;
+    let leaf = term(
+        0xff << 32 | u128::from(care),
+        u128::from(number % 256) << 32 | u128::from(value),
+    );
+    let draw = drawn(u64::from(care), u64::from(value).wrapping_add(number << 32));
+    if draw % 2 == 1 {
+        gate.on.push(leaf)?;
+    } else {
+        gate.off.push(leaf)?;
     }
     Ok(())
 }

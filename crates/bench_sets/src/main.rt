@@ -18,6 +18,7 @@ mod drawing;
 mod gaps;
 mod gates;
 mod partitions;
+mod trees;
 mod worlds;
 
 use anyhow::{Error, bail};

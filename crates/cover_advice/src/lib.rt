@@ -7,9 +7,13 @@
 #![tactic(auto)]
 
 mod growth;
+mod limits;
 mod pattern;
+mod prospects;
 mod slices;
 
 pub use growth::Ground;
+pub use limits::Limits;
 pub use pattern::Pattern;
+pub use prospects::Prospects;
 pub use slices::{Advice, Slices};

@@ -11,4 +11,13 @@ impl Pattern {
     pub(crate) fn apart(self, other: Pattern) -> u128 {
         (self.value ^ other.value) & self.care & other.care
     }
+
+    /// The pattern with the fewest values that holds those of both.
+    pub(crate) fn joined(self, other: Pattern) -> Pattern {
+        let care = self.care & other.care & !(self.value ^ other.value);
+        Pattern {
+            care,
+            value: self.value & care,
+        }
+    }
 }

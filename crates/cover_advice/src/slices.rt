@@ -1,17 +1,18 @@
-//! How far a row can be widened in a gate of many terms, by the columns of the terms: one step asks 64 terms at once.
+//! How far a row can be widened in a gate of many terms, by the columns of the terms: one step asks 128 terms at once.
 
 ghost use Rattle.std.specs.Prelude.{◌≤◌};
 
+use crate::limits::Limits;
 use crate::pattern::Pattern;
 use std::alloc::{AllocError, Global};
 
-/// A column, as the number with its bit alone, and which terms have a literal 0 and a literal 1 there: term 64 * i + k
-/// of the list is bit k of word i.
+/// A column, as the number with its bit alone, and which terms have a literal 0 and a literal 1 there: term 128 * i +
+/// k of the list is bit k of word i.
 #[derive(Drop)]
 struct Column {
     bit: u128,
-    zeros: Vec<u64>,
-    ones: Vec<u64>,
+    zeros: Vec<u128>,
+    ones: Vec<u128>,
 }
 
 impl Column {
@@ -20,7 +21,7 @@ impl Column {
     }
 
     /// The terms with the literal of the row.
-    fn with(&self, row: Pattern) -> &[u64] {
+    fn with(&self, row: Pattern) -> &[u128] {
         if row.value & self.bit == 0 {
             &self.zeros
         } else {
@@ -29,7 +30,7 @@ impl Column {
     }
 
     /// The terms with the other literal.
-    fn against(&self, row: Pattern) -> &[u64] {
+    fn against(&self, row: Pattern) -> &[u128] {
         if row.value & self.bit == 0 {
             &self.ones
         } else {
@@ -38,19 +39,19 @@ impl Column {
     }
 }
 
-/// For each of 64 terms, the number of columns at which it has the other literal than a row: its bits, up to 7, or
+/// For each of 128 terms, the number of columns at which it has the other literal than a row: its bits, up to 7, or
 /// `more`.
 #[derive(Clone, Copy)]
 struct Count {
-    ones: u64,
-    twos: u64,
-    fours: u64,
-    more: u64,
+    ones: u128,
+    twos: u128,
+    fours: u128,
+    more: u128,
 }
 
 impl Count {
     /// The counts with one more for each term of the set.
-    fn plus(self, set: u64) -> Count {
+    fn plus(self, set: u128) -> Count {
         let twos = self.ones & set;
         let fours = self.twos & twos;
         Count {
@@ -62,7 +63,7 @@ impl Count {
     }
 
     /// The terms with this count, which is from 1 to 7.
-    fn at(self, number: u32) -> u64 {
+    fn at(self, number: u32) -> u128 {
         let ones = if number & 1 == 0 {
             !self.ones
         } else {
@@ -90,6 +91,13 @@ pub struct Advice {
     pub reasons: Vec<Option<usize>>,
 }
 
+/// The terms with the other literal than a row at a column, and those that have it at a later column.
+#[derive(Drop)]
+struct Step {
+    against: Vec<u128>,
+    later: Vec<u128>,
+}
+
 /// The number of sets that are asked of all terms: the terms that are left are few enough to be asked one by one.
 const ASKED_SETS: usize = 32;
 
@@ -98,8 +106,10 @@ const ASKED_SETS: usize = 32;
 pub struct Slices {
     terms: Vec<Pattern>,
     columns: Vec<Column>,
+    /// For each word a pattern that holds all values of its terms.
+    hulls: Vec<Pattern>,
     /// The terms that still count.
-    live: Vec<u64>,
+    live: Vec<u128>,
 }
 
 impl Slices {
@@ -119,39 +129,187 @@ impl Slices {
         Ok(Slices {
             terms: Vec::from_slice(alloc, terms)?,
             columns,
+            hulls: hulls(alloc, terms)?,
             live: places(alloc, terms, 0, 0)?,
         })
     }
 
     /// Leaves out the terms that the row holds whole.
     pub fn drop_included(&mut self, alloc: Global, row: Pattern) -> Result<(), AllocError> {
-        let mut inside = self.live.clone()?;
-        for column in &self.columns {
-            if column.is_literal_of(row) {
-                keep(&mut inside, column.with(row));
-            }
-        }
-        for (word, gone) in self.live.iter_mut().zip(&inside) {
-            *word &= !*gone;
-        }
+        let inside = self.having(alloc, row, row.care)?;
+        remove(&mut self.live, &inside);
         Ok(())
     }
 
-    /// For at most `most` terms, the columns at which they have the other literal than the row: terms with the fewest
-    /// such columns first, and none with more than 7.
-    pub fn nearest(
+    /// The terms that have the literal of the row at each of the columns.
+    pub(crate) fn having(
+        &self,
+        alloc: Global,
+        row: Pattern,
+        columns: u128,
+    ) -> Result<Vec<u128>, AllocError> {
+        let sets = self.with(alloc, row, columns)?;
+        let mut having = Vec::new(alloc);
+        for (number, hull) in self.hulls.iter().enumerate() {
+            let is_apart = row.apart(*hull) & columns != 0;
+            let word = if is_apart {
+                0
+            } else {
+                self.having_at(number, &sets)
+            };
+            having.push(word)?;
+        }
+        Ok(having)
+    }
+
+    /// For each of the columns, from the last to the first, the terms with the literal of the row.
+    fn with(&self, alloc: Global, row: Pattern, columns: u128) -> Result<Vec<&[u128]>, AllocError> {
+        let mut sets = Vec::new(alloc);
+        for column in self.columns.iter().rev() {
+            if columns & column.bit != 0 {
+                sets.push(column.with(row))?;
+            }
+        }
+        Ok(sets)
+    }
+
+    /// For each of the columns, from the last to the first, the terms with the other literal.
+    fn against(
+        &self,
+        alloc: Global,
+        row: Pattern,
+        columns: u128,
+    ) -> Result<Vec<&[u128]>, AllocError> {
+        let mut sets = Vec::new(alloc);
+        for column in self.columns.iter().rev() {
+            if columns & column.bit != 0 {
+                sets.push(column.against(row))?;
+            }
+        }
+        Ok(sets)
+    }
+
+    /// The terms in the word of that number that are in each of the sets.
+    fn having_at(&self, number: usize, sets: &[&[u128]]) -> u128 {
+        let mut having = word_at(&self.live, number);
+        for set in sets {
+            if having == 0 {
+                break;
+            }
+            having &= word_at(set, number);
+        }
+        having
+    }
+
+    /// The terms in the word of that number that no longer count, and those that are in one of the sets.
+    fn gone_at(&self, number: usize, sets: &[&[u128]]) -> u128 {
+        let mut gone = !word_at(&self.live, number);
+        for set in sets {
+            gone |= word_at(set, number);
+        }
+        gone
+    }
+
+    /// The terms in the word of that number that are in one of the sets alone.
+    fn sole_at(&self, number: usize, sets: &[&[u128]]) -> u128 {
+        let mut once = 0;
+        let mut gone = !word_at(&self.live, number);
+        for set in sets {
+            if gone == u128::MAX {
+                break;
+            }
+            let word = word_at(set, number);
+            gone |= once & word;
+            once |= word;
+        }
+        once & !gone
+    }
+
+    /// For each column the number of a term that has the other literal than the row there and at no other column. A
+    /// word is passed over where each of its terms has it at two columns, or at one that is known.
+    fn soles(&self, alloc: Global, row: Pattern) -> Result<Vec<Option<usize>>, AllocError> {
+        let sets = self.against(alloc, row, row.care)?;
+        let mut soles = vec![in alloc; None; self.columns.len()]?;
+        let mut known = 0;
+        for (number, hull) in self.hulls.iter().enumerate() {
+            let apart = row.apart(*hull);
+            if apart == 0 || apart.is_power_of_two() && apart & known == 0 {
+                let sole = self.sole_at(number, &sets);
+                if sole != 0 {
+                    known |= self.put_soles(&mut soles, row, number, sole);
+                }
+            }
+        }
+        Ok(soles)
+    }
+
+    /// Puts such terms of the word of that number there, and gives their columns.
+    fn put_soles(
+        &self,
+        soles: &mut [Option<usize>],
+        row: Pattern,
+        number: usize,
+        sole: u128,
+    ) -> u128 {
+        let mut found = 0;
+        for (column, place_of) in self.columns.iter().zip(soles.iter_mut()) {
+            if column.is_literal_of(row) {
+                let open = word_at(column.against(row), number) & sole;
+                if open != 0 {
+                    *place_of = Some(place(number, open));
+                    found |= column.bit;
+                }
+            }
+        }
+        found
+    }
+
+    /// The columns for which a term is there.
+    fn columns_with(&self, soles: &[Option<usize>]) -> u128 {
+        let mut columns = 0;
+        for (column, sole) in self.columns.iter().zip(soles) {
+            if sole.is_some() {
+                columns |= column.bit;
+            }
+        }
+        columns
+    }
+
+    /// The literals that each wider row has to keep: some term has the other literal there and nowhere else.
+    pub(crate) fn limits(&self, alloc: Global, row: Pattern) -> Result<Limits, AllocError> {
+        let soles = self.soles(alloc, row)?;
+        Ok(Limits::new(alloc, self.columns_with(&soles)))
+    }
+
+    /// Adds the columns at which terms have the other literal than the row, for at most `most` terms that have the
+    /// literals of the limits: terms with the fewest such columns first, and none with more than 7.
+    pub(crate) fn add_nearest(
         &self,
         alloc: Global,
         row: Pattern,
         most: usize,
-    ) -> Result<Vec<u128>, AllocError> {
+        limits: &mut Limits,
+    ) -> Result<(), AllocError> {
+        let counts = self.counts(alloc, row, limits.literals())?;
+        let mut room = most;
+        for number in 2..8 {
+            for (i, count) in counts.iter().enumerate() {
+                room = self.add_sets(limits, row, i, count.at(number), room)?;
+            }
+        }
+        Ok(())
+    }
+
+    /// The counts of the terms that do not have the other literal at one of those columns.
+    fn counts(&self, alloc: Global, row: Pattern, columns: u128) -> Result<Vec<Count>, AllocError> {
+        let sets = self.against(alloc, row, columns)?;
         let mut counts = Vec::new(alloc);
-        for word in &self.live {
+        for number in 0..self.live.len() {
             counts.push(Count {
                 ones: 0,
                 twos: 0,
                 fours: 0,
-                more: !*word,
+                more: self.gone_at(number, &sets),
             })?;
         }
         for column in &self.columns {
@@ -159,64 +317,55 @@ impl Slices {
                 tally(&mut counts, column.against(row));
             }
         }
-        let mut sets = Vec::new(alloc);
-        for number in 1..8 {
-            for (i, count) in counts.iter().enumerate() {
-                self.put_sets(&mut sets, row, i, count.at(number), most)?;
-            }
-        }
-        Ok(sets)
+        Ok(counts)
     }
 
-    /// Adds the columns of the terms of one word, up to `most` in all.
-    fn put_sets(
+    /// Adds the columns of the terms of one word, for `room` terms at most, and gives the room that is left.
+    fn add_sets(
         &self,
-        sets: &mut Vec<u128>,
+        limits: &mut Limits,
         row: Pattern,
         word: usize,
-        found: u64,
-        most: usize,
-    ) -> Result<(), AllocError> {
+        found: u128,
+        room: usize,
+    ) -> Result<usize, AllocError> {
         let mut found = found;
-        for _ in 0..64 {
-            if found == 0 || sets.len() >= most {
+        let mut left = room;
+        for _ in 0..room {
+            if found == 0 {
                 break;
             }
             if let Some(term) = self.term_at(word, found) {
-                sets.push(row.apart(term))?;
+                limits.add(row.apart(term), row.care)?;
             }
             found &= found - 1;
+            left = left.saturating_sub(1);
+        }
+        Ok(left)
+    }
+
+    /// The term at the lowest bit of the word of that number.
+    fn term_at(&self, word: usize, found: u128) -> Option<Pattern> {
+        self.terms.get(place(word, found)).copied()
+    }
+
+    /// Keeps the terms that have the literal of the row at a column of each of the first sets.
+    pub(crate) fn keep_allowed(
+        &self,
+        left: &mut Vec<u128>,
+        row: Pattern,
+        limits: &Limits,
+    ) -> Result<(), AllocError> {
+        let mut any = left.clone()?;
+        for set in limits.sets().iter().take(ASKED_SETS) {
+            self.gather(&mut any, row, *set);
+            keep(left, &any);
         }
         Ok(())
     }
 
-    /// The term at the lowest bit of the word of that number.
-    fn term_at(&self, word: usize, found: u64) -> Option<Pattern> {
-        self.terms.get(place(word, found)).copied()
-    }
-
-    /// The terms that have the literal of the row at a column of each of the first sets.
-    pub fn joinable(
-        &self,
-        alloc: Global,
-        row: Pattern,
-        sets: &[u128],
-    ) -> Result<Vec<Pattern>, AllocError> {
-        let mut left = self.live.clone()?;
-        let mut any = self.live.clone()?;
-        for set in sets.iter().take(ASKED_SETS) {
-            self.gather(&mut any, row, *set);
-            keep(&mut left, &any);
-        }
-        let mut terms = Vec::new(alloc);
-        for (i, word) in left.iter().enumerate() {
-            self.put_terms(&mut terms, i, *word)?;
-        }
-        Ok(terms)
-    }
-
     /// Makes `any` the terms that have the literal of the row at some column of the set.
-    fn gather(&self, any: &mut [u64], row: Pattern, set: u128) {
+    fn gather(&self, any: &mut [u128], row: Pattern, set: u128) {
         for word in any.iter_mut() {
             *word = 0;
         }
@@ -227,15 +376,28 @@ impl Slices {
         }
     }
 
+    /// The terms of those words.
+    pub(crate) fn terms_of(
+        &self,
+        alloc: Global,
+        words: &[u128],
+    ) -> Result<Vec<Pattern>, AllocError> {
+        let mut terms = Vec::new(alloc);
+        for (i, word) in words.iter().enumerate() {
+            self.put_terms(&mut terms, i, *word)?;
+        }
+        Ok(terms)
+    }
+
     /// Adds the terms of one word.
     fn put_terms(
         &self,
         terms: &mut Vec<Pattern>,
         word: usize,
-        found: u64,
+        found: u128,
     ) -> Result<(), AllocError> {
         let mut found = found;
-        for _ in 0..64 {
+        for _ in 0..128 {
             if found == 0 {
                 break;
             }
@@ -247,27 +409,27 @@ impl Slices {
         Ok(())
     }
 
-    /// How far the row is widened when each literal in turn becomes a dash where the row then touches no term.
+    /// How far the row is widened when each literal in turn becomes a dash where the row then touches no term. Terms
+    /// with the other literal at a column that surely stays are left out.
     pub fn advice(&self, alloc: Global, row: Pattern) -> Result<Advice, AllocError> {
-        let mut later = self.later(alloc, row)?;
-        let mut kept = Vec::new(alloc);
-        for word in &self.live {
-            kept.push(!*word)?;
-        }
+        let mut reasons = self.soles(alloc, row)?;
+        let literals = self.columns_with(&reasons);
+        let open = row.care & !literals;
+        let near = self.near(alloc, row, literals)?;
+        let mut kept = self.gone(alloc, row, literals, &near)?;
+        let mut steps = self.steps(alloc, row, open, &near)?;
         let mut dashes = 0;
-        let mut reasons = Vec::new(alloc);
-        for column in &self.columns {
-            let mut reason = None;
-            if column.is_literal_of(row) {
-                let rest = later.pop().unwrap_or(Vec::new(alloc));
-                reason = first_open(&kept, &rest);
-                if reason.is_some() {
-                    unite(&mut kept, column.against(row));
-                } else {
-                    dashes |= column.bit;
+        for (column, reason) in self.columns.iter().zip(reasons.iter_mut()) {
+            if open & column.bit != 0 {
+                if let Some(step) = steps.pop() {
+                    *reason = first_open(&kept, &step.later, &near);
+                    if reason.is_some() {
+                        unite(&mut kept, &step.against);
+                    } else {
+                        dashes |= column.bit;
+                    }
                 }
             }
-            reasons.push(reason)?;
         }
         Ok(Advice {
             wide: Pattern {
@@ -278,37 +440,105 @@ impl Slices {
         })
     }
 
-    /// For each literal of the row, from the last to the first, the terms that have the other literal at a later column.
-    fn later(&self, alloc: Global, row: Pattern) -> Result<Vec<Vec<u64>>, AllocError> {
-        let mut later = Vec::new(alloc);
-        let mut all = Vec::new(alloc);
-        for _ in &self.live {
-            all.push(0)?;
-        }
-        for column in self.columns.iter().rev() {
-            if column.is_literal_of(row) {
-                later.push(all.clone()?)?;
-                unite(&mut all, column.against(row));
+    /// The numbers of the words of which not every term has the other literal than the row at one of the columns.
+    fn near(&self, alloc: Global, row: Pattern, columns: u128) -> Result<Vec<usize>, AllocError> {
+        let mut near = Vec::new(alloc);
+        for (number, hull) in self.hulls.iter().enumerate() {
+            if row.apart(*hull) & columns == 0 {
+                near.push(number)?;
             }
         }
-        Ok(later)
+        Ok(near)
+    }
+
+    /// For the words of those numbers, the terms that no longer count or have the other literal than the row at one
+    /// of the columns.
+    fn gone(
+        &self,
+        alloc: Global,
+        row: Pattern,
+        columns: u128,
+        near: &[usize],
+    ) -> Result<Vec<u128>, AllocError> {
+        let sets = self.against(alloc, row, columns)?;
+        let mut gone = Vec::new(alloc);
+        for number in near {
+            gone.push(self.gone_at(*number, &sets))?;
+        }
+        Ok(gone)
+    }
+
+    /// The steps for the literals of the row at those columns, from the last to the first.
+    fn steps(
+        &self,
+        alloc: Global,
+        row: Pattern,
+        columns: u128,
+        near: &[usize],
+    ) -> Result<Vec<Step>, AllocError> {
+        let mut steps = Vec::new(alloc);
+        let mut all = vec![in alloc; 0u128; near.len()]?;
+        for column in self.columns.iter().rev() {
+            if columns & column.bit != 0 {
+                let against = picked(alloc, column.against(row), near)?;
+                let later = all.clone()?;
+                unite(&mut all, &against);
+                steps.push(Step { against, later })?;
+            }
+        }
+        Ok(steps)
     }
 }
 
-/// The number of the first term in neither set.
-fn first_open(kept: &[u64], later: &[u64]) -> Option<usize> {
-    for (i, (a, b)) in kept.iter().zip(later).enumerate() {
+/// The words of those numbers.
+fn picked(alloc: Global, words: &[u128], numbers: &[usize]) -> Result<Vec<u128>, AllocError> {
+    let mut picked = Vec::new(alloc);
+    for number in numbers {
+        picked.push(word_at(words, *number))?;
+    }
+    Ok(picked)
+}
+
+/// The word of that number, or an empty one.
+fn word_at(words: &[u128], number: usize) -> u128 {
+    words.get(number).copied().unwrap_or(0)
+}
+
+/// For each word of terms a pattern that holds all their values.
+fn hulls(alloc: Global, terms: &[Pattern]) -> Result<Vec<Pattern>, AllocError> {
+    let mut hulls = Vec::new(alloc);
+    for chunk in terms.chunks(128) {
+        hulls.push(hull(chunk))?;
+    }
+    Ok(hulls)
+}
+
+/// A pattern that holds the values of all terms.
+fn hull(terms: &[Pattern]) -> Pattern {
+    let mut hull = terms
+        .first()
+        .copied()
+        .unwrap_or(Pattern { care: 0, value: 0 });
+    for term in terms {
+        hull = hull.joined(*term);
+    }
+    hull
+}
+
+/// The number of the first term in neither set. The words of both have those numbers.
+fn first_open(kept: &[u128], later: &[u128], near: &[usize]) -> Option<usize> {
+    for ((a, b), number) in kept.iter().zip(later).zip(near) {
         let open = !(*a | *b);
         if open != 0 {
-            return Some(place(i, open));
+            return Some(place(*number, open));
         }
     }
     None
 }
 
 /// The number of the term at the lowest bit of a word.
-fn place(word: usize, found: u64) -> usize {
-    word.saturating_mul(64)
+fn place(word: usize, found: u128) -> usize {
+    word.saturating_mul(128)
         .saturating_add(found.trailing_zeros() as usize)
 }
 
@@ -318,13 +548,13 @@ fn places(
     terms: &[Pattern],
     mask: u128,
     value: u128,
-) -> Result<Vec<u64>, AllocError> {
+) -> Result<Vec<u128>, AllocError> {
     let mut words = Vec::new(alloc);
-    for chunk in terms.chunks(64) {
+    for chunk in terms.chunks(128) {
         let mut word = 0;
         for (i, term) in chunk.iter().enumerate() {
-            if i < 64 && term.care & mask == mask && term.value & mask == value {
-                word |= 1u64 << i;
+            if i < 128 && term.care & mask == mask && term.value & mask == value {
+                word |= 1u128 << i;
             }
         }
         words.push(word)?;
@@ -333,21 +563,28 @@ fn places(
 }
 
 /// Adds the set.
-fn unite(all: &mut [u64], set: &[u64]) {
+fn unite(all: &mut [u128], set: &[u128]) {
     for (word, more) in all.iter_mut().zip(set) {
         *word |= *more;
     }
 }
 
 /// Keeps what is in the set.
-fn keep(all: &mut [u64], set: &[u64]) {
+fn keep(all: &mut [u128], set: &[u128]) {
     for (word, more) in all.iter_mut().zip(set) {
         *word &= *more;
     }
 }
 
+/// Leaves out what is in the set.
+fn remove(all: &mut [u128], set: &[u128]) {
+    for (word, less) in all.iter_mut().zip(set) {
+        *word &= !*less;
+    }
+}
+
 /// Adds one to the count of each term of the set.
-fn tally(counts: &mut [Count], set: &[u64]) {
+fn tally(counts: &mut [Count], set: &[u128]) {
     for (count, more) in counts.iter_mut().zip(set) {
         *count = count.plus(*more);
     }

@@ -1,11 +1,10 @@
-use Rattle.std.proofs.Common.{◌≡◌, ℕ, ◌<◌, ◌%◌, ◌^◌, ◌∙◌, ⊎_elim, inl, inr, false, List, [], ◌∷◌, ◌++◌, Option, Some, None, length, replicate, get_or, sym, ap, subst, arith}
-use Rattle.std.specs.List.{All}
+use Rattle.std.proofs.Common.{◌≡◌, ℕ, ◌%◌, ◌^◌, ◌∙◌, ⊎_elim, inl, inr, false, List, [], ◌∷◌, ◌++◌, Option, Some, None, length, replicate, get_or, sym, ap, arith}
 use Rattle.std.specs.Option.{is_some}
 use Rattle.std.proofs.lemmas.Bool.{false≢true}
 use Rattle.std.proofs.lemmas.List.{get_or-replicate, length-replicate}
 use Rattle.std.proofs.lemmas.List.Elements.{All-nil, All-push}
 use Rattle.cover_logic.specs.declared.term.Term.{Term}
-use Rattle.cover_logic.specs.Term.{FitsWidth, Holds, IsCovered}
+use Rattle.cover_logic.specs.Term.{FitsWidth}
 use Rattle.cover_logic.specs.Inner.Charts.{IsFilled, IsFound}
 use Rattle.cover_logic.specs.Inner.Rows.{IsAllHeld}
 use Rattle.cover_logic.specs.Inner.Tables.{AreMarks, IsMetOrClear}

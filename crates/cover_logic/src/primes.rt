@@ -9,7 +9,7 @@ use crate::index::Index;
 use crate::raise::{grow, raise, widened};
 use crate::term::{Term, patterns, terms_of_patterns};
 use crate::waiting::Waiting;
-use cover_advice::Slices;
+use cover_advice::{Limits, Prospects, Slices};
 use std::alloc::{AllocError, Global};
 
 /// Drops each term whose values the row all holds.
@@ -33,9 +33,6 @@ struct Guide {
 const GUIDED_WIDTH: u8 = 13;
 
 const GUIDED_TERMS: usize = 256;
-
-/// The number of terms of off that are looked at before the index is asked.
-const NEAREST: usize = 128;
 
 /// A guide, where the lists are long enough for one.
 fn guide_for(
@@ -91,7 +88,7 @@ fn plain_row(
     requires clear { IsClear (terms_of off.now) seed }
     ensures { IfOk result (IsPrimeRow seed (terms_of off.now) width) }
 {
-    let grown = grow(alloc, seed, left, Vec::new(alloc), off)?;
+    let grown = grow(seed, left, Limits::new(alloc, 0), off)?;
     Ok(raise(grown, off, width, &[]))
 }
 
@@ -100,10 +97,14 @@ fn guided_growth(alloc: Global, seed: Term, guide: &Guide, off: &Index) -> Resul
     requires { IsClear (terms_of off.now) seed }
     ensures { IfOk result (IsGrown seed (terms_of off.now)) }
 {
-    let sets = guide.off.nearest(alloc, seed.pattern(), NEAREST)?;
-    let joinable = guide.on.joinable(alloc, seed.pattern(), &sets)?;
-    let others = terms_of_patterns(alloc, &joinable)?;
-    grow(alloc, seed, &others, sets, off)
+    let Prospects { others, limits } = Prospects::new(
+        alloc,
+        seed.pattern(),
+        &guide.on,
+        &guide.off,
+    )?;
+    let others = terms_of_patterns(alloc, &others)?;
+    grow(seed, &others, limits, off)
 }
 
 /// The same as `plain_row`, with the guide.

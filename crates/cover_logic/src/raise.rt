@@ -7,6 +7,7 @@ ghost use Rattle.cover_logic.specs.Inner.Rows.{IsClear, IsGrown, IsPrime, NeedsL
 
 use crate::index::Index;
 use crate::term::Term;
+use cover_advice::Limits;
 use std::alloc::{AllocError, Global};
 
 /// Whether no value of the row is held by a term.
@@ -16,35 +17,27 @@ pub fn is_clear(row: Term, terms: &[Term]) -> bool
     !terms.iter().any(|term| row.touches(*term))
 }
 
-/// Whether each set has one of the columns.
-fn has_each(columns: u128, sets: &[u128]) -> bool {
-    sets.iter().all(|set| columns & *set != 0)
-}
-
-/// Widens the seed so that it holds more of the other terms, each whole, and no value of off. A set has the columns
-/// at which a term of off has the other literal than the seed: a row with a dash at each of them touches that term.
-/// The sets of terms that a row touched before are asked first, since rows often touch the same terms.
-pub fn grow(
-    alloc: Global,
-    seed: Term,
-    others: &[Term],
-    known: Vec<u128>,
-    off: &Index,
-) -> Result<Term, AllocError>
+/// Widens the seed so that it holds more of the other terms, each whole, and no value of off. The limits say what a row
+/// has to keep so as to share no value with the terms of off that were met before: they are asked first, since rows
+/// often share values with the same terms.
+pub fn grow(seed: Term, others: &[Term], known: Limits, off: &Index) -> Result<Term, AllocError>
     requires { IsClear (terms_of off.now) seed }
     ensures { IfOk result (IsGrown seed (terms_of off.now)) }
 {
     let mut row = seed;
-    let mut sets = known;
+    let mut limits = known;
     for other in others {
         if row.includes(*other) {
             continue;
         }
         let joined = row.joined(*other);
-        if has_each(joined.care, &sets) {
+        if limits.allow(joined.care) {
             match off.met_by(joined) {
-                Some(term) => sets.push(seed.apart(term))?,
-                None => row = joined,
+                Some(term) => limits.add(seed.apart(term), row.care)?,
+                None => {
+                    row = joined;
+                    limits.narrow(joined.care);
+                }
             }
         }
     }

@@ -1,7 +1,7 @@
 use Rattle.std.specs.List.{All}
 use Rattle.std.proofs.lemmas.Result.{IfOk-weaker}
 use Rattle.cover_logic.specs.Term.{FitsWidth}
-use Rattle.cover_logic.specs.Inner.Rows.{AreNeededPrimes, IsClear}
+use Rattle.cover_logic.specs.Inner.Rows.{IsClear}
 use Rattle.cover_logic.proofs.Values.{values_all}
 use Rattle.cover_logic.proofs.Width.{clear_from_apart, clear_of_same, good_cover}
 use Rattle.cover_logic.proofs.cover.Goals as goal

@@ -1,4 +1,4 @@
-use Rattle.std.proofs.Common.{◌≡◌, ◌+◌, ◌^◌, ◌∙◌, ℕ, List, ◌∷◌, [], ◌++◌, drop, length, ap, sym, subst, rules}
+use Rattle.std.proofs.Common.{◌≡◌, ◌+◌, ◌∙◌, ℕ, List, ◌∷◌, [], ◌++◌, drop, length, ap, sym, subst, rules}
 use Rattle.std.specs.List.{All, Contains}
 use Rattle.std.proofs.lemmas.List.{drop_all, with_items_is}
 use Rattle.std.proofs.lemmas.List.Elements.{All-append, All-drop, Contains-get_or}
