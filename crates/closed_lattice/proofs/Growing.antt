@@ -48,6 +48,15 @@ image_held : (F : KissFile) (q : List ℕ) (s t u v : ℕ) → Closed F q → To
 image_held F q s t u v closed held (x, below, to_u, to_v) =
     subst (λ (k : ℕ). Together q u k) to_v (subst (λ (k : ℕ). Together q k (next F t (symbol_of F.inputs x))) to_u (closed s t (symbol_of F.inputs x) held (length-symbol_of F.inputs x)))
 
+-- the least closed partition of two states that s and t go to is also that of s and t, if it holds them together
+pub principal_back : (F : KissFile) (s t u v : ℕ) (p : List ℕ) → IsImage F s t u v → IsPrincipal F u v p → Together p s t → IsPrincipal F s t p
+principal_back F s t u v p image ahead held = record {
+  lawful = ahead.lawful;
+  closed = ahead.closed;
+  together = held;
+  least = λ other is both. ahead.least other is (image_held F other s t u v is.1 both image);
+}
+
 -- at first nothing is together, and s and t wait
 pub growing_begun : (F : KissFile) (s t : ℕ) (p : List ℕ) → NeverLeaves F → IsPartition (length F.states) p → IsZero p → s < length F.states → t < length F.states → IsGrowing F s t p ((s, t) ∷ [])
 growing_begun F s t p inside lawful zero in_s in_t = record {

@@ -15,7 +15,7 @@ ghost use Rattle.machine_table.specs.Staying.{NeverLeaves};
 ghost use Rattle.partition.specs.MeetAndJoin.{IsJoin};
 ghost use Rattle.partition.specs.Partition.{IsPartition, Together};
 
-use crate::ahead::{numbered, pairs_ahead};
+use crate::ahead::{known_ahead, numbered, pairs_ahead};
 use crate::known::Principals;
 use machine_table::Machine;
 use partition::Partition;
@@ -166,7 +166,10 @@ fn make_known(
     ensures known { OnOk result (ArePrincipalsOf m.now known.new) }
     ensures principal { IfOk result (IsPrincipal m.now s t) }
 {
-    let p = principal_beside(alloc, m, known, usize::from(s), usize::from(t))?;
+    let p = match known_ahead(m, known, s, t) {
+        Some(least) => least.copy(alloc)?,
+        None => principal_beside(alloc, m, known, usize::from(s), usize::from(t))?,
+    };
     known.add(alloc, s, t, &p)?;
     Ok(p)
 }
