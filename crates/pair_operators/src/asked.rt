@@ -1,5 +1,5 @@
 //! Next states at a few symbols, which tell most states apart.
-ghost use Rattle.std.specs.Prelude.{ℕ, ◌≡◌, ◌<◌, ◌^◌, All, IfOk, List, OnOk, length};
+ghost use Rattle.std.specs.Prelude.{ℕ, ◌≡◌, ◌<◌, ◌^◌, All, IfOk, IfSome, List, OnOk, length};
 ghost use Rattle.kiss2.specs.declared.kiss_file.KissFile.{KissFile};
 ghost use Rattle.pair_operators.specs.Asked.{AreAsked, IsNextColumn};
 ghost use Rattle.pair_operators.specs.Inner.Keys.{AreKeys, AreMixed, mixed};
@@ -50,6 +50,22 @@ fn column_at(alloc: Global, m: &Machine, x: u32) -> Result<NextColumn, AllocErro
     Ok(NextColumn { states })
 }
 
+/// A symbol of a column of s at which the two states go to states that are not together in q.
+fn symbol_apart(m: &Machine, q: &Partition, s: usize, t: usize) -> Option<u32>
+    requires states { length q.now ≡ length m.now.states }
+    requires s { s < length m.now.states }
+    requires t { t < length m.now.states }
+    ensures { IfSome result (λ x. x < 2 ^ m.now.inputs) }
+{
+    for k in 0..MOST_ASKED {
+        let x = m.symbol_of_column(s, k)?;
+        if q.label(m.next(s, x)) != q.label(m.next(t, x)) {
+            return Some(x);
+        }
+    }
+    None
+}
+
 impl Keys {
     /// The same number for each state.
     fn same(alloc: Global, states: usize) -> Result<Keys, AllocError>
@@ -98,8 +114,8 @@ impl AskedSymbols {
         Ok(keys)
     }
 
-    /// Adds a symbol at which the two states go to states that are not together in q, if there is one and not too many
-    /// are asked already. The answer has the numbers of the states after it.
+    /// Adds a symbol at which the two states go to states that are not together in q, if one is found among the
+    /// columns of s and not too many are asked already. The answer has the numbers of the states after it.
     pub(crate) fn learn(
         &mut self,
         alloc: Global,
@@ -120,7 +136,7 @@ impl AskedSymbols {
         if self.columns.len() >= MOST_ASKED {
             return Ok(keys);
         }
-        let Some(x) = m.first_apart(s, t, q) else {
+        let Some(x) = symbol_apart(m, q, s, t) else {
             return Ok(keys);
         };
         let column = column_at(alloc, m, x)?;
