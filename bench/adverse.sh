@@ -192,9 +192,13 @@ compare 'closed, trees of 32 inputs' random tree256 closed @
 compare 'closed, trees of 32 inputs, still' random tree_still closed @
 compare 'code, 64 outputs, half of them open' random64 tree_outputs code @ --fill hold
 compare 'code, trees of 32 inputs' random tree256 code @
+compare 'feedback, trees of 32 inputs' random tree256 feedback @
 compare 'check, 65,536 rows of one state' random long16 check @
 compare 'check, 65,536 equal rows' random long_same check @
 compare 'check, 32,768 rows of two kinds' random long_mixed check @
 compare 'check, the last of 65,536 rows conflicts' random long_last check @
 compare 'low, two states that look at other inputs' crossed8 crossed15 low @ 0,0
+compare 'pairs, two states that look at other inputs' crossed8 crossed15 pairs @
+compare 'shift, 4 and 16 outputs that copy inputs' columns4 columns16 shift @
+compare 'shift, 4 and 32 outputs that copy inputs' columns4 columns32 shift @
 printf '%-44s %s %s\n' 'walk, 100,000 symbols, 2 and 16,384 rows' "$(measured walk "$room/still1" "$room/symbols1")" "$(measured walk "$room/long14" "$room/symbols14")"
