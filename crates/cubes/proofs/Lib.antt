@@ -11,6 +11,7 @@ pub mod Parts
 pub mod Deciding
 pub mod Choosing
 pub mod Regions
+pub mod SharedCubes
 pub mod Narrowing
 pub mod Wanting
 pub mod Least

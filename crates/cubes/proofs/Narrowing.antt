@@ -8,7 +8,7 @@ use Rattle.std.specs.Int.{bit_at}
 use Rattle.cubes.specs.declared.cube.Cube.{Cube}
 use Rattle.cubes.specs.Symbol.{bit}
 use Rattle.cubes.specs.Cube.{HoldsNumber}
-use Rattle.cubes.specs.Inner.Region.{IsHalfOf, IsNarrowed, IsOpen}
+use Rattle.cubes.specs.Inner.Region.{IsNarrowed, IsOpen}
 use Rattle.cubes.proofs.Bits.{bit-and, bit-or, bit-zero, bit_from_one, bit_from_zero, or_first, or_second, same_digits, zero_from_bit}
 use Rattle.cubes.proofs.Held.{agrees_from_held, held_from_agrees}
 
@@ -142,14 +142,3 @@ dashes_fall region narrow more =
     let two : 0 < 2 = omega arith in
     let bound : 2 ^ narrow.width ≤ 2 ^ 32 = pow-le-pow_right two narrow.width_bound in
     omega (arith, more, bound, narrow.care_in_width)
-
--- one bit at one dash
-pub half_from_narrow : (region narrow : Cube) (place bits : ℕ) (b : Bool) → IsNarrowed region narrow (2 ^ place) bits → bit bits place ≡ b → IsHalfOf region narrow place b
-half_from_narrow region narrow place bits b is same = record {
-  width = is.width;
-  care = is.care;
-  grows = is.grows (pow_pos place);
-  from = λ x held. let both = is.from x held in (both.0, sym (both.1 place (power-bit place)) ∙ same);
-  to = λ x held at. is.to x held
-      (λ k one. subst (λ j. bit bits j ≡ bit x j) (sym (place_of_power place k one)) (same ∙ sym at));
-}

@@ -6,7 +6,7 @@ use Rattle.std.specs.Int.{bit_at}
 use Rattle.cubes.specs.declared.cube.Cube.{Cube}
 use Rattle.cubes.specs.Symbol.{bit}
 use Rattle.cubes.specs.Cube.{HoldsNumber, IsBoth, IsHalf, Meets}
-use Rattle.cubes.specs.Inner.Region.{clash_of}
+use Rattle.cubes.specs.Inner.Region.{IsHalfOf, clash_of}
 use Rattle.cubes.proofs.Bits.{one_from_bit, zero_from_bit, bit_from_one, bit_from_zero, same_bits}
 use Rattle.cubes.proofs.Held.{agrees_from_held, held_from_agrees}
 use Rattle.cubes.proofs.Meeting.{clash_from_meets, first_holds_both, kept_digit, second_holds_both}
@@ -69,6 +69,16 @@ module _ (c half : Cube) (place : ℕ) (b : Bool) (is : IsHalf c half place b) w
           | inl same ↦ ap (λ n. bit half.value n) same ∙ value_here ∙ sym h.1 ∙ ap (λ n. bit x n) (sym same)
           | inr other ↦ value_other k other ∙ agrees_from_held c x h.0 k (subst (λ w. k < w) is.width lt) (sym (care_other k other) ∙ cares)
         ]
+
+  -- it is a half of the region with the cube's symbols
+  pub half_of_region : c.care < half.care → IsHalfOf c half place b
+  half_of_region grows = record {
+    width = is.width;
+    care = is.care;
+    grows = grows;
+    from = whole_from_half;
+    to = λ x held at. half_from_whole x (held, at);
+  }
 
 -- ---- what two cubes that meet hold both
 module _ (c d both : Cube) (is : IsBoth c d both) (meets : Meets c d) where

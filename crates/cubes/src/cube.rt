@@ -74,8 +74,9 @@ pub struct Cube {
 }
 
 impl Cube {
-    ghost use Rattle.std.specs.Prelude.{ℕ, IfOk, Err, IsTrue, length, ◌↔◌, ◌≢◌};
-    ghost use Rattle.cubes.specs.Cube.{HoldsNumber, IsFirstBad, Meets, text_of};
+    ghost use Rattle.std.specs.Prelude.{ℕ, IfNone, IfOk, IfSome, Err, IsTrue, length, false, ◌↔◌, ◌≢◌};
+    ghost use Rattle.cubes.specs.Cube.{HoldsNumber, IsFirstBad, IsHalf, Meets, text_of};
+    ghost use Rattle.cubes.specs.Symbol.{bit};
 
     /// Reads an input field of `width` characters. The length is judged first, then the characters from the
     /// first to the last.
@@ -118,5 +119,52 @@ impl Cube {
         ensures { IsTrue result ↔ Meets self.now c.now }
     {
         (self.value ^ c.value) & self.care & c.care == 0
+    }
+
+    /// The cube of all symbols.
+    pub fn whole(width: u8) -> Cube
+        requires some { 0 < width }
+        requires bound { width ≤ 32 }
+        ensures width { result.width ≡ width }
+        ensures care { result.care ≡ 0 }
+        ensures all { (y : ℕ) → HoldsNumber result y }
+    {
+        Cube {
+            care: 0,
+            value: 0,
+            width,
+        }
+    }
+
+    /// The half of the cube with a 1, or a 0, at the place of a dash. Place 0 is the last character's.
+    pub fn half(&self, place: u32, one: bool) -> Cube
+        requires place { place < self.now.width }
+        requires dash { bit self.now.care place ≡ false }
+        ensures half { IsHalf self.now result place one }
+        ensures care { self.now.care < result.care }
+    {
+        let at = 1 << place;
+        Cube {
+            care: self.care | at,
+            value: if one { self.value | at } else { self.value },
+            width: self.width,
+        }
+    }
+
+    /// The lowest place at which the other cube has a bit and this one has a dash. Without one, this cube is
+    /// part of the other.
+    pub fn free_place(&self, other: &Cube) -> Option<u32>
+        requires width { self.now.width ≡ other.now.width }
+        requires meets { Meets self.now other.now }
+        ensures within { IfSome result (λ place. place < self.now.width) }
+        ensures dash { IfSome result (λ place. bit self.now.care place ≡ false) }
+        ensures none { IfNone result ((y : ℕ) → HoldsNumber self.now y → HoldsNumber other.now y) }
+    {
+        let free = other.care & (other.care ^ self.care);
+        if free == 0 {
+            None
+        } else {
+            Some(free.trailing_zeros())
+        }
     }
 }

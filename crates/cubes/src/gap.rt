@@ -15,7 +15,7 @@ ghost use Rattle.std.specs.Prelude.{ℕ, ◌≡◌, ◌<◌, ◌≤◌, ◌^◌,
 ghost use Rattle.cubes.specs.Cube.{HoldsNumber};
 ghost use Rattle.cubes.specs.Gap.{HoldsEach, IsFirstGap, IsHeld};
 ghost use Rattle.cubes.specs.Symbol.{bit};
-ghost use Rattle.cubes.specs.Inner.Region.{AreWanted, HasDashesBelow, HoldsRegion, IsGapIn, IsHalfOf, IsLeastGapIn, IsNarrowed, IsOpen, looked_at, touches};
+ghost use Rattle.cubes.specs.Inner.Region.{AreWanted, HasDashesBelow, HoldsRegion, IsGapIn, IsLeastGapIn, IsNarrowed, IsOpen, looked_at, touches};
 
 use crate::cube::Cube;
 use std::alloc::{AllocError, Global};
@@ -28,11 +28,7 @@ pub fn first_gap(alloc: Global, list: &[Cube], width: u8) -> Result<Option<u32>,
     ensures some { IfOk result (λ gap. IfSome gap (IsFirstGap list.now width)) }
     ensures none { IfOk result (λ gap. IfNone gap (HoldsEach list.now width)) }
 {
-    let whole = Cube {
-        care: 0,
-        value: 0,
-        width,
-    };
+    let whole = Cube::whole(width);
     match some_gap(alloc, list, &whole)? {
         Some(gap) => Ok(Some(least_gap(alloc, list, &whole, u32::from(width), gap)?)),
         None => Ok(None),
@@ -57,10 +53,10 @@ fn least_gap(
         return Ok(gap);
     }
     let place = places - 1;
-    let low = half(region, place, false);
+    let low = region.half(place, false);
     match gap_in_half(alloc, list, &low, gap)? {
         Some(lower) => least_gap(alloc, list, &low, place, lower),
-        None => least_gap(alloc, list, &half(region, place, true), place, gap),
+        None => least_gap(alloc, list, &region.half(place, true), place, gap),
     }
 }
 
@@ -104,10 +100,10 @@ fn some_gap(alloc: Global, list: &[Cube], region: &Cube) -> Result<Option<u32>, 
         return Ok(Some(region.value));
     }
     let place = most_looked_at(ones, &shares_of(&cubes, region));
-    if let Some(gap) = some_gap(alloc, &cubes, &half(region, place, false))? {
+    if let Some(gap) = some_gap(alloc, &cubes, &region.half(place, false))? {
         return Ok(Some(gap));
     }
-    some_gap(alloc, &cubes, &half(region, place, true))
+    some_gap(alloc, &cubes, &region.half(place, true))
 }
 
 /// The cubes that share a symbol with the region.
@@ -226,13 +222,4 @@ fn narrowed(region: &Cube, places: u32, bits: u32) -> Cube
         value: region.value | bits,
         width: region.width,
     }
-}
-
-/// The symbols of the region that have this bit at the place of a dash.
-fn half(region: &Cube, place: u32, bit: bool) -> Cube
-    requires { IsOpen region.now place }
-    ensures { IsHalfOf region.now result place bit }
-{
-    let places = 1 << place;
-    narrowed(region, places, if bit { places } else { 0 })
 }

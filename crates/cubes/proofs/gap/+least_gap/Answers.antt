@@ -2,6 +2,7 @@ use Rattle.std.proofs.Common.{◌≡◌, ℕ, ◌+◌, ◌-◌, ◌≤◌, List,
 use Rattle.cubes.specs.declared.cube.Cube.{Cube}
 use Rattle.cubes.specs.Inner.Region.{HasDashesBelow, IsLeastGapIn}
 use Rattle.cubes.proofs.Least.{dashes_below_half, gap_in_high, least_of_high, least_of_low, least_of_one}
+use Rattle.cubes.proofs.Parts.{half_of_region}
 use Rattle.cubes.proofs.Regions.{ok_on}
 use Rattle.cubes.proofs.gap.+least_gap.Goals as goal
 
@@ -23,11 +24,11 @@ pub least_gap-requires : goal.least_gap-requires
 least_gap-requires t c = (
   omega (arith, c.decreases, c.if-places-eq0.false),
   (
-    widths_of_half c.args.list.now c.args.region.now c.half-low.result c.half-low.ensures.width c.requires.widths,
+    widths_of_half c.args.list.now c.args.region.now c.half-low.result c.half-low.ensures.half.width c.requires.widths,
     (
-      within_half c.args.region.now c.half-low.result c.args.places c.half-low.ensures.width c.requires.within,
+      within_half c.args.region.now c.half-low.result c.args.places c.half-low.ensures.half.width c.requires.within,
       (
-        dashes_below_half c.args.region.now c.half-low.result (c.args.places - 1) false c.half-low.ensures
+        dashes_below_half c.args.region.now c.half-low.result (c.args.places - 1) false (half_of_region c.args.region.now c.half-low.result (c.args.places - 1) false c.half-low.ensures.half c.half-low.ensures.care)
             (next_place c.args.region.now c.args.places c.if-places-eq0.false c.requires.shape),
         rw c.in-Some.is at c.in_ok-lower.ensures.some,
       ),
@@ -39,13 +40,13 @@ pub least_gap-requires-in-None : goal.least_gap-requires-in-None
 least_gap-requires-in-None t c = (
   omega (arith, c.decreases, c.if-places-eq0.false),
   (
-    widths_of_half c.args.list.now c.args.region.now c.half.result c.half.ensures.width c.requires.widths,
+    widths_of_half c.args.list.now c.args.region.now c.half.result c.half.ensures.half.width c.requires.widths,
     (
-      within_half c.args.region.now c.half.result c.args.places c.half.ensures.width c.requires.within,
+      within_half c.args.region.now c.half.result c.args.places c.half.ensures.half.width c.requires.within,
       (
-        dashes_below_half c.args.region.now c.half.result (c.args.places - 1) true c.half.ensures
+        dashes_below_half c.args.region.now c.half.result (c.args.places - 1) true (half_of_region c.args.region.now c.half.result (c.args.places - 1) true c.half.ensures.half c.half.ensures.care)
             (next_place c.args.region.now c.args.places c.if-places-eq0.false c.requires.shape),
-        gap_in_high c.args.list.now c.args.region.now c.half-low.result c.half.result (c.args.places - 1) c.half-low.ensures c.half.ensures c.args.gap c.requires.gap
+        gap_in_high c.args.list.now c.args.region.now c.half-low.result c.half.result (c.args.places - 1) (half_of_region c.args.region.now c.half-low.result (c.args.places - 1) false c.half-low.ensures.half c.half-low.ensures.care) (half_of_region c.args.region.now c.half.result (c.args.places - 1) true c.half.ensures.half c.half.ensures.care) c.args.gap c.requires.gap
             (rw c.in-None.is at c.in_ok-lower.ensures.none),
       ),
     ),
@@ -55,13 +56,13 @@ least_gap-requires-in-None t c = (
 pub returns-in-Some : goal.returns-in-Some
 returns-in-Some t c =
     ok_on c.least_gap.result (IsLeastGapIn c.args.list.now c.half-low.result) (IsLeastGapIn c.args.list.now c.args.region.now)
-    (least_of_low c.args.list.now c.args.region.now c.half-low.result (c.args.places - 1) c.half-low.ensures
+    (least_of_low c.args.list.now c.args.region.now c.half-low.result (c.args.places - 1) (half_of_region c.args.region.now c.half-low.result (c.args.places - 1) false c.half-low.ensures.half c.half-low.ensures.care)
     (next_place c.args.region.now c.args.places c.if-places-eq0.false c.requires.shape))
     c.least_gap.ensures
 
 pub returns-in-None : goal.returns-in-None
 returns-in-None t c =
     ok_on c.least_gap-in-None.result (IsLeastGapIn c.args.list.now c.half.result) (IsLeastGapIn c.args.list.now c.args.region.now)
-    (least_of_high c.args.list.now c.args.region.now c.half-low.result c.half.result (c.args.places - 1) c.half-low.ensures c.half.ensures
+    (least_of_high c.args.list.now c.args.region.now c.half-low.result c.half.result (c.args.places - 1) (half_of_region c.args.region.now c.half-low.result (c.args.places - 1) false c.half-low.ensures.half c.half-low.ensures.care) (half_of_region c.args.region.now c.half.result (c.args.places - 1) true c.half.ensures.half c.half.ensures.care)
     (rw c.in-None.is at c.in_ok-lower.ensures.none))
     c.least_gap-in-None.ensures

@@ -1,8 +1,9 @@
-use Rattle.std.proofs.Common.{◌≡◌, ℕ, ◌-◌, ◌^◌, ◌<◌, List, sym, ◌∙◌, subst, refl, arith}
+use Rattle.std.proofs.Common.{◌≡◌, ℕ, ◌-◌, ◌^◌, ◌<◌, List, sym, ◌∙◌, false, true, subst, refl, arith}
 use Rattle.std.proofs.lemmas.Bool.{false≢true}
 use Rattle.cubes.specs.declared.cube.Cube.{Cube}
 use Rattle.cubes.specs.Inner.Region.{AreWanted, HoldsRegion, IsGapIn}
 use Rattle.cubes.proofs.Narrowing.{dashes_fall}
+use Rattle.cubes.proofs.Parts.{half_of_region, whole_from_half}
 use Rattle.cubes.proofs.Regions.{gap_far, none_near, none_on, some_on, whole_near, widths_near}
 use Rattle.cubes.proofs.Wanting.{against_held, against_inside, halves_held, one_sided_open, same_masks}
 use Rattle.cubes.proofs.gap.+some_gap.Goals as goal
@@ -68,32 +69,32 @@ returns-then-ones-eq0-clause-some t c =
 
 pub some_gap-requires-2 : goal.some_gap-requires-2
 some_gap-requires-2 t c = (
-  let fall : 2 ^ 32 - c.half.result.care < t = omega (arith, dashes_fall c.args.region.now c.half.result c.half.ensures.grows, c.decreases) in fall,
-  widths_near c.args.list.now c.deref-4.result.now c.args.region.now c.requires (c.deref-4.ensures.value ∙ c.in_ok-cubes.ensures) c.half.result c.half.ensures.width,
+  let fall : 2 ^ 32 - c.half.result.care < t = omega (arith, dashes_fall c.args.region.now c.half.result c.half.ensures.care, c.decreases) in fall,
+  widths_near c.args.list.now c.deref-4.result.now c.args.region.now c.requires (c.deref-4.ensures.value ∙ c.in_ok-cubes.ensures) c.half.result c.half.ensures.half.width,
 )
 
 pub returns-in-Some-clause-some : goal.returns-in-Some-clause-some
 returns-in-Some-clause-some t c =
-    gap_far c.args.list.now c.deref-4.result.now c.args.region.now c.requires (c.deref-4.ensures.value ∙ c.in_ok-cubes.ensures) c.half.result c.half.ensures.width
-    (λ x held. (c.half.ensures.from x held).0) c.in-Some.gap (rw c.in-Some.is at c.in_ok-gap.ensures.some)
+    gap_far c.args.list.now c.deref-4.result.now c.args.region.now c.requires (c.deref-4.ensures.value ∙ c.in_ok-cubes.ensures) c.half.result c.half.ensures.half.width
+    (λ x held. (whole_from_half c.args.region.now c.half.result c.most_looked_at-place.result false c.half.ensures.half x held).0) c.in-Some.gap (rw c.in-Some.is at c.in_ok-gap.ensures.some)
 
 pub some_gap-requires-3 : goal.some_gap-requires-3
 some_gap-requires-3 t c = (
-  let fall : 2 ^ 32 - c.half-2.result.care < t = omega (arith, dashes_fall c.args.region.now c.half-2.result c.half-2.ensures.grows, c.decreases) in fall,
-  widths_near c.args.list.now c.deref-5.result.now c.args.region.now c.requires (c.deref-5.ensures.value ∙ c.in_ok-cubes.ensures) c.half-2.result c.half-2.ensures.width,
+  let fall : 2 ^ 32 - c.half-2.result.care < t = omega (arith, dashes_fall c.args.region.now c.half-2.result c.half-2.ensures.care, c.decreases) in fall,
+  widths_near c.args.list.now c.deref-5.result.now c.args.region.now c.requires (c.deref-5.ensures.value ∙ c.in_ok-cubes.ensures) c.half-2.result c.half-2.ensures.half.width,
 )
 
 pub returns-clause-some : goal.returns-clause-some
 returns-clause-some t c =
     some_on c.some_gap-3.result (IsGapIn c.deref-5.result.now c.half-2.result) (IsGapIn c.args.list.now c.args.region.now)
-    (gap_far c.args.list.now c.deref-5.result.now c.args.region.now c.requires (c.deref-5.ensures.value ∙ c.in_ok-cubes.ensures) c.half-2.result c.half-2.ensures.width
-    (λ x held. (c.half-2.ensures.from x held).0))
+    (gap_far c.args.list.now c.deref-5.result.now c.args.region.now c.requires (c.deref-5.ensures.value ∙ c.in_ok-cubes.ensures) c.half-2.result c.half-2.ensures.half.width
+    (λ x held. (whole_from_half c.args.region.now c.half-2.result c.most_looked_at-place.result true c.half-2.ensures.half x held).0))
     c.some_gap-3.ensures.some
 
 pub returns-clause-none : goal.returns-clause-none
 returns-clause-none t c =
     none_on c.some_gap-3.result (HoldsRegion c.deref-5.result.now c.half-2.result) (HoldsRegion c.args.list.now c.args.region.now)
     (halves_held c.args.list.now c.deref-5.result.now c.args.region.now c.requires (c.deref-5.ensures.value ∙ c.in_ok-cubes.ensures) c.half.result c.half-2.result
-    c.most_looked_at-place.result c.half.ensures c.half-2.ensures
+    c.most_looked_at-place.result (half_of_region c.args.region.now c.half.result c.most_looked_at-place.result false c.half.ensures.half c.half.ensures.care) (half_of_region c.args.region.now c.half-2.result c.most_looked_at-place.result true c.half-2.ensures.half c.half-2.ensures.care)
     (subst (λ (cubes : List Cube). HoldsRegion cubes c.half.result) (c.deref-4.ensures.value ∙ sym c.deref-5.ensures.value) (rw c.in_default.is at c.in_ok-gap.ensures.none)))
     c.some_gap-3.ensures.none
