@@ -8,4 +8,3 @@ pub mod Clocks
 pub mod Texts
 pub mod Measured
 pub mod Exact
-pub mod Structures

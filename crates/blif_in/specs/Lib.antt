@@ -1,4 +1,3 @@
 pub mod Faults
 pub mod Text
-pub mod Worked
 pub mod Inner

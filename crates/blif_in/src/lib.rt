@@ -5,8 +5,8 @@
 //! the check that it is sound finds, so that a caller who runs the network need not check it again. `net_core`
 //! defines what a text denotes, which networks are sound, what an order is, and the limits. This crate defines
 //! which fault is the first: `specs/Faults.antt` for a statement, given those before it, and `specs/Text.antt` for
-//! the whole text. Its laws say that a text denotes such a network or has a first fault, and never both.
-//! `specs/Inner` is for private functions only.
+//! the whole text. Its laws say that a text denotes such a network or has a first fault, and never both; the crate
+//! `blif_laws` has worked texts. `specs/Inner` is for private functions only.
 //!
 //! The reader takes one line at a time, and keeps no line that it has read. It works in layers, each with a
 //! contract of its own. `joining` gives the joined lines that are statements, one after another. `judging` gives
@@ -25,9 +25,5 @@ mod reading;
 mod statement;
 
 pub use fault::{BlifFail, BlifFault, BlifKind, NetLimit};
-pub use laws::{
-    faultless_denotes, one_fault, worked_beginnings, worked_clocks, worked_forms,
-    worked_gate_limit, worked_limits, worked_orders, worked_reaches, worked_rows,
-    worked_structures,
-};
+pub use laws::{faultless_denotes, one_fault};
 pub use reading::{OrderedNetwork, read, read_ordered};

@@ -6,7 +6,7 @@ use Rattle.kiss2.specs.declared.fault.KissFail.TheVariants.{NoMemory, Refused}
 use Rattle.kiss2.specs.declared.fault.KissFault.{KissFault}
 use Rattle.kiss2.specs.declared.fault.KissKind.{KissKind}
 use Rattle.kiss2.specs.declared.kiss_file.KissFile.{KissFile}
-use Rattle.kiss2.specs.Kiss.{IsKissFault, Kiss, lines_read}
+use Rattle.kiss2.specs.Kiss.{IsKissFault, Kiss, NeverBoth, OneFile, lines_read}
 use Rattle.kiss2.proofs.Closing.{some_rows}
 use Rattle.kiss2.proofs.OneFault.{never_both, one_fault}
 use Rattle.kiss2.proofs.SameRecord.{one_record}
@@ -16,12 +16,15 @@ pub record IsRight (bytes : List ℕ) (result : Result KissFile KissFail) : Type
   pub read : IfOk result (λ file. Kiss bytes file)
   pub refused : (fault : KissFault) → result ≡ Err (Refused fault) → IsKissFault bytes fault.line fault.kind
 
-pub one_file : (bytes : List ℕ) (F G : KissFile) → Kiss bytes F → Kiss bytes G → F ≡ G
+pub one_file : OneFile
 one_file bytes F G first second = one_record (lines_read bytes) F G (some_rows (lines_read bytes) first.closed) first.whole second.whole
+
+pub machine_or_fault : NeverBoth
+machine_or_fault bytes F number kind read fault = never_both (lines_read bytes) number kind read.faultless read.closed fault
 
 pub never_refused : (bytes : List ℕ) (result : Result KissFile KissFail) → IsRight bytes result → (file : KissFile) → Kiss bytes file → MatchResult result (λ read. read ≡ file) (λ fail. fail ≡ NoMemory)
 never_refused bytes (Ok read) right file kiss = one_file bytes read file right.read kiss
-never_refused bytes (Err (Refused fault)) right file kiss = absurd (never_both (lines_read bytes) fault.line fault.kind kiss.faultless kiss.closed (right.refused fault refl))
+never_refused bytes (Err (Refused fault)) right file kiss = absurd (machine_or_fault bytes file fault.line fault.kind kiss (right.refused fault refl))
 never_refused bytes (Err NoMemory) right file kiss = refl
 
 pub same_fault : (f g : KissFault) → f.line ≡ g.line → f.kind ≡ g.kind → f ≡ g
@@ -31,7 +34,7 @@ same_fault f g p q = same f.line g.line f.kind g.kind p q where
 
 pub never_read : (bytes : List ℕ) (result : Result KissFile KissFail) → IsRight bytes result → (fault : KissFault) → IsKissFault bytes fault.line fault.kind
     → MatchResult result (λ _. ⊥) (λ fail. (fail ≡ Refused fault) ⊎ (fail ≡ NoMemory))
-never_read bytes (Ok read) right fault is = never_both (lines_read bytes) fault.line fault.kind right.read.faultless right.read.closed is
+never_read bytes (Ok read) right fault is = machine_or_fault bytes read fault.line fault.kind right.read is
 never_read bytes (Err (Refused other)) right fault is =
     let same = one_fault (lines_read bytes) other.line fault.line other.kind fault.kind (right.refused other refl) is in
     inl (ap Refused (same_fault other fault same.0 same.1))

@@ -13,10 +13,4 @@ pub mod OneFault
 pub mod SameRecord
 pub mod Made
 pub mod Exact
-pub mod ReadLawful
 pub mod Written
-pub mod ReadBack
-pub mod Header
-pub mod RowsBack
-pub mod Renumbered
-pub mod RoundTrip

@@ -1,8 +1,7 @@
 //! Laws of files and their machines, each the contract of a function that does nothing.
 
-ghost use Rattle.kiss2.specs.Kiss.{AlwaysOne, NeverBoth, OneFault, OneFile, ReadIsLawful};
+ghost use Rattle.kiss2.specs.Kiss.{AlwaysOne, NeverBoth, OneFault, OneFile};
 ghost use Rattle.kiss2.specs.Machine.{NextIsAState, RowsDecide};
-ghost use Rattle.kiss2.specs.Written.{WrittenIsRead};
 
 /// Bytes say one machine or have one first fault, and never both.
 pub fn read_once()
@@ -10,16 +9,6 @@ pub fn read_once()
     ensures one_fault { OneFault }
     ensures never_both { NeverBoth }
     ensures always_one { AlwaysOne }
-{}
-
-/// What is read is lawful.
-pub fn read_is_lawful()
-    ensures { ReadIsLawful }
-{}
-
-/// What is written of a lawful record is read back as that record.
-pub fn written_is_read()
-    ensures { WrittenIsRead }
 {}
 
 /// What rows say of a state and a symbol is the machine's next state and output, whichever of them is

@@ -8,7 +8,8 @@
 //! it say, `specs/Faults` which fault comes first, and `specs/Kiss` what a text says as a whole. `specs/Written`
 //! is the text of a record. `specs/Lawful` says which records a text can have, and `specs/Machine` is the machine
 //! of a file: its next states and outputs, its answers to words, and which files have one. The functions of
-//! `laws` state what follows from these definitions; the crate `kiss2_laws` has what they say of worked texts.
+//! `laws` state what follows from these definitions. The crate `kiss2_laws` proves that what is read is lawful and
+//! that what is written is read back, and has what the definitions say of worked texts.
 #![tactic(auto)]
 
 mod fault;
@@ -28,7 +29,8 @@ mod writing;
 pub use fault::{KissFail, KissFault, KissKind, KissLimit};
 pub use fill::Fill;
 pub use kiss_file::{KissFile, KissRow, Rows};
-pub use laws::{next_is_a_state, read_is_lawful, read_once, rows_decide, written_is_read};
+pub use laws::{next_is_a_state, read_once, rows_decide};
+pub use line_kind::LineKind;
 pub use reader::read;
 pub use state_names::StateNames;
 pub use writing::write;

@@ -6,7 +6,7 @@ use hs_io::Line;
 
 /// What a line of a KISS2 text is, by its first field.
 #[derive(Clone, Copy, Debug, PartialEq, Eq)]
-pub(crate) enum LineKind {
+pub enum LineKind {
     /// It has no fields.
     Blank,
     /// `.e` or `.end`: the text ends before it.

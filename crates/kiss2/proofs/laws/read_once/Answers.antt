@@ -1,19 +1,18 @@
 use Rattle.std.proofs.Common.{inl, inr}
 use Rattle.kiss2.specs.Kiss.{lines_read}
-use Rattle.kiss2.proofs.OneFault.{fault_or_none, never_both, one_fault}
-use Rattle.kiss2.proofs.Closing.{some_rows}
+use Rattle.kiss2.proofs.Exact.{machine_or_fault, one_file}
+use Rattle.kiss2.proofs.OneFault.{fault_or_none, one_fault}
 use Rattle.kiss2.proofs.Made.{a_record}
-use Rattle.kiss2.proofs.SameRecord.{one_record}
 use Rattle.kiss2.proofs.laws.read_once.Goals as goal
 
 pub returns-clause-one_fault : goal.returns-clause-one_fault
 returns-clause-one_fault c bytes number other kind another first second = one_fault (lines_read bytes) number other kind another first second
 
 pub returns-clause-never_both : goal.returns-clause-never_both
-returns-clause-never_both c bytes F number kind read fault = never_both (lines_read bytes) number kind read.faultless read.closed fault
+returns-clause-never_both c = machine_or_fault
 
 pub returns-clause-one_file : goal.returns-clause-one_file
-returns-clause-one_file c bytes F G first second = one_record (lines_read bytes) F G (some_rows (lines_read bytes) first.closed) first.whole second.whole
+returns-clause-one_file c = one_file
 
 pub returns-clause-always_one : goal.returns-clause-always_one
 returns-clause-always_one c bytes =

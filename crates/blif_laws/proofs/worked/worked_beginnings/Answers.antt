@@ -1,5 +1,5 @@
 use Rattle.std.proofs.Common.{inl, refl}
-use Rattle.blif_in.proofs.laws.worked_beginnings.Goals as goal
+use Rattle.blif_laws.proofs.worked.worked_beginnings.Goals as goal
 
 pub returns-clause-nothing : goal.returns-clause-nothing
 returns-clause-nothing c = inl refl

@@ -1,5 +1,5 @@
 use Rattle.std.proofs.Common.{inl, refl}
-use Rattle.blif_in.proofs.laws.worked_limits.Goals as goal
+use Rattle.blif_laws.proofs.worked.worked_limits.Goals as goal
 
 pub returns-clause-long_name : goal.returns-clause-long_name
 returns-clause-long_name c = inl refl

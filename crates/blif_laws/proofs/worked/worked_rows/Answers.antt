@@ -1,5 +1,5 @@
 use Rattle.std.proofs.Common.{inl, refl}
-use Rattle.blif_in.proofs.laws.worked_rows.Goals as goal
+use Rattle.blif_laws.proofs.worked.worked_rows.Goals as goal
 
 pub returns-clause-bad_row : goal.returns-clause-bad_row
 returns-clause-bad_row c = inl refl

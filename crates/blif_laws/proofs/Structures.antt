@@ -17,7 +17,7 @@ use Rattle.net_core.proofs.Members.{Contains-cons, Contains-here, Contains-none,
 use Rattle.blif_in.specs.declared.fault.BlifKind.{BlifKind}
 use Rattle.blif_in.specs.declared.fault.BlifKind.TheVariants.{Structure}
 use Rattle.blif_in.specs.Text.{IsStructureFault}
-use Rattle.blif_in.specs.Worked.{IsRefused, cycle_lines}
+use Rattle.blif_laws.specs.Worked.{IsRefused, cycle_lines}
 
 both : (a b : Bool) → (a && b) ≡ true → (a ≡ true) × (b ≡ true)
 both true b h = (refl, h)

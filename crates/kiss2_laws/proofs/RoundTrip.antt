@@ -32,13 +32,13 @@ use Rattle.kiss2.specs.Words.{decimal_value, field_at, is_ending, is_of_kind, ki
 use Rattle.kiss2.specs.Written.{fields_of_row, given_line, kiss_lines, kiss_text, next_name, output_characters, states_standing}
 use Rattle.kiss2.proofs.Ending.{faultless_none, faultless_push}
 use Rattle.kiss2.proofs.Finding.{contained_test, once_from_distinct}
-use Rattle.kiss2.proofs.Header.{count_written, names_written, number_written, reset_written}
+use Rattle.kiss2_laws.proofs.Header.{count_written, names_written, number_written, reset_written}
 use Rattle.kiss2.proofs.Once.{among}
-use Rattle.kiss2.proofs.ReadBack.{before_end-cons, decimal_plain, decimal_read, lines_of-spelled, numbered}
-use Rattle.kiss2.proofs.ReadLawful.{twice_parts}
+use Rattle.kiss2_laws.proofs.ReadBack.{before_end-cons, decimal_plain, decimal_read, lines_of-spelled, numbered}
+use Rattle.kiss2_laws.proofs.ReadLawful.{twice_parts}
 use Rattle.kiss2.proofs.SameRecord.{length-text}
-use Rattle.kiss2.proofs.RowsBack.{Ready, all_pushed, column_from, column_to, row_texts, rows_are, rows_go, rows_without, rows_zip}
-use Rattle.kiss2.proofs.Renumbered.{renumbered}
+use Rattle.kiss2_laws.proofs.RowsBack.{Ready, all_pushed, column_from, column_to, row_texts, rows_are, rows_go, rows_without, rows_zip}
+use Rattle.kiss2_laws.proofs.Renumbered.{renumbered}
 use Rattle.kiss2.proofs.Stood.{fault_form, or_none, other}
 
 -- the lines above the rows

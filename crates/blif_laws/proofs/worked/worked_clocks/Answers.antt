@@ -1,5 +1,5 @@
 use Rattle.std.proofs.Common.{inl, refl}
-use Rattle.blif_in.proofs.laws.worked_clocks.Goals as goal
+use Rattle.blif_laws.proofs.worked.worked_clocks.Goals as goal
 
 pub returns-clause-second_control : goal.returns-clause-second_control
 returns-clause-second_control c = inl refl

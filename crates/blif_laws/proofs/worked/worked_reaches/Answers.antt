@@ -1,5 +1,5 @@
 use Rattle.std.proofs.Common.{inl, refl}
-use Rattle.blif_in.proofs.laws.worked_reaches.Goals as goal
+use Rattle.blif_laws.proofs.worked.worked_reaches.Goals as goal
 
 pub returns-clause-model_name : goal.returns-clause-model_name
 returns-clause-model_name c = inl refl

@@ -35,9 +35,9 @@ use Rattle.kiss2.proofs.Building.{names_in_column-append}
 use Rattle.kiss2.proofs.Ending.{faultless_push}
 use Rattle.kiss2.proofs.Finding.{contained_test}
 use Rattle.kiss2.proofs.GoodLines.{among_states}
-use Rattle.kiss2.proofs.Header.{none_long}
+use Rattle.kiss2_laws.proofs.Header.{none_long}
 use Rattle.kiss2.proofs.Once.{among, no_more, once-each_once}
-use Rattle.kiss2.proofs.ReadBack.{numbered}
+use Rattle.kiss2_laws.proofs.ReadBack.{numbered}
 use Rattle.kiss2.proofs.SameRecord.{length-text}
 use Rattle.kiss2.proofs.Stood.{fault_form, rows_more, skip, stay}
 

@@ -1,6 +1,6 @@
 use Rattle.std.proofs.Common.{[], ◌∷◌, codes, inr, refl}
-use Rattle.blif_in.proofs.Structures.{cycle_is_told, driven_again, not_from_later_gate, used_undriven}
-use Rattle.blif_in.proofs.laws.worked_structures.Goals as goal
+use Rattle.blif_laws.proofs.Structures.{cycle_is_told, driven_again, not_from_later_gate, used_undriven}
+use Rattle.blif_laws.proofs.worked.worked_structures.Goals as goal
 
 pub returns-clause-undriven : goal.returns-clause-undriven
 returns-clause-undriven c = inr (refl, used_undriven _ [] [] (codes "z") refl refl refl refl)

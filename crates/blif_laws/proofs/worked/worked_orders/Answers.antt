@@ -1,5 +1,5 @@
 use Rattle.std.proofs.Common.{inl, refl}
-use Rattle.blif_in.proofs.laws.worked_orders.Goals as goal
+use Rattle.blif_laws.proofs.worked.worked_orders.Goals as goal
 
 pub returns-clause-clocks_before_latches : goal.returns-clause-clocks_before_latches
 returns-clause-clocks_before_latches c = inl refl

@@ -1,5 +1,5 @@
 use Rattle.std.proofs.Common.{inl, refl}
-use Rattle.blif_in.proofs.laws.worked_forms.Goals as goal
+use Rattle.blif_laws.proofs.worked.worked_forms.Goals as goal
 
 pub returns-clause-unsupported : goal.returns-clause-unsupported
 returns-clause-unsupported c = inl refl

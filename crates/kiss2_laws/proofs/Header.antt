@@ -13,7 +13,7 @@ use Rattle.kiss2.specs.declared.fault.KissLimit.TheVariants.{NameBytes}
 use Rattle.kiss2.specs.Faults.{count_fault, fault_where, first_of, has_twice, long_name, names_fault, number_fault, reset_fault}
 use Rattle.kiss2.specs.Lawful.{IsGivenName}
 use Rattle.kiss2.specs.Words.{decimal_value, has_backslash}
-use Rattle.kiss2.proofs.ReadBack.{decimal_read}
+use Rattle.kiss2_laws.proofs.ReadBack.{decimal_read}
 
 -- `.i` and `.o`
 pub count_written : (what : KissLimit) (limit n : ℕ) → 1 ≤ n → n ≤ limit → limit ≤ 64 → count_fault what limit (decimal n ∷ []) ≡ None

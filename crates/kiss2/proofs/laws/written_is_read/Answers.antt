@@ -1,5 +1,0 @@
-use Rattle.kiss2.proofs.RoundTrip.{says_again}
-use Rattle.kiss2.proofs.laws.written_is_read.Goals as goal
-
-pub returns : goal.returns
-returns c F lawful = says_again F lawful
