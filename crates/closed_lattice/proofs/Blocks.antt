@@ -1,16 +1,12 @@
--- Numbers of blocks: of one block, and of a partition strictly above another.
+-- Numbers of blocks: of a partition strictly above another.
 use Rattle.std.proofs.Common.{◌≡◌, ℕ, zero, suc, ◌+◌, ◌-◌, ◌<◌, ◌≤◌, ◌==◌, inl, inr, List, length, get_or, take, refl, sym, ap, ◌∙◌, subst, arith}
 use Rattle.std.proofs.lemmas.List.{take_all}
 use Rattle.std.proofs.lemmas.List.Sums.{passes_at_first}
 use Rattle.std.proofs.lemmas.Bool.{cases_eq, cases_lt, eqb-true}
-use Rattle.partition.specs.Partition.{blocks_of, IsNumbered, IsOne, Together, Le}
+use Rattle.partition.specs.Partition.{blocks_of, IsNumbered, Together, Le}
 use Rattle.partition.specs.Inside.{least_of}
 use Rattle.partition.specs.Laws.Labels.{blocks_of-take-more, label-lt-blocks_of, label-lt-blocks_of-take, block_stands, new_label}
 use Rattle.partition.proofs.Nesting.{least_of-le}
-
--- the states of one block are all together
-pub one_block : (p : List ℕ) → blocks_of p ≡ 1 → IsOne p
-one_block p one s t in_s in_t = (in_s, in_t, omega (arith, label-lt-blocks_of p s in_s, label-lt-blocks_of p t in_t))
 
 -- a state is in the block of its least
 pub least_holds : (p : List ℕ) (s : ℕ) → s < length p → get_or p (least_of p s) 0 ≡ get_or p s 0

@@ -27,7 +27,7 @@ use Rattle.machine_table.proofs.Asking.{lawful_row, number_of_row}
 use Rattle.machine_table.proofs.OpenParts.{one_part}
 use Rattle.state_rows.proofs.Outputs.{gives_where_cares, given_in_all, value_of_given}
 use Rattle.machine_table.proofs.OpenCubes.{itself, only_one}
-use Rattle.machine_table.proofs.SharedCubes.{meets_from_held}
+use Rattle.cubes.proofs.SharedCubes.{meets_from_held}
 use Rattle.machine_table.proofs.Sought.{at_from_held, held_from_at, row_from_at}
 
 -- ---- a row without the parts that another says

@@ -9,6 +9,7 @@ pub mod GatheredOutputs
 pub mod Labels
 pub mod Lawful
 pub mod MarkedRows
+pub mod MergedPairs
 pub mod NamedIn
 pub mod NamedPairs
 pub mod NextLabels
@@ -19,8 +20,8 @@ pub mod OutputWords
 pub mod PairsOnce
 pub mod RowPieces
 pub mod SettledCubes
-pub mod SharedCubes
 pub mod Sought
 pub mod Specified
 pub mod Staying
+pub mod Unrefused
 pub mod WordLabels

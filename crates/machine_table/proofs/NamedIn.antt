@@ -18,11 +18,11 @@ use Rattle.machine_table.specs.Inner.MarkedRows.{AreLeft}
 use Rattle.state_rows.specs.Columns.{IsAtPlace}
 use Rattle.state_rows.specs.Places.{IsNumberOf}
 use Rattle.machine_table.proofs.Asking.{number_of_row}
-use Rattle.machine_table.proofs.AddedPairs.{adds_as, adds_none}
+use Rattle.machine_table.proofs.AddedPairs.{adds_as, adds_none, lengthens_keeps, lengthens_none, lengthens_then}
 use Rattle.machine_table.proofs.MarkedRows.{left_first, left_less, left_none}
 use Rattle.state_rows.proofs.RowBundles.{of_row}
 use Rattle.state_rows.proofs.RowPatterns.{none_of_zero}
-use Rattle.machine_table.proofs.SharedCubes.{first_holds, least_below, meets_from_held, second_holds}
+use Rattle.cubes.proofs.SharedCubes.{first_holds, least_below, meets_from_held, second_holds}
 use Rattle.machine_table.proofs.Sought.{row_of}
 
 -- the states of a pair that two rows name
@@ -68,7 +68,7 @@ left_without rows numbers P Done word gone few fits left done = record {
 module _ (rows : List KissRow) (bundle : RowBundle) (cube : Cube) (next : ℕ) (right : IsBundle rows bundle) where
   pub added_first : (word : ℕ) (old : List (ℕ × ℕ)) → MarksRows rows bundle.numbers (λ other. Meets cube other.cube) word → AreAddedTo rows bundle.numbers cube next word old old
   added_first word old marks = record {
-    kept = λ u v among. among;
+    longer = lengthens_none old;
     right = λ u v among. inl among;
     left = left_first rows bundle.numbers (λ other. Meets cube other.cube) (IsListed old next) word marks;
     meet = λ k other at one. (marks.each k other at).0 one;
@@ -90,16 +90,16 @@ module _ (rows : List KissRow) (bundle : RowBundle) (cube : Cube) (next : ℕ) (
       let at = there.1 in
       let added = step.added other at in
       record {
-        kept = λ u v among. (added u v).1 (inl (known.kept u v among));
+        longer = lengthens_then old now more known.longer added.longer;
         right = λ u v among.
-            elim ((added u v).0 among) [
+            elim ((added.each u v).0 among) [
               | inl earlier ↦ known.right u v earlier
               | inr new ↦ inr (new.0, (k, other, at, known.meet k other at one, new.1))
             ];
         left = left_without rows bundle.numbers (λ r. Meets cube r.cube) (IsListed more next) after gone right.few step.fits
             (left_less rows bundle.numbers (λ r. Meets cube r.cube) (IsListed now next) (IsListed more next) before k after known.left without
-            (λ r listed v names. (added next v).1 (inl (listed v names)))
-            (λ r at_r v names. (step.added r at_r next v).1 (inr (refl, names))))
+            (λ r listed v names. (added.each next v).1 (inl (listed v names)))
+            (λ r at_r v names. ((step.added r at_r).each next v).1 (inr (refl, names))))
             step.done;
         meet = λ i r at_r marked.
             let is = bit_at_and after (bit_not w64 gone) i in
@@ -112,10 +112,10 @@ module _ (rows : List KissRow) (bundle : RowBundle) (cube : Cube) (next : ℕ) (
       }
 
   pub added_all : (word : ℕ) (old now : List (ℕ × ℕ)) → word ≡ 0 → AreAddedTo rows bundle.numbers cube next word old now → AddsPairs (AreNamedIn rows bundle.numbers cube next) old now
-  added_all word old now none known u v = (known.right u v, back) where
-    back : Contains old (u, v) ⊎ AreNamedIn rows bundle.numbers cube next u v → Contains now (u, v)
-    back (inl before) = known.kept u v before
-    back (inr (is, (k, other, at, meets, names))) =
+  added_all word old now none known = record { longer = known.longer; each = λ u v. (known.right u v, back u v) } where
+    back : (u v : ℕ) → Contains old (u, v) ⊎ AreNamedIn rows bundle.numbers cube next u v → Contains now (u, v)
+    back u v (inl before) = lengthens_keeps old now (u, v) known.longer before
+    back u v (inr (is, (k, other, at, meets, names))) =
         subst (λ (n : ℕ). Contains now (n, v)) (sym is)
         (left_none rows bundle.numbers (λ r. Meets cube r.cube) (IsListed now next) word none known.left k other at meets v names)
 
@@ -151,7 +151,7 @@ module _ (rows : List KissRow) (numbers : List ℕ) (next place : ℕ) (row : Ki
         )) adds;
     done = λ k other at one v told.
         let is = no_other k other at one v told in
-        subst (λ (n : ℕ). Contains now (next, n)) (sym is) ((adds next found).1 (inr refl));
+        subst (λ (n : ℕ). Contains now (next, n)) (sym is) ((adds.each next found).1 (inr refl));
     fits = fits;
   }
 

@@ -18,7 +18,7 @@ use Rattle.machine_table.specs.Table.{IsTable}
 use Rattle.machine_table.proofs.AlikeRows.{held_by_like}
 use Rattle.machine_table.proofs.Asking.{lawful_row, number_of_row}
 use Rattle.machine_table.proofs.Labels.{label_or_open, value_of_some}
-use Rattle.machine_table.proofs.SharedCubes.{value_below}
+use Rattle.cubes.proofs.SharedCubes.{value_below}
 use Rattle.machine_table.proofs.Sought.{at_from_held, held_from_at, row_from_at, row_of}
 
 -- ---- what rows name

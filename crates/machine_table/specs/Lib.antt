@@ -4,6 +4,7 @@ pub mod Conflict
 pub mod Cause
 pub mod Pairs
 pub mod Covering
+pub mod Merging
 pub mod Walk
 pub mod Inner
 pub mod Staying

@@ -68,6 +68,20 @@ impl Machine {
         }
     }
 
+    /// The machine of an accepted file.
+    pub fn of_accepted(alloc: Global, file: &KissFile, fill: Fill) -> Result<Machine, AllocError>
+        requires table { IsTable file.now }
+        requires accepted { Accepted file.now fill }
+        ensures { IfOk result (λ machine. machine ≡ file.now) }
+    {
+        match Machine::build(alloc, file, fill) {
+            Ok(machine) => Ok(machine),
+            Err(BuildFail::NoMemory) => Err(AllocError),
+            Err(BuildFail::Conflict { .. }) => unreachable!(),
+            Err(BuildFail::Unspecified { .. }) => unreachable!(),
+        }
+    }
+
     /// The machine of a file without conflicts, whatever its rows leave open.
     fn of_rows(alloc: Global, file: &KissFile) -> Result<Machine, BuildFail>
         requires table { IsTable file.now }

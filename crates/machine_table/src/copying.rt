@@ -1,7 +1,7 @@
 //! Copies of files.
 ghost use Rattle.std.specs.Prelude.{◌≡◌, ◌<◌, IfOk, IsOk, Option, length};
 
-use hs_io::{Name, Names};
+use hs_io::{Names, copied_names};
 use kiss2::{KissFile, Rows, StateNames};
 use std::alloc::{AllocError, Global};
 
@@ -34,22 +34,11 @@ fn copied_states(alloc: Global, states: &StateNames) -> Result<StateNames, Alloc
 }
 
 /// A copy of the names of inputs or outputs, if there are names.
-fn copied_given(alloc: Global, given: &Option<Names>) -> Result<Option<Names>, AllocError>
+pub fn copied_given(alloc: Global, given: &Option<Names>) -> Result<Option<Names>, AllocError>
     ensures { IfOk result (λ copy. copy ≡ given.now) }
 {
     match given {
         None => Ok(None),
         Some(names) => Ok(Some(copied_names(alloc, names.as_slice())?)),
     }
-}
-
-/// A copy of the names.
-fn copied_names(alloc: Global, names: &[Name]) -> Result<Names, AllocError>
-    ensures { IfOk result (λ copy. copy ≡ names.now) }
-{
-    let mut copy = Names::new(alloc);
-    for name in names {
-        copy.push(Name::new(alloc, name.bytes())?)?;
-    }
-    Ok(copy)
 }

@@ -13,7 +13,6 @@ ghost use Rattle.machine_table.specs.Inner.OpenSymbol.{SaysAll};
 ghost use Rattle.machine_table.specs.Inner.Settled.{AddsPieces, IsAllOrNone, IsSettledIn};
 
 use crate::Machine;
-use crate::searching::{free_place, half, whole};
 use cubes::Cube;
 use kiss2::KissRow;
 use std::alloc::{AllocError, Global};
@@ -37,7 +36,7 @@ fn halving_place(cube: &Cube, other: &Cube) -> Option<u32>
     ensures none { IfNone result (IsAllOrNone cube.now other.now) }
 {
     if cube.meets(other) {
-        free_place(cube, other)
+        cube.free_place(other)
     } else {
         None
     }
@@ -76,7 +75,7 @@ impl Machine {
             return self.pieces_of_rows(alloc, s);
         }
         let mut pieces = Vec::new(alloc);
-        self.add_pieces(s, whole(self.inputs()), &mut pieces)?;
+        self.add_pieces(s, Cube::whole(self.inputs()), &mut pieces)?;
         Ok(pieces)
     }
 
@@ -112,8 +111,8 @@ impl Machine {
             })?;
             return Ok(());
         };
-        self.add_pieces(s, half(cube, place, false), pieces)?;
-        self.add_pieces(s, half(cube, place, true), pieces)?;
+        self.add_pieces(s, cube.half(place, false), pieces)?;
+        self.add_pieces(s, cube.half(place, true), pieces)?;
         Ok(())
     }
 

@@ -13,7 +13,6 @@ ghost use Rattle.machine_table.specs.Inner.Filled.{AreNear, AreRowsOf, AreThoseM
 ghost use Rattle.machine_table.specs.Said.{Says, place_of};
 
 use crate::open_entry::{all_outputs, says};
-use crate::searching::{free_place, half, whole};
 use crate::{Machine, Missing};
 use cubes::Cube;
 use kiss2::KissRow;
@@ -167,7 +166,7 @@ impl Machine {
         ensures { OnOk result (FillsPart self.now s part rows.old.items rows.new.items) }
     {
         let mut added = Vec::new(alloc);
-        let all = whole(self.inputs());
+        let all = Cube::whole(self.inputs());
         self.fill_cube(alloc, s, part, all, rows.as_slice(), &mut added)?;
         rows.append(&mut added)?;
         Ok(())
@@ -198,11 +197,11 @@ impl Machine {
             added.push(row)?;
             return Ok(());
         };
-        let Some(place) = free_place(&cube, &said) else {
+        let Some(place) = cube.free_place(&said) else {
             return Ok(());
         };
-        self.fill_cube(alloc, s, part, half(cube, place, false), &met, added)?;
-        self.fill_cube(alloc, s, part, half(cube, place, true), &met, added)?;
+        self.fill_cube(alloc, s, part, cube.half(place, false), &met, added)?;
+        self.fill_cube(alloc, s, part, cube.half(place, true), &met, added)?;
         Ok(())
     }
 }

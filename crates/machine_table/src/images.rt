@@ -12,7 +12,7 @@ ghost use Rattle.machine_table.specs.Inner.SeenPairs.{AreStates};
 use crate::Machine;
 use crate::pair_list::PairList;
 use crate::question::NextState;
-use crate::searching::{least_of_both, whole};
+use crate::searching::least_of_both;
 use cubes::Cube;
 use kiss2::KissRow;
 use pattern_bundles::take_first;
@@ -43,7 +43,7 @@ fn in_order(first: u16, second: u16, turned: bool) -> (u16, u16)
 }
 
 /// The pair that two rows name, if they share a symbol.
-fn named_pair(row: &KissRow, other: &KissRow) -> Option<(u16, u16)>
+pub(crate) fn named_pair(row: &KissRow, other: &KissRow) -> Option<(u16, u16)>
     requires { row.now.cube.width ≡ other.now.cube.width }
     ensures { (u v : ℕ) → IsFound result u v ↔ AreNamedBy row.now other.now u v }
 {
@@ -191,7 +191,12 @@ impl Machine {
     }
 
     /// Adds the pairs named by the row and any row of the state.
-    fn add_beside(&self, row: &KissRow, t: usize, pairs: &mut PairList) -> Result<(), AllocError>
+    pub(crate) fn add_beside(
+        &self,
+        row: &KissRow,
+        t: usize,
+        pairs: &mut PairList,
+    ) -> Result<(), AllocError>
         requires t { t < length self.now.states }
         requires row { IsLawfulRow self.now.inputs self.now.outputs (length self.now.states) row.now }
         requires states { pairs.old.states ≡ length self.now.states }
@@ -260,7 +265,12 @@ impl Machine {
     }
 
     /// Adds the pairs at symbols at which one of the states leaves the next state open.
-    fn add_open(&self, s: usize, t: usize, pairs: &mut PairList) -> Result<(), AllocError>
+    pub(crate) fn add_open(
+        &self,
+        s: usize,
+        t: usize,
+        pairs: &mut PairList,
+    ) -> Result<(), AllocError>
         requires s { s < length self.now.states }
         requires t { t < length self.now.states }
         requires states { pairs.old.states ≡ length self.now.states }
@@ -279,7 +289,7 @@ impl Machine {
         ensures { (u v : ℕ) → IsFound result u v ↔ AreBothOpen self.now s t u v }
     {
         let question = NextState::new(self.states());
-        self.first_open_in(&question, s, t, whole(self.inputs()), false)?;
+        self.first_open_in(&question, s, t, Cube::whole(self.inputs()), false)?;
         Some((s as u16, t as u16))
     }
 

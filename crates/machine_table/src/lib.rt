@@ -9,8 +9,8 @@
 //! `specs/Table` says which files have a machine, `specs/Conflict` which two rows a refusal names,
 //! `specs/Said` which open entry it names, and `specs/Cause` when each refusal occurs. `specs/Staying` says
 //! that a machine never leaves its states, `specs/Walk` how numbers encode outputs, `specs/Pairs` what is
-//! asked of two states at all symbols, and `specs/Covering` what the images and pieces list and what filled
-//! rows say.
+//! asked of two states at all symbols, `specs/Covering` what the images and pieces list and what filled rows
+//! say, and `specs/Merging` what becomes of a partition in which the next states of two states are merged.
 #![tactic(auto)]
 
 mod aligned;
@@ -21,6 +21,7 @@ mod filling;
 mod images;
 mod laws;
 mod machine;
+mod merged_images;
 mod missing;
 mod open_entry;
 mod pair_list;
@@ -31,6 +32,7 @@ mod searching;
 mod walking;
 
 pub use building::BuildFail;
+pub use copying::copied_given;
 pub use covering::Piece;
 pub use laws::lawful_is_a_table;
 pub use machine::Machine;

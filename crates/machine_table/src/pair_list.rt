@@ -57,6 +57,13 @@ impl PairList {
         Ok(true)
     }
 
+    /// The pairs, in the order in which they were added.
+    pub fn as_slice(&self) -> &[(u16, u16)]
+        ensures { result.now ≡ self.now.pairs }
+    {
+        self.pairs.as_slice()
+    }
+
     /// The pairs.
     pub fn into_pairs(self) -> Vec<(u16, u16)>
         ensures pairs { result.items ≡ self.pairs }

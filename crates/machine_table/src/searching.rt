@@ -38,51 +38,6 @@ fn is_settled(found: Option<u32>, least: bool) -> bool
     found.is_some() && !least
 }
 
-/// The half of the cube with a 1, or a 0, at the place of a dash.
-pub(crate) fn half(cube: Cube, place: u32, one: bool) -> Cube
-    requires place { place < cube.width }
-    requires dash { bit cube.care place ≡ false }
-    ensures half { IsHalf cube result place one }
-    ensures care { cube.care < result.care }
-{
-    let at = 1 << place;
-    Cube {
-        care: cube.care | at,
-        value: if one { cube.value | at } else { cube.value },
-        width: cube.width,
-    }
-}
-
-/// The cube of all symbols.
-pub(crate) fn whole(width: u8) -> Cube
-    requires some { 0 < width }
-    requires bound { width ≤ 32 }
-    ensures width { result.width ≡ width }
-    ensures all { (y : ℕ) → HoldsNumber result y }
-{
-    Cube {
-        care: 0,
-        value: 0,
-        width,
-    }
-}
-
-/// The lowest place at which the other cube has a bit and the cube has a dash.
-pub(crate) fn free_place(cube: &Cube, other: &Cube) -> Option<u32>
-    requires width { cube.now.width ≡ other.now.width }
-    requires meets { Meets cube.now other.now }
-    ensures within { IfSome result (λ place. place < cube.now.width) }
-    ensures dash { IfSome result (λ place. bit cube.now.care place ≡ false) }
-    ensures none { IfNone result ((y : ℕ) → HoldsNumber cube.now y → HoldsNumber other.now y) }
-{
-    let free = other.care & (other.care ^ cube.care);
-    if free == 0 {
-        None
-    } else {
-        Some(free.trailing_zeros())
-    }
-}
-
 /// Whether the rows give different labels.
 fn say_two<Q: Question>(question: &Q, row: &KissRow, other: &KissRow) -> bool
     requires row { IfSome row.now.to (λ t. t < Q.states question.now) }
@@ -351,7 +306,7 @@ impl Machine {
         if question.unsaid(s) == question.unsaid(t) {
             return None;
         }
-        self.first_open_in(question, s, t, whole(self.inputs()), least)
+        self.first_open_in(question, s, t, Cube::whole(self.inputs()), least)
     }
 
     /// The same among the symbols at which the second state leaves the part open, and a row of the first
@@ -420,14 +375,14 @@ impl Machine {
         let Some(said) = self.said_within(question, s, t, &cube) else {
             return Some(cube.value);
         };
-        let place = free_place(&cube, &said)?;
-        let low = self.first_open_in(question, s, t, half(cube, place, false), least);
+        let place = cube.free_place(&said)?;
+        let low = self.first_open_in(question, s, t, cube.half(place, false), least);
         if is_settled(low, least) {
             return low;
         }
         lesser(
             low,
-            self.first_open_in(question, s, t, half(cube, place, true), least),
+            self.first_open_in(question, s, t, cube.half(place, true), least),
         )
     }
 

@@ -3,6 +3,7 @@ use Rattle.std.proofs.Common.{◌≡◌, ℕ, zero, suc, ◌<◌, inl, inr, List
 use Rattle.std.proofs.lemmas.Bool.{cases_eq}
 use Rattle.std.proofs.lemmas.List.{get_or-map, get_or_append_left, get_or_push, length-map, length_push}
 use Rattle.kiss2.specs.declared.kiss_file.KissFile.{KissFile}
+use Rattle.machine_table.specs.Merging.{MergesImages}
 use Rattle.machine_table.specs.Staying.{NeverLeaves}
 use Rattle.partition.specs.Inner.Relabelled.{relabelled}
 use Rattle.partition.specs.Laws.Extremes.{zero_of_is_partition, zero_of_is_zero}
@@ -11,8 +12,8 @@ use Rattle.partition.specs.Laws.Merging.{merged_held}
 use Rattle.partition.specs.Merging.{IsMerged}
 use Rattle.partition.specs.Partition.{IsHold, IsPartition, IsStateCount, Together, zero_of}
 use Rattle.partition.proofs.Relabelling.{relabelled_merged}
-use Rattle.pair_operators.proofs.Going.{goes_each, goes_in_pair, goes_itself, goes_turned}
-use Rattle.pair_operators.specs.Inner.Going.{Goes, HoldsNext}
+use Rattle.pair_operators.proofs.Going.{goes_each, goes_in_pair, goes_itself, goes_merged, goes_turned, images_going}
+use Rattle.pair_operators.specs.Inner.Going.{Goes}
 use Rattle.mm_lattice.specs.Generators.{IsRightOf}
 use Rattle.partition.specs.Laws.Extremes.{zero_of_below}
 
@@ -72,8 +73,8 @@ hold_exists n s t count order within = (
         (λ u within. get_or-map (relabelled s t) (zero_of n) u 0 0 within) (IsPartition-of (sym lawful.length) lawful) s t in_s in_t
         (inl (zero_own n s count (omega arith), zero_own n t count within))
 
-pub right_held : (F : KissFile) (s t : ℕ) (zeros right : List ℕ) → NeverLeaves F → IsStateCount (length F.states) → s < t → t < length F.states → zeros ≡ zero_of (length F.states) → HoldsNext F s t zeros right → IsRightOf F s t right
-right_held F s t zeros right stays count order within is next =
+pub right_held : (F : KissFile) (s t : ℕ) (zeros right : List ℕ) → NeverLeaves F → IsStateCount (length F.states) → s < t → t < length F.states → zeros ≡ zero_of (length F.states) → MergesImages F s t zeros right → IsRightOf F s t right
+right_held F s t zeros right stays count order within is merged =
     let found = hold_exists (length F.states) s t count order within in
     record {
       hold = found.0;
@@ -82,9 +83,9 @@ right_held F s t zeros right stays count order within is next =
         lawful = lawful;
         pair = λ u v x held width. goes_each F right u v (goes found.0 found.1 u v held) x width;
         least = λ other other_lawful pair.
-            next.least other (IsPartition-of (sym size) other_lawful)
+            merged.least other (IsPartition-of (sym size) other_lawful)
             (λ u v held. zero_of_below (length F.states) other other_lawful u v (subst (λ (p : List ℕ). Together p u v) is held))
-            (goes_in_pair F found.0 other s t pair found.1.held);
+            (images_going F other s t (goes_in_pair F found.0 other s t pair found.1.held));
       };
     }
   where
@@ -92,14 +93,17 @@ right_held F s t zeros right stays count order within is next =
     size = subst (λ (p : List ℕ). length p ≡ length F.states) (sym is) (zero_of_is_partition (length F.states) count).length
 
     lawful : IsPartition (length F.states) right
-    lawful = IsPartition-of size next.lawful
+    lawful = IsPartition-of size merged.lawful
+
+    together : Goes F right s t
+    together = goes_merged F zeros right s t merged
 
     goes : (hold : List ℕ) → IsHold (length F.states) s t hold → (u v : ℕ) → Together hold u v → Goes F right u v
     goes hold holds u v held =
         elim (holds.nothing_else u v held) [
           | inl same ↦ subst (λ (k : ℕ). Goes F right u k) same (goes_itself F right u stays lawful.length (omega (arith, held.0, holds.lawful.length)))
           | inr rest ↦ elim rest [
-            | inl (first, second) ↦ subst (λ (k : ℕ). Goes F right u k) (sym second) (subst (λ (k : ℕ). Goes F right k t) (sym first) next.goes)
-            | inr (first, second) ↦ subst (λ (k : ℕ). Goes F right u k) (sym second) (subst (λ (k : ℕ). Goes F right k s) (sym first) (goes_turned F right s t next.goes))
+            | inl (first, second) ↦ subst (λ (k : ℕ). Goes F right u k) (sym second) (subst (λ (k : ℕ). Goes F right k t) (sym first) together)
+            | inr (first, second) ↦ subst (λ (k : ℕ). Goes F right u k) (sym second) (subst (λ (k : ℕ). Goes F right k s) (sym first) (goes_turned F right s t together))
           ]
         ]

@@ -26,9 +26,7 @@ pub(crate) fn right_of(
     ensures { IfOk result (IsRightOf m.now s t) }
 {
     let mut right = Partition::zero(alloc, m.states())?;
-    for (u, v) in m.image_pairs(alloc, s, t)?.as_slice() {
-        right.merge(usize::from(*u), usize::from(*v));
-    }
+    m.merge_images(alloc, s, t, &mut right)?;
     Ok(right)
 }
 

@@ -4,6 +4,8 @@ use Rattle.cubes.specs.Symbol.{number_of, symbol_of}
 use Rattle.cubes.proofs.Numbers.{length-symbol_of, number_below, symbol_of-number_of}
 use Rattle.kiss2.specs.declared.kiss_file.KissFile.{KissFile}
 use Rattle.kiss2.specs.Machine.{next}
+use Rattle.machine_table.specs.Covering.{IsImage}
+use Rattle.machine_table.specs.Merging.{MergesImages}
 use Rattle.machine_table.specs.Staying.{NeverLeaves}
 use Rattle.partition.specs.Partition.{Together, Le}
 use Rattle.partition.specs.Laws.Chains.{together_turned}
@@ -23,6 +25,14 @@ goes_from F q s t each x below = each (symbol_of F.inputs x) (length-symbol_of F
 -- states that are together in the left side of a pair
 pub goes_in_pair : (F : KissFile) (p q : List ℕ) (s t : ℕ) → Pair F p q → Together p s t → Goes F q s t
 goes_in_pair F p q s t pair held = goes_from F q s t (λ x size. pair s t x held size)
+
+-- the next states of two states that are merged
+pub goes_merged : (F : KissFile) (q r : List ℕ) (s t : ℕ) → MergesImages F s t q r → Goes F r s t
+goes_merged F q r s t merged x below = merged.held _ _ (x, below, refl, refl)
+
+pub images_going : (F : KissFile) (q : List ℕ) (s t : ℕ) → Goes F q s t → (u v : ℕ) → IsImage F s t u v → Together q u v
+images_going F q s t goes u v (x, below, first, second) =
+    subst (λ (w : ℕ). Together q u w) second (subst (λ (w : ℕ). Together q w (next F t (symbol_of F.inputs x))) first (goes x below))
 
 pub goes_itself : (F : KissFile) (q : List ℕ) (s : ℕ) → NeverLeaves F → length q ≡ length F.states → s < length F.states → Goes F q s s
 goes_itself F q s stays size within x below =

@@ -1,5 +1,5 @@
 pub mod Going
 pub mod Firsts
-pub mod Holding
+pub mod LowSoFar
 pub mod Classes
 pub mod Asking

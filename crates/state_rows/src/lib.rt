@@ -1,9 +1,9 @@
 //! The rows of each state of a KISS2 file, arranged for questions about states and symbols.
 //!
-//! All calls take the rows of a file as a slice, and mean a row by its place there, its number. `places_of_states`
-//! lists the numbers of the rows of each state, as the file has them, and `places_by_cubes` orders each list by the
-//! cubes, so that states with the same cubes have them at the same places. `leaders_of_states` tells which states
-//! these are, and `columns_of_states` keeps one place for each different column of their next states.
+//! All calls take the rows of a file as a slice. The number of a row is its place in that slice.
+//! `places_of_states` lists the numbers of the rows of each state, as the file has them, and `places_by_cubes` orders
+//! each list by the cubes, so that states with the same cubes have them at the same places. `leaders_of_states` tells
+//! which states these are, and `columns_of_states` keeps one place for each different column of their next states.
 //! `bundles_of_states` puts the rows of each state into bundles of 64, which mark all rows that share a symbol with a
 //! cube in one step. `first_conflict` finds with them the first two rows that contradict one another.
 //!

@@ -1,5 +1,5 @@
 -- Lists to which pairs of next states are added. Private functions need it; no public contract cites it.
-use Rattle.std.specs.Prelude.{ℕ, ◌≡◌, ◌<◌, ◌^◌, ◌↔◌, ◌⊎◌, Bool, true, false, Contains, List, Option, Some, length, slice_get, slice_index, slice_index_or}
+use Rattle.std.specs.Prelude.{ℕ, ◌≡◌, ◌<◌, ◌^◌, ◌↔◌, ◌⊎◌, Bool, true, false, Contains, List, ◌++◌, Option, Some, length, slice_get, slice_index, slice_index_or}
 use Rattle.std.specs.Int.{bit_at}
 use Rattle.cubes.specs.declared.cube.Cube.{Cube}
 use Rattle.cubes.specs.Cube.{HoldsNumber, Meets}
@@ -10,9 +10,22 @@ use Rattle.machine_table.specs.Inner.Asked.{AreOpenAt, IsLabelAt, IsOpenAt, IsOf
 use Rattle.machine_table.specs.Inner.MarkedRows.{AreLeft}
 use Rattle.state_rows.specs.Columns.{IsAtPlace}
 
--- the second list has the pairs of the first, and those of the relation
-abbrev pub AddsPairs : (ℕ → ℕ → Type 0) → List (ℕ × ℕ) → List (ℕ × ℕ) → Type 0
-AddsPairs P old more = (u v : ℕ) → Contains more (u, v) ↔ (Contains old (u, v) ⊎ P u v)
+-- the second list is the first with pairs behind it
+abbrev pub Lengthens : List (ℕ × ℕ) → List (ℕ × ℕ) → Type 0
+Lengthens old more = (behind : List (ℕ × ℕ)) × (more ≡ old ++ behind)
+
+-- the second list is the first with pairs behind it, and has the pairs of the first and those of the relation
+pub record AddsPairs (P : ℕ → ℕ → Type 0) (old more : List (ℕ × ℕ)) : Type 0 where
+  pub longer : Lengthens old more
+  pub each : (u v : ℕ) → Contains more (u, v) ↔ (Contains old (u, v) ⊎ P u v)
+
+-- the pair is in the list
+abbrev pub IsListedPair : List (ℕ × ℕ) → ℕ → ℕ → Type 0
+IsListedPair pairs u v = Contains pairs (u, v)
+
+-- the pair is the one at that place of the list
+abbrev pub IsPairAt : List (ℕ × ℕ) → ℕ → ℕ → ℕ → Type 0
+IsPairAt pairs k u v = slice_index_or pairs k (u, v) ≡ (u, v)
 
 -- the pair is the one that was found
 abbrev pub IsFound : Option (ℕ × ℕ) → ℕ → ℕ → Type 0
@@ -86,7 +99,7 @@ IsListed pairs next other = (v : ℕ) → other.to ≡ Some v → Contains pairs
 
 -- pairs were added for the rows with these numbers, except those that the word has left
 pub record AreAddedTo (rows : List KissRow) (numbers : List ℕ) (cube : Cube) (next word : ℕ) (old now : List (ℕ × ℕ)) : Type 0 where
-  pub kept : (u v : ℕ) → Contains old (u, v) → Contains now (u, v)
+  pub longer : Lengthens old now
   pub right : (u v : ℕ) → Contains now (u, v) → Contains old (u, v) ⊎ AreNamedIn rows numbers cube next u v
   pub left : AreLeft rows numbers (λ other. Meets cube other.cube) (IsListed now next) word
   pub meet : (k : ℕ) (other : KissRow) → IsAtPlace rows numbers k other → bit_at word k ≡ 1 → Meets cube other.cube

@@ -1,4 +1,4 @@
-use Rattle.machine_table.proofs.SharedCubes.{first_holds, least_below, least_le, second_holds}
+use Rattle.cubes.proofs.SharedCubes.{first_holds, least_below, least_le, second_holds}
 use Rattle.machine_table.proofs.searching.least_of_both.Goals as goal
 
 pub returns-then-meets-clause-first : goal.returns-then-meets-clause-first

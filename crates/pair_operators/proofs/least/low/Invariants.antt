@@ -1,4 +1,4 @@
-use Rattle.pair_operators.proofs.Holding.{IsLowSoFar}
+use Rattle.pair_operators.proofs.LowSoFar.{IsLowSoFar}
 use Rattle.pair_operators.proofs.least.low.Given as goal
 
 abbrev pub invariant-loop-s : goal.invariant-loop-s

@@ -6,7 +6,7 @@ use Rattle.cubes.proofs.Ends.{least_held, value_le}
 use Rattle.cubes.proofs.Parts.{half_from_whole, whole_from_half}
 use Rattle.machine_table.specs.Inner.Asked.{AreOpenAt}
 use Rattle.state_rows.specs.Least.{IsMetBy}
-use Rattle.machine_table.proofs.SharedCubes.{value_below}
+use Rattle.cubes.proofs.SharedCubes.{value_below}
 use Rattle.state_rows.proofs.Least.{if_some_map, lesser_has, met_left, met_right}
 use Rattle.machine_table.proofs.machine.Machine.+first_open_in.Goals as goal
 

@@ -4,7 +4,7 @@ use Rattle.std.proofs.lemmas.List.Elements.{Contains-get_or}
 use Rattle.cubes.specs.Cube.{HoldsNumber}
 use Rattle.kiss2.specs.declared.kiss_file.KissRow.{KissRow}
 use Rattle.machine_table.proofs.Asking.{looked_at, of_each_row}
-use Rattle.machine_table.proofs.SharedCubes.{meets_from_held}
+use Rattle.cubes.proofs.SharedCubes.{meets_from_held}
 use Rattle.machine_table.proofs.Sought.{at_from_held, row_of}
 use Rattle.machine_table.proofs.machine.Machine.said_in.Goals as goal
 
