@@ -4,7 +4,6 @@ use Rattle.std.proofs.Math.Pow.{pow_pos}
 use Rattle.std.specs.List.{cons_option, filter_map}
 use Rattle.std.proofs.lemmas.Bool.{cases_Bool, cases_lt, true≢false}
 use Rattle.std.proofs.lemmas.List.{get_or-map, get_or-take, get_or_append_left, length-append, length-map, length-take-le}
-use Rattle.std.proofs.lemmas.List.FromFn.{length-map-range_with_len}
 use Rattle.std.proofs.lemmas.List.Elements.{All-append, All-cons, All-contains, All-get_or, All-head, All-map, All-nil, All-tail, All-weaker, Contains-get_or}
 use Rattle.std.proofs.lemmas.Nat.Bits.{bit_at_above, bit_at_ones, bit_at_ones_above}
 use Rattle.std.proofs.lemmas.Option.{same_Some, slice_get_within}
@@ -23,20 +22,13 @@ use Rattle.machine_table.specs.Staying.{NeverLeaves}
 use Rattle.machine_table.specs.Table.{IsTable}
 use Rattle.machine_table.specs.Walk.{outputs_of}
 use Rattle.machine_table.proofs.OutputWords.{same_map, same_values}
+use Rattle.numbered_names.proofs.ByState.{IsByState, lawful_by_state, numbered_by_state}
+use Rattle.numbered_names.proofs.NumberedNames.{length-numbered_names}
 use Rattle.cover_split.specs.Cover.{IsCover}
-use Rattle.cover_split.specs.Expansion.{AnswersAlike, AnswersAsStates, IsExpansion, IsNextPair, IsPair, IsTarget, pair_name, pairs_of}
+use Rattle.cover_split.specs.Expansion.{AnswersAlike, AnswersAsStates, IsExpansion, IsNextPair, IsPair, IsTarget, pairs_of}
 use Rattle.cover_split.specs.Inner.Rows.{IsBuilt, IsPairRow}
-use Rattle.cover_split.proofs.NameLemmas.{names_distinct, names_plain}
 use Rattle.cover_split.proofs.PairLemmas.{length-pairs_of, one_pair, some_pair}
 use Rattle.cover_split.proofs.PartLemmas.{one_target}
-
--- what holds of each value that some item gives
-all_given : {X Y : Type 0} (P : Y → Type 0) (h : X → Option Y) (xs : List X) → All (λ x. IfSome (h x) P) xs → All P (filter_map h xs)
-all_given P h [] all = All-nil P
-all_given {Y = Y} P h (x ∷ xs) all = put (h x) (All-head (λ x. IfSome (h x) P) x xs all) (all_given P h xs (All-tail (λ x. IfSome (h x) P) x xs all)) where
-  put : (o : Option Y) → IfSome o P → All P (filter_map h xs) → All P (cons_option o (filter_map h xs))
-  put None here rest = rest
-  put (Some y) here rest = All-cons P y (filter_map h xs) here rest
 
 -- ---- all ones
 ones_low : (o b : ℕ) → b < o → bit (2 ^ o - 1) b ≡ true
@@ -62,7 +54,7 @@ gives_bit row o b care low = let cares : bit row.care b ≡ true = ap (λ (n : �
 
 module _ (F : KissFile) (table : IsTable F) (stays : NeverLeaves F) (blocks : List (List ℕ)) (cover : IsCover (length F.states) blocks) (E : KissFile) (is : IsBuilt F blocks E) where
   pub state_count : length E.states ≡ length (pairs_of blocks)
-  state_count = ap length is.states ∙ length-map-range_with_len pair_name 0 (length (pairs_of blocks))
+  state_count = ap length is.states ∙ length-numbered_names (length (pairs_of blocks))
 
   few : length (pairs_of blocks) ≤ 256
   few = omega (arith, length-pairs_of blocks, cover.few)
@@ -220,98 +212,25 @@ module _ (F : KissFile) (table : IsTable F) (stays : NeverLeaves F) (blocks : Li
     reset = reset_low;
   }
 
-  -- ---- the order of appearance
-  -- a pair has a row
-  pub has_row : (i : ℕ) → i < length (pairs_of blocks) → (row : KissRow) × Contains E.rows row × (row.from ≡ i)
-  has_row i within =
-      let some : 0 < 2 ^ F.inputs = pow_pos F.inputs in
-      let there = is.rows.each i 0 within some in (there.0, there.1, there.2)
-
-  from_at : (place d : ℕ) (e : KissRow) → place < length E.rows → get_or (appearances E) place d ≡ (get_or E.rows place e).from
-  from_at place d e inside =
-      let size : length (map (λ (row : KissRow). row.from) E.rows) ≡ length E.rows = length-map E.rows (λ (row : KissRow). row.from) in
-      get_or_append_left (map (λ (row : KissRow). row.from) E.rows) (filter_map (λ (row : KissRow). row.to) E.rows) d place (omega (arith, size))
-      ∙ get_or-map (λ (row : KissRow). row.from) E.rows place e d inside
-
-  rows_inside : length E.rows ≤ length (appearances E)
-  rows_inside =
-      omega (arith, length-map E.rows (λ (row : KissRow). row.from), length-append (map (λ (row : KissRow). row.from) E.rows) (filter_map (λ (row : KissRow). row.to) E.rows))
-
-  -- only pairs appear
-  appear_low : All (λ t. t < length E.states) (appearances E)
-  appear_low =
-      let Low : ℕ → Type 0 = λ t. t < length E.states in
-      All-append Low (map (λ (row : KissRow). row.from) E.rows) (filter_map (λ (row : KissRow). row.to) E.rows)
-      (All-map Low (λ (row : KissRow). row.from) E.rows (All-weaker (IsLawfulRow E.inputs E.outputs (length E.states)) (λ (row : KissRow). Low row.from) (λ row it. it.from) E.rows lawful_rows))
-      (all_given Low (λ (row : KissRow). row.to) E.rows
-      (All-weaker (IsLawfulRow E.inputs E.outputs (length E.states)) (λ (row : KissRow). IfSome row.to Low) (λ row it. it.to) E.rows lawful_rows))
-
-  -- a pair whose row comes before a place has appeared before it
-  appeared : (i place : ℕ) → (has : (row : KissRow) × Contains E.rows row × (row.from ≡ i)) → has.1.0 < place → place ≤ length (appearances E) → Contains (take place (appearances E)) i
-  appeared i place (row, (k, inside, there), from) before within = (
-    k,
-    omega (arith, length-take-le place (appearances E) within),
-    get_or-take place (appearances E) k i before ∙ from_at k i row inside ∙ ap (λ (r : KissRow). r.from) there ∙ from,
-  )
-
-  in_order : (place i : ℕ) → place < length (appearances E) → i < get_or (appearances E) place 0 → Contains (take place (appearances E)) i
-  in_order place i inside before =
-      let low : get_or (appearances E) place 0 < length E.states = All-get_or (λ t. t < length E.states) (appearances E) place 0 inside appear_low in
-      let has = has_row i (omega (arith, state_count)) in
-      elim (cases_lt place (length E.rows)) [
-        | inl row ↦
-            let e = has.0 in
-            let here : get_or (appearances E) place 0 ≡ (get_or E.rows place e).from = from_at place 0 e row in
-            elim (cases_lt has.1.0 place) [
-              | inl left ↦ appeared i place has left (omega arith)
-              | inr right ↦
-                  let level : (get_or E.rows has.1.0 e).from ≡ i = ap (λ (r : KissRow). r.from) has.1.2 ∙ has.2 in
-                  elim (cases_lt place has.1.0) [
-                    | inl earlier ↦ absurd (omega (arith, is.rows.in_order place has.1.0 e earlier has.1.1, here, level))
-                    | inr same ↦
-                        let at : place ≡ has.1.0 = omega arith in
-                        absurd (omega (arith, here, level, ap (λ (k : ℕ). (get_or E.rows k e).from) at))
-                  ]
-            ]
-        | inr past ↦ appeared i place has (omega (arith, has.1.1)) (omega arith)
-      ]
-
-  pub numbered : AreNumbered E
-  numbered = record {
-    each = λ i within.
-        let has = has_row i (omega (arith, state_count)) in
-        let k = has.1.0 in
-        (k, omega (arith, rows_inside, has.1.1), from_at k i has.0 has.1.1 ∙ ap (λ (r : KissRow). r.from) has.1.2 ∙ has.2);
-    in_order = in_order;
-  }
-
-  -- ---- it is lawful, if it has few rows
-  some_rows : 1 ≤ length E.rows
-  some_rows = let has = has_row 0 (omega (arith, state_count, reset_low)) in omega (arith, has.1.1)
-
-  none_given : given_names E ≡ []
-  none_given =
-      ap (λ (names : Option (List (List ℕ))). unwrap_or names [] ++ unwrap_or E.output_names []) is.input_names
-      ∙ ap (λ (names : Option (List (List ℕ))). unwrap_or names []) is.output_names
-
-  none_twice : AreDistinct []
-  none_twice i j d before within same = omega arith
-
-  pub lawful : length E.rows ≤ 65536 → IsLawful E
-  lawful rows = record {
+  -- ---- its rows come state by state
+  by_state : IsByState E (length (pairs_of blocks))
+  by_state = record {
     some_input = table_of.some_input;
     inputs = table_of.inputs;
     some_output = table_of.some_output;
     outputs = table_of.outputs;
-    some_row = some_rows;
-    row_count = rows;
-    state_count = table_of.states;
-    distinct = subst AreDistinct (sym is.states) (names_distinct (length (pairs_of blocks)) few);
-    state_names = subst (All IsPlainName) (sym is.states) (names_plain (length (pairs_of blocks)) few);
-    input_names = subst (AreGiven E.inputs) (sym is.input_names) tt;
-    output_names = subst (AreGiven E.outputs) (sym is.output_names) tt;
-    given_distinct = subst AreDistinct (sym none_given) none_twice;
-    rows = lawful_rows;
+    states = is.states;
+    few = few;
     reset = reset_low;
-    numbered = numbered;
+    rows = lawful_rows;
+    each = λ i within. let there = is.rows.each i 0 within (pow_pos F.inputs) in (there.0, there.1, there.2);
+    in_order = is.rows.in_order;
+    input_names = is.input_names;
+    output_names = is.output_names;
   }
+
+  pub numbered : AreNumbered E
+  numbered = numbered_by_state E (length (pairs_of blocks)) by_state
+
+  pub lawful : length E.rows ≤ 65536 → IsLawful E
+  lawful = lawful_by_state E (length (pairs_of blocks)) by_state

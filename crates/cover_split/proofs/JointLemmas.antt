@@ -15,7 +15,7 @@ use Rattle.kiss2.specs.Machine.{next}
 use Rattle.machine_table.specs.declared.covering.Piece.{Piece}
 use Rattle.machine_table.specs.Covering.{IsHeldByPiece, IsPiece}
 use Rattle.machine_table.specs.Pairs.{AtEachSymbol, IsFirstWithout}
-use Rattle.machine_table.proofs.SharedCubes.{meets_from_held, value_below}
+use Rattle.cubes.proofs.SharedCubes.{meets_from_held, value_below}
 use Rattle.cover_split.specs.Cover.{block_at}
 use Rattle.cover_split.specs.Expansion.{HasNexts, IsTarget, StaysWithin}
 use Rattle.cover_split.specs.declared.joint.Joint.{Joint}

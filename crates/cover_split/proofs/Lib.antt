@@ -8,5 +8,4 @@ pub mod PartLemmas
 pub mod PartSizes
 pub mod JointLemmas
 pub mod RowLemmas
-pub mod NameLemmas
 pub mod Expanded

@@ -1,11 +1,10 @@
 -- The machine in which a state has a copy in each block that has it (source: Hartmanis and Stearns, state splitting).
-use Rattle.std.specs.Prelude.{◌≡◌, ⊤, ℕ, suc, ◌<◌, ◌++◌, All, Bool, List, [], ◌∷◌, None, Some, codes, length, map, slice_get}
-use Rattle.std.specs.List.{range_with_len}
-use Rattle.std.specs.Fmt.{decimal}
+use Rattle.std.specs.Prelude.{◌≡◌, ⊤, ℕ, suc, ◌<◌, ◌++◌, All, Bool, List, [], ◌∷◌, None, Some, length, map, slice_get}
 use Rattle.cubes.specs.Symbol.{symbol_of}
 use Rattle.kiss2.specs.declared.kiss_file.KissFile.{KissFile}
 use Rattle.kiss2.specs.Machine.{answers, next, out}
 use Rattle.machine_table.specs.Pairs.{AtEachSymbol, IsFirstWithout}
+use Rattle.numbered_names.specs.NumberedNames.{numbered_names}
 use Rattle.cover_split.specs.Cover.{Has, places_of}
 use Rattle.cover_split.specs.declared.expansion.ExpandFail.{ExpandFail}
 use Rattle.cover_split.specs.declared.expansion.ExpandFail.TheVariants.{NotClosed, NoMemory}
@@ -76,15 +75,11 @@ IsNextPair F blocks i x k =
 abbrev pub IsFirstCopy : List (List ℕ) → (s i : ℕ) → Type 0
 IsFirstCopy blocks s i = (j : ℕ) × IsFirstWith blocks s j × IsPair blocks i j s
 
--- the name of a pair
-abbrev pub pair_name : ℕ → List ℕ
-pair_name i = codes "s" ++ decimal i
-
 -- E is the machine of the pairs: each has the outputs of its state
 pub record IsExpansion (F : KissFile) (blocks : List (List ℕ)) (E : KissFile) : Type 0 where
   pub inputs : E.inputs ≡ F.inputs
   pub outputs : E.outputs ≡ F.outputs
-  pub states : E.states ≡ map pair_name (range_with_len 0 (length (pairs_of blocks)))
+  pub states : E.states ≡ numbered_names (length (pairs_of blocks))
   pub next_pairs : (i : ℕ) (x : List Bool) → length x ≡ F.inputs → IsNextPair F blocks i x (next E i x)
   pub outs : (i j s : ℕ) (x : List Bool) → IsPair blocks i j s → length x ≡ F.inputs → out E i x ≡ out F s x
   pub reset : IsFirstCopy blocks F.reset E.reset

@@ -11,11 +11,11 @@ ghost use Rattle.cover_split.specs.Inner.Rows.{IsBuilt};
 
 use crate::cover::{Block, Cover, states_at};
 use crate::joint::{Joint, Joints, joints};
-use crate::naming::names;
 use crate::pairs::{first_with, number_of, pairs_of};
 use crate::rows::rows_of_pairs;
 use kiss2::KissFile;
 use machine_table::Machine;
+use numbered_names::names;
 use std::alloc::{AllocError, AllocFailed, Global};
 
 /// Why a cover gives no machine.

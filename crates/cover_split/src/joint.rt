@@ -8,7 +8,6 @@ ghost use Rattle.machine_table.specs.declared.covering.Piece.{Piece};
 ghost use Rattle.cover_split.specs.Inner.Joints.{AddsJoints, AreJoints, AreListsFor, AreListsMet, AreMet, AreSpread, HasEachNext, IsDash, IsSettled, IsTargetOf, IsWholePiece};
 
 use crate::cover::{Block, has_state, states_at};
-use crate::halving::{free_place, half, whole};
 use cubes::Cube;
 use hs_list::Items;
 use machine_table::{Machine, Piece};
@@ -63,7 +62,7 @@ pub(crate) fn joints(
     add_joints(
         alloc,
         blocks,
-        whole(m.inputs()),
+        Cube::whole(m.inputs()),
         lists.as_slice(),
         &mut joints,
     )?;
@@ -106,11 +105,11 @@ fn add_joints(
             Ok(())
         }
         Division::Halve(place) => {
-            let low = half(cube, place, false);
+            let low = cube.half(place, false);
             let met_low = meeting(alloc, &low, lists)?;
             let low_lists = met_low.as_slice();
             add_joints(alloc, blocks, low, low_lists, joints)?;
-            let high = half(cube, place, true);
+            let high = cube.half(place, true);
             let met_high = meeting(alloc, &high, lists)?;
             let high_lists = met_high.as_slice();
             add_joints(alloc, blocks, high, high_lists, joints)?;
@@ -171,7 +170,7 @@ fn whole_piece(cube: &Cube, pieces: &[Piece]) -> Result<Piece, u32>
         if !cube.meets(&piece.cube) {
             continue;
         }
-        let Some(free) = free_place(cube, &piece.cube) else {
+        let Some(free) = cube.free_place(&piece.cube) else {
             return Ok(*piece);
         };
         place = place.or(Some(free));

@@ -17,11 +17,9 @@
 
 mod cover;
 mod expansion;
-mod halving;
 mod holders;
 mod joint;
 mod laws;
-mod naming;
 mod pairs;
 mod parts;
 mod rows;

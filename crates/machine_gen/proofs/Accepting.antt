@@ -1,6 +1,5 @@
 -- The file of a machine of words has a machine: no two rows contradict each other, and nothing is left open.
 use Rattle.std.proofs.Common.{◌≡◌, ℕ, ◌+◌, ◌*◌, ◌/◌, ◌%◌, ◌^◌, ◌<◌, Bool, true, false, cond, Some, None, List, Contains, IsSome, is_some, length, slice_get, inl, inr, sym, subst, ap, ◌∙◌}
-use Rattle.std.proofs.lemmas.List.FromFn.{length-map-range_with_len}
 use Rattle.std.proofs.lemmas.Nat.{div-add-mod'}
 use Rattle.std.proofs.lemmas.Option.{same_Some}
 use Rattle.cubes.specs.Cube.{Holds}
@@ -9,7 +8,8 @@ use Rattle.kiss2.specs.declared.fill.Fill.TheVariants.{Refuse}
 use Rattle.kiss2.specs.declared.kiss_file.KissFile.{KissFile}
 use Rattle.kiss2.specs.declared.kiss_file.KissRow.{KissRow}
 use Rattle.kiss2.specs.Machine.{Accepted, Conflicting, GiveBoth, IsRowAt, NameTwo, Specified, given_bit}
-use Rattle.machine_gen.specs.MachineOf.{AreSizes, IsMachineOf, state_name}
+use Rattle.numbered_names.proofs.NumberedNames.{length-numbered_names}
+use Rattle.machine_gen.specs.MachineOf.{AreSizes, IsMachineOf}
 use Rattle.machine_gen.proofs.Standing.{both_given, held_symbol, row_at_symbol, row_known, symbol_number}
 
 -- a row does not contradict itself
@@ -21,7 +21,7 @@ gives_one row (b, one, two) = let same : false ≡ true = same_Some false true (
 
 module _ (word : ℕ → ℕ) (a b k : ℕ) (F : KissFile) (sizes : AreSizes a b k) (is : IsMachineOf word a b k F) where
   pub state_count : length F.states ≡ a * b
-  state_count = ap length is.states ∙ length-map-range_with_len state_name 0 (a * b)
+  state_count = ap length is.states ∙ length-numbered_names (a * b)
 
   -- rows of one state that share a symbol are one row
   one_row : (row other : KissRow) (symbol : List Bool) → Contains F.rows row → Contains F.rows other → row.from ≡ other.from

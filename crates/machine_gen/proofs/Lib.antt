@@ -1,5 +1,4 @@
 pub mod Words
-pub mod Names
 pub mod Cubes
 pub mod Numbered
 pub mod Stepping

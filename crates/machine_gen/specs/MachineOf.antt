@@ -1,12 +1,11 @@
 -- The machine of words and three numbers (source: this project). State i * b + j has the parts i and j. The
 -- words say where each part goes, which depends on that part and the symbol alone.
-use Rattle.std.specs.Prelude.{◌≡◌, ℕ, ◌+◌, ◌*◌, ◌/◌, ◌%◌, ◌^◌, ◌<◌, ◌≤◌, ◌==◌, if◌then◌else◌, List, Some, None, ◌++◌, codes, length, map, slice_get}
-use Rattle.std.specs.Fmt.{decimal}
-use Rattle.std.specs.List.{range_with_len}
+use Rattle.std.specs.Prelude.{◌≡◌, ℕ, ◌+◌, ◌*◌, ◌/◌, ◌%◌, ◌^◌, ◌<◌, ◌≤◌, ◌==◌, if◌then◌else◌, List, Some, None, length, map, slice_get}
 use Rattle.cubes.specs.Cube.{field_of}
 use Rattle.cubes.specs.Symbol.{symbol_of}
 use Rattle.kiss2.specs.declared.kiss_file.KissFile.{KissFile}
 use Rattle.kiss2.specs.declared.kiss_file.KissRow.{KissRow}
+use Rattle.numbered_names.specs.NumberedNames.{numbered_names}
 
 -- the numbers of first parts, of second parts and of inputs of a machine that can be made
 pub record AreSizes (a b k : ℕ) : Type 0 where
@@ -30,10 +29,6 @@ next_first word a k i x = drawn word k i x % 65536 % a
 abbrev pub next_second : (ℕ → ℕ) → ℕ → ℕ → ℕ → ℕ → ℕ
 next_second word b k j x = drawn word k j x / 65536 % b
 
--- the name of a state
-abbrev pub state_name : ℕ → List ℕ
-state_name state = codes "s" ++ decimal state
-
 -- The row of the state with the parts i and j at the symbol with the number x, which goes to the given state.
 -- Its cube has no dash, and it gives both outputs. Output 0 is at 1 and is 1 exactly where i is 0; output 1 is
 -- at 2 and is 1 exactly where j is 0.
@@ -56,7 +51,7 @@ pub record IsMachineOf (word : ℕ → ℕ) (a b k : ℕ) (F : KissFile) : Type 
   pub inputs : F.inputs ≡ k
   pub outputs : F.outputs ≡ 2
   pub reset : F.reset ≡ 0
-  pub states : F.states ≡ map state_name (range_with_len 0 (a * b))
+  pub states : F.states ≡ numbered_names (a * b)
   pub rows : AreRows word a b k F.rows
   pub input_names : F.input_names ≡ None
   pub output_names : F.output_names ≡ None

@@ -12,7 +12,6 @@
 mod drawing;
 mod laws;
 mod making;
-mod naming;
 mod rows;
 
 pub use laws::{one_machine, parallel_exists, parts_go, parts_of_42, words_of_42};

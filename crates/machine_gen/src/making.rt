@@ -6,9 +6,9 @@ ghost use Rattle.kiss2.specs.Machine.{Accepted};
 ghost use Rattle.machine_gen.specs.MachineOf.{AreSizes, IsMachineOf};
 ghost use Rattle.machine_gen.specs.Words.{word};
 
-use crate::naming::names;
 use crate::rows::rows;
 use kiss2::{Fill, KissFile};
+use numbered_names::names;
 use std::alloc::{AllocError, Global};
 
 /// The machine of a seed with a times b states and k inputs. The same numbers give the same file everywhere.

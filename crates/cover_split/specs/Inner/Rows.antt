@@ -1,14 +1,14 @@
 -- The rows of pairs.
-use Rattle.std.specs.Prelude.{◌≡◌, ℕ, ◌-◌, ◌<◌, ◌≤◌, ◌^◌, ◌++◌, All, AllPairs, Contains, List, None, Some, length, map, slice_index}
-use Rattle.std.specs.List.{range_with_len}
+use Rattle.std.specs.Prelude.{◌≡◌, ℕ, ◌-◌, ◌<◌, ◌≤◌, ◌^◌, ◌++◌, All, AllPairs, Contains, List, None, Some, length, slice_index}
 use Rattle.cubes.specs.Cube.{HoldsNumber}
 use Rattle.cubes.specs.Symbol.{symbol_of}
 use Rattle.kiss2.specs.declared.kiss_file.KissFile.{KissFile}
 use Rattle.kiss2.specs.declared.kiss_file.KissRow.{KissRow}
 use Rattle.kiss2.specs.Machine.{out}
 use Rattle.machine_table.specs.Walk.{outputs_of}
+use Rattle.numbered_names.specs.NumberedNames.{numbered_names}
 use Rattle.cover_split.specs.Cover.{block_at}
-use Rattle.cover_split.specs.Expansion.{IsFirstCopy, IsNextPair, IsPair, pair_name, pairs_of}
+use Rattle.cover_split.specs.Expansion.{IsFirstCopy, IsNextPair, IsPair, pairs_of}
 
 -- a row of the pair with the number i
 pub record IsPairRow (F : KissFile) (blocks : List (List ℕ)) (i : ℕ) (row : KissRow) : Type 0 where
@@ -50,7 +50,7 @@ pub record IsPlaceOf (blocks : List (List ℕ)) (i j place : ℕ) : Type 0 where
 pub record IsBuilt (F : KissFile) (blocks : List (List ℕ)) (E : KissFile) : Type 0 where
   pub inputs : E.inputs ≡ F.inputs
   pub outputs : E.outputs ≡ F.outputs
-  pub states : E.states ≡ map pair_name (range_with_len 0 (length (pairs_of blocks)))
+  pub states : E.states ≡ numbered_names (length (pairs_of blocks))
   pub rows : AreRowsBelow F blocks (length (pairs_of blocks)) E.rows
   pub reset : IsFirstCopy blocks F.reset E.reset
   pub input_names : E.input_names ≡ None

@@ -1,7 +1,7 @@
-use Rattle.std.proofs.Common.{ℕ, ◌≡◌, List, Contains, Some, length, map, slice_get, refl, subst, sym, ap, ◌∙◌, arith}
+use Rattle.std.proofs.Common.{ℕ, ◌≡◌, List, Contains, Some, length, slice_get, refl, subst, sym, ap, ◌∙◌, arith}
 use Rattle.std.proofs.lemmas.Result.{err_from_is_err_and}
-use Rattle.std.specs.List.{range_with_len}
-use Rattle.cover_split.specs.Expansion.{IsFirstCopy, IsFirstWith, pair_name, pairs_of}
+use Rattle.numbered_names.specs.NumberedNames.{numbered_names}
+use Rattle.cover_split.specs.Expansion.{IsFirstCopy, IsFirstWith, pairs_of}
 use Rattle.cover_split.specs.Inner.Rows.{AreRowsBelow}
 use Rattle.cover_split.proofs.PairLemmas.{few_blocks, length-pairs_of}
 use Rattle.cover_split.proofs.RowLemmas.{pair_among}
@@ -26,10 +26,6 @@ pub overflow_cast-pairs : goal.overflow_cast-pairs
 overflow_cast-pairs c =
     omega (arith, ap length c.as_slice-pairs.ensures.value, ap length c.in_ok-pairs.ensures, length-pairs_of c.args.blocks.now, c.requires.few)
 
-pub names-requires : goal.names-requires
-names-requires c =
-    omega (arith, ap length c.as_slice-pairs.ensures.value, ap length c.in_ok-pairs.ensures, length-pairs_of c.args.blocks.now, c.requires.few)
-
 pub returns-in_err-pairs-clause-caused : goal.returns-in_err-pairs-clause-caused
 returns-in_err-pairs-clause-caused c = let p = err_from_is_err_and c.from_residual-in_err-pairs.result c.from_residual-in_err-pairs.ensures.1 in rw (p.1, p.2) tt
 
@@ -50,7 +46,7 @@ returns-clause-built c =
     record {
       inputs = c.inputs.ensures.count;
       outputs = c.outputs.ensures.count;
-      states = c.in_ok-names.ensures ∙ ap (λ (n : ℕ). map pair_name (range_with_len 0 n)) (ap length read);
+      states = c.in_ok-names.ensures.names ∙ ap numbered_names (ap length read);
       rows = subst (λ (n : ℕ). AreRowsBelow c.args.m.now c.args.blocks.now n c.in_ok-rows.rows) (ap length read) c.in_ok-rows.ensures;
       reset = first_copy c.args.blocks.now c.in_ok-pairs.pairs.items c.as_slice-pairs.result.now c.reset-reset.result c.args.m.now.reset c.first_with.result c.number_of.result c.as_slice-pairs.ensures.value c.in_ok-pairs.ensures
           c.reset-reset.ensures.number c.first_with.ensures c.number_of.ensures;

@@ -1,6 +1,0 @@
-use Rattle.std.proofs.lemmas.Nat.{and_comm}
-use Rattle.cubes.proofs.Held.{held_from_mask}
-use Rattle.cover_split.proofs.halving.whole.Goals as goal
-
-pub returns-clause-all : goal.returns-clause-all
-returns-clause-all c y = held_from_mask _ y (and_comm y 0)

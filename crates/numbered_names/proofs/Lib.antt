@@ -1,0 +1,2 @@
+pub mod NumberedNames
+pub mod ByState
