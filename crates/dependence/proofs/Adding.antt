@@ -15,7 +15,8 @@ use Rattle.kiss2.specs.Machine.{given_bit}
 use Rattle.dependence.specs.declared.effects.Effect.{Effect}
 use Rattle.dependence.specs.declared.bit.Bit.{Bit}
 use Rattle.dependence.specs.declared.bit.Bit.TheVariants.{Latch, Output}
-use Rattle.dependence.specs.Inner.Effects.{ActsBy, Adds, AreApart, IsActed, Show, acts_in, acts_on}
+use Rattle.dependence.specs.Effects.{ActsBy, acts_on}
+use Rattle.dependence.specs.Inner.Effects.{Adds, AreApart, IsActed, Show, acts_in}
 use Rattle.dependence.specs.Inner.Said.{next_bit, row_value}
 use Rattle.dependence.proofs.Symbols.{clash_turned, one_place}
 

@@ -17,9 +17,10 @@ use Rattle.dependence.specs.declared.effects.Effect.{Effect}
 use Rattle.dependence.specs.declared.bit.Bit.{Bit}
 use Rattle.dependence.specs.declared.sets.ReadSet.{ReadSet}
 use Rattle.dependence.specs.Inputs.{Matters}
-use Rattle.dependence.specs.Inner.Effects.{ActsBy, Adds, AreEffects, MattersAt, MattersBelow, ShowAcross}
+use Rattle.dependence.specs.Effects.{ActsBy, AddsState, MattersAt}
+use Rattle.dependence.specs.Inner.Effects.{Adds, AreEffects, MattersBelow, ShowAcross}
 use Rattle.dependence.specs.Bit.{IsBit, value_of}
-use Rattle.dependence.specs.Inner.Judging.{AreListed}
+use Rattle.dependence.specs.Listed.{AreListed}
 use Rattle.dependence.specs.Permits.{InWord}
 use Rattle.dependence.specs.ReadRule.{Beside, IsReadRule}
 use Rattle.dependence.specs.Reads.{IsReadSet}
@@ -122,27 +123,38 @@ nexts_within F s rows count size right =
 pub widths_of : (F : KissFile) (s : ℕ) (rows : List KissRow) (count : ℕ) → count ≡ F.inputs → All (IsRightRow F s) rows → All (λ (row : KissRow). row.cube.width ≡ count) rows
 widths_of F s rows count size right = All-weaker (IsRightRow F s) (λ (row : KissRow). row.cube.width ≡ count) (λ row is. is.lawful.width ∙ sym size) rows right
 
+-- what the rows of a state show
+pub state_added : (F : KissFile) (words : List ℕ) (old new : List Effect) (s : ℕ) (rows : List KissRow) → length old ≡ F.inputs → ((x : ℕ) (part : Missing) → x < 2 ^ F.inputs → place_of part < F.outputs + 1 → IsSaidBy rows x part) → All (IsRightRow F s) rows
+    → Adds old new (ShowAcross (length old) words rows rows) → AddsState F words s old new
+state_added F words old new s rows size each right added = record {
+  size = added.size;
+  each = λ a gate of_gate. (
+    (λ acts. elim (added.only a gate acts) [
+      | inl known ↦ inl known
+      | inr shown ↦ inr (across_matters F words gate of_gate s rows each right a (subst (λ (n : ℕ). ShowAcross n words rows rows a gate) size shown))
+    ]),
+    (λ either. elim either [
+      | inl known ↦ added.keeps a gate known
+      | inr here ↦ added.adds a gate (subst (λ (n : ℕ). ShowAcross n words rows rows a gate) (sym size) (matters_across F words gate of_gate s rows each right a here))
+    ]),
+  );
+}
+
 -- one more state
-pub effects_more : (F : KissFile) (words : List ℕ) (old new : List Effect) (s : ℕ) (rows : List KissRow) → AreEffects F words old s → ((x : ℕ) (part : Missing) → x < 2 ^ F.inputs → place_of part < F.outputs + 1 → IsSaidBy rows x part) → All (IsRightRow F s) rows
-    → Adds old new (ShowAcross (length old) words rows rows) → AreEffects F words new (s + 1)
-effects_more F words old new s rows before each right added = record {
+pub effects_more : (F : KissFile) (words : List ℕ) (old new : List Effect) (s : ℕ) → AreEffects F words old s → AddsState F words s old new → AreEffects F words new (s + 1)
+effects_more F words old new s before added = record {
   size = added.size ∙ before.size;
   few = omega (arith, added.size, before.few);
   each = λ a gate of_gate. (
-    (λ acts. elim (added.only a gate acts) [
+    (λ acts. elim ((added.each a gate of_gate).0 acts) [
       | inl known ↦
           let matters : MattersBelow F (value_of F words gate) s a = (before.each a gate of_gate).0 known in
           record { state = matters.state; below = omega (arith, matters.below); there = matters.there }
-      | inr shown ↦
-          let of_inputs : ShowAcross F.inputs words rows rows a gate = subst (λ (n : ℕ). ShowAcross n words rows rows a gate) before.size shown in
-          record { state = s; below = omega arith; there = across_matters F words gate of_gate s rows each right a of_inputs }
+      | inr here ↦ record { state = s; below = omega arith; there = here }
     ]),
     (λ matters. elim (cases_eq matters.state s) [
-      | inl at ↦
-          let here : MattersAt F (value_of F words gate) s a = subst (λ (t : ℕ). MattersAt F (value_of F words gate) t a) at matters.there in
-          let shown : ShowAcross F.inputs words rows rows a gate = matters_across F words gate of_gate s rows each right a here in
-          added.adds a gate (subst (λ (n : ℕ). ShowAcross n words rows rows a gate) (sym before.size) shown)
-      | inr other ↦ added.keeps a gate ((before.each a gate of_gate).1 (record { state = matters.state; below = omega (arith, matters.below, other); there = matters.there }))
+      | inl at ↦ (added.each a gate of_gate).1 (inr (subst (λ (t : ℕ). MattersAt F (value_of F words gate) t a) at matters.there))
+      | inr other ↦ (added.each a gate of_gate).1 (inl ((before.each a gate of_gate).1 (record { state = matters.state; below = omega (arith, matters.below, other); there = matters.there })))
     ]),
   );
 }

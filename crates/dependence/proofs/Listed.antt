@@ -5,7 +5,7 @@ use Rattle.std.proofs.lemmas.List.{get_or_append_left, get_or_push, length_push}
 use Rattle.std.proofs.lemmas.List.Elements.{Contains-append_left, Contains-get_or, Contains-push, Contains-push_cases}
 use Rattle.std.specs.List.Sorted.{IsStrictlyIncreasing}
 use Rattle.dependence.specs.Permits.{InWord}
-use Rattle.dependence.specs.Inner.Judging.{AreListed}
+use Rattle.dependence.specs.Listed.{AreListed}
 
 -- a number is in a list or not
 pub listed_or_not : (list : List ℕ) (c : ℕ) → Contains list c ⊎ (Contains list c → ⊥)

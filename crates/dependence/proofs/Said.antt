@@ -25,10 +25,10 @@ pub part_counted : (F : KissFile) (gate : Bit) → IsBit F gate → place_of (pa
 part_counted F (Latch i) gate = omega arith
 part_counted F (Output b) gate = omega (arith, gate)
 
--- a value behind a next state
-mapped : (f : ℕ → Bool) (o : Option ℕ) (v : Bool) → option_map f o ≡ Some v → (t : ℕ) × (o ≡ Some t) × (f t ≡ v)
-mapped f None v is = absurd (cc)
-mapped f (Some t) v is = (t, refl, (cc))
+-- a value behind another
+pub mapped : {X Y : Type 0} (f : X → Y) (o : Option X) (y : Y) → option_map f o ≡ Some y → (x : X) × (o ≡ Some x) × (f x ≡ y)
+mapped f None y is = absurd (cc)
+mapped f (Some x) y is = (x, refl, (cc))
 
 some_mapped : (f : ℕ → Bool) (o : Option ℕ) → IsSome o → (v : Bool) × (option_map f o ≡ Some v)
 some_mapped f None some = absurd (false≢true some)

@@ -16,7 +16,8 @@ use Rattle.machine_table.specs.Said.{place_of}
 use Rattle.dependence.specs.declared.bit.Bit.{Bit}
 use Rattle.dependence.specs.Inputs.{DifferAlone}
 use Rattle.dependence.specs.Bit.{IsBit, value_of}
-use Rattle.dependence.specs.Inner.Effects.{MattersAt, Show, ShowAcross}
+use Rattle.dependence.specs.Effects.{MattersAt}
+use Rattle.dependence.specs.Inner.Effects.{Show, ShowAcross}
 use Rattle.dependence.specs.Inner.Said.{row_value}
 use Rattle.dependence.proofs.Said.{part_counted, part_of, row_gives, says_value}
 use Rattle.dependence.proofs.Symbols.{clash_of-differing, differ_alone, parted}

@@ -3,5 +3,7 @@ pub mod Bit
 pub mod Candidates
 pub mod ReadRule
 pub mod Inputs
+pub mod Effects
+pub mod Listed
 pub mod Reads
 pub mod Inner

@@ -4,18 +4,19 @@ ghost use Rattle.std.specs.Prelude.{◌≡◌, ◌≢◌, ◌↔◌, ◌+◌, �
 ghost use Rattle.cubes.specs.Symbol.{bit};
 ghost use Rattle.kiss2.specs.Machine.{given_bit};
 ghost use Rattle.dependence.specs.Permits.{InWord};
-ghost use Rattle.dependence.specs.Inner.Effects.{ActsBy, Adds, AreApart, AreEffects, DifferMore, HasBits, IsActed, Show, ShowAcross, ShowBeside, acts_on};
-ghost use Rattle.dependence.specs.Inner.Said.{HasPlace, next_bit};
+ghost use Rattle.dependence.specs.Effects.{ActsBy, AddsState, HasPlace, acts_on};
+ghost use Rattle.dependence.specs.Inner.Effects.{Adds, AreApart, AreEffects, DifferMore, HasBits, IsActed, Show, ShowAcross, ShowBeside};
+ghost use Rattle.dependence.specs.Inner.Said.{next_bit};
 
 use crate::bit::Bit;
-use crate::judging::{has, with};
+use crate::judging::{has, with_bit};
 use kiss2::KissRow;
 use machine_table::Machine;
 use std::alloc::{AllocError, Global};
 
 /// For which gates an input matters: latch i has its bit at 2^i, output b at 2^b.
 #[derive(Clone, Copy)]
-pub(crate) struct Effect {
+pub struct Effect {
     pub(crate) latches: u64,
     pub(crate) outputs: u64,
 }
@@ -30,10 +31,7 @@ struct SharedBits {
     zeros: u32,
 }
 
-/// The effects of the inputs in order.
-///
-/// An input matters for a gate where two rows of a state both say what the gate gives, they say different
-/// bits, and their cubes have different bits at that input and at no other.
+/// The effects of the inputs in order, at all states.
 pub(crate) fn effects_of(
     alloc: Global,
     m: &Machine,
@@ -44,13 +42,13 @@ pub(crate) fn effects_of(
 {
     let mut effects = no_effects(alloc, m.inputs())?;
     for s in 0..m.states() {
-        add_of_state(alloc, m, words, s, &mut effects)?;
+        add_effects(alloc, m, words, s, &mut effects)?;
     }
     Ok(effects)
 }
 
 /// A list of no effects, one for each input.
-fn no_effects(alloc: Global, inputs: u8) -> Result<Vec<Effect>, AllocError>
+pub fn no_effects(alloc: Global, inputs: u8) -> Result<Vec<Effect>, AllocError>
     ensures size { IfOk result (λ effects. length effects.items ≡ inputs) }
     ensures none { IfOk result (λ effects. (a : ℕ) (gate : Bit) → ActsBy effects.items a gate → ⊥) }
 {
@@ -65,8 +63,11 @@ fn no_effects(alloc: Global, inputs: u8) -> Result<Vec<Effect>, AllocError>
     Ok(effects)
 }
 
-/// Adds what two rows of the state show.
-fn add_of_state(
+/// Adds the gates for which each input matters at the state.
+///
+/// An input matters for a gate where two rows of a state both say what the gate gives, they say different
+/// bits, and their cubes have different bits at that input and at no other.
+pub fn add_effects(
     alloc: Global,
     m: &Machine,
     words: &[u64],
@@ -75,8 +76,8 @@ fn add_of_state(
 ) -> Result<(), AllocError>
     requires words { length words.now ≡ length m.now.states }
     requires state { s < length m.now.states }
-    requires before { AreEffects m.now words.now effects.old s }
-    ensures { OnOk result (AreEffects m.now words.now effects.new (s + 1)) }
+    requires size { length effects.old ≡ m.now.inputs }
+    ensures { OnOk result (AddsState m.now words.now s effects.old effects.new) }
 {
     let mut rows = m.filled_rows(alloc, s)?;
     rows.sort_by_key(|row| row.cube.value)?;
@@ -236,7 +237,7 @@ fn lone_place(bits: u32) -> Option<u32>
 }
 
 /// The inputs that matter for the gate, input a at 2^a.
-pub(crate) fn inputs_of(effects: &[Effect], gate: Bit) -> u64
+pub fn inputs_of(effects: &[Effect], gate: Bit) -> u64
     requires few { length effects.now ≤ 64 }
     requires gate { HasPlace gate }
     ensures { (a : ℕ) → InWord result a ↔ ActsBy effects.now a gate }
@@ -244,7 +245,7 @@ pub(crate) fn inputs_of(effects: &[Effect], gate: Bit) -> u64
     let mut inputs = 0;
     for (a, effect) in effects.iter().enumerate() {
         if effect.acts_on(gate) {
-            inputs = with(inputs, a as u32);
+            inputs = with_bit(inputs, a as u32);
         }
     }
     inputs

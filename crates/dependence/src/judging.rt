@@ -2,7 +2,8 @@
 
 ghost use Rattle.std.specs.Prelude.{◌≡◌, ◌↔◌, ◌<◌, ◌⊎◌, ℕ, IfOk, IsTrue, length};
 ghost use Rattle.dependence.specs.Bit.{IsBit, value_of};
-ghost use Rattle.dependence.specs.Inner.Judging.{AreListed, IsJudged};
+ghost use Rattle.dependence.specs.Listed.{AreListed};
+ghost use Rattle.dependence.specs.Inner.Judging.{IsJudged};
 ghost use Rattle.dependence.specs.Permits.{InWord};
 ghost use Rattle.dependence.specs.ReadRule.{IsReadRule, Without};
 
@@ -42,7 +43,7 @@ fn judged(m: &Machine, words: &[u64], set: u64, c: u32, gate: Bit) -> u64
 }
 
 /// The numbers of the bits of a word, ascending.
-pub(crate) fn numbers_of(alloc: Global, set: u64) -> Result<Numbers, AllocError>
+pub fn numbers_of(alloc: Global, set: u64) -> Result<Numbers, AllocError>
     ensures { IfOk result (λ numbers. AreListed numbers set 64) }
 {
     let mut numbers = Numbers::new(alloc);
@@ -63,7 +64,7 @@ pub(crate) fn has(set: u64, c: u32) -> bool
 }
 
 /// The set with bit c.
-pub(crate) fn with(set: u64, c: u32) -> u64
+pub fn with_bit(set: u64, c: u32) -> u64
     requires { c < 64 }
     ensures { (d : ℕ) → InWord result d ↔ (InWord set d ⊎ (d ≡ c)) }
 {

@@ -7,12 +7,13 @@
 //!
 //! [`reads`] gives each gate a [`ReadSet`]. A candidate is read exactly where the candidates below it and the
 //! read ones above it do not permit, so that none can be left out. An input is read where some state and two
-//! symbols that differ in it alone give different values.
+//! symbols that differ in it alone give different values. [`add_effects`] gathers this state by state, and
+//! [`inputs_of`] gives the inputs that matter for a gate.
 //!
 //! The definitions are in `specs/`: `Permits` has what a set permits, `Bit` what the gate of a bit gives,
 //! `Candidates` which bits a gate may read, `ReadRule` which of them it reads and that it can spare none, and
-//! `Inputs` where an input matters. `Reads` puts them together. The functions of `laws` promise what follows
-//! from them.
+//! `Inputs` where an input matters, `Effects` and `Listed` what words of bits say of it. `Reads` puts them
+//! together. The functions of `laws` promise what follows from them.
 #![tactic(auto)]
 
 mod asking;
@@ -26,6 +27,8 @@ mod sets;
 
 pub use asking::{permits, permits_output};
 pub use bit::Bit;
+pub use effects::{Effect, add_effects, inputs_of, no_effects};
+pub use judging::{numbers_of, with_bit};
 pub use laws::rule_is_irredundant;
 pub use numbers::Numbers;
 pub use reading::reads;

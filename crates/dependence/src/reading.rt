@@ -6,14 +6,14 @@ ghost use Rattle.state_codes.specs.Split.{IsPart};
 ghost use Rattle.dependence.specs.Bit.{IsBit, value_of};
 ghost use Rattle.dependence.specs.Candidates.{IsBitOfCode, IsCandidate, IsOpenTo, MayReadPart};
 ghost use Rattle.dependence.specs.Inner.Effects.{AreEffects};
-ghost use Rattle.dependence.specs.Inner.Said.{HasPlace};
+ghost use Rattle.dependence.specs.Effects.{HasPlace};
 ghost use Rattle.dependence.specs.Inner.Sets.{AreLatchSets, AreOutputSets};
 ghost use Rattle.dependence.specs.Permits.{InWord};
 ghost use Rattle.dependence.specs.Reads.{AreReads, IsReadSet};
 
 use crate::bit::Bit;
 use crate::effects::{Effect, effects_of, inputs_of};
-use crate::judging::{numbers_of, read_bits, with};
+use crate::judging::{numbers_of, read_bits, with_bit};
 use crate::{ReadSet, ReadSets, Reads};
 use machine_table::Machine;
 use state_codes::{Codes, Split};
@@ -112,7 +112,7 @@ fn candidates_of(split: &Split, codes: &Codes, i: usize) -> u64
     let mut candidates = 0;
     for c in 0..codes.bits {
         if is_open(split, codes, i, c) {
-            candidates = with(candidates, c as u32);
+            candidates = with_bit(candidates, c as u32);
         }
     }
     candidates

@@ -4,3 +4,5 @@ pub mod Ranges
 pub mod ReadNumbers
 pub mod RowTexts
 pub mod TermCovers
+pub mod AskedTerms
+pub mod LatchNames

@@ -1,16 +1,24 @@
-//! The rows of a gate, from the terms at which it gives 1 and those at which it gives 0.
+//! The gates of a network: their rows, from what is asked of them, and the names that they list.
 //!
 //! The columns of a gate are the inputs that it reads, in order, and then the bits that it reads of a word. The
-//! word is the code of a state, for example, or the content of a register. [`term_of`] gives the term of what
-//! is read for the symbols of a cube and a word. [`rows`] covers terms of on without meeting terms of off: its
-//! texts are a good cover, in ascending order of their bytes.
+//! word is the code of a state, for example, or the content of a register. A [`Demand`] asks for a bit at the
+//! symbols of a cube and a word. [`demanded_rows`] gives the rows of a gate that meets all demands: its texts are
+//! a good cover, in ascending order of their bytes.
 //!
-//! The definitions are in `specs/`: `Bits` has numbers as lists of bits, `Columns` what a gate reads and the
-//! term of it, and `Covers` the one definition of a good cover over texts of rows.
+//! [`listed_names`] gives the names that a gate lists, and [`latches`] the latches that start at the bits of a word.
+//!
+//! The definitions are in `specs/`: `Bits` has numbers as lists of bits, `Columns` what a gate reads, `Demands`
+//! what is asked of it, and `Covers` the one definition of a good cover over texts of rows. `Names` and `Latches`
+//! have the names and the latches.
 #![tactic(auto)]
 
 mod columns;
+mod demands;
+mod latching;
+mod naming;
 mod texts;
 
-pub use columns::{bit, term_of};
-pub use texts::rows;
+pub use columns::bit;
+pub use demands::{Demand, demanded_rows};
+pub use latching::latches;
+pub use naming::{listed_names, name_from};

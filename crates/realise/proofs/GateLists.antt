@@ -1,34 +1,27 @@
--- Gates that are added one by one, the latches, and the network of both.
-use Rattle.std.proofs.Common.{◌≡◌, ℕ, zero, suc, ◌+◌, ◌<◌, inl, inr, Bool, true, false, if◌then◌else◌, Option, Some, List, [], ◌∷◌, ◌++◌, length, map, get_or, slice_get, slice_index, take, All, refl, ap, sym, ◌∙◌, subst, arith, length-append}
+-- Gates that are added one by one, and the network of them.
+use Rattle.std.proofs.Common.{◌≡◌, ℕ, zero, suc, ◌+◌, ◌<◌, inl, inr, Bool, true, false, Some, List, [], ◌∷◌, ◌++◌, length, map, get_or, slice_get, slice_index, take, All, ap, sym, ◌∙◌, subst, arith, length-append}
 use Rattle.std.specs.Cmp.Lexicographic.{slice_cmp}
-use Rattle.std.specs.List.{range_with_len}
 use Rattle.std.specs.List.Sorted.{IsSorted}
 use Rattle.std.specs.Ordering.{nat_cmp}
-use Rattle.std.proofs.Math.Path.{fun_ext}
-use Rattle.std.proofs.lemmas.List.{ext_get_or, length-map, length-take-le, take_more}
+use Rattle.std.proofs.lemmas.List.{length-take-le, take_more}
 use Rattle.std.proofs.lemmas.Option.{get_or_from_slice_get, slice_get-get_or, slice_get_within}
-use Rattle.std.proofs.lemmas.List.FromFn.{get_or-map-range_with_len, length-map-range_with_len}
-use Rattle.std.proofs.lemmas.Simd.{map-map}
-use Rattle.cubes.specs.Symbol.{bit}
 use Rattle.dependence.specs.declared.sets.ReadSet.{ReadSet}
 use Rattle.dependence.specs.declared.sets.Reads.{Reads}
 use Rattle.dependence.specs.Bit.{value_of}
 use Rattle.dependence.specs.Permits.{next_value, output_value}
 use Rattle.gate_rows.specs.Covers.{IsGoodCover}
+use Rattle.gate_rows.specs.Latches.{AreLatches}
+use Rattle.gate_rows.proofs.LatchNames.{listed_count}
 use Rattle.gate_rows.proofs.Items.{get_behind, get_cases, get_first}
 use Rattle.kiss2.specs.declared.kiss_file.KissFile.{KissFile}
 use Rattle.net_core.specs.declared.Gate.{Gate}
-use Rattle.net_core.specs.declared.Latch.{Latch}
 use Rattle.net_core.specs.declared.Network.{Network}
 use Rattle.net_core.specs.declared.SignalNames.{SignalNames}
-use Rattle.net_core.specs.declared.Start.TheVariants.{Zero, One}
-use Rattle.net_core.specs.Step.{bit_of_start}
 use Rattle.dependence.specs.declared.bit.Bit.{Bit}
 use Rattle.realise.specs.Realised.{AreEnough, IsGateFor, IsRealised, name_at}
 use Rattle.realise.specs.Rows.{GivesAt}
 use Rattle.realise.specs.Inner.Adding.{AddsGates, IsGateAt}
 use Rattle.realise.specs.Inner.Lists.{width_of}
-use Rattle.realise.specs.Inner.Latches.{AreLatches, latch_of}
 
 -- one gate more
 module _ (F : KissFile) (words : List ℕ) (names : SignalNames) (value : ℕ → ℕ → List Bool → Bool) (outputs : List (List ℕ)) (sets : List ReadSet) (set : ReadSet) (old new : List Gate) (gate : Gate) (before : AddsGates F words names value outputs sets old new) (is : IsGateFor F words names set (value (length sets)) (name_at outputs (length sets)) gate) where
@@ -68,28 +61,6 @@ gates_more F words names value outputs sets more set old new pushed gate i is_mo
     (gates_whole F words names value outputs sets set old new gate before
     (subst (λ (k : ℕ). IsGateFor F words names set (value k) (name_at outputs k) gate) (sym count) is)))
 
--- ---- latches
-start_bit : (b : Bool) → bit_of_start (if b then One else Zero) ≡ Some b
-start_bit true = refl
-start_bit false = refl
-
-all_names_at : (names : List (List ℕ)) (bits : ℕ) → length names ≡ bits → map (name_at names) (range_with_len 0 bits) ≡ names
-all_names_at names bits counts =
-    ext_get_or [] (map (name_at names) (range_with_len 0 bits)) names (length-map-range_with_len (name_at names) 0 bits ∙ sym counts)
-    (λ i within. get_or-map-range_with_len (name_at names) 0 bits i i [] (omega (arith, within, length-map-range_with_len (name_at names) 0 bits)) (omega arith))
-
-pub latches_are : (names : SignalNames) (bits word : ℕ) (latches : List Latch) → length names.latch_inputs ≡ bits → length names.latch_outputs ≡ bits
-    → latches ≡ map (latch_of names word) (range_with_len 0 bits) → AreLatches names bits word latches
-latches_are names bits word latches inputs outputs is =
-    record {
-      inputs = ap (map (λ (latch : Latch). latch.input)) is ∙ (map-map (λ (latch : Latch). latch.input) (latch_of names word) (range_with_len 0 bits) ∙ all_names_at names.latch_inputs bits inputs);
-      outputs = ap (map (λ (latch : Latch). latch.output)) is ∙ (map-map (λ (latch : Latch). latch.output) (latch_of names word) (range_with_len 0 bits) ∙ all_names_at names.latch_outputs bits outputs);
-      starts = ap (map (λ (latch : Latch). bit_of_start latch.start)) is
-          ∙ (map-map (λ (latch : Latch). bit_of_start latch.start) (latch_of names word) (range_with_len 0 bits)
-          ∙ (ap (λ (f : ℕ → Option Bool). map f (range_with_len 0 bits)) (fun_ext (λ i. start_bit (bit word i)))
-          ∙ sym (map-map Some (bit word) (range_with_len 0 bits))));
-    }
-
 -- ---- the network
 pub network_realised : (F : KissFile) (bits : ℕ) (words : List ℕ) (reads : Reads) (names : SignalNames) (N : Network) (none latch_gates gates : List Gate) → none ≡ [] → AreEnough F bits words reads
     → AddsGates F words names (next_value F words) names.latch_inputs reads.latches none latch_gates
@@ -118,11 +89,6 @@ network_realised F bits words reads names N none latch_gates gates is_none enoug
     }
 
 -- ---- with the values of a call
-pub latches_at : (names : SignalNames) (bits word : ℕ) (latches : List Latch) (i : ℕ) → length names.latch_inputs ≡ bits → length names.latch_outputs ≡ bits → i ≡ bits
-    → latches ≡ map (latch_of names word) (range_with_len 0 i) → AreLatches names bits word latches
-latches_at names bits word latches i inputs outputs all is =
-    latches_are names bits word latches inputs outputs (is ∙ ap (λ (n : ℕ). map (latch_of names word) (range_with_len 0 n)) all)
-
 -- the item of a loop, and the items up to it
 pub item_there : {X : Type 0} (xs items : List X) (i : ℕ) (x : X) → items ≡ xs → i < length items → x ≡ get_or items i x → slice_get xs i ≡ Some x
 item_there {X} xs items i x same inside is =
@@ -144,20 +110,12 @@ pub gate_of : (F : KissFile) (words : List ℕ) (names : SignalNames) (set : Rea
     → IsGoodCover (GivesAt F words set value true) (GivesAt F words set value false) gate.rows → All (λ row. length row ≡ width_of set) gate.rows
     → IsSorted (slice_cmp nat_cmp) gate.rows → IsGateFor F words names set value name gate
 gate_of F words names set value name gate on output inputs cover widths in_order =
-    let count : length gate.inputs ≡ width_of set =
-    omega (
-      arith,
-      ap length inputs,
-      length-append (map (name_at names.inputs) set.inputs) (map (name_at names.latch_outputs) set.latches),
-      length-map set.inputs (name_at names.inputs),
-      length-map set.latches (name_at names.latch_outputs),
-    ) in
     record {
       inputs = inputs;
       output = output;
       on = on;
       cover = cover;
-      widths = subst (λ (n : ℕ). All (λ row. length row ≡ n) gate.rows) (sym count) widths;
+      widths = subst (λ (n : ℕ). All (λ row. length row ≡ n) gate.rows) (sym (listed_count names set.inputs set.latches gate.inputs inputs)) widths;
       in_order = in_order;
     }
 

@@ -1,9 +1,7 @@
 -- The gates of the network of codes, one by one.
-use Rattle.std.proofs.Common.{◌≡◌, ℕ, ◌+◌, ◌-◌, ◌<◌, inl, inr, Bool, Some, List, [], ◌∷◌, ◌++◌, length, map, get_or, slice_get, All, ap, sym, ◌∙◌, refl, subst, arith, length-append}
-use Rattle.std.specs.List.{AllByRecursion}
+use Rattle.std.proofs.Common.{◌≡◌, ℕ, ◌+◌, ◌-◌, ◌<◌, inl, inr, Bool, Some, List, [], ◌∷◌, ◌++◌, length, get_or, slice_get, All, ap, sym, ◌∙◌, subst, arith, length-append}
 use Rattle.std.proofs.lemmas.Bool.{cases_lt}
 use Rattle.std.proofs.lemmas.List.{ext_get_or, get_or-append-add, get_or-map, get_or_append_left, length-map}
-use Rattle.std.proofs.lemmas.List.Elements.{recursion_from_All}
 use Rattle.std.proofs.lemmas.Option.{get_or_from_slice_get, slice_get-get_or, slice_get_within}
 use Rattle.dependence.specs.declared.sets.ReadSet.{ReadSet}
 use Rattle.dependence.specs.declared.sets.Reads.{Reads}
@@ -23,14 +21,6 @@ item_at (x ∷ xs) k lt = (get_or (x ∷ xs) k x, slice_get-get_or (x ∷ xs) k 
 -- what holds of each item holds of the one at a place
 pub all_at : {X : Type 0} (P : X → Type 0) (xs : List X) (k : ℕ) (x : X) → All P xs → slice_get xs k ≡ Some x → P x
 all_at P xs k x all is = subst P (get_or_from_slice_get xs k x x is) (all k x (slice_get_within xs k x is))
-
--- maps that agree on each item are one
-pub map_same : {X Y : Type 0} (f g : X → Y) (xs : List X) → All (λ x. f x ≡ g x) xs → map f xs ≡ map g xs
-map_same {X} {Y} f g xs all = along xs (recursion_from_All (λ x. f x ≡ g x) xs all)
-  where
-    along : (xs : List X) → AllByRecursion (λ x. f x ≡ g x) xs → map f xs ≡ map g xs
-    along [] h = refl
-    along (x ∷ xs) h = ap (λ (y : Y). y ∷ map f xs) h.0 ∙ ap (λ (ys : List Y). g x ∷ ys) (along xs h.1)
 
 -- a gate of some read set, value and name
 pub record IsSomeGate (F : KissFile) (bits : ℕ) (words : List ℕ) (names : SignalNames) (gate : Gate) : Type 0 where

@@ -1,4 +1,5 @@
 pub mod Apart
+pub mod AskedRows
 pub mod Carrying
 pub mod EqualReads
 pub mod FilledRows
@@ -7,4 +8,3 @@ pub mod Free
 pub mod GateLists
 pub mod Gates
 pub mod Stepping
-pub mod TermLists

@@ -2,5 +2,4 @@
 pub mod Free
 pub mod Filled
 pub mod Lists
-pub mod Latches
 pub mod Adding

@@ -1,5 +1,5 @@
 -- The network of codes: the names of its signals, and what each gate lists.
-use Rattle.std.specs.Prelude.{◌≡◌, ℕ, ◌+◌, ◌<◌, ◌++◌, Bool, true, false, All, Contains, List, [], Some, length, map, slice_get, slice_index_or}
+use Rattle.std.specs.Prelude.{◌≡◌, ℕ, ◌+◌, ◌<◌, ◌++◌, Bool, true, false, All, Contains, List, Some, length, map, slice_get}
 use Rattle.std.specs.Cmp.Lexicographic.{slice_cmp}
 use Rattle.std.specs.List.Sorted.{IsSorted, IsStrictlyIncreasing}
 use Rattle.std.specs.Ordering.{nat_cmp}
@@ -8,6 +8,7 @@ use Rattle.dependence.specs.declared.sets.Reads.{Reads}
 use Rattle.dependence.specs.Permits.{PermitsValue, next_value, output_value}
 use Rattle.dependence.specs.Inputs.{Matters}
 use Rattle.gate_rows.specs.Covers.{IsGoodCover}
+pub use Rattle.gate_rows.specs.Names.{name_at}
 use Rattle.kiss2.specs.declared.kiss_file.KissFile.{KissFile}
 use Rattle.net_core.specs.declared.Gate.{Gate}
 use Rattle.net_core.specs.declared.Network.{Network}
@@ -43,10 +44,6 @@ pub record AreCounted (F : KissFile) (bits : ℕ) (names : SignalNames) : Type 0
   pub outputs : length names.outputs ≡ F.outputs
   pub latch_inputs : length names.latch_inputs ≡ bits
   pub latch_outputs : length names.latch_outputs ≡ bits
-
--- the name with that number
-abbrev pub name_at : List (List ℕ) → ℕ → List ℕ
-name_at names i = slice_index_or names i []
 
 -- the gate that gives a value under a name: it lists what its set reads, and its rows are a good cover of its on-set and its
 -- off-set, in ascending order of their bytes

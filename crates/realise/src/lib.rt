@@ -15,7 +15,6 @@
 #![tactic(auto)]
 
 mod building;
-mod copying;
 mod filled;
 mod laws;
 mod lists;

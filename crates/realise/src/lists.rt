@@ -1,21 +1,21 @@
-//! The rows of a gate, from the terms at which it gives 1 and 0.
+//! The rows of a gate, from what filled rows say of its bit.
 
 ghost use Rattle.std.specs.Prelude.{◌≡◌, ◌<◌, ◌≤◌, All, IfOk, length, true, false};
 ghost use Rattle.std.specs.Cmp.Lexicographic.{slice_cmp};
+ghost use Rattle.std.specs.List.{filter_map};
 ghost use Rattle.std.specs.List.Sorted.{IsSorted};
 ghost use Rattle.std.specs.Ordering.{nat_cmp};
 ghost use Rattle.dependence.specs.Bit.{IsBit, value_of};
-ghost use Rattle.dependence.specs.Inner.Said.{HasPlace};
+ghost use Rattle.dependence.specs.Effects.{HasPlace};
 ghost use Rattle.gate_rows.specs.Covers.{IsGoodCover};
 ghost use Rattle.realise.specs.Realised.{IsEnough, IsWithin};
 ghost use Rattle.realise.specs.Rows.{GivesAt};
-ghost use Rattle.realise.specs.Inner.Lists.{HoldWhatIsRead, width_of};
+ghost use Rattle.realise.specs.Inner.Lists.{asked_by, width_of};
 ghost use Rattle.realise.specs.Inner.Filled.{AreFilled, IsRight};
 
-use crate::said::says_bit;
-use cover_logic::Term;
+use crate::said::said_bit;
 use dependence::{Bit, ReadSet};
-use gate_rows::{rows, term_of};
+use gate_rows::{Demand, demanded_rows};
 use hs_io::Names;
 use kiss2::KissRow;
 use machine_table::Machine;
@@ -43,47 +43,38 @@ pub fn gate_rows_of(
     ensures in_order { IfOk result (IsSorted (slice_cmp nat_cmp)) }
 {
     let _limits = (m.inputs(), m.outputs());
-    let on = terms(alloc, m, filled, words, set, bit, true)?;
-    let off = terms(alloc, m, filled, words, set, bit, false)?;
-    rows(alloc, &on, &off, column_count(set) as u8)
+    let demands = demands_of(alloc, m, filled, words, bit)?;
+    demanded_rows(
+        alloc,
+        &demands,
+        set.inputs.as_slice(),
+        set.latches.as_slice(),
+    )
 }
 
-/// The number of columns of a gate.
-fn column_count(set: &ReadSet) -> usize
-    requires { width_of set.now ≤ 128 }
-    ensures { result ≡ width_of set.now }
-{
-    set.inputs.as_slice().len() + set.latches.as_slice().len()
-}
-
-/// The terms of the rows that say that the gate gives this bit.
-fn terms(
+/// What the rows ask of the gate of a bit, at the codes of their states.
+fn demands_of(
     alloc: Global,
     m: &Machine,
     filled: &[KissRow],
     words: &[u64],
-    set: &ReadSet,
     bit: Bit,
-    given: bool,
-) -> Result<Vec<Term>, AllocError>
+) -> Result<Vec<Demand>, AllocError>
     requires filled { All (IsRight m.now) filled.now }
     requires words { length words.now ≡ length m.now.states }
-    requires within { IsWithin m.now.inputs 64 set.now }
-    requires width { width_of set.now ≤ 128 }
     requires place { HasPlace bit }
-    ensures { IfOk result (λ terms. HoldWhatIsRead words.now set.now bit given filled.now terms.items) }
+    ensures { IfOk result (λ demands. demands.items ≡ filter_map (asked_by words.now bit) filled.now) }
 {
     let _inputs = m.inputs();
-    let mut terms = Vec::new(alloc);
-    for at in filled {
-        if says_bit(at, words, bit, given) {
-            terms.push(term_of(
-                &at.cube,
-                set.inputs.as_slice(),
-                words[usize::from(at.from)],
-                set.latches.as_slice(),
-            ))?;
+    let mut demands = Vec::new(alloc);
+    for row in filled {
+        if let Some(given) = said_bit(row, words, bit) {
+            demands.push(Demand {
+                cube: row.cube,
+                word: words[usize::from(row.from)],
+                given,
+            })?;
         }
     }
-    Ok(terms)
+    Ok(demands)
 }

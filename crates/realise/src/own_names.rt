@@ -9,8 +9,7 @@ ghost use Rattle.realise.specs.Names.{AreNames, IsPrefixCount, own_name, prefix,
 ghost use Rattle.realise.specs.Inner.Free as free;
 ghost use Rattle.realise.specs.Inner.Free.{first_count};
 
-use crate::copying::copied;
-use hs_io::{Name, Names};
+use hs_io::{Name, Names, copied_names};
 use kiss2::KissFile;
 use net_core::SignalNames;
 use std::alloc::{AllocError, Global};
@@ -206,7 +205,7 @@ fn given_or_own(
     ensures { IfOk result (λ names. names ≡ unwrap_or given.now (named.own_names count letter many)) }
 {
     match given {
-        Some(names) => copied(alloc, names),
+        Some(names) => copied_names(alloc, names.as_slice()),
         None => own_names(alloc, count, letter, many),
     }
 }

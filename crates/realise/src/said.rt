@@ -1,28 +1,18 @@
 //! What a row says of a bit.
 
-ghost use Rattle.std.specs.Prelude.{◌≡◌, ◌<◌, ◌↔◌, IfSome, IsTrue, Some, length};
+ghost use Rattle.std.specs.Prelude.{◌≡◌, ◌<◌, IfSome, length};
 ghost use Rattle.kiss2.specs.Machine.{given_bit};
 ghost use Rattle.dependence.specs.Inner.Said as said;
-ghost use Rattle.dependence.specs.Inner.Said.{HasPlace, row_value};
+ghost use Rattle.dependence.specs.Effects.{HasPlace};
+ghost use Rattle.dependence.specs.Inner.Said.{row_value};
 
 use dependence::Bit;
 use gate_rows::bit;
 use kiss2::KissRow;
 
-/// Whether the row says that the gate of a bit gives this value. The words are the codes of the states.
-pub fn says_bit(row: &KissRow, words: &[u64], bit: Bit, given: bool) -> bool
-    requires place { HasPlace bit }
-    requires states { IfSome row.now.to (λ t. t < length words.now) }
-    ensures { IsTrue result ↔ (row_value words.now bit row.now ≡ Some given) }
-{
-    match value_at(row, words, bit) {
-        Some(value) => value == given,
-        None => false,
-    }
-}
-
-/// What the gate of a bit gives at the symbols of a row, if the row says it.
-fn value_at(row: &KissRow, words: &[u64], bit: Bit) -> Option<bool>
+/// What the gate of a bit gives at the symbols of a row, if the row says it. The words are the codes of the
+/// states.
+pub fn said_bit(row: &KissRow, words: &[u64], bit: Bit) -> Option<bool>
     requires place { HasPlace bit }
     requires states { IfSome row.now.to (λ t. t < length words.now) }
     ensures { result ≡ row_value words.now bit row.now }

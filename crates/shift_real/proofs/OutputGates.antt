@@ -1,24 +1,28 @@
--- The gate of an output, from its classes, its pieces and what it reads.
-use Rattle.std.proofs.Common.{◌≡◌, ◌↔◌, ℕ, zero, suc, ◌+◌, ◌*◌, ◌^◌, ◌<◌, ◌≤◌, Bool, true, false, Contains, All, List, [], ◌∷◌, ◌++◌, length, map, get_or, slice_index, bit_and, refl, ap, sym, ◌∙◌, subst, arith, length-append}
+-- The gate of an output, from its classes, its demands and what it reads.
+use Rattle.std.proofs.Common.{◌≡◌, ◌↔◌, ℕ, ◌+◌, ◌*◌, ◌^◌, ◌<◌, ◌≤◌, Bool, true, false, Contains, All, List, ◌++◌, length, map, get_or, slice_index, bit_and, ap, sym, ◌∙◌, subst, arith}
 use Rattle.std.specs.Cmp.Lexicographic.{slice_cmp}
-use Rattle.std.specs.List.{AllByRecursion}
-use Rattle.std.specs.List.Sorted.{IsSorted, IsStrictlyIncreasing}
+use Rattle.std.specs.List.Sorted.{IsSorted}
 use Rattle.std.specs.Ordering.{nat_cmp}
 use Rattle.std.proofs.lemmas.Bool.{false≢true}
 use Rattle.std.proofs.lemmas.List.{length-map}
-use Rattle.std.proofs.lemmas.List.Elements.{All-contains, All-map, All-weaker, Contains-get_or, recursion_from_All}
+use Rattle.std.proofs.lemmas.List.Elements.{All-contains, All-map, All-weaker, Contains-get_or}
 use Rattle.std.proofs.lemmas.Nat.{and_le_l}
 use Rattle.std.proofs.lemmas.Nat.Bits.{bit_at-lt, bit_at_and, same_from_bits}
-use Rattle.cubes.specs.Cube.{Holds, HoldsNumber}
+use Rattle.cubes.specs.Cube.{HoldsNumber}
 use Rattle.cubes.specs.Symbol.{bit, number_of, symbol_of}
 use Rattle.cubes.proofs.Bits.{same_bits}
 use Rattle.cubes.proofs.Numbers.{length-symbol_of, number_below, symbol_of-number_of}
 use Rattle.dependence.specs.declared.sets.ReadSet.{ReadSet}
-use Rattle.dependence.specs.Inner.Judging.{AreListed}
+use Rattle.dependence.specs.Listed.{AreListed}
 use Rattle.dependence.specs.Inputs.{DifferAlone}
 use Rattle.dependence.specs.Permits.{InWord}
-use Rattle.gate_rows.specs.Columns.{column_values, input_of}
+use Rattle.gate_rows.specs.declared.demands.Demand.{Demand}
+use Rattle.gate_rows.specs.Columns.{column_count, column_values, input_of}
 use Rattle.gate_rows.specs.Covers.{IsGoodCover}
+use Rattle.gate_rows.specs.Demands.{AreApart, CanBeRead, IsAsked}
+use Rattle.gate_rows.specs.Names.{name_at}
+use Rattle.gate_rows.proofs.Items.{ascending_count, map_same}
+use Rattle.gate_rows.proofs.LatchNames.{listed_count}
 use Rattle.gate_rows.proofs.ReadNumbers.{code_at}
 use Rattle.gate_rows.proofs.TermCovers.{same_cover}
 use Rattle.kiss2.specs.declared.kiss_file.KissFile.{KissFile}
@@ -26,9 +30,8 @@ use Rattle.net_core.specs.declared.Gate.{Gate}
 use Rattle.net_core.specs.declared.SignalNames.{SignalNames}
 use Rattle.net_core.proofs.Members.{agree_from_map}
 use Rattle.net_core.proofs.Valuations.{parts_of_append}
-use Rattle.shift_real.specs.declared.pieces.ContentPiece.{ContentPiece}
-use Rattle.shift_real.specs.Gates.{GivesAfter, InputMatters, IsOutputGate, IsReadAfter, LatchMatters, name_at, output_after}
-use Rattle.shift_real.specs.Inner.ContentPieces.{AreApart, AreClassPieces, CanBeRead, IsClassPiece, IsReadAfterPiece, IsWithinMask, width_of}
+use Rattle.shift_real.specs.Gates.{GivesAfter, InputMatters, IsOutputGate, IsReadAfter, LatchMatters, output_after}
+use Rattle.shift_real.specs.Inner.ContentDemands.{AreClassDemands, IsClassDemand, IsWithinMask}
 use Rattle.shift_real.specs.declared.reading.OutputReading.{OutputReading}
 use Rattle.shift_real.specs.Inner.OutputReading.{IsOutputReading}
 use Rattle.shift_real.specs.Inner.Reading.{FlipMatters, MattersAmong}
@@ -38,30 +41,6 @@ use Rattle.shift_real.specs.Words.{IsWord}
 use Rattle.shift_real.proofs.ContentWords.{bits_are_word, content_is_word, content_values, latch_values_of, numbered, values_length, word_of_latches}
 use Rattle.shift_real.proofs.OutputReads.{among_input, class_count, class_value, differ_within, flip_matters, input_among, matters_flip}
 use Rattle.shift_real.proofs.SameReads.{same_reads}
-use Rattle.shift_real.proofs.ShownInputs.{gives_at}
-
--- maps that agree on each item are one
-pub map_same : {X Y : Type 0} (f g : X → Y) (xs : List X) → All (λ x. f x ≡ g x) xs → map f xs ≡ map g xs
-map_same {X} {Y} f g xs all = along xs (recursion_from_All (λ x. f x ≡ g x) xs all)
-  where
-    along : (xs : List X) → AllByRecursion (λ x. f x ≡ g x) xs → map f xs ≡ map g xs
-    along [] h = refl
-    along (x ∷ xs) h = ap (λ (y : Y). y ∷ map f xs) h.0 ∙ ap (λ (ys : List Y). g x ∷ ys) (along xs h.1)
-
--- numbers that ascend below a bound are no more than it
-ascending_count : (n : ℕ) (xs : List ℕ) → IsStrictlyIncreasing xs → All (λ a. a < n) xs → length xs ≤ n
-ascending_count n xs ascend below = by (length xs) refl
-  where
-    at_least : (k : ℕ) → k < length xs → k ≤ get_or xs k 0
-    at_least zero lt = omega arith
-    at_least (suc k) lt =
-        let e : k + 1 ≡ suc k = omega arith in
-        let step : get_or xs k 0 < get_or xs (suc k) 0 = subst (λ (j : ℕ). get_or xs k 0 < get_or xs j 0) e (ascend k (omega (arith, lt))) in
-        omega (arith, step, at_least k (omega (arith, lt)))
-
-    by : (count : ℕ) → length xs ≡ count → length xs ≤ n
-    by zero is = omega arith
-    by (suc m) is = omega (arith, is, at_least m (omega (arith, is)), below m 0 (omega (arith, is)))
 
 -- ---- what is read decides the output
 module _ (F : KissFile) (k b : ℕ) (set : ReadSet) (reads : IsReadAfter F k b set) where
@@ -136,19 +115,19 @@ module _ (F : KissFile) (k b : ℕ) (table firsts classes : List ℕ) (mask inpu
     inputs_ascend = listed_inputs.ascend;
   }
 
-  module _ (pieces : List ContentPiece) (known : AreClassPieces F classes (IsWithinMask mask) pieces) where
-    class_piece : (at : ContentPiece) → Contains pieces at → IsClassPiece F classes at
-    class_piece at among = All-contains (IsClassPiece F classes) pieces at known.right among
+  module _ (demands : List Demand) (known : AreClassDemands F b classes (IsWithinMask mask) demands) where
+    class_demand : (at : Demand) → Contains demands at → IsClassDemand F b classes at
+    class_demand at among = All-contains (IsClassDemand F b classes) demands at known.right among
 
-    low_number : (at : ContentPiece) → Contains pieces at → at.number < 2 ^ (k * F.inputs)
-    low_number at among = let lt = (class_piece at among).number in omega (arith, lt, class_count F k b table firsts classes is are mapped)
+    low_number : (at : Demand) → Contains demands at → at.word < 2 ^ (k * F.inputs)
+    low_number at among = let lt = (class_demand at among).number in omega (arith, lt, class_count F k b table firsts classes is are mapped)
 
-    pub can_be_read : CanBeRead set pieces
+    pub can_be_read : CanBeRead set.inputs set.latches demands
     can_be_read = record {
-      inputs = All-weaker (IsClassPiece F classes) (λ (at : ContentPiece). All (λ a. a < at.piece.cube.width) set.inputs)
-          (λ at of. subst (λ (w : ℕ). All (λ a. a < w) set.inputs) (sym of.piece.width) reads.inputs_within) pieces known.right;
-      ascend = listed_inputs.ascend;
-      latches = All-weaker (λ l. l < k * F.inputs) (λ l. l < 64) (λ l lt. omega (arith, lt, short)) set.latches reads.latches_within;
+      inputs_within = All-weaker (IsClassDemand F b classes) (λ (at : Demand). All (λ a. a < at.cube.width) set.inputs)
+          (λ at of. subst (λ (w : ℕ). All (λ a. a < w) set.inputs) (sym of.width) reads.inputs_within) demands known.right;
+      inputs_ascend = listed_inputs.ascend;
+      places_within = All-weaker (λ l. l < k * F.inputs) (λ l. l < 64) (λ l lt. omega (arith, lt, short)) set.latches reads.latches_within;
       width = omega (
         arith,
         few,
@@ -158,34 +137,32 @@ module _ (F : KissFile) (k b : ℕ) (table firsts classes : List ℕ) (mask inpu
       );
     }
 
-    -- what a piece gives is what the output is after its content
-    piece_gives : (at : ContentPiece) → Contains pieces at → (x : ℕ) → x < 2 ^ F.inputs → HoldsNumber at.piece.cube x → output_after F b (content_of F k at.number) (symbol_of F.inputs x) ≡ bit at.piece.outputs b
-    piece_gives at among x low held =
-        let of = class_piece at among in
-        sym (class_value F k b table firsts classes is are mapped at.number (low_number at among) (symbol_of F.inputs x) (length-symbol_of F.inputs x))
-        ∙ gives_at F b of_output (slice_index classes at.number) at.piece of.piece (symbol_of F.inputs x) (length-symbol_of F.inputs x)
-        (subst (λ (w : ℕ). Holds at.piece.cube (symbol_of w x)) of.piece.width held)
+    -- what a demand asks for is what the output is after its content
+    asks : (at : Demand) → Contains demands at → (x : ℕ) → x < 2 ^ F.inputs → HoldsNumber at.cube x → output_after F b (content_of F k at.word) (symbol_of F.inputs x) ≡ at.given
+    asks at among x low held =
+        let of = class_demand at among in
+        sym (class_value F k b table firsts classes is are mapped at.word (low_number at among) (symbol_of F.inputs x) (length-symbol_of F.inputs x)) ∙ of.gives x low held
 
     -- the latch values of a content are the bits of its number
     latch_bit : (number l : ℕ) → l < k * F.inputs → bit number l ≡ get_or (latch_values (content_of F k number)) l false
     latch_bit number l lt = sym (ap (λ (bits : List Bool). get_or bits l false) (content_values F k number) ∙ code_at (k * F.inputs) number l lt)
 
-    from_piece : (given : Bool) (read : List Bool) → IsReadAfterPiece set b given pieces read → GivesAfter F k b set given read
-    from_piece given read h =
-        let at : ContentPiece = h.at in
-        let of = class_piece at h.among in
+    from_demand : (given : Bool) (read : List Bool) → IsAsked set.inputs set.latches given demands read → GivesAfter F k b set given read
+    from_demand given read h =
+        let at : Demand = h.at in
+        let of = class_demand at h.among in
         let x : ℕ = h.is_read.0 in
-        let low : x < 2 ^ F.inputs = subst (λ (w : ℕ). x < 2 ^ w) of.piece.width h.is_read.1 in
+        let low : x < 2 ^ F.inputs = subst (λ (w : ℕ). x < 2 ^ w) of.width h.is_read.1 in
         record {
-          word = content_of F k at.number;
+          word = content_of F k at.word;
           x = symbol_of F.inputs x;
-          content = content_is_word F k at.number;
+          content = content_is_word F k at.word;
           symbol = length-symbol_of F.inputs x;
           read_there = h.is_read.3
-              ∙ (ap (λ (w : ℕ). column_values set.inputs set.latches (symbol_of w x) at.number) of.piece.width
+              ∙ (ap (λ (w : ℕ). column_values set.inputs set.latches (symbol_of w x) at.word) of.width
               ∙ ap (λ (back : List Bool). map (input_of (symbol_of F.inputs x)) set.inputs ++ back)
-              (map_same (bit at.number) (λ l. get_or (latch_values (content_of F k at.number)) l false) set.latches (λ i d lt. latch_bit at.number (get_or set.latches i d) (reads.latches_within i d lt))));
-          gives = piece_gives at h.among x low h.is_read.2 ∙ h.gives;
+              (map_same (bit at.word) (λ l. get_or (latch_values (content_of F k at.word)) l false) set.latches (λ i d lt. latch_bit at.word (get_or set.latches i d) (reads.latches_within i d lt))));
+          gives = asks at h.among x low h.is_read.2 ∙ h.gives;
         }
 
     -- the content with zeros at the latches that are not read
@@ -195,8 +172,8 @@ module _ (F : KissFile) (k b : ℕ) (table firsts classes : List ℕ) (mask inpu
     masked : (number : ℕ) → IsWithinMask mask (bit_and number mask)
     masked number = same_from_bits (bit_and (bit_and number mask) mask) (bit_and number mask) (λ i. omega (arith, bit_at_and (bit_and number mask) mask i, bit_at_and number mask i))
 
-    to_piece : (given : Bool) (read : List Bool) → GivesAfter F k b set given read → IsReadAfterPiece set b given pieces read
-    to_piece given read h =
+    to_demand : (given : Bool) (read : List Bool) → GivesAfter F k b set given read → IsAsked set.inputs set.latches given demands read
+    to_demand given read h =
         let one = numbered F k h.word h.content in
         let least : ℕ = bit_and one.number mask in
         let low : least < 2 ^ (k * F.inputs) = omega (arith, one.low, and_le_l one.number mask) in
@@ -204,88 +181,91 @@ module _ (F : KissFile) (k b : ℕ) (table firsts classes : List ℕ) (mask inpu
         let low_n : n < 2 ^ F.inputs = subst (λ (w : ℕ). n < 2 ^ w) h.symbol (number_below h.x) in
         let whole : symbol_of F.inputs n ≡ h.x = ap (λ (w : ℕ). symbol_of w n) (sym h.symbol) ∙ symbol_of-number_of h.x in
         let found = known.each least n (omega (arith, low, class_count F k b table firsts classes is are mapped)) (masked one.number) low_n in
-        let at : ContentPiece = found.0 in
-        let of = class_piece at found.1 in
-        let read_bit : (l : ℕ) → Contains set.latches l → get_or (latch_values h.word) l false ≡ bit at.number l =
+        let at : Demand = found.0 in
+        let of = class_demand at found.1 in
+        let read_bit : (l : ℕ) → Contains set.latches l → get_or (latch_values h.word) l false ≡ bit at.word l =
         λ l among.
         ap (λ (bits : List Bool). get_or bits l false) (sym one.values)
         ∙ (code_at (k * F.inputs) one.number l (latch_listed l among).0
         ∙ (sym (kept_bit one.number l ((listed_latches.each l).0 among).1) ∙ ap (λ (v : ℕ). bit v l) (sym found.2))) in
-        let same_output : output_after F b h.word h.x ≡ output_after F b (content_of F k at.number) h.x =
-        latches_decide F k b set reads h.x h.symbol h.word (content_of F k at.number) h.content (content_is_word F k at.number)
-        (λ l among. read_bit l among ∙ latch_bit at.number l (latch_listed l among).0) in
-        let gives_there : output_after F b (content_of F k at.number) h.x ≡ bit at.piece.outputs b =
-        ap (output_after F b (content_of F k at.number)) (sym whole) ∙ piece_gives at found.1 n low_n found.3 in
-        let same_symbol : symbol_of at.piece.cube.width n ≡ h.x = ap (λ (w : ℕ). symbol_of w n) of.piece.width ∙ whole in
+        let same_output : output_after F b h.word h.x ≡ output_after F b (content_of F k at.word) h.x =
+        latches_decide F k b set reads h.x h.symbol h.word (content_of F k at.word) h.content (content_is_word F k at.word)
+        (λ l among. read_bit l among ∙ latch_bit at.word l (latch_listed l among).0) in
+        let gives_there : output_after F b (content_of F k at.word) h.x ≡ at.given =
+        ap (output_after F b (content_of F k at.word)) (sym whole) ∙ asks at found.1 n low_n found.3 in
+        let same_symbol : symbol_of at.cube.width n ≡ h.x = ap (λ (w : ℕ). symbol_of w n) of.width ∙ whole in
         record {
           at = at;
           among = found.1;
           gives = sym gives_there ∙ (sym same_output ∙ h.gives);
           is_read = (
             n,
-            subst (λ (w : ℕ). n < 2 ^ w) (sym of.piece.width) low_n,
+            subst (λ (w : ℕ). n < 2 ^ w) (sym of.width) low_n,
             found.3,
             h.read_there
                 ∙ (ap (λ (back : List Bool). map (input_of h.x) set.inputs ++ back)
-                (map_same (λ l. get_or (latch_values h.word) l false) (bit at.number) set.latches (λ i d lt. read_bit (get_or set.latches i d) (Contains-get_or set.latches i d lt)))
-                ∙ ap (λ (x : List Bool). column_values set.inputs set.latches x at.number) (sym same_symbol)),
+                (map_same (λ l. get_or (latch_values h.word) l false) (bit at.word) set.latches (λ i d lt. read_bit (get_or set.latches i d) (Contains-get_or set.latches i d lt)))
+                ∙ ap (λ (x : List Bool). column_values set.inputs set.latches x at.word) (sym same_symbol)),
           );
         }
 
-    pub are_apart : AreApart set b pieces
-    are_apart read one none = gives_one F k b set reads read (from_piece true read one) (from_piece false read none)
+    pub are_apart : AreApart set.inputs set.latches demands
+    are_apart read one none = gives_one F k b set reads read (from_demand true read one) (from_demand false read none)
 
-    pub gives_cover : (rows : List (List ℕ)) → IsGoodCover (IsReadAfterPiece set b true pieces) (IsReadAfterPiece set b false pieces) rows → IsGoodCover (GivesAfter F k b set true) (GivesAfter F k b set false) rows
+    pub gives_cover : (rows : List (List ℕ)) → IsGoodCover (IsAsked set.inputs set.latches true demands) (IsAsked set.inputs set.latches false demands) rows → IsGoodCover (GivesAfter F k b set true) (GivesAfter F k b set false) rows
     gives_cover rows good =
-        same_cover (IsReadAfterPiece set b true pieces) (IsReadAfterPiece set b false pieces) (GivesAfter F k b set true) (GivesAfter F k b set false) rows
-        (from_piece true) (to_piece true) (from_piece false) (to_piece false) good
+        same_cover (IsAsked set.inputs set.latches true demands) (IsAsked set.inputs set.latches false demands) (GivesAfter F k b set true) (GivesAfter F k b set false) rows
+        (from_demand true) (to_demand true) (from_demand false) (to_demand false) good
 
     -- the gate of these rows
     pub output_gate_of : (names : SignalNames) (gate : Gate) → gate.on ≡ true → gate.output ≡ name_at names.outputs b → gate.inputs ≡ map (name_at names.inputs) set.inputs ++ map (name_at names.latch_outputs) set.latches
-        → IsGoodCover (IsReadAfterPiece set b true pieces) (IsReadAfterPiece set b false pieces) gate.rows → All (λ row. length row ≡ width_of set) gate.rows → IsSorted (slice_cmp nat_cmp) gate.rows
+        → IsGoodCover (IsAsked set.inputs set.latches true demands) (IsAsked set.inputs set.latches false demands) gate.rows → All (λ row. length row ≡ column_count set.inputs set.latches) gate.rows → IsSorted (slice_cmp nat_cmp) gate.rows
         → IsOutputGate F k names b set gate
-    output_gate_of names gate on output listed good widths in_order =
-        let count : length gate.inputs ≡ width_of set =
-        omega (
-          arith,
-          ap length listed,
-          length-append (map (name_at names.inputs) set.inputs) (map (name_at names.latch_outputs) set.latches),
-          length-map set.inputs (name_at names.inputs),
-          length-map set.latches (name_at names.latch_outputs),
-        ) in
-        record {
-          reads = reads;
-          inputs = listed;
-          output = output;
-          on = on;
-          cover = gives_cover gate.rows good;
-          widths = subst (λ (n : ℕ). All (λ row. length row ≡ n) gate.rows) (sym count) widths;
-          in_order = in_order;
-        }
+    output_gate_of names gate on output listed good widths in_order = record {
+      reads = reads;
+      inputs = listed;
+      output = output;
+      on = on;
+      cover = gives_cover gate.rows good;
+      widths = subst (λ (n : ℕ). All (λ row. length row ≡ n) gate.rows) (sym (listed_count names set.inputs set.latches gate.inputs listed)) widths;
+      in_order = in_order;
+    }
 
 -- ---- with the values of a call
 module _ (F : KissFile) (k b : ℕ) (table : List ℕ) (reading : OutputReading) (is : IsTable F k table) (basis : IsOutputReading F k b table reading) (short : k * F.inputs ≤ 12) (few : F.inputs ≤ 32) (of_output : b < F.outputs) where
   pub reads_at : IsReadAfter F k b reading.set
   reads_at = reads F k b table basis.firsts reading.classes.items reading.mask basis.inputs reading.set is basis.are basis.mapped short few of_output basis.latch_bits basis.input_bits basis.listed_latches basis.listed_inputs
 
-  module _ (lent : List ℕ) (shown pieces : List ContentPiece) (is_lent : lent ≡ reading.classes.items) (is_shown : shown ≡ pieces) (known : AreClassPieces F lent (IsWithinMask reading.mask) pieces) where
-    known_here : AreClassPieces F reading.classes.items (IsWithinMask reading.mask) shown
+  module _ (lent : List ℕ) (shown demands : List Demand) (is_lent : lent ≡ reading.classes.items) (is_shown : shown ≡ demands) (known : AreClassDemands F b lent (IsWithinMask reading.mask) demands) where
+    known_here : AreClassDemands F b reading.classes.items (IsWithinMask reading.mask) shown
     known_here =
-        subst (λ (list : List ℕ). AreClassPieces F list (IsWithinMask reading.mask) shown) is_lent
-        (subst (AreClassPieces F lent (IsWithinMask reading.mask)) (sym is_shown) known)
+        subst (λ (list : List ℕ). AreClassDemands F b list (IsWithinMask reading.mask) shown) is_lent
+        (subst (AreClassDemands F b lent (IsWithinMask reading.mask)) (sym is_shown) known)
 
-    pub can_be_read_at : CanBeRead reading.set shown
-    can_be_read_at = can_be_read F k b table basis.firsts reading.classes.items reading.mask basis.inputs reading.set is basis.are basis.mapped short few of_output basis.latch_bits basis.input_bits basis.listed_latches basis.listed_inputs shown known_here
+    pub can_be_read_at : (inputs latches : List ℕ) → inputs ≡ reading.set.inputs → latches ≡ reading.set.latches → CanBeRead inputs latches shown
+    can_be_read_at inputs latches same_inputs same_latches =
+        subst (λ (list : List ℕ). CanBeRead inputs list shown) (sym same_latches)
+        (subst (λ (list : List ℕ). CanBeRead list reading.set.latches shown) (sym same_inputs)
+        (can_be_read F k b table basis.firsts reading.classes.items reading.mask basis.inputs reading.set is basis.are basis.mapped short few of_output basis.latch_bits basis.input_bits basis.listed_latches basis.listed_inputs shown known_here))
 
-    pub are_apart_at : AreApart reading.set b shown
-    are_apart_at = are_apart F k b table basis.firsts reading.classes.items reading.mask basis.inputs reading.set is basis.are basis.mapped short few of_output basis.latch_bits basis.input_bits basis.listed_latches basis.listed_inputs shown known_here
+    pub are_apart_at : (inputs latches : List ℕ) → inputs ≡ reading.set.inputs → latches ≡ reading.set.latches → AreApart inputs latches shown
+    are_apart_at inputs latches same_inputs same_latches =
+        subst (λ (list : List ℕ). AreApart inputs list shown) (sym same_latches)
+        (subst (λ (list : List ℕ). AreApart list reading.set.latches shown) (sym same_inputs)
+        (are_apart F k b table basis.firsts reading.classes.items reading.mask basis.inputs reading.set is basis.are basis.mapped short few of_output basis.latch_bits basis.input_bits basis.listed_latches basis.listed_inputs shown known_here))
 
-    pub output_gate_at : (names : SignalNames) (gate : Gate) → gate.on ≡ true → gate.output ≡ name_at names.outputs b → gate.inputs ≡ map (name_at names.inputs) reading.set.inputs ++ map (name_at names.latch_outputs) reading.set.latches
-        → IsGoodCover (IsReadAfterPiece reading.set b true shown) (IsReadAfterPiece reading.set b false shown) gate.rows → All (λ row. length row ≡ width_of reading.set) gate.rows → IsSorted (slice_cmp nat_cmp) gate.rows
+    -- the gate lists and covers what was lent
+    pub output_gate_at : (inputs latches : List ℕ) (names : SignalNames) (gate : Gate) → inputs ≡ reading.set.inputs → latches ≡ reading.set.latches → gate.on ≡ true → gate.output ≡ name_at names.outputs b → gate.inputs ≡ map (name_at names.inputs) inputs ++ map (name_at names.latch_outputs) latches
+        → IsGoodCover (IsAsked inputs latches true shown) (IsAsked inputs latches false shown) gate.rows → All (λ row. length row ≡ column_count inputs latches) gate.rows → IsSorted (slice_cmp nat_cmp) gate.rows
         → (set : ReadSet) × IsOutputGate F k names b set gate
-    output_gate_at names gate on output listed good widths in_order = (
+    output_gate_at inputs latches names gate same_inputs same_latches on output listed good widths in_order = (
       reading.set,
-      output_gate_of F k b table basis.firsts reading.classes.items reading.mask basis.inputs reading.set is basis.are basis.mapped short few of_output basis.latch_bits basis.input_bits basis.listed_latches basis.listed_inputs shown known_here names gate on output listed good widths in_order,
+      output_gate_of F k b table basis.firsts reading.classes.items reading.mask basis.inputs reading.set is basis.are basis.mapped short few of_output basis.latch_bits basis.input_bits basis.listed_latches basis.listed_inputs shown known_here names gate on output
+          (listed ∙ (ap (λ (list : List ℕ). map (name_at names.inputs) list ++ map (name_at names.latch_outputs) latches) same_inputs ∙ ap (λ (list : List ℕ). map (name_at names.inputs) reading.set.inputs ++ map (name_at names.latch_outputs) list) same_latches))
+          (subst (λ (list : List ℕ). IsGoodCover (IsAsked reading.set.inputs list true shown) (IsAsked reading.set.inputs list false shown) gate.rows) same_latches
+          (subst (λ (list : List ℕ). IsGoodCover (IsAsked list latches true shown) (IsAsked list latches false shown) gate.rows) same_inputs good))
+          (subst (λ (list : List ℕ). All (λ row. length row ≡ column_count reading.set.inputs list) gate.rows) same_latches
+          (subst (λ (list : List ℕ). All (λ row. length row ≡ column_count list latches) gate.rows) same_inputs widths)) in_order,
     )
 
 -- the classes of a table

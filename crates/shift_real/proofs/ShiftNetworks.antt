@@ -11,6 +11,9 @@ use Rattle.std.proofs.lemmas.Simd.{map-map}
 use Rattle.dependence.specs.declared.sets.ReadSet.{ReadSet}
 use Rattle.gate_rows.specs.Bits.{code_bits}
 use Rattle.gate_rows.specs.Columns.{input_of}
+use Rattle.gate_rows.specs.Latches.{AreLatches}
+use Rattle.gate_rows.specs.Names.{name_at}
+use Rattle.gate_rows.proofs.Items.{map_same}
 use Rattle.kiss2.specs.declared.kiss_file.KissFile.{KissFile}
 use Rattle.kiss2.specs.Machine.{answers, out, output_bit}
 use Rattle.machine_table.specs.Staying.{NeverLeaves}
@@ -27,8 +30,8 @@ use Rattle.net_core.proofs.Valuations.{FitsGate}
 use Rattle.shift_real.specs.Inner.Along.{outputs_along}
 use Rattle.shift_real.proofs.Along.{answers_from}
 use Rattle.shift_real.specs.Definite.{Definite, IsOrder}
-use Rattle.shift_real.specs.Gates.{IsOutputGate, name_at, output_after, taking, values_read}
-use Rattle.shift_real.specs.Inner.Latches.{AddsOutputGates, AreLatches, IsOutputGateAt, latch_gate, taken_by}
+use Rattle.shift_real.specs.Gates.{IsOutputGate, output_after, taking, values_read}
+use Rattle.shift_real.specs.Inner.Latches.{AddsOutputGates, IsOutputGateAt, latch_gate, taken_by}
 use Rattle.shift_real.specs.Inner.ShiftGates.{AreShiftGates}
 use Rattle.shift_real.specs.Register.{HasShortOrder, latch_values, shifted, state_after}
 use Rattle.shift_real.specs.ShiftNetwork.{AnswersAs, AreNamesFor, HasNames, IsRegister, StartsAtContent, StepsAlong}
@@ -36,7 +39,6 @@ use Rattle.shift_real.specs.Start.{WritesStart}
 use Rattle.shift_real.specs.Words.{IsWord}
 use Rattle.shift_real.proofs.Blocks.{image_at}
 use Rattle.shift_real.proofs.ContentWords.{values_length}
-use Rattle.shift_real.proofs.OutputGates.{map_same}
 use Rattle.shift_real.proofs.Shifting.{latches_follow, shifted_word, states_follow}
 use Rattle.shift_real.proofs.StartContent.{order_once}
 

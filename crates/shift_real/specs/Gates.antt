@@ -7,6 +7,7 @@ use Rattle.dependence.specs.declared.sets.ReadSet.{ReadSet}
 use Rattle.dependence.specs.Inputs.{DifferAlone}
 use Rattle.gate_rows.specs.Columns.{input_of}
 use Rattle.gate_rows.specs.Covers.{IsGoodCover}
+use Rattle.gate_rows.specs.Names.{name_at}
 use Rattle.kiss2.specs.declared.kiss_file.KissFile.{KissFile}
 use Rattle.kiss2.specs.Machine.{output_bit}
 use Rattle.net_core.specs.declared.Gate.{Gate}
@@ -60,10 +61,6 @@ pub record GivesAfter (F : KissFile) (k b : ℕ) (set : ReadSet) (given : Bool) 
   pub symbol : length x ≡ F.inputs
   pub read_there : read ≡ values_read set word x
   pub gives : output_after F b word x ≡ given
-
--- the name with the number i
-abbrev pub name_at : List (List ℕ) → ℕ → List ℕ
-name_at names i = slice_index_or names i []
 
 -- The gate of an output lists what it reads, the inputs first. Its rows are a good cover of where it gives 1
 -- and where it gives 0, in ascending order of their bytes.

@@ -4,7 +4,7 @@ pub mod Rising
 pub mod Contents
 pub mod Tables
 pub mod Reading
-pub mod ContentPieces
+pub mod ContentDemands
 pub mod Latches
 pub mod OutputReading
 pub mod RegisterContents

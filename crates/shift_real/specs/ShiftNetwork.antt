@@ -2,13 +2,14 @@
 use Rattle.std.specs.Prelude.{◌≡◌, ℕ, ◌+◌, ◌*◌, ◌<◌, ◌≤◌, ◌++◌, All, Bool, List, Some, count_by, length, map, slice_get}
 use Rattle.std.specs.Str.{bytes_eq}
 use Rattle.dependence.specs.declared.sets.ReadSet.{ReadSet}
+use Rattle.gate_rows.specs.Names.{name_at}
 use Rattle.kiss2.specs.declared.kiss_file.KissFile.{KissFile}
 use Rattle.kiss2.specs.Machine.{answers, out}
 use Rattle.net_core.specs.declared.Gate.{Gate}
 use Rattle.net_core.specs.declared.Network.{Network}
 use Rattle.net_core.specs.declared.SignalNames.{SignalNames}
 use Rattle.net_core.specs.Step.{AreStarts, NetAnswers, Step}
-use Rattle.shift_real.specs.Gates.{IsOutputGate, name_at, taking}
+use Rattle.shift_real.specs.Gates.{IsOutputGate, taking}
 use Rattle.shift_real.specs.Register.{IsStart, latch_values, shifted, state_after}
 use Rattle.shift_real.specs.Words.{IsWord}
 

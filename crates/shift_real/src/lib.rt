@@ -18,8 +18,8 @@
 //! and answers each word as the machine does.
 //!
 //! For an output, states are in one class where they give it the same bit at each symbol. A latch matters where
-//! two contents that differ there alone are of two classes. The terms of a gate are those of the pieces of each
-//! class, for the contents whose latches that are not read are 0.
+//! two contents that differ there alone are of two classes. The rows of the first state of a class that give the
+//! output say what is asked of its gate, at the contents of the class whose latches that are not read are 0.
 //!
 //! The definitions are in `specs/`:
 //!
@@ -36,15 +36,13 @@
 
 mod chains;
 mod contents;
+mod demands;
 mod latches;
 mod laws;
-mod naming;
 mod orders;
 mod output_gates;
-mod pieces;
 mod reading;
 mod registers;
-mod rows;
 mod starts;
 mod tables;
 

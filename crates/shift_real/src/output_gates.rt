@@ -1,16 +1,17 @@
 //! The gates of the outputs.
 
-ghost use Rattle.std.specs.Prelude.{◌*◌, ◌<◌, ◌≤◌, IfOk, OnOk};
+ghost use Rattle.std.specs.Prelude.{◌*◌, ◌<◌, ◌≤◌, IfOk, OnOk, length};
 ghost use Rattle.dependence.specs.declared.sets.ReadSet.{ReadSet};
 ghost use Rattle.shift_real.specs.Gates.{IsOutputGate};
 ghost use Rattle.shift_real.specs.ShiftNetwork.{AreNamesFor};
 ghost use Rattle.shift_real.specs.Inner.Latches.{AddsOutputGates};
+ghost use Rattle.shift_real.specs.Inner.Reading.{AreEffectsAfter};
 ghost use Rattle.shift_real.specs.Inner.Tables.{IsTable};
 
-use crate::naming::{listed_names, name_from};
-use crate::pieces::content_pieces;
-use crate::reading::output_reading;
-use crate::rows::gate_rows_of;
+use crate::demands::content_demands;
+use crate::reading::{effects_after, output_reading};
+use dependence::Effect;
+use gate_rows::{demanded_rows, listed_names, name_from};
 use machine_table::Machine;
 use net_core::{Gate, Gates, SignalNames};
 use std::alloc::{AllocError, Global};
@@ -29,8 +30,9 @@ pub fn add_output_gates(
     requires table { IsTable m.now k table.now }
     ensures { OnOk result (AddsOutputGates m.now k names.now m.now.outputs gates.old gates.new) }
 {
+    let effects = effects_after(alloc, m, table)?;
     for b in 0..m.outputs() {
-        gates.push(output_gate(alloc, m, k, names, table, b)?)?;
+        gates.push(output_gate(alloc, m, k, names, table, &effects, b)?)?;
     }
     Ok(())
 }
@@ -42,22 +44,25 @@ fn output_gate(
     k: usize,
     names: &SignalNames,
     table: &[u16],
+    effects: &[Effect],
     b: u8,
 ) -> Result<Gate, AllocError>
     requires short { k * m.now.inputs ≤ 12 }
     requires names { AreNamesFor m.now k names.now }
     requires table { IsTable m.now k table.now }
+    requires effects { AreEffectsAfter m.now table.now (length m.now.states) effects.now }
     requires output { b < m.now.outputs }
     ensures { IfOk result (λ gate. (set : ReadSet) × IsOutputGate m.now k names.now b set gate) }
 {
     let _limits = (m.inputs(), m.outputs());
-    let reading = output_reading(alloc, m, k, table, b)?;
-    let pieces = content_pieces(alloc, m, &reading.classes, reading.mask)?;
-    let rows = gate_rows_of(alloc, &pieces, &reading.set, b)?;
+    let reading = output_reading(alloc, m, k, table, effects, b)?;
+    let demands = content_demands(alloc, m, &reading.classes, reading.mask, b)?;
+    let inputs = reading.set.inputs.as_slice();
+    let latches = reading.set.latches.as_slice();
     Ok(Gate {
-        inputs: listed_names(alloc, names, &reading.set)?,
+        inputs: listed_names(alloc, names, inputs, latches)?,
         output: name_from(alloc, &names.outputs, usize::from(b))?,
-        rows,
+        rows: demanded_rows(alloc, &demands, inputs, latches)?,
         on: true,
     })
 }

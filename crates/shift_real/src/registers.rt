@@ -9,11 +9,12 @@ ghost use Rattle.shift_real.specs.Start.{IsRegisterCause};
 ghost use Rattle.shift_real.specs.Inner.RegisterContents.{AreRegisterContents};
 ghost use Rattle.shift_real.specs.Inner.ShiftGates.{AreShiftGates};
 
-use crate::latches::{add_latch_gates, latches};
-use crate::naming::copied;
+use crate::latches::add_latch_gates;
 use crate::output_gates::add_output_gates;
 use crate::starts::{RegisterContents, RegisterFail, register_contents, start_among};
 use crate::tables::state_table;
+use gate_rows::latches;
+use hs_io::copied_names;
 use machine_table::Machine;
 use net_core::{Gates, Network, SignalNames};
 use std::alloc::{AllocError, Global};
@@ -35,8 +36,8 @@ pub fn register(alloc: Global, m: &Machine, names: &SignalNames) -> Result<Netwo
     let word = start_among(m, &held)?;
     let bits = held.order * usize::from(m.inputs());
     Ok(Network {
-        inputs: copied(alloc, &names.inputs)?,
-        outputs: copied(alloc, &names.outputs)?,
+        inputs: copied_names(alloc, names.inputs.as_slice())?,
+        outputs: copied_names(alloc, names.outputs.as_slice())?,
         latches: latches(alloc, names, word, bits)?,
         gates: gates(alloc, m, &held, names)?,
     })

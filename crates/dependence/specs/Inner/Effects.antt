@@ -10,22 +10,12 @@ use Rattle.dependence.specs.declared.bit.Bit.{Bit}
 use Rattle.dependence.specs.declared.bit.Bit.TheVariants.{Latch, Output}
 use Rattle.dependence.specs.Bit.{IsBit, value_of}
 use Rattle.dependence.specs.Inputs.{DifferAlone}
+use Rattle.dependence.specs.Effects.{ActsBy, MattersAt}
 use Rattle.dependence.specs.Inner.Said.{row_value}
-
--- the effect is one on the gate
-abbrev pub acts_on : Effect → Bit → Bool
-acts_on effect (Latch i) = bit effect.latches i
-acts_on effect (Output b) = bit effect.outputs b
 
 -- both are given, and they differ
 abbrev pub AreApart : Option Bool → Option Bool → Type 0
 AreApart first second = (v w : Bool) × (first ≡ Some v) × (second ≡ Some w) × (v ≢ w)
-
--- the list of effects says that input a matters for the gate
-pub record ActsBy (effects : List Effect) (a : ℕ) (gate : Bit) : Type 0 where
-  pub effect : Effect
-  pub there : slice_get effects a ≡ Some effect
-  pub acts : acts_on effect gate ≡ true
 
 -- the cubes have different bits at the place of input a, and at no other place
 pub record DifferAt (inputs : ℕ) (one other : KissRow) (a : ℕ) : Type 0 where
@@ -75,15 +65,7 @@ pub record Adds (old new : List Effect) (Shown : ℕ → Bit → Type 0) : Type 
   pub adds : (a : ℕ) (gate : Bit) → Shown a gate → ActsBy new a gate
   pub only : (a : ℕ) (gate : Bit) → ActsBy new a gate → ActsBy old a gate ⊎ Shown a gate
 
--- at this state two symbols that differ at the input alone give different values
-pub record MattersAt (F : KissFile) (value : ℕ → List Bool → Bool) (s a : ℕ) : Type 0 where
-  pub x : List Bool
-  pub y : List Bool
-  pub symbol : length x ≡ F.inputs
-  pub differ : DifferAlone a x y
-  pub values : value s x ≢ value s y
-
--- they do so at some state below s
+-- two symbols that differ at the input alone give different values at some state below s
 pub record MattersBelow (F : KissFile) (value : ℕ → List Bool → Bool) (s a : ℕ) : Type 0 where
   pub state : ℕ
   pub below : state < s

@@ -18,8 +18,3 @@ pub record AreJudgedFrom (F : KissFile) (words : List ℕ) (value : ℕ → List
   pub within : (d : ℕ) → InWord set d → InWord candidates d
   pub needed : (d : ℕ) → c ≤ d → InWord set d → PermitsValue F words (Beside (InWord candidates) (InWord set) d) value → ⊥
   pub spared : (d : ℕ) → c ≤ d → InWord candidates d → (InWord set d → ⊥) → PermitsValue F words (Beside (InWord candidates) (InWord set) d) value
-
--- the list has the bits of a word below c, ascending
-pub record AreListed (list : List ℕ) (set c : ℕ) : Type 0 where
-  pub each : (d : ℕ) → Contains list d ↔ (d < c × InWord set d)
-  pub ascend : IsStrictlyIncreasing list

@@ -7,11 +7,6 @@ use Rattle.kiss2.specs.declared.kiss_file.KissRow.{KissRow}
 use Rattle.dependence.specs.declared.bit.Bit.{Bit}
 use Rattle.dependence.specs.declared.bit.Bit.TheVariants.{Latch, Output}
 
--- the number of the latch or of the output is that of a bit of a word
-abbrev pub HasPlace : Bit → Type 0
-HasPlace (Latch i) = i < 64
-HasPlace (Output b) = b < 64
-
 -- the bit of the word of the next state that a row names, if it names one
 abbrev pub next_bit : List ℕ → ℕ → KissRow → Option Bool
 next_bit words i row = option_map (λ t. bit (slice_index words t) i) row.to

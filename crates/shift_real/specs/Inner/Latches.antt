@@ -1,30 +1,11 @@
--- The latches of the register and their gates, one by one.
-use Rattle.std.specs.Prelude.{◌≡◌, ℕ, ◌+◌, ◌<◌, ◌++◌, if◌then◌else◌, List, Some, length, map, slice_get}
-use Rattle.cubes.specs.Symbol.{bit}
+-- The gates of the latches of the register and those of the outputs, one by one.
+use Rattle.std.specs.Prelude.{◌≡◌, ℕ, ◌+◌, ◌<◌, ◌++◌, List, Some, length, slice_get}
 use Rattle.dependence.specs.declared.sets.ReadSet.{ReadSet}
 use Rattle.kiss2.specs.declared.kiss_file.KissFile.{KissFile}
 use Rattle.net_core.specs.declared.Gate.{Gate}
-use Rattle.net_core.specs.declared.Latch.{Latch}
 use Rattle.net_core.specs.declared.SignalNames.{SignalNames}
-use Rattle.net_core.specs.declared.Start.TheVariants.{Zero, One}
-use Rattle.net_core.specs.Step.{AreStarts}
-use Rattle.gate_rows.specs.Bits.{code_bits}
-use Rattle.shift_real.specs.Gates.{IsOutputGate, name_at, taking}
-
--- the latch of bit i
-abbrev pub latch_of : SignalNames → ℕ → ℕ → Latch
-latch_of names word i =
-    record {
-      input = name_at names.latch_inputs i;
-      output = name_at names.latch_outputs i;
-      start = if bit word i then One else Zero;
-    }
-
--- the latches have the names, and start at the bits of the word
-pub record AreLatches (names : SignalNames) (bits word : ℕ) (latches : List Latch) : Type 0 where
-  pub inputs : map (λ latch. latch.input) latches ≡ names.latch_inputs
-  pub outputs : map (λ latch. latch.output) latches ≡ names.latch_outputs
-  pub starts : AreStarts latches (code_bits bits word)
+use Rattle.gate_rows.specs.Names.{name_at}
+use Rattle.shift_real.specs.Gates.{IsOutputGate, taking}
 
 -- the name of what latch i takes: the inputs come first, and then the latches in order
 abbrev pub taken_by : SignalNames → ℕ → List ℕ

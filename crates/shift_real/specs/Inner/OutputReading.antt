@@ -1,6 +1,6 @@
 -- What the gate of an output reads, and the classes that it rests on.
 use Rattle.std.specs.Prelude.{◌≡◌, ℕ, ◌*◌, ◌<◌, ◌↔◌, All, List, length, map, slice_index}
-use Rattle.dependence.specs.Inner.Judging.{AreListed}
+use Rattle.dependence.specs.Listed.{AreListed}
 use Rattle.dependence.specs.Permits.{InWord}
 use Rattle.kiss2.specs.declared.kiss_file.KissFile.{KissFile}
 use Rattle.shift_real.specs.declared.reading.OutputReading.{OutputReading}

@@ -1,6 +1,6 @@
 use Rattle.std.proofs.Common.{◌↔◌, ℕ, ◌<◌}
 use Rattle.dependence.specs.Permits.{InWord}
-use Rattle.dependence.specs.Inner.Effects.{ActsBy}
+use Rattle.dependence.specs.Effects.{ActsBy}
 use Rattle.dependence.proofs.effects.inputs_of.Given as goal
 
 abbrev pub invariant-loop-a : goal.invariant-loop-a

@@ -1,6 +1,6 @@
 use Rattle.std.proofs.Common.{ℕ, ◌+◌, List, ◌∙◌, sym, subst}
 use Rattle.std.proofs.lemmas.Bool.{true≢false}
-use Rattle.dependence.specs.Inner.Judging.{AreListed}
+use Rattle.dependence.specs.Listed.{AreListed}
 use Rattle.dependence.specs.Permits.{InWord}
 use Rattle.dependence.proofs.Listed.{listed_past, listed_with}
 use Rattle.dependence.proofs.judging.numbers_of.Goals as goal

@@ -1,4 +1,4 @@
-use Rattle.dependence.specs.Inner.Judging.{AreListed}
+use Rattle.dependence.specs.Listed.{AreListed}
 use Rattle.dependence.proofs.judging.numbers_of.Given as goal
 
 abbrev pub invariant-loop-c : goal.invariant-loop-c

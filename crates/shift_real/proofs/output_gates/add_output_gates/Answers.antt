@@ -1,4 +1,4 @@
-use Rattle.shift_real.proofs.LatchLists.{gates_more}
+use Rattle.shift_real.proofs.GateLists.{gates_more}
 use Rattle.shift_real.proofs.output_gates.add_output_gates.Goals as goal
 
 pub loop-b-preserved : goal.loop-b-preserved

@@ -1,6 +1,0 @@
--- The names so far.
-use Rattle.std.proofs.Common.{◌≡◌, take}
-use Rattle.realise.proofs.copying.copied.Given as goal
-
-abbrev pub invariant-loop-name : goal.invariant-loop-name
-invariant-loop-name l = l.copy ≡ take l.name-index l.names
