@@ -27,7 +27,7 @@ use Rattle.state_reduce.proofs.Numbers.{number_within}
 use Rattle.state_reduce.proofs.Ordered.{blocks_in_order}
 use Rattle.state_reduce.proofs.Unrefused.{alike_closed, alike_consistent}
 use Rattle.decomposition.specs.Inner.Headed.{words_by}
-use Rattle.decomposition.specs.Work.{AreClasses}
+use Rattle.state_reduce.specs.Work.{AreClasses}
 
 -- a machine answers and moves from the class of a state as the file's machine does from the state
 pub record IsImage (F W : KissFile) (class : ℕ → ℕ) : Type 0 where

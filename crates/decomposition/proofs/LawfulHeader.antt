@@ -25,7 +25,7 @@ use Rattle.state_codes.specs.Laws.Codes.{owner-lt}
 use Rattle.state_codes.specs.Split.{IsPart}
 use Rattle.decomposition.specs.Inner.Headed.{HasSmallReads, IsHeaderOf, words_by}
 use Rattle.decomposition.specs.Notes.{AreNotes, IsNoteOf}
-use Rattle.decomposition.specs.Work.{AreClasses}
+use Rattle.state_reduce.specs.Work.{AreClasses}
 use Rattle.decomposition.proofs.Carrying.{ArePrinted, IsImage}
 use Rattle.decomposition.proofs.Enough.{no_bit_past}
 use Rattle.decomposition.proofs.Writable.{plain_fields}

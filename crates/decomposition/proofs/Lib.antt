@@ -6,6 +6,5 @@ pub mod Pairs
 pub mod Carrying
 pub mod Writable
 pub mod LawfulHeader
-pub mod Unrefused
 pub mod Networks
 pub mod Whole

@@ -28,7 +28,7 @@ use Rattle.state_codes.specs.declared.split.Part.{Part}
 use Rattle.state_codes.specs.declared.split.Split.{Split}
 use Rattle.state_codes.specs.Code.{IsCode}
 use Rattle.state_codes.specs.Split.{IsPart}
-use Rattle.decomposition.specs.declared.work.WorkMachine.{WorkMachine}
+use Rattle.state_reduce.specs.declared.work.WorkMachine.{WorkMachine}
 use Rattle.decomposition.specs.Decomposition.{HasGates, IsTextOf, PrintsCodes}
 use Rattle.decomposition.specs.Inner.Headed.{IsHeaderOf, words_by}
 use Rattle.decomposition.specs.Named.{Named}
@@ -36,7 +36,7 @@ use Rattle.decomposition.specs.Network.{IsNetworkOf}
 use Rattle.decomposition.specs.Notes.{AreNotes}
 use Rattle.decomposition.specs.OwnPairs.{OwnPairs}
 use Rattle.decomposition.specs.Within.{IsWithinParts}
-use Rattle.decomposition.specs.Work.{AreClasses, IsWork}
+use Rattle.state_reduce.specs.Work.{AreClasses, IsWork}
 use Rattle.decomposition.proofs.Carrying.{ArePrinted, IsImage, carries_file, image_of, labels_inside, printed_of}
 use Rattle.decomposition.proofs.LawfulHeader.{header_lawful}
 use Rattle.decomposition.proofs.Writable.{AreSignalNames, file_names, plain_fields, writable}

@@ -25,7 +25,7 @@ use Rattle.state_reduce.specs.WorkMachine.{IsWorkMachine}
 use Rattle.decomposition.specs.Named.{Named}
 use Rattle.decomposition.specs.OwnPairs.{OwnPairs}
 use Rattle.decomposition.specs.Within.{IsWithinParts}
-use Rattle.decomposition.specs.Work.{AreClasses}
+use Rattle.state_reduce.specs.Work.{AreClasses}
 
 -- the words printed for the states of the file are the codes of their classes; there is a latch for each bit, with
 -- the bit's part

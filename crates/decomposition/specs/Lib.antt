@@ -1,5 +1,4 @@
 pub mod Flow
-pub mod Work
 pub mod Named
 pub mod Notes
 pub mod OwnPairs
@@ -7,4 +6,3 @@ pub mod Within
 pub mod Network
 pub mod Decomposition
 pub mod Inner
-pub mod Laws

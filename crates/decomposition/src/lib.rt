@@ -9,9 +9,9 @@
 //! [`network_of_split`] goes as far as the network, for any machine and any names of its signals;
 //! `specs/Network` says all that is known of it.
 //!
-//! [`work_machine`] makes the machine that is split: the machine of the file, or of the classes of its alike
-//! states (`specs/Work`). The other definitions are `Named` for names, `Notes` and `OwnPairs` for the partition
-//! pair of each latch, and `Within` for what the gates of a part read.
+//! The machine that is split is the work machine of `state_reduce`: the machine of the file, or of the classes of its
+//! alike states. The other definitions are `Named` for names, `Notes` and `OwnPairs` for the partition pair of each
+//! latch, and `Within` for what the gates of a part read.
 #![tactic(auto)]
 
 mod header;
@@ -19,10 +19,8 @@ mod labels;
 mod laws;
 mod network;
 mod notes;
-mod work;
 mod writing;
 
 pub use laws::{flow_permits, own_pairs_permit};
 pub use network::{SplitNetwork, network_of_split};
-pub use work::{WorkMachine, state_name, work_machine};
 pub use writing::text_of_split;

@@ -8,14 +8,14 @@ ghost use Rattle.state_codes.specs.Code.{IsCode};
 ghost use Rattle.state_codes.specs.Split.{IsPart};
 ghost use Rattle.decomposition.specs.Decomposition.{IsTextOf};
 ghost use Rattle.decomposition.specs.Flow.{Flows};
-ghost use Rattle.decomposition.specs.Work.{IsWork};
+ghost use Rattle.state_reduce.specs.Work.{IsWork};
 
-use crate::WorkMachine;
 use crate::header::header_of;
 use crate::network::network_of_split;
 use kiss2::KissFile;
 use realise::names;
 use state_codes::{Codes, Split};
+use state_reduce::WorkMachine;
 use std::alloc::{AllocError, Global};
 
 /// The text of the network of a split, with the codes that `encode` gives for it: its header, and the network,

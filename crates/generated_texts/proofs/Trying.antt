@@ -5,8 +5,8 @@ use Rattle.answers.specs.Cause.{CallsForNone}
 use Rattle.answers.specs.Judged.{IsStop}
 use Rattle.answers.specs.Laws.Causes.{none_first}
 use Rattle.decomposition.specs.Decomposition.{IsTextOf}
-use Rattle.decomposition.specs.declared.work.WorkMachine.{WorkMachine}
-use Rattle.decomposition.specs.Work.{IsWork}
+use Rattle.state_reduce.specs.declared.work.WorkMachine.{WorkMachine}
+use Rattle.state_reduce.specs.Work.{IsWork}
 use Rattle.hs_texts.proofs.Comments.{trial_lines_are_comments}
 use Rattle.hs_texts.specs.declared.reports.TrialFigures.{TrialFigures}
 use Rattle.hs_texts.specs.Reports.{trial_lines, trial_text}

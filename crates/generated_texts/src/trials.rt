@@ -2,7 +2,7 @@
 
 ghost use Rattle.std.specs.Prelude.{IfOk, false};
 ghost use Rattle.answers.specs.Judged.{IsJudged};
-ghost use Rattle.decomposition.specs.Work.{IsWork};
+ghost use Rattle.state_reduce.specs.Work.{IsWork};
 ghost use Rattle.kiss2.specs.Lawful.{IsLawful};
 ghost use Rattle.kiss2.specs.Machine.{Accepted, Conflicting};
 ghost use Rattle.machine_gen.specs.MachineOf.{AreSizes};
@@ -12,14 +12,14 @@ ghost use Rattle.generated_texts.specs.Inner.Coded.{IsCodedSplit};
 
 use crate::figures::{Numbers, figures_of};
 use answers::Refusal;
-use decomposition::{WorkMachine, work_machine};
 use hs_texts::reports;
 use kiss2::{Fill, KissFile};
 use machine_gen::make;
-use machine_table::{BuildFail, Machine};
+use machine_table::Machine;
 use split_plans::plan;
 use split_texts::{codes_of, text_of_codes};
 use state_codes::{Codes, Kind, Split};
+use state_reduce::{WorkMachine, work_machine};
 use std::alloc::{AllocError, Global};
 
 /// A split with its codes.
@@ -47,12 +47,8 @@ fn machine_of(alloc: Global, file: &KissFile) -> Result<WorkMachine, AllocError>
     requires accepted { Accepted file.now Fill.Refuse }
     ensures { IfOk result (IsWork false file.now) }
 {
-    match Machine::build(alloc, file, Fill::Refuse) {
-        Ok(machine) => work_machine(alloc, file, machine, Fill::Refuse, false),
-        Err(BuildFail::NoMemory) => Err(AllocError),
-        Err(BuildFail::Conflict { .. }) => unreachable!(),
-        Err(BuildFail::Unspecified { .. }) => unreachable!(),
-    }
+    let machine = Machine::of_accepted(alloc, file, Fill::Refuse)?;
+    work_machine(alloc, file, machine, Fill::Refuse, false)
 }
 
 /// The parallel split of a machine of the numbers, and its codes.

@@ -4,9 +4,9 @@ use Rattle.std.proofs.lemmas.Bool.{cases_eq}
 use Rattle.answers.specs.Cause.{CallsForNone}
 use Rattle.answers.specs.Judged.{IsStop}
 use Rattle.answers.specs.declared.refusals.Refusal.{Refusal}
-use Rattle.decomposition.specs.declared.work.WorkMachine.{WorkMachine}
-use Rattle.decomposition.specs.Laws.Works.{one_work}
-use Rattle.decomposition.specs.Work.{IsWork, IsWorkOf}
+use Rattle.state_reduce.specs.declared.work.WorkMachine.{WorkMachine}
+use Rattle.state_reduce.specs.Laws.Works.{one_work}
+use Rattle.state_reduce.specs.Work.{IsWork, IsWorkOf}
 use Rattle.kiss2.specs.declared.kiss_file.KissFile.{KissFile}
 use Rattle.machine_table.specs.Staying.{NeverLeaves}
 use Rattle.partition.specs.Partition.{IsOne, IsPartition}

@@ -7,7 +7,7 @@ use Rattle.kiss2.specs.Lawful.{IsLawful}
 use Rattle.kiss2.specs.Machine.{Accepted, answers}
 use Rattle.kiss2.specs.Written.{kiss_text}
 use Rattle.kiss2.proofs.Machine.{next_is_a_state}
-use Rattle.kiss2.proofs.RoundTrip.{says_again}
+use Rattle.kiss2_laws.proofs.RoundTrip.{says_again}
 use Rattle.state_reduce.specs.declared.judging.QuotientFail.{QuotientFail}
 use Rattle.state_reduce.specs.declared.judging.QuotientFail.TheVariants.{NoMemory}
 use Rattle.state_reduce.specs.Alike.{AreUnlike, IsEquivalence}

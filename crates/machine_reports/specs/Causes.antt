@@ -2,7 +2,7 @@
 use Rattle.std.specs.Prelude.{◌≡◌, ℕ, ◌<◌, Bool, List, [], ◌∷◌, Some, length, slice_get}
 use Rattle.answers.specs.Cause.{Cause, FirstOf}
 use Rattle.answers.specs.declared.refusals.Refusal.TheVariants.{More, NotDefinite, TooManyInputs, TooManyOutputs}
-use Rattle.decomposition.specs.Work.{OnWork}
+use Rattle.state_reduce.specs.Work.{OnWork}
 use Rattle.hs_lattice.specs.Listing.{Evidence}
 use Rattle.io_pairs.specs.Inputs.{IsInMmPair}
 use Rattle.io_pairs.specs.Outputs.{IsOutMmPair, occurring}

@@ -10,10 +10,10 @@ ghost use Rattle.machine_reports.specs.DefiniteText.{IsChainText};
 use crate::lines::lines_of_parts;
 use crate::orders::order_of;
 use answers::Refusal;
-use decomposition::work_machine;
 use kiss2::{Fill, KissFile};
 use machine_table::Machine;
 use shift_real::chain;
+use state_reduce::work_machine;
 use std::alloc::Global;
 
 /// How the states of the machine that is worked on come together symbol by symbol; or the refusal that names

@@ -2,15 +2,15 @@
 
 ghost use Rattle.std.specs.Prelude.{◌<◌, Bool, IfOk, length};
 ghost use Rattle.answers.specs.Judged.{IsJudged};
-ghost use Rattle.decomposition.specs.Work.{IsWork};
+ghost use Rattle.state_reduce.specs.Work.{IsWork};
 ghost use Rattle.shift_real.specs.Definite.{AreFirstApart, IsOrder};
 ghost use Rattle.machine_reports.specs.Causes.{KeepsApart};
 
 use answers::Refusal;
-use decomposition::{WorkMachine, state_name};
 use hs_io::Name;
 use kiss2::KissFile;
 use shift_real::{OrderFail, order};
+use state_reduce::{WorkMachine, state_name};
 use std::alloc::{AllocError, Global};
 
 /// The order of the machine that is worked on; or the refusal that names two states that, for every length,

@@ -3,8 +3,8 @@ use Rattle.std.proofs.Common.{◌≡◌, ◌*◌, ℕ, All, Bool, List, length, 
 use Rattle.answers.specs.Cause.{CallsForNone}
 use Rattle.blif_out.specs.Order.{HasKnownStarts, HasRowsInOrder}
 use Rattle.blif_out.specs.Writable.{IsWritable}
-use Rattle.decomposition.specs.declared.work.WorkMachine.{WorkMachine}
-use Rattle.decomposition.specs.Work.{IsWork}
+use Rattle.state_reduce.specs.declared.work.WorkMachine.{WorkMachine}
+use Rattle.state_reduce.specs.Work.{IsWork}
 use Rattle.decomposition.proofs.Carrying.{IsImage, image_of}
 use Rattle.decomposition.proofs.Writable.{AreSignalNames, file_names}
 use Rattle.kiss2.specs.declared.kiss_file.KissFile.{KissFile}

@@ -16,7 +16,8 @@ use Rattle.net_core.specs.declared.Gate.{Gate}
 use Rattle.net_core.specs.declared.Latch.{Latch}
 use Rattle.net_core.specs.declared.Network.{Network}
 use Rattle.net_core.specs.declared.SignalNames.{SignalNames}
-use Rattle.shift_real.specs.Gates.{IsOutputGate, name_at, taking}
+use Rattle.gate_rows.specs.Names.{name_at}
+use Rattle.shift_real.specs.Gates.{IsOutputGate, taking}
 use Rattle.shift_real.specs.Register.{latch_values}
 use Rattle.shift_real.specs.ShiftNetwork.{AreNamesFor, IsRegister}
 

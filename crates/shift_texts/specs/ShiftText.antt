@@ -6,7 +6,7 @@ use Rattle.std.specs.List.{flat_map}
 use Rattle.blif_out.specs.Head.{comment_text}
 use Rattle.blif_out.specs.NetText.{net_text}
 use Rattle.blif_out.specs.Order.{HasKnownStarts}
-use Rattle.decomposition.specs.Work.{IsWorkOf}
+use Rattle.state_reduce.specs.Work.{IsWorkOf}
 use Rattle.hs_io.specs.Spelling.{ended}
 use Rattle.kiss2.specs.declared.kiss_file.KissFile.{KissFile}
 use Rattle.net_core.specs.declared.Network.{Network}

@@ -2,7 +2,7 @@
 
 ghost use Rattle.std.specs.Prelude.{ℕ, Bool, IfOk};
 ghost use Rattle.answers.specs.Judged.{IsJudged};
-ghost use Rattle.decomposition.specs.Work.{IsWork};
+ghost use Rattle.state_reduce.specs.Work.{IsWork};
 ghost use Rattle.kiss2.specs.Lawful.{IsLawful};
 ghost use Rattle.kiss2.specs.Machine.{Conflicting};
 ghost use Rattle.shift_real.specs.Definite.{IsOrder};
@@ -11,12 +11,12 @@ ghost use Rattle.shift_texts.specs.Causes.{NeverInReset};
 ghost use Rattle.shift_texts.specs.Inner.Registers.{IsRegisterOf};
 
 use answers::Refusal;
-use decomposition::{WorkMachine, state_name};
 use hs_io::Name;
 use kiss2::KissFile;
 use net_core::Network;
 use realise::names;
 use shift_real::{RegisterFail, register};
+use state_reduce::{WorkMachine, state_name};
 use std::alloc::{AllocError, Global};
 
 /// The network of the register of the machine that is worked on, which is definite and has this order. The

@@ -2,14 +2,14 @@
 
 ghost use Rattle.std.specs.Prelude.{Bool};
 ghost use Rattle.answers.specs.Judged.{IsJudged};
-ghost use Rattle.decomposition.specs.Work.{IsWork};
+ghost use Rattle.state_reduce.specs.Work.{IsWork};
 ghost use Rattle.shift_real.specs.Register.{HasShortOrder};
 ghost use Rattle.shift_texts.specs.Causes.{HasNoShortOrder};
 
 use answers::Refusal;
-use decomposition::WorkMachine;
 use kiss2::KissFile;
 use machine_reports::order_of;
+use state_reduce::WorkMachine;
 use std::alloc::Global;
 
 /// The greatest number of bits of a register.

@@ -11,9 +11,9 @@ use crate::comments::text_of;
 use crate::networks::register_of;
 use crate::orders::short_order;
 use answers::Refusal;
-use decomposition::work_machine;
 use kiss2::{Fill, KissFile};
 use machine_table::Machine;
+use state_reduce::work_machine;
 use std::alloc::Global;
 
 /// The network of the shift register of the machine that is worked on, after comments that give its order. The

@@ -6,9 +6,9 @@ use Rattle.answers.specs.declared.refusals.Refusal.TheVariants as refusals
 use Rattle.answers.specs.Cause.{CallsForNone}
 use Rattle.answers.specs.Judged.{IsStop}
 use Rattle.answers.specs.Laws.Causes.{none_first}
-use Rattle.decomposition.specs.declared.work.WorkMachine.{WorkMachine}
+use Rattle.state_reduce.specs.declared.work.WorkMachine.{WorkMachine}
 use Rattle.decomposition.specs.Decomposition.{IsTextOf}
-use Rattle.decomposition.specs.Work.{IsWork}
+use Rattle.state_reduce.specs.Work.{IsWork}
 use Rattle.kiss2.specs.declared.kiss_file.KissFile.{KissFile}
 use Rattle.state_codes.specs.declared.CodeFail.{CodeFail}
 use Rattle.state_codes.specs.declared.CodeFail.TheVariants.{CodeTooLong, NotApart, NoMemory}

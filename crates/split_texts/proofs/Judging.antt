@@ -6,9 +6,9 @@ use Rattle.answers.specs.declared.refusals.Refusal.TheVariants.{CodeTooLong}
 use Rattle.answers.specs.Cause.{CallsForNone}
 use Rattle.answers.specs.Judged.{IsJudged, IsStop}
 use Rattle.answers.specs.Laws.Causes.{none_first}
-use Rattle.decomposition.specs.declared.work.WorkMachine.{WorkMachine}
+use Rattle.state_reduce.specs.declared.work.WorkMachine.{WorkMachine}
 use Rattle.decomposition.specs.Decomposition.{HasGates, IsTextOf}
-use Rattle.decomposition.specs.Work.{IsWork, IsWorkOf}
+use Rattle.state_reduce.specs.Work.{IsWork, IsWorkOf}
 use Rattle.kiss2.specs.declared.kiss_file.KissFile.{KissFile}
 use Rattle.kiss2.specs.Lawful.{IsLawful}
 use Rattle.kiss2.specs.Machine.{Conflicting}

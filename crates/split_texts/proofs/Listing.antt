@@ -2,9 +2,9 @@
 use Rattle.std.proofs.Common.{◌≡◌, ℕ, ◌+◌, ◌<◌, ◌≤◌, Bool, List, get_or, length, sym, ◌∙◌, subst}
 use Rattle.std.proofs.lemmas.List.Elements.{Contains-get_or}
 use Rattle.std.proofs.lemmas.Option.{same_Some}
-use Rattle.decomposition.specs.declared.work.WorkMachine.{WorkMachine}
+use Rattle.state_reduce.specs.declared.work.WorkMachine.{WorkMachine}
 use Rattle.decomposition.specs.Decomposition.{HasGates}
-use Rattle.decomposition.specs.Work.{IsWork}
+use Rattle.state_reduce.specs.Work.{IsWork}
 use Rattle.decomposition.proofs.Reading.{listed_read, read_listed}
 use Rattle.decomposition.proofs.Whole.{apart, counted}
 use Rattle.dependence.specs.declared.sets.ReadSet.{ReadSet}

@@ -2,7 +2,7 @@
 use Rattle.std.specs.Prelude.{◌≡◌, ◌<◌, ℕ, Bool, List, [], ◌∷◌, Some, length, slice_get}
 use Rattle.answers.specs.declared.refusals.Refusal.TheVariants.{CodeTooLong, NotApart}
 use Rattle.answers.specs.Cause.{Cause, FirstOf}
-use Rattle.decomposition.specs.Work.{OnWork}
+use Rattle.state_reduce.specs.Work.{OnWork}
 use Rattle.kiss2.specs.declared.kiss_file.KissFile.{KissFile}
 use Rattle.split_plans.specs.Splits.{AreParts, LacksSplit, Refuses}
 use Rattle.state_codes.specs.declared.split.Kind.{Kind}

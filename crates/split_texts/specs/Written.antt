@@ -1,9 +1,9 @@
 -- The headline: what holds of a text that is written as a decomposition of a file's machine.
 use Rattle.std.specs.Prelude.{◌≡◌, ◌≤◌, ℕ, Bool, List}
 use Rattle.blif_out.specs.declared.header.Header.{Header}
-use Rattle.decomposition.specs.declared.work.WorkMachine.{WorkMachine}
+use Rattle.state_reduce.specs.declared.work.WorkMachine.{WorkMachine}
 use Rattle.decomposition.specs.Decomposition.{IsDecomposition, IsTextOf}
-use Rattle.decomposition.specs.Work.{IsWork}
+use Rattle.state_reduce.specs.Work.{IsWork}
 use Rattle.kiss2.specs.declared.kiss_file.KissFile.{KissFile}
 use Rattle.net_core.specs.declared.Network.{Network}
 use Rattle.split_plans.specs.Kinds.{row_of}

@@ -11,11 +11,11 @@ ghost use Rattle.state_codes.specs.declared.split.Kind.TheVariants as kinds;
 
 use crate::writing::write;
 use answers::Refusal;
-use decomposition::work_machine;
 use kiss2::{Fill, KissFile};
 use machine_table::Machine;
 use split_plans::plan;
 use state_codes::Kind;
+use state_reduce::work_machine;
 use std::alloc::Global;
 
 /// The text of the decomposition of a kind. `text` is the operand PARTS, which only the kind `Assign` reads.

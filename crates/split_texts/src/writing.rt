@@ -2,7 +2,7 @@
 
 ghost use Rattle.std.specs.Prelude.{ℕ, ◌<◌, Bool, IfOk, List, length};
 ghost use Rattle.answers.specs.Judged.{IsJudged};
-ghost use Rattle.decomposition.specs.Work.{IsWork};
+ghost use Rattle.state_reduce.specs.Work.{IsWork};
 ghost use Rattle.kiss2.specs.Lawful.{IsLawful};
 ghost use Rattle.kiss2.specs.Machine.{Conflicting};
 ghost use Rattle.split_plans.specs.Splits.{IsPlanned};
@@ -12,10 +12,11 @@ ghost use Rattle.split_texts.specs.Written.{AreCodes, IsTextOfParts};
 ghost use Rattle.state_codes.specs.Fault.{AreApart};
 
 use answers::Refusal;
-use decomposition::{WorkMachine, state_name, text_of_split};
+use decomposition::text_of_split;
 use hs_io::Name;
 use kiss2::KissFile;
 use state_codes::{CodeFail, Codes, Split, encode};
+use state_reduce::{WorkMachine, state_name};
 use std::alloc::{AllocError, Global};
 
 /// The text of a split that `plan` gives for a machine that `work_machine` gives for the file.

@@ -13,3 +13,4 @@ pub mod Ordered
 pub mod Rounds
 pub mod Unrefused
 pub mod Working
+pub mod Works

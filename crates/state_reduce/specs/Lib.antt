@@ -1,5 +1,7 @@
 pub mod Alike
 pub mod Quotient
 pub mod WorkMachine
+pub mod Work
+pub mod Laws
 pub mod Cause
 pub mod Inner

@@ -11,16 +11,18 @@
 //! `specs/Cause` says which refusal names which states, and that the partition of alike states is refused only
 //! if memory runs out.
 //!
-//! `specs/WorkMachine` says on which machine a job works, with `--reduce` and without.
+//! [`work_machine`] gives the machine that a job works on: the machine of its file, or with `--reduce` that of the
+//! classes of alike states (`specs/WorkMachine`, `specs/Work`). There is only one (`specs/Laws`).
 #![tactic(auto)]
 
-mod copying;
 mod judging;
 mod laws;
 mod merging;
 mod refining;
+mod work;
 
 pub use judging::QuotientFail;
 pub use laws::{alike_has_quotient, classes_answer_alike};
 pub use merging::quotient;
 pub use refining::equivalence;
+pub use work::{WorkMachine, state_name, work_machine};

@@ -14,10 +14,9 @@ ghost use Rattle.state_reduce.specs.Cause.{Caused};
 ghost use Rattle.state_reduce.specs.Inner.Named.{AreAllNamed, currents_of};
 ghost use Rattle.state_reduce.specs.Quotient.{AnswersAsMembers, AreBlocksInOrder, AreNamed, HaveRowsInOrder, IsQuotient, block_name, block_names, block_number, kept_rows, row_of_blocks};
 
-use crate::copying::copied_given;
 use crate::judging::{Demand, QuotientFail, first_against};
 use kiss2::{KissFile, KissRow, Rows, StateNames};
-use machine_table::Machine;
+use machine_table::{Machine, copied_given};
 use partition::Partition;
 use std::alloc::{AllocError, Global};
 

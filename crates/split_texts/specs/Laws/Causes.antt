@@ -5,8 +5,8 @@ use Rattle.answers.specs.declared.numbers.Answer.TheVariants as answers
 use Rattle.answers.specs.Cause.{CallsForNone, Cause}
 use Rattle.answers.specs.Laws.Causes.{HasOneAnswer, IsOf, first_has_one, one_of}
 use Rattle.answers.specs.Refusal.{answer_of}
-use Rattle.decomposition.specs.Laws.Works.{one_work}
-use Rattle.decomposition.specs.Work.{IsWorkOf}
+use Rattle.state_reduce.specs.Laws.Works.{one_work}
+use Rattle.state_reduce.specs.Work.{IsWorkOf}
 use Rattle.kiss2.specs.declared.kiss_file.KissFile.{KissFile}
 use Rattle.split_plans.specs.Splits.{AreParts, LacksSplit, Refuses}
 use Rattle.split_plans.specs.Laws.Causes.{lacks_split_is_of, refuses_one}

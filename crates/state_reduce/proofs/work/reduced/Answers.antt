@@ -1,6 +1,6 @@
 use Rattle.std.proofs.Common.{refl}
-use Rattle.decomposition.proofs.Unrefused.{alike_of, reduced_is}
-use Rattle.decomposition.proofs.work.reduced.Goals as goal
+use Rattle.state_reduce.proofs.Works.{alike_of, reduced_is}
+use Rattle.state_reduce.proofs.work.reduced.Goals as goal
 
 pub file_of_classes-requires-clause-alike : goal.file_of_classes-requires-clause-alike
 file_of_classes-requires-clause-alike c = alike_of c.args.machine.now c.args.file.now c.in_ok-classes.classes c.requires.machine c.in_ok-classes.ensures

@@ -1,7 +1,7 @@
 use Rattle.std.proofs.Common.{◌≡◌, sym, ◌∙◌}
 use Rattle.state_reduce.specs.declared.judging.QuotientFail.TheVariants.{NotClosed, NotConsistent, NoMemory}
-use Rattle.decomposition.proofs.Unrefused.{quotient_unrefused}
-use Rattle.decomposition.proofs.work.file_of_classes.Goals as goal
+use Rattle.state_reduce.proofs.Works.{quotient_unrefused}
+use Rattle.state_reduce.proofs.work.file_of_classes.Goals as goal
 
 pub unreachable-requires : goal.unreachable-requires
 unreachable-requires c =

@@ -1,8 +1,8 @@
 use Rattle.std.proofs.Common.{Bool, None, refl, subst, sym}
-use Rattle.decomposition.specs.declared.work.WorkMachine.{WorkMachine}
-use Rattle.decomposition.specs.Work.{IsWork}
-use Rattle.decomposition.proofs.Unrefused.{file_is}
-use Rattle.decomposition.proofs.work.work_machine.Goals as goal
+use Rattle.state_reduce.specs.declared.work.WorkMachine.{WorkMachine}
+use Rattle.state_reduce.specs.Work.{IsWork}
+use Rattle.state_reduce.proofs.Works.{file_is}
+use Rattle.state_reduce.proofs.work.work_machine.Goals as goal
 
 pub returns-else-reduce : goal.returns-else-reduce
 returns-else-reduce c =

@@ -1,4 +1,4 @@
-//! The machine that is split.
+//! The machine that a command works on.
 
 ghost use Rattle.std.specs.Prelude.{◌≡◌, ◌<◌, Bool, IfOk, Some, length, slice_get, true};
 ghost use Rattle.kiss2.specs.Lawful.{IsLawful};
@@ -6,12 +6,12 @@ ghost use Rattle.kiss2.specs.Machine.{Accepted};
 ghost use Rattle.machine_table.specs.Table.{IsTable};
 ghost use Rattle.state_reduce.specs.Alike.{IsEquivalence};
 ghost use Rattle.state_reduce.specs.Quotient.{AreBlocksInOrder, IsQuotient};
-ghost use Rattle.decomposition.specs.Work.{IsWork};
+ghost use Rattle.state_reduce.specs.Work.{IsWork};
 
+use crate::{QuotientFail, equivalence, quotient};
 use kiss2::{Fill, KissFile, StateNames};
-use machine_table::{BuildFail, Machine};
+use machine_table::Machine;
 use partition::Partition;
-use state_reduce::{QuotientFail, equivalence, quotient};
 use std::alloc::{AllocError, Global};
 
 /// The machine that a command works on: the machine of its file, or the machine of the classes of the file's
@@ -75,7 +75,7 @@ fn reduced(
 {
     let classes = equivalence(alloc, machine)?;
     let quotient = file_of_classes(alloc, file, machine, &classes, fill)?;
-    let machine = machine_of(alloc, &quotient, fill)?;
+    let machine = Machine::of_accepted(alloc, &quotient, fill)?;
     Ok(WorkMachine {
         machine,
         classes: Some(classes),
@@ -105,19 +105,5 @@ fn file_of_classes(
         Err(QuotientFail::NoMemory) => Err(AllocError),
         Err(QuotientFail::NotClosed { .. }) => unreachable!(),
         Err(QuotientFail::NotConsistent { .. }) => unreachable!(),
-    }
-}
-
-/// The machine of an accepted file.
-fn machine_of(alloc: Global, file: &KissFile, fill: Fill) -> Result<Machine, AllocError>
-    requires table { IsTable file.now }
-    requires accepted { Accepted file.now fill }
-    ensures { IfOk result (λ machine. machine ≡ file.now) }
-{
-    match Machine::build(alloc, file, fill) {
-        Ok(machine) => Ok(machine),
-        Err(BuildFail::NoMemory) => Err(AllocError),
-        Err(BuildFail::Conflict { .. }) => unreachable!(),
-        Err(BuildFail::Unspecified { .. }) => unreachable!(),
     }
 }

@@ -7,7 +7,7 @@ use Rattle.partition.specs.Laws.Labels.{same_labels}
 use Rattle.state_reduce.specs.Alike.{IsEquivalence}
 use Rattle.state_reduce.specs.Quotient.{IsQuotient}
 use Rattle.state_reduce.specs.WorkMachine.{IsWorkMachine}
-use Rattle.decomposition.specs.Work.{IsWorkOf}
+use Rattle.state_reduce.specs.Work.{IsWorkOf}
 
 -- there is only one partition into alike states
 held_by : (F : KissFile) (p q : List ℕ) → IsEquivalence F p → IsEquivalence F q → (s t : ℕ) → Together p s t → Together q s t
