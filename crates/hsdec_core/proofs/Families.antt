@@ -10,7 +10,7 @@ use Rattle.closed_lattice.specs.Closed.{IsClosedPartition}
 use Rattle.cover_texts.specs.Laws.Causes.{bad_cover_is_of, bad_cover_one}
 use Rattle.hsdec_core.specs.declared.tasks.MachineTask.{MachineTask}
 use Rattle.hsdec_core.specs.declared.tasks.MachineTask.TheVariants.{Check, Closed, Cover, Decompose, Definite, High, InputPairs, Low, Output, OutputPairs, Pairs, Reduce, Shift}
-use Rattle.hsdec_core.specs.Causes.{Never}
+use Rattle.operands.specs.Laws.Causes.{never_has_one}
 use Rattle.hsdec_core.specs.Inner.Made.{IsPlain}
 use Rattle.hsdec_core.specs.Judgement.{own_cause}
 use Rattle.io_pairs.specs.Inputs.{IsInMmPair}
@@ -33,9 +33,6 @@ use Rattle.split_texts.specs.Causes.{HasLongCode, IsNotWritten, LeavesTogether}
 use Rattle.split_texts.specs.Laws.Causes.{has_long_code_is_of, leaves_together_is_of, not_written_one, of_parts_is_of}
 use Rattle.state_codes.specs.declared.split.Kind.{Kind}
 use Rattle.state_codes.specs.declared.split.Kind.TheVariants as kinds
-
-pub never_has_one : HasOneAnswer Never
-never_has_one one other h k = absurd h
 
 -- each command's own cause has one answer
 pub own_have_one : (task : MachineTask) (job : Job) (F : KissFile) → HasOneAnswer (own_cause task job F)

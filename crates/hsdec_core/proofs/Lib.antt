@@ -1,10 +1,6 @@
 mod Families
-mod KissLaws
-mod Loads
 mod Making
 mod OneAnswer
-mod OneText
-mod Opened
 mod Reports
 mod Runs
 mod Symbols

@@ -16,20 +16,20 @@ use Rattle.generated_texts.specs.Laws.Trials.{long_code_is_of}
 use Rattle.hsdec_core.specs.declared.tasks.MachineTask.{MachineTask}
 use Rattle.hsdec_core.specs.declared.tasks.Task.{Task}
 use Rattle.hsdec_core.specs.declared.tasks.Task.TheVariants.{Gen, OnMachine, Sim, Trial, Walk}
-use Rattle.hsdec_core.specs.Causes.{Never, NoMachineOf, NoNetworkOf, OfMachine, OfNetwork}
-use Rattle.hsdec_core.specs.Fill.{fill_of}
-use Rattle.hsdec_core.specs.Inner.Load.{IsStopAt}
+use Rattle.operands.specs.Causes.{Never, NoMachineOf, NoNetworkOf, OfMachine, OfNetwork}
+use Rattle.operands.specs.Fill.{fill_of}
+use Rattle.operands.specs.Load.{IsStopAt}
 use Rattle.hsdec_core.specs.Inner.Made.{IsMadeOf, IsMadeOfText, IsPlain}
 use Rattle.hsdec_core.specs.Judgement.{BadSymbols, all_causes, first_cause, first_cause_of, own_cause, second_cause, second_cause_of}
-use Rattle.hsdec_core.specs.Loading.{IsShortText, IsText, Lengthy, MayBe}
+use Rattle.operands.specs.Laws.Causes.{conflict_is_of, lengthy_is_of, machine_passes, network_passes, no_machine_is_of, no_network_is_of, not_long, open_is_of}
+use Rattle.operands.specs.Opened.{HoldsMachine, HoldsNetwork}
+use Rattle.operands.specs.Loading.{IsShortText, IsText, Lengthy, MayBe}
 use Rattle.hsdec_core.specs.Operands.{file_held, held_where, symbols_held, takes_file, takes_symbols}
-use Rattle.hsdec_core.specs.Promise.{HoldsMachine, HoldsNetwork, IsAsked, IsAskedOf, IsReport, IsShown, IsShownBy}
+use Rattle.hsdec_core.specs.Promise.{IsAsked, IsAskedOf, IsReport, IsShown, IsShownBy}
 use Rattle.hsdec_core.specs.Stop.{IsCalledFor}
 use Rattle.hsdec_core.specs.Task.{task_of}
 use Rattle.hsdec_core.proofs.Families.{own_plain}
-use Rattle.hsdec_core.proofs.KissLaws.{one_file}
-use Rattle.hsdec_core.proofs.OneAnswer.{conflict_is_of, lengthy_is_of, no_machine_is_of, no_network_is_of, open_is_of}
-use Rattle.hsdec_core.proofs.Opened.{machine_passes, network_passes, not_long}
+use Rattle.kiss2.proofs.Exact.{one_file}
 use Rattle.job_words.specs.declared.jobs.Job.{Job}
 use Rattle.kiss2.specs.declared.kiss_file.KissFile.{KissFile}
 use Rattle.kiss2.specs.Written.{kiss_text}

@@ -1,5 +1,5 @@
 -- What a task makes of a machine is reported as the frame asks.
-use Rattle.std.proofs.Common.{◌≡◌, ◌≢◌, ◌==◌, ℕ, List, Result, Ok, Err, IfOk, MatchResult, inl, inr, length, refl, sym, ap, ◌∙◌, subst, arith}
+use Rattle.std.proofs.Common.{◌≡◌, ◌≢◌, ◌==◌, ℕ, List, Result, Ok, Err, IfOk, MatchResult, inl, inr, refl, sym, ap, ◌∙◌, subst, arith}
 use Rattle.std.specs.declared.alloc.AllocError.{AllocError}
 use Rattle.std.proofs.lemmas.List.Splits.{length-slice_split}
 use Rattle.answers.specs.declared.numbers.Answer.{Answer}
@@ -13,7 +13,7 @@ use Rattle.answers.specs.Judged.{IsJudged, IsReported}
 use Rattle.answers.specs.Laws.Causes.{IsOf}
 use Rattle.answers.specs.Refusal.{answer_of}
 use Rattle.hsdec_core.specs.declared.tasks.MachineTask.{MachineTask}
-use Rattle.hsdec_core.specs.Causes.{Never}
+use Rattle.operands.specs.Causes.{Never}
 use Rattle.hsdec_core.specs.Inner.Made.{IsPlain}
 use Rattle.hsdec_core.specs.Judgement.{own_cause}
 use Rattle.hsdec_core.specs.Promise.{IsReport, IsShown}

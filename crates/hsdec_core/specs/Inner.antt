@@ -1,4 +1,2 @@
 -- What only private functions and proofs cite.
-pub mod Load
 pub mod Made
-pub mod Opened

@@ -9,9 +9,9 @@ use Rattle.hsdec_core.specs.declared.tasks.MachineTask.{MachineTask}
 use Rattle.hsdec_core.specs.declared.tasks.MachineTask.TheVariants.{Check, Closed, Cover, Decompose, Definite, High, InputPairs, Low, Output, OutputPairs, Pairs, Reduce, Shift}
 use Rattle.hsdec_core.specs.declared.tasks.Task.{Task}
 use Rattle.hsdec_core.specs.declared.tasks.Task.TheVariants.{Gen, OnMachine, Sim, Trial, Walk}
-use Rattle.hsdec_core.specs.Causes.{Never, NoMachineOf, NoNetworkOf, OfMachine, OfNetwork}
-use Rattle.hsdec_core.specs.Fill.{fill_of}
-use Rattle.hsdec_core.specs.Loading.{Lengthy}
+use Rattle.operands.specs.Causes.{Never, NoMachineOf, NoNetworkOf, OfMachine, OfNetwork}
+use Rattle.operands.specs.Fill.{fill_of}
+use Rattle.operands.specs.Loading.{Lengthy}
 use Rattle.hsdec_core.specs.Task.{task_of}
 use Rattle.job_words.specs.declared.jobs.Job.{Job}
 use Rattle.kiss2.specs.declared.kiss_file.KissFile.{KissFile}

@@ -1,9 +1,5 @@
-pub mod Causes
-pub mod Fill
 pub mod Inner
 pub mod Judgement
-pub mod Loading
-pub mod OneText
 pub mod Operands
 pub mod Promise
 pub mod Stop

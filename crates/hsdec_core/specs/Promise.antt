@@ -8,17 +8,14 @@ use Rattle.hsdec_core.specs.declared.tasks.MachineTask.{MachineTask}
 use Rattle.hsdec_core.specs.declared.tasks.MachineTask.TheVariants.{Check, Closed, Cover, Decompose, Definite, High, InputPairs, Low, Output, OutputPairs, Pairs, Reduce, Shift}
 use Rattle.hsdec_core.specs.declared.tasks.Task.{Task}
 use Rattle.hsdec_core.specs.declared.tasks.Task.TheVariants.{Gen, OnMachine, Sim, Trial, Walk}
-use Rattle.hsdec_core.specs.Fill.{fill_of}
-use Rattle.hsdec_core.specs.Loading.{IsText}
+use Rattle.operands.specs.Fill.{fill_of}
+use Rattle.operands.specs.Loading.{IsText}
+use Rattle.operands.specs.Opened.{HoldsMachine, HoldsNetwork}
 use Rattle.hsdec_core.specs.Task.{task_of}
 use Rattle.io_pairs.specs.Inputs.{IsInMmPair}
 use Rattle.io_pairs.specs.Sides as rights
 use Rattle.job_words.specs.declared.jobs.Job.{Job}
-use Rattle.kiss2.specs.declared.fill.Fill.{Fill}
 use Rattle.kiss2.specs.declared.kiss_file.KissFile.{KissFile}
-use Rattle.kiss2.specs.Kiss.{Kiss}
-use Rattle.kiss2.specs.Lawful.{IsLawful}
-use Rattle.kiss2.specs.Machine.{Accepted}
 use Rattle.kiss2.specs.Written.{kiss_text}
 use Rattle.machine_reports.specs.CheckText.{IsChecked}
 use Rattle.machine_reports.specs.DefiniteText.{IsChainText}
@@ -28,7 +25,6 @@ use Rattle.machine_reports.specs.PartnerTexts.{IsHighText, IsLowText}
 use Rattle.machine_reports.specs.ReducedText.{IsReducedText}
 use Rattle.mm_lattice.specs.MmPairs.{IsMmPair, RightBefore}
 use Rattle.net_core.specs.declared.Network.{Network}
-use Rattle.net_core.specs.Blif.{Blif}
 use Rattle.net_sim.specs.Run.{IsRun}
 use Rattle.output_consistent.specs.Outputs.{IsClosedAndConsistent}
 use Rattle.partition.specs.Before.{Before}
@@ -64,17 +60,6 @@ IsShown OutputPairs job F text = IsOutputEvidence F job.limit text
 IsShown _ job F text = ⊥
 
 -- ---- of what a shelf holds
--- the bytes that a shelf holds denote a lawful machine that is accepted with the fill
-pub record HoldsMachine (held : Option (List ℕ)) (fill : Fill) (bytes : List ℕ) (F : KissFile) : Type 0 where
-  pub text : IsText held bytes
-  pub kiss : Kiss bytes F
-  pub lawful : IsLawful F
-  pub accepted : Accepted F fill
-
--- the bytes that a shelf holds denote a network
-abbrev pub HoldsNetwork : Option (List ℕ) → List ℕ → Network → Type 0
-HoldsNetwork held bytes N = IsText held bytes × Blif bytes N
-
 -- the text that a job asks for, by its task and by what the shelf holds under the job's names
 abbrev pub IsAskedOf : Task → Job → (List ℕ → Option (List ℕ)) → List ℕ → Type 0
 IsAskedOf (OnMachine task) job holds text =

@@ -1,11 +1,12 @@
 //! The program's calls over any shelf and any sinks: words in, bytes out, an answer.
 //!
 //! [`run`] judges the words, loads the operands, has the command make its text in memory, and only then puts
-//! it. The crate of a command's family says what the command does and why it may refuse: `machine_reports`,
-//! `split_texts`, `cover_texts`, `shift_texts`, `symbol_runs` or `generated_texts`. This crate says:
+//! it. The crate `operands` says what FILE, NET and SYMBOLS may hold. The crate of a command's family says what
+//! the command does and why it may refuse: `machine_reports`, `split_texts`, `cover_texts`, `shift_texts`,
+//! `symbol_runs` or `generated_texts`. This crate says:
 //!
 //! - what each command works on (`specs/Task`, `specs/Operands`);
-//! - which causes it has (`specs/Causes`), and in which order they are judged (`specs/Judgement`);
+//! - in which order the causes of refusals are judged (`specs/Judgement`);
 //! - what a job is promised (`specs/Promise`);
 //! - which refusal is answered, also after a failed load (`specs/Stop`).
 //!
@@ -19,15 +20,11 @@
 //! the command's family promises (`proofs/Runs`).
 #![tactic(auto)]
 
-mod laws;
-mod loading;
 mod machine_tasks;
-mod opening;
 mod performing;
 mod running;
 mod symbol_tasks;
 mod tasks;
 
 pub use answers::Answer;
-pub use laws::one_text;
 pub use running::run;

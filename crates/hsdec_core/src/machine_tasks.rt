@@ -7,7 +7,7 @@ ghost use Rattle.answers.specs.declared.reports.Report.TheVariants.{Whole};
 ghost use Rattle.answers.specs.Judged.{IsReported};
 ghost use Rattle.hsdec_core.specs.declared.tasks.MachineTask.TheVariants as tasks;
 ghost use Rattle.hsdec_core.specs.declared.tasks.Task.TheVariants.{OnMachine};
-ghost use Rattle.hsdec_core.specs.Fill.{fill_of};
+ghost use Rattle.operands.specs.Fill.{fill_of};
 ghost use Rattle.hsdec_core.specs.Inner.Made.{IsMadeOf};
 ghost use Rattle.hsdec_core.specs.Judgement.{own_cause};
 ghost use Rattle.hsdec_core.specs.Operands.{AreGranted};
@@ -19,7 +19,6 @@ ghost use Rattle.kiss2.specs.Lawful.{IsLawful};
 ghost use Rattle.kiss2.specs.Machine.{Accepted};
 ghost use Rattle.state_codes.specs.declared.split.Kind.TheVariants as kinds;
 
-use crate::opening::{OpenedMachine, fill, open_machine};
 use crate::tasks::MachineTask;
 use answers::{Bytes, Refusal, Report};
 use cover_texts::cover;
@@ -28,6 +27,7 @@ use job_words::Job;
 use machine_reports::{
     check, closed, definite, high, ispairs, low, output, pairs, reduce, sopairs,
 };
+use operands::{OpenedMachine, fill, open_machine};
 use shift_texts::shift;
 use split_texts::decompose;
 use std::alloc::{AllocError, Global};

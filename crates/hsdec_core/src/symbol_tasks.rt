@@ -3,20 +3,19 @@
 ghost use Rattle.std.specs.Prelude.{◌≡◌, ◌≤◌, ◌↔◌, ℕ, List};
 ghost use Rattle.hs_io.specs.Counts.{Rose};
 ghost use Rattle.hsdec_core.specs.declared.tasks.Task.TheVariants as tasks;
-ghost use Rattle.hsdec_core.specs.Fill.{fill_of};
+ghost use Rattle.operands.specs.Fill.{fill_of};
 ghost use Rattle.hsdec_core.specs.Inner.Made.{IsMadeOf};
 ghost use Rattle.hsdec_core.specs.Operands.{AreGranted};
-ghost use Rattle.hsdec_core.specs.Promise.{HoldsMachine, HoldsNetwork};
 ghost use Rattle.hsdec_core.specs.Task.{task_of};
 ghost use Rattle.net_core.specs.Order.{IsOrderOf};
+ghost use Rattle.operands.specs.Opened.{HoldsMachine, HoldsNetwork};
 
-use crate::loading::load_operand;
-use crate::opening::{open_machine, open_network};
 use answers::{Bytes, Refusal, Report};
 use blif_in::OrderedNetwork;
 use hs_io::Shelf;
 use job_words::Job;
 use machine_table::Machine;
+use operands::{load_operand, open_machine, open_network};
 use std::alloc::Global;
 
 /// The command `walk`: the answers of the machine of FILE, from its reset state on, to the symbols of SYMBOLS.

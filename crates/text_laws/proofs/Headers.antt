@@ -6,7 +6,7 @@ use Rattle.blif_out.specs.declared.header.Header.{Header}
 use Rattle.blif_out.specs.declared.header.LatchNote.{LatchNote}
 use Rattle.decomposition.specs.Decomposition.{PrintsCodes}
 use Rattle.decomposition.specs.OwnPairs.{HasOwnPair, OwnPairs, ReadsLatch}
-use Rattle.decomposition.specs.Work.{AreClasses}
+use Rattle.state_reduce.specs.Work.{AreClasses}
 use Rattle.dependence.specs.Permits.{AgreeOn}
 use Rattle.kiss2.specs.declared.kiss_file.KissFile.{KissFile}
 use Rattle.net_core.specs.declared.Gate.{Gate}

@@ -3,3 +3,4 @@ pub mod ReadOnce
 pub mod Nets
 pub mod Headers
 pub mod Texts
+mod OneText

@@ -4,8 +4,8 @@ use Rattle.blif_out.specs.declared.header.Header.{Header}
 use Rattle.blif_out.specs.Head.{net_text_of}
 use Rattle.decomposition.specs.Decomposition.{HasGates, IsDecomposition, IsTextOf, PrintsCodes}
 use Rattle.decomposition.specs.OwnPairs.{OwnPairs}
-use Rattle.decomposition.specs.Work.{IsWorkOf}
-use Rattle.decomposition.specs.Laws.Works.{one_work}
+use Rattle.state_reduce.specs.Work.{IsWorkOf}
+use Rattle.state_reduce.specs.Laws.Works.{one_work}
 use Rattle.dependence.specs.declared.sets.Reads.{Reads}
 use Rattle.kiss2.specs.declared.kiss_file.KissFile.{KissFile}
 use Rattle.net_core.specs.declared.Network.{Network}

@@ -22,11 +22,20 @@
 //!   its own bit.
 //!
 //! What is left open is which good cover the rows of a gate are (`gate_rows`).
+//!
+//! [`one_text`] says that the network of such a text and the machine of its file give one text for one file of
+//! symbols.
 #![tactic(auto)]
 
+ghost use Rattle.text_laws.specs.OneText.{GiveOneText};
 ghost use Rattle.text_laws.specs.Rows.{RowsAloneDiffer};
 
 /// Two texts of one job have one header, and networks that are equal but for the rows of their gates.
 pub fn rows_alone_differ()
     ensures { RowsAloneDiffer }
+{}
+
+/// For a decomposition that a command wrote, `sim` of its network and `walk` of its machine give one text.
+pub fn one_text()
+    ensures { GiveOneText }
 {}

@@ -9,7 +9,7 @@ use Rattle.answers.specs.declared.reports.Report.TheVariants.{Evidence, Whole}
 use Rattle.answers.specs.Cause.{CallsForNone}
 use Rattle.answers.specs.Refusal.{answer_of}
 use Rattle.hsdec_core.specs.Judgement.{all_causes, first_cause}
-use Rattle.hsdec_core.specs.Loading.{MayBe}
+use Rattle.operands.specs.Loading.{MayBe}
 use Rattle.hsdec_core.specs.Operands.{file_held, symbols_held}
 use Rattle.hsdec_core.specs.Promise.{IsAsked, IsEvidence}
 use Rattle.hsdec_core.specs.Stop.{IsCalledFor, IsFailedLoad}

@@ -1,6 +1,6 @@
 use Rattle.std.proofs.Common.{Ok, Err}
 use Rattle.std.proofs.lemmas.Result.{err_from_is_err_and}
-use Rattle.hsdec_core.proofs.Loads.{stop_of_load, text_of_load}
+use Rattle.operands.specs.Laws.Loads.{stop_of_load, text_of_load}
 use Rattle.hsdec_core.proofs.Making.{no_start, sim_made, sim_unloaded}
 use Rattle.hsdec_core.proofs.symbol_tasks.run_network.Goals as goal
 

@@ -11,7 +11,7 @@ use Rattle.net_sim.specs.Symbols.{IsSymbolFile, SaysSymbol}
 use Rattle.net_sim.proofs.Exclusive.{run_once}
 use Rattle.realise.specs.Carries.{AnswersAs}
 use Rattle.decomposition.specs.Decomposition.{IsTextOf}
-use Rattle.hsdec_core.specs.OneText.{GiveOneText}
+use Rattle.text_laws.specs.OneText.{GiveOneText}
 use Rattle.symbol_runs.specs.Texts.{IsWalkText}
 
 -- the symbols of a file have so many bits

@@ -1,6 +1,6 @@
-use Rattle.hsdec_core.proofs.Opened.{read_of_built}
-use Rattle.hsdec_core.proofs.opening.read_machine.Goals as goal
-use Rattle.kiss2.proofs.ReadLawful.{read_lawful}
+use Rattle.operands.proofs.Opened.{read_of_built}
+use Rattle.operands.proofs.opening.read_machine.Goals as goal
+use Rattle.kiss2_laws.proofs.ReadLawful.{read_lawful}
 
 pub build_machine-requires : goal.build_machine-requires
 build_machine-requires c = read_lawful c.args.text.now c.in-Ok.file c.in-Ok.ensures.read

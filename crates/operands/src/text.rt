@@ -2,7 +2,7 @@
 
 ghost use Rattle.std.specs.Prelude.{◌≡◌, ◌≤◌, ◌↔◌, ℕ, List};
 ghost use Rattle.hs_io.specs.Counts.{Rose};
-ghost use Rattle.hsdec_core.specs.Inner.Load.{IsLoaded};
+ghost use Rattle.operands.specs.Load.{IsLoaded};
 
 use answers::{Bytes, Refusal};
 use hs_io::{LoadFail, Name, Shelf};

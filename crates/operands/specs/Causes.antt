@@ -7,7 +7,7 @@ use Rattle.answers.specs.Digits.{digit}
 use Rattle.blif_in.specs.declared.fault.BlifFault.{BlifFault}
 use Rattle.blif_in.specs.Text.{IsBlifFault}
 use Rattle.cubes.specs.Symbol.{symbol_of}
-use Rattle.hsdec_core.specs.Loading.{Lengthy}
+use Rattle.operands.specs.Loading.{Lengthy}
 use Rattle.kiss2.specs.declared.fault.KissFault.{KissFault}
 use Rattle.kiss2.specs.declared.fill.Fill.{Fill}
 use Rattle.kiss2.specs.declared.fill.Fill.TheVariants.{Refuse}

@@ -1,6 +1,6 @@
-use Rattle.hsdec_core.proofs.Loads.{text_of_load}
-use Rattle.hsdec_core.proofs.Opened.{net_opened_of_read}
-use Rattle.hsdec_core.proofs.opening.open_network.Goals as goal
+use Rattle.operands.specs.Laws.Loads.{text_of_load}
+use Rattle.operands.proofs.Opened.{net_opened_of_read}
+use Rattle.operands.proofs.opening.open_network.Goals as goal
 
 pub returns-clause-opened : goal.returns-clause-opened
 returns-clause-opened g c =

@@ -2,12 +2,13 @@
 
 ghost use Rattle.std.specs.Prelude.{◌≡◌, ◌<◌, ◌≤◌, ◌↔◌, ℕ, List, IfOk, length};
 ghost use Rattle.hs_io.specs.Counts.{Rose};
-ghost use Rattle.hsdec_core.specs.Fill.{fill_of};
-ghost use Rattle.hsdec_core.specs.Inner.Opened.{IsBuiltOf, IsEntryRefusal, IsNetOpened, IsOpened, IsReadAs, IsReadOf};
-ghost use Rattle.hsdec_core.specs.Loading.{IsShortText};
+ghost use Rattle.operands.specs.Fill.{fill_of};
+ghost use Rattle.operands.specs.Inner.Reading.{IsBuiltOf, IsEntryRefusal, IsReadAs, IsReadOf};
+ghost use Rattle.operands.specs.Opened.{IsNetOpened, IsOpened};
+ghost use Rattle.operands.specs.Loading.{IsShortText};
 ghost use Rattle.kiss2.specs.Lawful.{IsLawful};
 
-use crate::loading::load_operand;
+use crate::text::load_operand;
 use answers::{Refusal, symbol_text};
 use blif_in::{BlifFail, OrderedNetwork, read_ordered};
 use hs_io::{Name, Shelf};

@@ -1,8 +1,8 @@
 use Rattle.std.proofs.Common.{subst}
-use Rattle.hsdec_core.specs.Inner.Opened.{IsReadOf}
-use Rattle.hsdec_core.proofs.Loads.{text_of_load}
-use Rattle.hsdec_core.proofs.Opened.{opened_of_read}
-use Rattle.hsdec_core.proofs.opening.open_machine.Goals as goal
+use Rattle.operands.specs.Inner.Reading.{IsReadOf}
+use Rattle.operands.specs.Laws.Loads.{text_of_load}
+use Rattle.operands.proofs.Opened.{opened_of_read}
+use Rattle.operands.proofs.opening.open_machine.Goals as goal
 
 pub returns-clause-opened : goal.returns-clause-opened
 returns-clause-opened g c =

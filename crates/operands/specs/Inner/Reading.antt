@@ -1,17 +1,11 @@
--- The outcome of opening the operands FILE and NET.
-use Rattle.std.specs.Prelude.{◌≡◌, ◌⊎◌, ℕ, List, Option, Some, Result, Ok, Err, map, slice_get}
+-- The outcome of reading a loaded text. Private functions need it; no public contract cites it.
+use Rattle.std.specs.Prelude.{◌≡◌, ◌⊎◌, ℕ, List, Some, Result, Ok, Err, map, slice_get}
 use Rattle.answers.specs.declared.refusals.Refusal.{Refusal}
 use Rattle.answers.specs.declared.refusals.Refusal.TheVariants.{NoMemory, Unspecified}
 use Rattle.answers.specs.Digits.{digit}
 use Rattle.answers.specs.Judged.{IsStop}
 use Rattle.blif_in.specs.declared.reading.OrderedNetwork.{OrderedNetwork}
 use Rattle.cubes.specs.Symbol.{symbol_of}
-use Rattle.hsdec_core.specs.declared.opening.OpenedMachine.{OpenedMachine}
-use Rattle.hsdec_core.specs.Causes.{Conflicts, LeavesOpen, NoMachineOf, NoNetworkOf, OfFile, SaysNoMachine, SaysNoNetwork}
-use Rattle.hsdec_core.specs.Fill.{fill_of}
-use Rattle.hsdec_core.specs.Inner.Load.{IsStopAt}
-use Rattle.hsdec_core.specs.Promise.{HoldsMachine, HoldsNetwork}
-use Rattle.job_words.specs.declared.jobs.Job.{Job}
 use Rattle.kiss2.specs.declared.fill.Fill.{Fill}
 use Rattle.kiss2.specs.declared.kiss_file.KissFile.{KissFile}
 use Rattle.kiss2.specs.Kiss.{Kiss}
@@ -20,6 +14,8 @@ use Rattle.kiss2.specs.Machine.{Accepted}
 use Rattle.machine_table.specs.declared.missing.Missing.{Missing}
 use Rattle.net_core.specs.Blif.{Blif}
 use Rattle.net_core.specs.Order.{IsOrderOf}
+use Rattle.operands.specs.declared.opening.OpenedMachine.{OpenedMachine}
+use Rattle.operands.specs.Causes.{Conflicts, LeavesOpen, OfFile, SaysNoMachine, SaysNoNetwork}
 
 -- the refusal names an open entry: its state by name, and its symbol by digits
 abbrev pub IsEntryRefusal : KissFile → ℕ → ℕ → Missing → Refusal → Type 0
@@ -37,19 +33,7 @@ IsReadOf fill bytes (Ok opened) = Kiss bytes opened.file × IsLawful opened.file
 IsReadOf fill bytes (Err refusal) =
     (refusal ≡ NoMemory) ⊎ SaysNoMachine bytes refusal ⊎ OfFile bytes Conflicts refusal ⊎ OfFile bytes (LeavesOpen fill) refusal
 
--- the machine of the operand FILE, or why there is none
-abbrev pub IsOpened : Job → (List ℕ → Option (List ℕ)) → Type 0 → Result OpenedMachine Refusal → Type 0
-IsOpened job holds Faulted (Ok opened) =
-    ((bytes : List ℕ) × HoldsMachine (holds job.file) (fill_of job) bytes opened.file) × (opened.machine ≡ opened.file)
-IsOpened job holds Faulted (Err refusal) = IsStopAt (holds job.file) Faulted job.file (NoMachineOf job.file (fill_of job)) refusal
-
 -- the network that bytes denote with an order of its gates, or the refusal that they call for
 abbrev pub IsReadAs : List ℕ → Result OrderedNetwork Refusal → Type 0
 IsReadAs bytes (Ok opened) = Blif bytes opened.net × IsOrderOf opened.net opened.order
 IsReadAs bytes (Err refusal) = IsStop (SaysNoNetwork bytes) refusal
-
--- the network of the operand NET with an order of its gates, or why there is none
-abbrev pub IsNetOpened : Job → (List ℕ → Option (List ℕ)) → Type 0 → Result OrderedNetwork Refusal → Type 0
-IsNetOpened job holds Faulted (Ok opened) =
-    ((bytes : List ℕ) × HoldsNetwork (holds job.file) bytes opened.net) × IsOrderOf opened.net opened.order
-IsNetOpened job holds Faulted (Err refusal) = IsStopAt (holds job.file) Faulted job.file (NoNetworkOf job.file) refusal

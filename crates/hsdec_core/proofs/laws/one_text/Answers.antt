@@ -1,5 +1,0 @@
-use Rattle.hsdec_core.proofs.OneText.{one_text}
-use Rattle.hsdec_core.proofs.laws.one_text.Goals as goal
-
-pub returns : goal.returns
-returns c = one_text
