@@ -1,10 +1,10 @@
 -- The text of each kind of fault in a KISS2 text.
-use Rattle.std.specs.Prelude.{ℕ, List, ◌++◌, codes}
-use Rattle.std.specs.Fmt.{decimal}
+use Rattle.std.specs.Prelude.{ℕ, List, codes}
 use Rattle.kiss2.specs.declared.fault.KissKind.{KissKind}
 use Rattle.kiss2.specs.declared.fault.KissKind.TheVariants.{BadByte, UnknownWord, BadNumber, Repeated, MissingCounts, BadFields, BadCube, BadOutput, AnyState, ResetUnknown, NoRows, OverLimit}
 use Rattle.kiss2.specs.declared.fault.KissLimit.{KissLimit}
 use Rattle.kiss2.specs.declared.fault.KissLimit.TheVariants.{Rows, States, Inputs, Outputs, NameBytes}
+use Rattle.answers.specs.LimitTexts.{over_limit_text}
 
 -- what there is too much of
 abbrev pub limit_text : KissLimit → List ℕ
@@ -26,4 +26,4 @@ kind_text BadOutput = codes "bad output field"
 kind_text AnyState = codes "any-state row"
 kind_text ResetUnknown = codes "reset unknown"
 kind_text NoRows = codes "no rows"
-kind_text (OverLimit what found) = codes "over limit " ++ limit_text what ++ codes " " ++ decimal found
+kind_text (OverLimit what found) = over_limit_text (limit_text what) found

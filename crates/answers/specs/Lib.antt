@@ -5,5 +5,6 @@ pub mod Digits
 pub mod Judged
 pub mod KissTexts
 pub mod Laws
+pub mod LimitTexts
 pub mod NetTexts
 pub mod Refusal

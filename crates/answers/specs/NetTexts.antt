@@ -1,6 +1,5 @@
 -- The text of each fault of a BLIF text.
-use Rattle.std.specs.Prelude.{ℕ, List, [], ◌++◌, codes}
-use Rattle.std.specs.Fmt.{decimal}
+use Rattle.std.specs.Prelude.{ℕ, List, [], codes}
 use Rattle.blif_in.specs.declared.fault.BlifFault.{BlifFault}
 use Rattle.blif_in.specs.declared.fault.BlifKind.{BlifKind}
 use Rattle.blif_in.specs.declared.fault.BlifKind.TheVariants.{BadByte, BadFields, BadRow, Clocks, LatchKind, MixedCover, NoModel, OverLimit, Structure, Unsupported}
@@ -9,6 +8,7 @@ use Rattle.blif_in.specs.declared.fault.NetLimit.TheVariants.{GateInputs, Gates,
 use Rattle.hs_texts.specs.ErrLines.{cycle_line, net_line, two_drivers_line, undriven_line}
 use Rattle.net_core.specs.declared.failing.NetFail.{NetFail}
 use Rattle.net_core.specs.declared.failing.NetFail.TheVariants.{Cycle, NoMemory, TwoDrivers, Undriven}
+use Rattle.answers.specs.LimitTexts.{over_limit_text}
 
 -- what there is too much of
 abbrev pub net_limit_text : NetLimit → List ℕ
@@ -29,7 +29,7 @@ net_kind_text MixedCover = codes "mixed cover"
 net_kind_text LatchKind = codes "latch kind"
 net_kind_text Clocks = codes "clocks"
 net_kind_text NoModel = codes "no model"
-net_kind_text (OverLimit what found) = codes "over limit " ++ net_limit_text what ++ codes " " ++ decimal found
+net_kind_text (OverLimit what found) = over_limit_text (net_limit_text what) found
 net_kind_text (Structure fail) = []
 
 -- the line of a network that is not sound, by its cause

@@ -3,6 +3,7 @@
 ghost use Rattle.std.specs.Prelude.{◌≡◌, IfOk};
 ghost use Rattle.answers.specs.KissTexts.{kind_text, limit_text};
 
+use crate::limit_texts::over_limit;
 use kiss2::{KissKind, KissLimit};
 use std::alloc::{AllocError, Global};
 
@@ -22,21 +23,11 @@ pub fn text_of_kind(alloc: Global, kind: KissKind) -> Result<Vec<u8>, AllocError
         KissKind::AnyState => b"any-state row",
         KissKind::ResetUnknown => b"reset unknown",
         KissKind::NoRows => b"no rows",
-        KissKind::OverLimit { what, found } => return over_limit(alloc, what, found),
+        KissKind::OverLimit { what, found } => {
+            return over_limit(alloc, word_of_limit(what), found);
+        }
     };
     Vec::from_slice(alloc, words)
-}
-
-/// The text of a limit that is exceeded.
-fn over_limit(alloc: Global, what: KissLimit, found: u32) -> Result<Vec<u8>, AllocError>
-    ensures { IfOk result (λ text. text.items ≡ kind_text (KissKind.OverLimit what found)) }
-{
-    let number = found.to_string(alloc)?;
-    let mut text = Vec::from_slice(alloc, b"over limit ")?;
-    text.extend_from_slice(word_of_limit(what))?;
-    text.push(b' ')?;
-    text.extend_from_slice(number.as_bytes())?;
-    Ok(text)
 }
 
 /// What there is too much of.

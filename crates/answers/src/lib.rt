@@ -16,6 +16,7 @@
 mod delivery;
 mod digits;
 mod kiss_texts;
+mod limit_texts;
 mod lines;
 mod net_texts;
 mod numbers;

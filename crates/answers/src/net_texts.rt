@@ -1,8 +1,9 @@
 //! The text of each fault of a BLIF text.
 
 ghost use Rattle.std.specs.Prelude.{◌≡◌, IfOk};
-ghost use Rattle.answers.specs.NetTexts.{fault_line, net_kind_text, net_limit_text, structure_line};
+ghost use Rattle.answers.specs.NetTexts.{fault_line, net_limit_text, structure_line};
 
+use crate::limit_texts::over_limit;
 use blif_in::{BlifFault, BlifKind, NetLimit};
 use hs_texts::err_lines;
 use net_core::NetFail;
@@ -22,7 +23,7 @@ pub fn line_of_fault(alloc: Global, fault: &BlifFault) -> Result<Vec<u8>, AllocE
         BlifKind::Clocks => b"clocks",
         BlifKind::NoModel => b"no model",
         BlifKind::OverLimit { what, found } => {
-            let text = over_limit(alloc, *what, *found)?;
+            let text = over_limit(alloc, word_of_limit(*what), *found)?;
             return err_lines::net(alloc, fault.line, text.as_slice());
         }
         BlifKind::Structure(fail) => return line_of_structure(alloc, fail),
@@ -40,18 +41,6 @@ fn line_of_structure(alloc: Global, fail: &NetFail) -> Result<Vec<u8>, AllocErro
         NetFail::Cycle { names } => err_lines::cycle(alloc, names.as_slice()),
         NetFail::NoMemory => Err(AllocError),
     }
-}
-
-/// The text of a limit that is exceeded.
-fn over_limit(alloc: Global, what: NetLimit, found: u32) -> Result<Vec<u8>, AllocError>
-    ensures { IfOk result (λ text. text.items ≡ net_kind_text (BlifKind.OverLimit what found)) }
-{
-    let number = found.to_string(alloc)?;
-    let mut text = Vec::from_slice(alloc, b"over limit ")?;
-    text.extend_from_slice(word_of_limit(what))?;
-    text.push(b' ')?;
-    text.extend_from_slice(number.as_bytes())?;
-    Ok(text)
 }
 
 /// What there is too much of.

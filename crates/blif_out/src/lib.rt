@@ -19,7 +19,9 @@ mod header_text;
 mod network_text;
 mod writing;
 
-pub use fields::{append_code_field, append_field, append_number, append_number_field};
+pub use fields::{
+    append_code_field, append_field, append_number, append_number_field, append_numbers_field,
+};
 pub use header::{Header, LatchNote, LatchNotes};
 pub use header_text::{append_notes, word_of_kind};
 pub use writing::{append, text};

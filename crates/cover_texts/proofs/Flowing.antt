@@ -2,14 +2,14 @@
 use Rattle.std.proofs.Common.{◌≡◌, ℕ, zero, suc, ◌<◌, All, Bool, Contains, List, [], ◌∷◌, Some, length, refl, sym, ap, ◌∙◌, subst, arith}
 use Rattle.std.specs.List.{slice_get}
 use Rattle.std.proofs.lemmas.List.Elements.{All-cons, All-nil}
-use Rattle.std.proofs.lemmas.List.FromFn.{length-map-range_with_len}
 use Rattle.std.proofs.lemmas.Option.{none-some, same_Some}
-use Rattle.cover_split.specs.Expansion.{IsExpansion, pair_name, pairs_of}
+use Rattle.cover_split.specs.Expansion.{IsExpansion, pairs_of}
 use Rattle.cover_texts.specs.Inner.Steps.{AreParts}
 use Rattle.decomposition.specs.Flow.{Flows}
 use Rattle.kiss2.specs.declared.kiss_file.KissFile.{KissFile}
 use Rattle.kiss2.specs.Machine.{next}
 use Rattle.machine_table.specs.Staying.{NeverLeaves}
+use Rattle.numbered_names.proofs.NumberedNames.{length-numbered_names}
 use Rattle.pair_operators.specs.Pair.{Closed}
 use Rattle.partition.specs.Partition.{IsPartition, Together}
 use Rattle.realise.proofs.Gates.{all_at}
@@ -40,7 +40,7 @@ two_flow W first second stays lawful own closed in_zero second_reads (suc (suc j
 
 -- the machine has a state for each pair
 pub states_counted : (F E : KissFile) (blocks : List (List ℕ)) → IsExpansion F blocks E → length E.states ≡ length (pairs_of blocks)
-states_counted F E blocks is = ap length is.states ∙ length-map-range_with_len pair_name 0 (length (pairs_of blocks))
+states_counted F E blocks is = ap length is.states ∙ length-numbered_names (length (pairs_of blocks))
 
 module _ (F E : KissFile) (blocks : List (List ℕ)) (parts : List Part) (is : IsExpansion F blocks E) (are : AreParts blocks parts) where
   pub parts_lawful : All (IsPart (length E.states)) parts

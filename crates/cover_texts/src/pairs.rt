@@ -5,14 +5,12 @@ ghost use Rattle.answers.specs.declared.refusals.Refusal.TheVariants as refusals
 ghost use Rattle.cover_split.specs.Cover.{IsCover};
 ghost use Rattle.cover_split.specs.Expansion.{pairs_of};
 ghost use Rattle.cover_texts.specs.Inner.Steps.{AreCodes, AreParts, IsExpanded, LeavesWith};
-ghost use Rattle.kiss2.specs.Machine.{Conflicting};
-ghost use Rattle.machine_table.specs.Table.{IsTable};
 ghost use Rattle.partition.specs.Partition.{IsStateCount};
 
 use answers::{CoverFlaw, Refusal, symbol_text};
 use cover_split::{Cover, ExpandFail, expand, split};
-use kiss2::{Fill, KissFile};
-use machine_table::{BuildFail, Machine};
+use kiss2::Fill;
+use machine_table::Machine;
 use state_codes::{CodeFail, Codes, Split, encode};
 use std::alloc::{AllocError, Global};
 
@@ -27,7 +25,7 @@ pub(crate) fn machine_of_pairs(
         (λ refusal. (refusal ≡ refusals.NoMemory) ⊎ LeavesWith machine.now cover.now.blocks refusal) }
 {
     match expand(alloc, machine, cover) {
-        Ok(file) => Ok(machine_of(alloc, &file)?),
+        Ok(file) => Ok(Machine::of_accepted(alloc, &file, Fill::Hold)?),
         Err(ExpandFail::NotClosed { block, x }) => {
             let symbol = symbol_text(alloc, machine.inputs(), x)?;
             Err(Refusal::BadCover(CoverFlaw::Leaves {
@@ -36,20 +34,6 @@ pub(crate) fn machine_of_pairs(
             }))
         }
         Err(ExpandFail::NoMemory) => Err(Refusal::NoMemory),
-    }
-}
-
-/// The machine of a file that leaves nothing open.
-fn machine_of(alloc: Global, file: &KissFile) -> Result<Machine, AllocError>
-    requires table { IsTable file.now }
-    requires no_conflict { Conflicting file.now → ⊥ }
-    ensures { IfOk result (λ machine. machine ≡ file.now) }
-{
-    match Machine::build(alloc, file, Fill::Hold) {
-        Ok(machine) => Ok(machine),
-        Err(BuildFail::NoMemory) => Err(AllocError),
-        Err(BuildFail::Conflict { .. }) => unreachable!(),
-        Err(BuildFail::Unspecified { .. }) => unreachable!(),
     }
 }
 

@@ -3,7 +3,6 @@ use Rattle.std.proofs.Common.{◌≡◌, ◌∙◌, ℕ, zero, suc, ◌+◌, ◌
 use Rattle.std.proofs.lemmas.Bool.{cases_eq, cases_lt}
 use Rattle.std.proofs.lemmas.List.{get_or-map, get_or_append_left, get_or_past, get_or_push, length-map, length_push}
 use Rattle.std.proofs.lemmas.List.Elements.{All-head, All-tail, All-from_get_or}
-use Rattle.std.proofs.lemmas.List.Sums.{fails_before_first}
 use Rattle.std.proofs.lemmas.Nat.Bits.{bit_at-lt, bit_at-zero, bit_at_above, bit_at_lowest, same_from_bits_below}
 use Rattle.std.proofs.lemmas.Option.{get_or_from_slice_get, slice_get-get_or, slice_get_within}
 use Rattle.std.proofs.Math.Nat.{le-max_left, max-le}
@@ -11,7 +10,6 @@ use Rattle.std.specs.Int.{bit_at}
 use Rattle.std.specs.List.{All, slice_get}
 use Rattle.partition.specs.Partition.{IsNumbered, IsPartition, IsStateCount, Together, blocks_of}
 use Rattle.partition.specs.Laws.Labels.{label-lt-blocks_of}
-use Rattle.partition.specs.Inside.{IsInside, blocks_below, least_of}
 use Rattle.state_codes.specs.declared.split.Part.{Part}
 use Rattle.state_codes.specs.declared.Codes.{Codes}
 use Rattle.state_codes.specs.Agreement.{IsBitPartition}
@@ -24,6 +22,7 @@ use Rattle.least_codes.specs.Inner.Parts.{AreBitLabels, bit_labels}
 use Rattle.kiss2.specs.declared.kiss_file.KissFile.{KissFile}
 use Rattle.least_codes.specs.Kind.{GiveLeastCode, IsLeastSplit}
 use Rattle.least_codes.specs.LeastCode.{AreCodes, IsLeastCode}
+use Rattle.least_codes.proofs.OwnCarriers.{inside_itself, zeros, zeros_need}
 
 -- the label of a state is its bit
 pub label_at : (n : ℕ) (words : List ℕ) (i s : ℕ) → length words ≡ n → s < n → get_or (bit_labels i words) s 0 ≡ bit_at (get_or words s 0) i
@@ -78,54 +77,8 @@ two_blocks n words i s size within one =
     omega (arith, label_at n words i t size in_words, bit_at-lt (get_or words t 0) i)) in
     omega (arith, few, label_at n words i s size within, one, label-lt-blocks_of (bit_labels i words) s (omega (arith, within, labels_length words i, size)))
 
--- inside itself a partition has one block in each of its own
-pub zeros : List ℕ → List ℕ
-zeros p = map (λ (label : ℕ). 0) p
-
-zero_at : (p : List ℕ) (s : ℕ) → s < length p → get_or (zeros p) s 0 ≡ 0
-unfolding zeros
-zero_at p s within = get_or-map (λ (label : ℕ). 0) p s 0 0 within
-
-zeros_length : (p : List ℕ) → length (zeros p) ≡ length p
-unfolding zeros
-zeros_length p = length-map p (λ (label : ℕ). 0)
-
-none_below : (p : List ℕ) (s k : ℕ) → k ≤ least_of p s → blocks_below p p (get_or p s 0) k ≡ 0
-none_below p s zero below = refl
-none_below p s (suc k) below =
-    let rest : blocks_below p p (get_or p s 0) k ≡ 0 = none_below p s k (omega (arith, below)) in
-    let other : (get_or p k 0 == get_or p s 0) ≡ false = fails_before_first (λ label. label == get_or p s 0) p k 0 (omega (arith, below)) in
-    ap (λ (b : Bool). blocks_below p p (get_or p s 0) k + cond ((least_of p k == k) && b) 1 0) other ∙ skipped (least_of p k == k) (blocks_below p p (get_or p s 0) k) ∙ rest
-  where
-    skipped : (b : Bool) (m : ℕ) → m + cond (b && false) 1 0 ≡ m
-    skipped true m = omega arith
-    skipped false m = omega arith
-
-pub inside_itself : (n : ℕ) (p : List ℕ) → IsPartition n p → IsInside p p (zeros p)
-inside_itself n p lawful = record {
-  lawful = record {
-    count = subst IsStateCount (sym lawful.length) lawful.count;
-    length = zeros_length p;
-    numbered = λ s within. omega (arith, zero_at p s (omega (arith, within, zeros_length p)));
-  };
-  numbers = λ s within. zero_at p s within ∙ sym (none_below p s (least_of p s) (omega arith));
-}
-
-pub one_block : (p : List ℕ) → 0 < length p → blocks_of (zeros p) ≡ 1
-one_block p some =
-    let low : 0 < blocks_of (zeros p) = omega (arith, label-lt-blocks_of (zeros p) 0 (omega (arith, some, zeros_length p))) in
-    let high : blocks_of (zeros p) ≤ 1 = flat (zeros p) (λ s within. zero_at p s (omega (arith, within, zeros_length p))) in
-    omega (arith, low, high)
-  where
-    flat : (q : List ℕ) → ((s : ℕ) → s < length q → get_or q s 0 ≡ 0) → blocks_of q ≤ 1
-    flat [] none = omega arith
-    flat (label ∷ q) none = max-le {a = label + 1} {b = blocks_of q} {k = 1} (omega (arith, none 0 (omega arith))) (flat q (λ s within. none (suc s) (omega (arith, within))))
-
 need_two : need 2 ≡ 1
 need_two = need_is 2 1 (record { enough = omega arith; least = λ fewer enough. elim (cases_eq fewer 0) [ inl none ↦ absurd (omega (arith, enough, ap (λ (k : ℕ). 2 ^ k) none)) | inr some ↦ omega (arith, some) ] })
-
-pub need_one : need 1 ≡ 0
-need_one = need_is 1 0 (record { enough = omega arith; least = λ fewer enough. omega arith })
 
 -- one bit a part, that of its label
 one_place : ℕ → List ℕ → Place
@@ -155,7 +108,7 @@ module _ (n count : ℕ) where
   are_places j (p ∷ partitions) all =
       let half : Halved n p = All-head (Halved n) p partitions all in
       let one : need (blocks_of p) ≡ 1 = ap need half.1 ∙ need_two in
-      let none : need (blocks_of (zeros p)) ≡ 0 = ap need (one_block p (omega (arith, half.0.length, half.0.count.0))) ∙ need_one in
+      let none : need (blocks_of (zeros p)) ≡ 0 = zeros_need n p half.0 in
       rw (one, none) (ap (λ (rest : List Place). record { part = j; carried = true; labels = p; weight = 0 } ∷ rest) (are_places (suc j) partitions (All-tail (Halved n) p partitions all)))
 
 places_length : (j : ℕ) (partitions : List (List ℕ)) → length (places_from j partitions) ≡ length partitions

@@ -14,7 +14,6 @@ use Rattle.state_codes.specs.declared.Codes.{Codes}
 use Rattle.state_codes.specs.Code.{IsCode, Place, label_places, need, places_of}
 use Rattle.state_codes.specs.Kinds.{IsOwnCarrier}
 use Rattle.state_codes.specs.Laws.Codes.{codes_are_one, owner-lt}
-use Rattle.state_codes.specs.Laws.InnerLabels.{inside_once}
 use Rattle.state_codes.specs.Laws.Places.{label_places-all, places_of-all}
 use Rattle.state_codes.specs.Split.{own_part}
 use Rattle.dependence.specs.Candidates.{IsBitOfCode, IsCandidate, IsOpenTo}
@@ -26,7 +25,7 @@ use Rattle.least_codes.specs.Kind.{IsLeastSplit}
 use Rattle.least_codes.specs.Laws.{LeastCodeReadsLeast}
 use Rattle.least_codes.specs.LeastCode.{AreCodes}
 use Rattle.least_codes.specs.LeastReads.{AreLeastReads}
-use Rattle.least_codes.proofs.BitParts.{inside_itself, need_one, one_block, zeros}
+use Rattle.least_codes.proofs.OwnCarriers.{no_inner}
 use Rattle.least_codes.proofs.Reading.{other_among}
 use Rattle.least_codes.proofs.Rule.{rule_gives_least}
 
@@ -39,13 +38,6 @@ rule_alike F words Candidate Other R value to from rule = record {
 } where
   beside : (One More : ℕ → Type 0) → ((c : ℕ) → One c → More c) → (c d : ℕ) → Beside One R c d → Beside More R c d
   beside One More over c d is = elim is [ inl low ↦ inl (low.0, over d low.1) | inr high ↦ inr high ]
-
--- the labels of a part inside itself need no bit
-no_inner : (n : ℕ) (part : Part) (inner : List ℕ) → IsPartition n part.partition → IsOwnCarrier part → IsInside part.carrier part.partition inner → need (blocks_of inner) ≡ 0
-no_inner n part inner lawful own inside =
-    let itself : IsInside part.partition part.partition inner = subst (λ (p : List ℕ). IsInside p part.partition inner) own inside in
-    let same : inner ≡ zeros part.partition = inside_once part.partition part.partition inner (zeros part.partition) itself (inside_itself n part.partition lawful) in
-    ap (λ (labels : List ℕ). need (blocks_of labels)) same ∙ ap need (one_block part.partition (omega (arith, lawful.length, lawful.count.0))) ∙ need_one
 
 module _ (n : ℕ) (parts : List Part) (codes : Codes) (code : IsCode n parts codes) (split : IsLeastSplit parts) (lawful : (j : ℕ) (part : Part) → slice_get parts j ≡ Some part → IsPartition n part.partition) where
   abbrev places : List Place

@@ -1,13 +1,8 @@
 -- Pieces of the text, as they are appended.
-use Rattle.std.specs.Prelude.{ℕ, List, ◌∷◌}
-use Rattle.std.specs.Fmt.{decimal}
+use Rattle.std.specs.Prelude.{ℕ, List}
 use Rattle.blif_out.specs.Head.{comment_text}
 use Rattle.hs_io.specs.Spelling.{ended}
 use Rattle.cover_texts.specs.Lines.{block_fields, pair_fields}
-
--- a number after a comma
-abbrev pub comma_number : ℕ → List ℕ
-comma_number number = 44 ∷ decimal number
 
 -- the comment of a block
 abbrev pub block_line : ℕ × List ℕ → List ℕ
