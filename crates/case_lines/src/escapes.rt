@@ -1,9 +1,10 @@
 //! Bytes in the texts of cases.
 
-ghost use Rattle.std.specs.Prelude.{◌<◌, IfOk};
+ghost use Rattle.std.specs.Prelude.{◌≡◌, ◌<◌, ◌++◌, flat_map, IfOk, OnOk};
+ghost use Rattle.case_lines.specs.Escapes.{digit_of, escape_of};
 
 use anyhow::bail;
-use std::alloc::Global;
+use std::alloc::{AllocError, Global};
 
 /// The bytes of a text: `\n`, `\r` and `\t` are one byte each, and so is `\x` with two hexadecimal digits.
 pub fn unescaped(alloc: Global, text: &str) -> anyhow::Result<Vec<u8>> {
@@ -44,5 +45,46 @@ fn digit(byte: u8) -> anyhow::Result<u8>
         b'0'..=b'9' => Ok(byte - b'0'),
         b'a'..=b'f' => Ok(byte - b'a' + 10),
         _ => bail!("no hexadecimal digit"),
+    }
+}
+
+/// The text of bytes as an answer says them. A byte that is no printable character has an escape, and so has the
+/// backslash, as `\x5c`.
+pub fn escaped(alloc: Global, bytes: &[u8]) -> Result<Vec<u8>, AllocError>
+    ensures { IfOk result (λ text. text.items ≡ flat_map escape_of bytes.now) }
+{
+    let mut text = Vec::new(alloc);
+    for byte in bytes {
+        add_escaped(*byte, &mut text)?;
+    }
+    Ok(text)
+}
+
+/// Adds a byte as it is written.
+fn add_escaped(byte: u8, text: &mut Vec<u8>) -> Result<(), AllocError>
+    ensures { OnOk result (text.new.items ≡ text.old.items ++ escape_of byte) }
+{
+    if byte == b'\n' {
+        text.extend_from_slice(b"\\n")
+    } else if byte == b'\r' {
+        text.extend_from_slice(b"\\r")
+    } else if byte == b'\t' {
+        text.extend_from_slice(b"\\t")
+    } else if byte >= b' ' && byte <= b'~' && byte != b'\\' {
+        text.extend_from_slice(&[byte])
+    } else {
+        text.extend_from_slice(&[b'\\', b'x', character(byte / 16), character(byte % 16)])
+    }
+}
+
+/// The character of a hexadecimal digit.
+fn character(digit: u8) -> u8
+    requires { digit < 16 }
+    ensures { result ≡ digit_of digit }
+{
+    if digit < 10 {
+        b'0' + digit
+    } else {
+        b'a' + (digit - 10)
     }
 }

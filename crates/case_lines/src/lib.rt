@@ -6,8 +6,9 @@
 //!
 //! A program of cases says in its [`Calls`] what a call of its libraries answers, as a text. For each call,
 //! [`agree`] prints `CALL: N cases` if all of its cases agree. It prints each case that differs, with the
-//! number of bytes before the first difference. The program `hsdec_cases`, whose cases have
-//! more lines, takes numbers and escapes from here. This crate is only for programs of cases, and promises nothing.
+//! number of bytes before the first difference. Where arguments or answers are bytes, [`unescaped`] reads them and
+//! [`escaped`] writes them. The program `hsdec_cases`, whose cases have more lines, takes numbers and escapes from
+//! here. This crate is only for programs of cases, and promises only what [`escaped`] writes and the range of [`limit`].
 #![tactic(auto)]
 
 ghost use Rattle.std.specs.Prelude.{◌≤◌, IfOk};
@@ -15,7 +16,7 @@ ghost use Rattle.std.specs.Prelude.{◌≤◌, IfOk};
 mod escapes;
 
 use anyhow::{Context, bail};
-pub use escapes::unescaped;
+pub use escapes::{escaped, unescaped};
 use std::fs;
 use std::rt::Files;
 
@@ -105,7 +106,13 @@ fn agrees<C: Calls, R: Files + AllocGlobal + Print>(
 
 /// The number of bytes before the first difference.
 fn first_difference(found: &[u8], wanted: &[u8]) -> usize {
-    found.iter().zip(wanted).take_while(|(a, b)| a == b).count()
+    let most = found.len().min(wanted.len());
+    for i in 0..most {
+        if found[i] != wanted[i] {
+            return i;
+        }
+    }
+    most
 }
 
 /// The number that a word says.

@@ -1,6 +1,6 @@
 //! Parts of answers.
 
-use hs_io::Name;
+use itoa::Buffer;
 use std::alloc::{AllocError, Global};
 use std::fmt;
 
@@ -12,15 +12,9 @@ pub fn put_all(texts: &[&[u8]], into: &mut Vec<u8>) -> Result<(), AllocError> {
     Ok(())
 }
 
-/// Appends the front and then a value as it is displayed.
-pub fn put<T: fmt::Display + Drop>(
-    alloc: Global,
-    front: &[u8],
-    value: T,
-    into: &mut Vec<u8>,
-) -> Result<(), AllocError> {
-    let text = value.to_string(alloc)?;
-    put_all(&[front, text.as_bytes()], into)
+/// Appends the front and then a number.
+pub fn put(front: &[u8], number: u64, into: &mut Vec<u8>) -> Result<(), AllocError> {
+    put_all(&[front, Buffer::new().format(number).as_bytes()], into)
 }
 
 /// Appends the front and then a number in hexadecimal.
@@ -43,19 +37,6 @@ pub fn put_debugged<T: fmt::Debug>(
 ) -> Result<(), AllocError> {
     let text = format!(in alloc; "{value:?}")?;
     put_all(&[front, text.as_bytes()], into)
-}
-
-/// Appends names, each between the same two texts.
-pub fn put_names(
-    front: &[u8],
-    names: &[Name],
-    behind: &[u8],
-    into: &mut Vec<u8>,
-) -> Result<(), AllocError> {
-    for name in names {
-        put_all(&[front, name.bytes(), behind], into)?;
-    }
-    Ok(())
 }
 
 /// The word of a truth value.

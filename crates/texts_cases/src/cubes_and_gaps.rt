@@ -41,8 +41,8 @@ fn put_parsed(
 ) -> Result<(), AllocError> {
     match Cube::parse(text, places(width)) {
         Ok(cube) => put_cube(alloc, b"", &cube, into),
-        Err(CubeFail::BadWidth { found }) => put(alloc, b"width ", found, into),
-        Err(CubeFail::BadChar { place }) => put(alloc, b"place ", place, into),
+        Err(CubeFail::BadWidth { found }) => put(b"width ", found as u64, into),
+        Err(CubeFail::BadChar { place }) => put(b"place ", place as u64, into),
     }
 }
 
@@ -55,7 +55,7 @@ pub(crate) fn put_cube(
 ) -> Result<(), AllocError> {
     put_bits(alloc, front, u64::from(cube.care), into)?;
     put_bits(alloc, b" ", u64::from(cube.value), into)?;
-    put(alloc, b" ", cube.width, into)
+    put(b" ", u64::from(cube.width), into)
 }
 
 /// Whether a cube of three places holds the symbol with this number.

@@ -1,6 +1,6 @@
 //! The calls of `hs_list` and `hs_io`.
 
-use crate::answers::{put, put_names};
+use crate::answers::{put, put_all};
 use crate::words::pieces;
 use crate::{line_texts, shelves};
 use hs_io::{LoadFail, Name, SinkFail, copied_names};
@@ -26,30 +26,34 @@ pub(crate) fn answer(
 }
 
 /// Puts the number of names, and then the names.
-fn put_counted(alloc: Global, names: &[Name], into: &mut Vec<u8>) -> Result<(), AllocError> {
-    put(alloc, b"", names.len(), into)?;
-    put_names(b"/", names, b"", into)
+fn put_counted(names: &[Name], into: &mut Vec<u8>) -> Result<(), AllocError> {
+    put(b"", names.len() as u64, into)?;
+    for name in names {
+        put_all(&[b"/", name.bytes()], into)?;
+    }
+    Ok(())
 }
 
 /// Puts the names of a list that is made from the vector of another list.
 fn put_items(alloc: Global, words: &[u8], into: &mut Vec<u8>) -> Result<(), AllocError> {
     let list = Items::from(pieces(alloc, words, b'/')?.into_vec());
-    put_counted(alloc, list.as_slice(), into)
+    put_counted(list.as_slice(), into)
 }
 
 /// Puts the names of a copy.
 fn put_copies(alloc: Global, words: &[u8], into: &mut Vec<u8>) -> Result<(), AllocError> {
     let names = pieces(alloc, words, b'/')?;
     let copies = copied_names(alloc, names.as_slice())?;
-    put_counted(alloc, copies.as_slice(), into)
+    put_counted(copies.as_slice(), into)
 }
 
 /// Puts the message of a failure.
 fn put_message(alloc: Global, word: &[u8], into: &mut Vec<u8>) -> Result<(), AllocError> {
-    match word {
-        b"LoadFail::Failed" => put(alloc, b"", LoadFail::Failed, into),
-        b"LoadFail::TooLong" => put(alloc, b"", LoadFail::TooLong, into),
-        b"LoadFail::NoMemory" => put(alloc, b"", LoadFail::NoMemory, into),
-        _ => put(alloc, b"", SinkFail::Failed, into),
-    }
+    let message = match word {
+        b"LoadFail::Failed" => LoadFail::Failed.to_string(alloc),
+        b"LoadFail::TooLong" => LoadFail::TooLong.to_string(alloc),
+        b"LoadFail::NoMemory" => LoadFail::NoMemory.to_string(alloc),
+        _ => SinkFail::Failed.to_string(alloc),
+    };
+    into.extend_from_slice(message?.as_bytes())
 }

@@ -47,7 +47,7 @@ fn put_answer(
 ) -> Result<(), AllocError> {
     match answer {
         Ok(job) => put_job(alloc, &job, into),
-        Err(JobFail::Usage { word }) => put(alloc, b"word ", word, into),
+        Err(JobFail::Usage { word }) => put(b"word ", u64::from(word), into),
         Err(JobFail::NoMemory) => Err(AllocError),
     }
 }
@@ -59,12 +59,12 @@ fn put_job(alloc: Global, job: &Job, into: &mut Vec<u8>) -> Result<(), AllocErro
         &[b" [", job.file.bytes(), b"] [", job.second.bytes(), b"]"],
         into,
     )?;
-    put(alloc, b" ", job.limit, into)?;
+    put(b" ", job.limit as u64, into)?;
     put_options(job, into)?;
-    put(alloc, b" ", job.seed, into)?;
-    put(alloc, b" ", job.a, into)?;
-    put(alloc, b" ", job.b, into)?;
-    put(alloc, b" ", job.k, into)
+    put(b" ", job.seed, into)?;
+    put(b" ", u64::from(job.a), into)?;
+    put(b" ", u64::from(job.b), into)?;
+    put(b" ", u64::from(job.k), into)
 }
 
 /// Puts the options.

@@ -27,23 +27,18 @@ fn put_numbered(alloc: Global, words: &[u8], into: &mut Vec<u8>) -> Result<(), A
     let mut names = StateNames::new(alloc);
     let words = pieces(alloc, words, b' ')?;
     for word in words.as_slice() {
-        add_name(alloc, &mut names, word.bytes(), into)?;
+        add_name(&mut names, word.bytes(), into)?;
     }
     put_state_names(&names, into)
 }
 
 /// Adds a name and puts its number.
-fn add_name(
-    alloc: Global,
-    names: &mut StateNames,
-    word: &[u8],
-    into: &mut Vec<u8>,
-) -> Result<(), AllocError> {
+fn add_name(names: &mut StateNames, word: &[u8], into: &mut Vec<u8>) -> Result<(), AllocError> {
     if names.count() >= 1000 {
         return Ok(());
     }
     let number = names.add(word)?;
-    put(alloc, b"", number, into)?;
+    put(b"", u64::from(number), into)?;
     into.extend_from_slice(b" ")
 }
 
@@ -75,7 +70,7 @@ fn put_repeated(alloc: Global, words: &[u8], into: &mut Vec<u8>) -> Result<(), A
 }
 
 /// Appends a piece the given number of times.
-pub(crate) fn repeat(piece: &[u8], times: u64, into: &mut Vec<u8>) -> Result<(), AllocError> {
+fn repeat(piece: &[u8], times: u64, into: &mut Vec<u8>) -> Result<(), AllocError> {
     for _ in 0..times {
         into.extend_from_slice(piece)?;
     }
@@ -93,15 +88,15 @@ fn put_read(alloc: Global, text: &[u8], into: &mut Vec<u8>) -> Result<(), AllocE
 
 /// Puts a fault.
 fn put_fault(alloc: Global, fault: &KissFault, into: &mut Vec<u8>) -> Result<(), AllocError> {
-    put(alloc, b"", fault.line, into)?;
+    put(b"", u64::from(fault.line), into)?;
     put_debugged(alloc, b" ", &fault.kind, into)
 }
 
 /// Puts the counts, the reset state and the names of a file, and then its rows.
 fn put_file(alloc: Global, file: &KissFile, into: &mut Vec<u8>) -> Result<(), AllocError> {
-    put(alloc, b"", file.inputs, into)?;
-    put(alloc, b" ", file.outputs, into)?;
-    put(alloc, b" ", file.reset, into)?;
+    put(b"", u64::from(file.inputs), into)?;
+    put(b" ", u64::from(file.outputs), into)?;
+    put(b" ", u64::from(file.reset), into)?;
     into.extend_from_slice(b" ")?;
     put_state_names(&file.states, into)?;
     for row in file.rows.as_slice() {
@@ -113,16 +108,16 @@ fn put_file(alloc: Global, file: &KissFile, into: &mut Vec<u8>) -> Result<(), Al
 /// Puts the numbers of a row, with the bits of cubes and outputs in hexadecimal.
 fn put_row(alloc: Global, row: &KissRow, into: &mut Vec<u8>) -> Result<(), AllocError> {
     put_cube(alloc, b"; ", &row.cube, into)?;
-    put(alloc, b", ", row.from, into)?;
-    put_next(alloc, row.to, into)?;
+    put(b", ", u64::from(row.from), into)?;
+    put_next(row.to, into)?;
     put_bits(alloc, b", ", row.care, into)?;
     put_bits(alloc, b" ", row.value, into)
 }
 
 /// Puts the number of the next state, or a star.
-fn put_next(alloc: Global, to: Option<u16>, into: &mut Vec<u8>) -> Result<(), AllocError> {
+fn put_next(to: Option<u16>, into: &mut Vec<u8>) -> Result<(), AllocError> {
     match to {
-        Some(to) => put(alloc, b" ", to, into),
+        Some(to) => put(b" ", u64::from(to), into),
         None => into.extend_from_slice(b" *"),
     }
 }

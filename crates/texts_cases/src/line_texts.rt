@@ -8,7 +8,7 @@ use std::alloc::{AllocError, Global};
 /// Puts the lines of a text, and then, if these differ, the lines as they are read one after another.
 pub(crate) fn put_lines(alloc: Global, text: &[u8], into: &mut Vec<u8>) -> Result<(), AllocError> {
     let mut in_turn = Vec::new(alloc);
-    put_in_turn(alloc, text, &mut in_turn)?;
+    put_in_turn(text, &mut in_turn)?;
     put_at_once(alloc, text, into)?;
     if in_turn.as_slice() == into.as_slice() {
         return Ok(());
@@ -17,8 +17,8 @@ pub(crate) fn put_lines(alloc: Global, text: &[u8], into: &mut Vec<u8>) -> Resul
 }
 
 /// Puts the number of a line, and a mark if it is bad.
-fn put_number(alloc: Global, number: u32, bad: bool, into: &mut Vec<u8>) -> Result<(), AllocError> {
-    put(alloc, b"", number, into)?;
+fn put_number(number: u32, bad: bool, into: &mut Vec<u8>) -> Result<(), AllocError> {
+    put(b"", u64::from(number), into)?;
     into.extend_from_slice(if bad {
         b"!:".as_slice()
     } else {
@@ -30,14 +30,14 @@ fn put_number(alloc: Global, number: u32, bad: bool, into: &mut Vec<u8>) -> Resu
 fn put_at_once(alloc: Global, text: &[u8], into: &mut Vec<u8>) -> Result<(), AllocError> {
     let lines = cut_lines(alloc, readable(text))?;
     for line in lines.iter() {
-        put_line(alloc, line, into)?;
+        put_line(line, into)?;
     }
     Ok(())
 }
 
 /// Puts a line.
-fn put_line(alloc: Global, line: &Line, into: &mut Vec<u8>) -> Result<(), AllocError> {
-    put_number(alloc, line.number, line.bad, into)?;
+fn put_line(line: &Line, into: &mut Vec<u8>) -> Result<(), AllocError> {
+    put_number(line.number, line.bad, into)?;
     for field in line.fields.as_slice() {
         put_all(&[field.bytes(), b";"], into)?;
     }
@@ -45,26 +45,21 @@ fn put_line(alloc: Global, line: &Line, into: &mut Vec<u8>) -> Result<(), AllocE
 }
 
 /// Puts the lines as they are read one after another.
-fn put_in_turn(alloc: Global, text: &[u8], into: &mut Vec<u8>) -> Result<(), AllocError> {
+fn put_in_turn(text: &[u8], into: &mut Vec<u8>) -> Result<(), AllocError> {
     let mut rest = text;
     let mut number = 0u32;
     while !rest.is_empty() {
         let (line, more) = first_line(rest);
         number = number.saturating_add(1);
-        put_content(alloc, number, content_of(line), into)?;
+        put_content(number, content_of(line), into)?;
         rest = more;
     }
     Ok(())
 }
 
 /// Puts the number of a line and its fields.
-fn put_content(
-    alloc: Global,
-    number: u32,
-    content: &[u8],
-    into: &mut Vec<u8>,
-) -> Result<(), AllocError> {
-    put_number(alloc, number, !is_clean(content), into)?;
+fn put_content(number: u32, content: &[u8], into: &mut Vec<u8>) -> Result<(), AllocError> {
+    put_number(number, !is_clean(content), into)?;
     let (mut field, mut rest) = first_field(content);
     while !field.is_empty() {
         put_all(&[field, b";"], into)?;

@@ -31,7 +31,7 @@ pub(crate) fn answer(
     let file = make(alloc, number(seed), a, b, k)?;
     match call {
         "make" => put_written(alloc, &file, into),
-        _ => put_sizes(alloc, &file, into),
+        _ => put_sizes(&file, into),
     }
 }
 
@@ -51,8 +51,8 @@ fn space_before(i: u64) -> &'static [u8] {
 }
 
 /// Puts the numbers of states and of rows of a machine.
-fn put_sizes(alloc: Global, file: &KissFile, into: &mut Vec<u8>) -> Result<(), AllocError> {
-    put(alloc, b"", file.states.count(), into)?;
-    put(alloc, b" states ", file.rows.as_slice().len(), into)?;
+fn put_sizes(file: &KissFile, into: &mut Vec<u8>) -> Result<(), AllocError> {
+    put(b"", file.states.count() as u64, into)?;
+    put(b" states ", file.rows.as_slice().len() as u64, into)?;
     into.extend_from_slice(b" rows")
 }

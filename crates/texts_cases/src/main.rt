@@ -1,4 +1,4 @@
-//! Runs the cases in the files that its words name:
+//! Runs what its words name. A word can name a file of cases:
 //!
 //! | File | Holds the calls of |
 //! |---|---|
@@ -8,16 +8,11 @@
 //! | `kiss.cases` | `kiss2` |
 //! | `jobs.cases` | `job_words` |
 //! | `lines.cases` | `hs_texts` |
-//! | `nets.cases` | `blif_in` and `blif_out` |
-//! | `networks.cases` | `net_core` |
-//! | `runs.cases` | `net_sim` |
 //! | `machines.cases` | `machine_gen` |
 //!
-//! A case is a line: the call is its first word, the arguments are the words up to the first ` =`, and the
-//! answer is what follows after one space, as in `meets 01- -11 = true`. Empty lines and lines that begin with
-//! `#` are skipped. In the arguments and the answer `\n`, `\r` and `\t` are one byte each, and so is `\x` with
-//! two hexadecimal digits. The top of each file says what the arguments and the answers of its calls are. A new
-//! case is a line, and needs no proof. Cases of one call follow one another.
+//! The form of a line is that of [`case_lines`]. In the arguments and the answer `\n`, `\r` and `\t` are one byte
+//! each, and so is `\x` with two hexadecimal digits. The top of each file says what the arguments and the answers
+//! of its calls are. A new case is a line, and needs no proof.
 //!
 //! A missing argument is empty, a character that is no digit counts as a digit, and a number outside its range
 //! is the nearest number in the range. So a case with a fault is not refused. It shows as a difference if the
@@ -31,47 +26,106 @@
 #![tactic(auto)]
 
 mod answers;
-mod cases;
 mod cubes_and_gaps;
 mod io_calls;
 mod jobs;
 mod kiss_texts;
-mod letters;
 mod line_texts;
 mod machines;
-mod net_texts;
-mod networks;
 mod plain_gaps;
 mod plain_words;
 mod printed;
-mod runs;
 mod shelves;
 mod word_lists;
 mod words;
 
-use std::process::ExitCode;
-use std::{env, io};
+use anyhow::{Context, ensure};
+use case_lines::{Calls, agree, escaped, unescaped};
+use std::alloc::AllocError;
+use std::env;
+use std::rt::Files;
 
-/// Whether all that a word names agrees.
-fn agrees(rt: &HostRuntime, word: &str) -> io::Result<bool> {
-    match word {
-        "streams" => Ok(shelves::put_to_streams(rt)),
-        "small_cubes" => plain_gaps::agree(rt),
-        "short_lists" => word_lists::agree(rt),
-        name => cases::agree(rt, name),
+/// The calls that a file asks.
+#[derive(Drop)]
+enum Asked {
+    Io,
+    Files,
+    Cubes,
+    Kiss,
+    Jobs,
+    Lines,
+    Machines,
+}
+
+impl Asked {
+    /// The calls that the file of a name asks.
+    fn of_file(name: &str) -> Option<Asked> {
+        match name {
+            "io.cases" => Some(Asked::Io),
+            "files.cases" => Some(Asked::Files),
+            "cubes.cases" => Some(Asked::Cubes),
+            "kiss.cases" => Some(Asked::Kiss),
+            "jobs.cases" => Some(Asked::Jobs),
+            "lines.cases" => Some(Asked::Lines),
+            "machines.cases" => Some(Asked::Machines),
+            _ => None,
+        }
+    }
+
+    /// Puts what a call answers.
+    fn put_answer<R: Files + AllocGlobal>(
+        &self,
+        rt: &R,
+        call: &str,
+        words: &[u8],
+        into: &mut Vec<u8>,
+    ) -> Result<(), AllocError> {
+        let alloc = rt.alloc();
+        match self {
+            Asked::Io => io_calls::answer(alloc, call, words, into),
+            Asked::Files => shelves::load_file(rt, words, into),
+            Asked::Cubes => cubes_and_gaps::answer(alloc, call, words, into),
+            Asked::Kiss => kiss_texts::answer(alloc, call, words, into),
+            Asked::Jobs => jobs::answer(alloc, call, words, into),
+            Asked::Lines => printed::answer(alloc, call, words, into),
+            Asked::Machines => machines::answer(alloc, call, words, into),
+        }
     }
 }
 
-fn main(rt: HostRuntime) -> io::Result<ExitCode> {
-    let mut differ = false;
-    for word in env::args(&rt)?.skip(1) {
-        if !agrees(&rt, word.as_str())? {
-            differ = true;
+impl Calls for Asked {
+    fn answer<R: Files + AllocGlobal>(
+        &self,
+        rt: &R,
+        call: &str,
+        words: &str,
+    ) -> anyhow::Result<String> {
+        let words = unescaped(rt.alloc(), words)?;
+        let mut text = Vec::new(rt.alloc());
+        self.put_answer(rt, call, words.as_slice(), &mut text)?;
+        let text = escaped(rt.alloc(), text.as_slice())?;
+        String::from_utf8(text).ok().context("no text")
+    }
+}
+
+/// Whether all that a word names agrees.
+fn agrees(rt: &HostRuntime, word: &str) -> anyhow::Result<bool> {
+    match word {
+        "streams" => Ok(shelves::put_to_streams(rt)),
+        "small_cubes" => Ok(plain_gaps::agree(rt)?),
+        "short_lists" => Ok(word_lists::agree(rt)?),
+        name => {
+            let asked = Asked::of_file(name).context("no file of cases")?;
+            agree(rt, &asked, name)
         }
     }
-    Ok(if differ {
-        ExitCode::FAILURE
-    } else {
-        ExitCode::SUCCESS
-    })
+}
+
+fn main(rt: HostRuntime) -> anyhow::Result<()> {
+    let mut all = true;
+    for word in env::args(&rt)?.skip(1) {
+        all = agrees(&rt, word.as_str())? && all;
+    }
+    ensure!(all, "there are differences");
+    Ok(())
 }

@@ -1,7 +1,7 @@
 //! A judge of words that looks at each word on its own and counts the words before it.
 
+use crate::words::number;
 use job_words::{CommandOption, Form, OperandKind, built_forms};
-use std::str;
 
 /// The number of the refused word, counted from 1, or 0 where the words are a job.
 pub(crate) fn refused_word(words: &[&[u8]]) -> usize {
@@ -44,10 +44,10 @@ fn can_stand(form: &Form, words: &[&[u8]], place: usize) -> bool {
     if word.starts_with(b"--".as_slice()) {
         return has_option(form, word) && !stands_before(words, place);
     }
-    let number = operands_before(words, place);
+    let before = operands_before(words, place);
     !word.is_empty()
-        && number < form.operands.len()
-        && is_of_kind(form.operands[number], words, place)
+        && before < form.operands.len()
+        && is_of_kind(form.operands[before], words, place)
 }
 
 /// Whether an option takes the word at a place.
@@ -126,19 +126,21 @@ fn is_of_kind(kind: OperandKind, words: &[&[u8]], place: usize) -> bool {
 
 /// The product of two numbers.
 fn product(a: &[u8], b: &[u8]) -> u64 {
-    value(a).saturating_mul(value(b))
+    number(a).saturating_mul(number(b))
 }
 
 /// Whether a word is a number in a range.
 fn is_between(low: u64, high: u64, word: &[u8]) -> bool {
-    let digits = word.iter().all(|byte| b"0123456789".contains(byte));
-    digits && !word.is_empty() && word.len() < 10 && low <= value(word) && value(word) <= high
+    let value = number(word);
+    are_digits(word) && !word.is_empty() && word.len() < 10 && low <= value && value <= high
 }
 
-/// The value of a text of digits.
-fn value(word: &[u8]) -> u64 {
-    match str::from_utf8(word) {
-        Ok(text) => text.parse::<u64>().unwrap_or(0),
-        Err(_) => 0,
+/// Whether each byte is a digit.
+fn are_digits(word: &[u8]) -> bool {
+    for byte in word {
+        if *byte < b'0' || *byte > b'9' {
+            return false;
+        }
     }
+    true
 }

@@ -5,6 +5,7 @@ use crate::words::{cut, number, pieces};
 use hs_io::{FileShelf, LoadFail, MemShelf, MemSink, Shelf, Sink, SinkFail, StdSink};
 use std::alloc::{AllocError, Global};
 use std::io;
+use std::rt::Files;
 
 /// The word for the answer of a load.
 fn told(answer: Result<(), LoadFail>) -> &'static [u8] {
@@ -57,8 +58,8 @@ fn load(
 }
 
 /// Puts the answer of a load of a file with a limit of ten bytes, and the bytes that it gives.
-pub(crate) fn load_file(
-    rt: &HostRuntime,
+pub(crate) fn load_file<R: Files + AllocGlobal>(
+    rt: &R,
     name: &[u8],
     into: &mut Vec<u8>,
 ) -> Result<(), AllocError> {

@@ -18,9 +18,16 @@ pub fn cut(text: &[u8], mark: u8) -> (&[u8], &[u8]) {
 /// The pieces of a text between its bytes `mark`.
 pub fn pieces(alloc: Global, text: &[u8], mark: u8) -> Result<Names, AllocError> {
     let mut pieces = Names::new(alloc);
-    for piece in text.split(|byte| *byte == mark) {
-        pieces.push(Name::new(alloc, piece)?)?;
+    let mut piece = Vec::new(alloc);
+    for byte in text {
+        if *byte == mark {
+            pieces.push(Name::new(alloc, piece.as_slice())?)?;
+            piece.clear();
+        } else {
+            piece.push(*byte)?;
+        }
     }
+    pieces.push(Name::new(alloc, piece.as_slice())?)?;
     Ok(pieces)
 }
 
@@ -45,40 +52,4 @@ pub fn readable(text: &[u8]) -> &[u8]
     ensures { length result.now < 4294967295 }
 {
     &text[..text.len().min(0xffff_fffe)]
-}
-
-/// Appends the bytes that a text with escapes says.
-pub fn unescape(text: &str, into: &mut Vec<u8>) -> Result<(), AllocError> {
-    let mut pieces = text.split('\\');
-    if let Some(front) = pieces.next() {
-        into.extend_from_slice(front.as_bytes())?;
-    }
-    for piece in pieces {
-        append_escape(piece.as_bytes(), into)?;
-    }
-    Ok(())
-}
-
-/// Appends what a backslash and the piece after it mean.
-fn append_escape(piece: &[u8], into: &mut Vec<u8>) -> Result<(), AllocError> {
-    let (byte, rest) = match piece {
-        [b'n', rest @ ..] => (b'\n', rest),
-        [b'r', rest @ ..] => (b'\r', rest),
-        [b't', rest @ ..] => (b'\t', rest),
-        [b'x', high, low, rest @ ..] => (digit(*high) * 16 + digit(*low), rest),
-        _ => (b'\\', piece),
-    };
-    into.push(byte)?;
-    into.extend_from_slice(rest)
-}
-
-/// The number of a hexadecimal digit.
-fn digit(byte: u8) -> u8
-    ensures { result < 16 }
-{
-    match byte {
-        b'0'..=b'9' => byte - b'0',
-        b'a'..=b'f' => byte - b'a' + 10,
-        _ => 0,
-    }
 }

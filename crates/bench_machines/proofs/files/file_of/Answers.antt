@@ -1,4 +1,4 @@
-use Rattle.kiss2.proofs.ReadLawful.{read_lawful}
+use Rattle.kiss2_laws.proofs.ReadLawful.{read_lawful}
 use Rattle.bench_machines.proofs.files.file_of.Goals as goal
 
 pub returns : goal.returns

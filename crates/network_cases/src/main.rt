@@ -1,0 +1,55 @@
+//! Runs the cases of networks. The form of a line is that of [`case_lines`]. The top of each file of `data/` says
+//! what the arguments and the answers of its calls are: `nets.cases` has the calls of `blif_in` and `blif_out`,
+//! `networks.cases` those of `net_core`, and `runs.cases` those of `net_sim`.
+//!
+//! In texts and in answers `\n`, `\r` and `\t` are one byte each, and so is `\x` with two hexadecimal digits. Where
+//! the words do not fit the call, the case differs. A new case is a line, and needs no proof.
+#![tactic(auto)]
+
+mod letters;
+mod net_texts;
+mod networks;
+mod runs;
+mod words;
+
+use anyhow::{Context, ensure};
+use case_lines::{Calls, agree, escaped};
+use std::alloc::Global;
+use std::rt::Files;
+
+/// The calls of networks.
+struct NetworkCalls;
+
+impl Calls for NetworkCalls {
+    fn answer<R: Files + AllocGlobal>(
+        &self,
+        rt: &R,
+        call: &str,
+        words: &str,
+    ) -> anyhow::Result<String> {
+        let text = answer_of(rt.alloc(), call, words).context("no answer")?;
+        let text = escaped(rt.alloc(), text.as_slice())?;
+        String::from_utf8(text).ok().context("no text")
+    }
+}
+
+/// What a call answers. There is none where the words do not fit the call.
+fn answer_of(alloc: Global, call: &str, words: &str) -> Option<Vec<u8>> {
+    let mut text = Vec::new(alloc);
+    match call {
+        "blif" | "blif_repeated" | "blif_text" => {
+            net_texts::add_answer(alloc, call, words, &mut text)?;
+        }
+        "digit" | "check" | "counts" => networks::add_answer(alloc, call, words, &mut text)?,
+        _ => runs::add_answer(alloc, call, words, &mut text)?,
+    }
+    Some(text)
+}
+
+fn main(rt: HostRuntime) -> anyhow::Result<()> {
+    let nets = agree(&rt, &NetworkCalls, "nets.cases")?;
+    let networks = agree(&rt, &NetworkCalls, "networks.cases")?;
+    let runs = agree(&rt, &NetworkCalls, "runs.cases")?;
+    ensure!(nets && networks && runs, "there are differences");
+    Ok(())
+}
