@@ -1,6 +1,7 @@
 pub mod Found
 pub mod Generating
 pub mod Holds
+pub mod Grown
 pub mod Listed
 pub mod Reached
 pub mod Topmost

@@ -2,7 +2,8 @@
 //!
 //! The right sides of two states are joined, one after another, as long as the join is strictly below one. A
 //! right side that could not be joined once cannot be joined later, so one pass is enough. Each right side that
-//! is strictly above the grown partition is one.
+//! is strictly above the grown partition is one. The next states of two states are merged in a copy of the grown
+//! partition, which is then its join with their right side. The merging stops where the join is one.
 
 ghost use Rattle.std.specs.Prelude.{◌<◌, ◌↔◌, IfOk, length};
 ghost use Rattle.mm_lattice.specs.Generators.{IsRightOf};
@@ -10,7 +11,6 @@ ghost use Rattle.mm_lattice.specs.Top.{IsBelowOne, IsGreatestRight, RightsAreTri
 ghost use Rattle.pair_operators.specs.Growth.{GrowsOver, IsGrowth, pairs_from};
 ghost use Rattle.partition.specs.Partition.{IsPartition, IsZero, zero_of};
 
-use crate::collecting::right_of;
 use crate::worlds::with_right;
 use machine_table::Machine;
 use partition::Partition;
@@ -31,8 +31,8 @@ fn grow_from(
 {
     let mut grown = start;
     for t in s + 1..m.states() {
-        let right = right_of(alloc, m, s, t)?;
-        let joined = grown.join(alloc, &right)?;
+        let mut joined = grown.copy(alloc)?;
+        m.merge_images(alloc, s, t, &mut joined)?;
         if joined.blocks() > 1 {
             grown = joined;
         }

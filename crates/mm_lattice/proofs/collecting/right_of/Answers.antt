@@ -1,4 +1,4 @@
-use Rattle.std.proofs.Common.{ℕ, sym, subst, arith}
+use Rattle.std.proofs.Common.{ℕ, subst, arith}
 use Rattle.partition.specs.Partition.{IsPartition}
 use Rattle.mm_lattice.proofs.Holds.{right_held}
 use Rattle.mm_lattice.proofs.collecting.right_of.Goals as goal
