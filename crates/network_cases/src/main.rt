@@ -2,8 +2,9 @@
 //! what the arguments and the answers of its calls are: `nets.cases` has the calls of `blif_in` and `blif_out`,
 //! `networks.cases` those of `net_core`, and `runs.cases` those of `net_sim`.
 //!
-//! In texts and in answers `\n`, `\r` and `\t` are one byte each, and so is `\x` with two hexadecimal digits. Where
-//! the words do not fit the call, the case differs. A new case is a line, and needs no proof.
+//! In texts and in answers `\n`, `\r` and `\t` are one byte each, and so is `\x` with two hexadecimal digits. Too few
+//! words make a case differ. A character that a call does not know counts as one that it knows. A new case is a line,
+//! and needs no proof.
 #![tactic(auto)]
 
 mod letters;
