@@ -65,12 +65,15 @@ module _ (c d : Cube) (k : ℕ) where
   pub free_is_dash : bit_at (free_of c d) k ≡ 1 → (bit_at d.care k ≡ 1) × (bit_at c.care k ≡ 0)
   free_is_dash one = digit_one (bit_at c.care k) (bit_at d.care k) (bit_at-lt c.care k) (bit_at-lt d.care k) (sym free_digit ∙ one)
 
-  -- with none free, a place at which the second looks is one at which the first does
-  pub none_free : free_of c d ≡ 0 → bit d.care k ≡ true → bit c.care k ≡ true
-  none_free none cares =
+  -- a place that is not free, and at which the second looks, is one at which the first does
+  pub not_free : bit_at (free_of c d) k ≡ 0 → bit d.care k ≡ true → bit c.care k ≡ true
+  not_free none cares =
       bit_from_one c.care k
       (digit_none (bit_at c.care k) (bit_at d.care k) (bit_at-lt c.care k) (bit_at-lt d.care k)
-      (sym free_digit ∙ ap (λ n. bit_at n k) none ∙ bit_at-zero k) (one_from_bit d.care k cares))
+      (sym free_digit ∙ none) (one_from_bit d.care k cares))
+
+  pub none_free : free_of c d ≡ 0 → bit d.care k ≡ true → bit c.care k ≡ true
+  none_free none = not_free (ap (λ n. bit_at n k) none ∙ bit_at-zero k)
 
 -- the lowest place that is free
 module _ (c d : Cube) (widths : c.width ≡ d.width) (some : free_of c d ≢ 0) where
@@ -80,10 +83,17 @@ module _ (c d : Cube) (widths : c.width ≡ d.width) (some : free_of c d ≢ 0) 
       let bound : 2 ^ d.width ≤ 2 ^ 32 = pow-le-pow_right two d.width_bound in
       omega (arith, and_le_l d.care (bit_xor d.care c.care), d.care_in_width, bound)
 
+  positive : 0 < free_of c d
+  positive = omega (arith, some)
+
   at_lowest : (bit_at d.care (trailing_zeros w32 (free_of c d)) ≡ 1) × (bit_at c.care (trailing_zeros w32 (free_of c d)) ≡ 0)
-  at_lowest =
-      let positive : 0 < free_of c d = omega (arith, some) in
-      free_is_dash c d (trailing_zeros w32 (free_of c d)) ((bit_at-trailing_zeros w32 (free_of c d) positive free_fits).1)
+  at_lowest = free_is_dash c d (trailing_zeros w32 (free_of c d)) ((bit_at-trailing_zeros w32 (free_of c d) positive free_fits).1)
+
+  pub other_at : bit d.care (trailing_zeros w32 (free_of c d)) ≡ true
+  other_at = bit_from_one d.care (trailing_zeros w32 (free_of c d)) at_lowest.0
+
+  pub none_before : (k : ℕ) → k < trailing_zeros w32 (free_of c d) → bit d.care k ≡ true → bit c.care k ≡ true
+  none_before k below = not_free c d k ((bit_at-trailing_zeros w32 (free_of c d) positive free_fits).2 k below)
 
   pub dash_at : bit c.care (trailing_zeros w32 (free_of c d)) ≡ false
   dash_at = bit_from_zero c.care (trailing_zeros w32 (free_of c d)) at_lowest.1

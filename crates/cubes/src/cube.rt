@@ -74,7 +74,7 @@ pub struct Cube {
 }
 
 impl Cube {
-    ghost use Rattle.std.specs.Prelude.{ℕ, IfNone, IfOk, IfSome, Err, IsTrue, length, false, ◌↔◌, ◌≢◌};
+    ghost use Rattle.std.specs.Prelude.{ℕ, IfNone, IfOk, IfSome, Err, IsTrue, length, false, true, ◌↔◌, ◌≢◌};
     ghost use Rattle.cubes.specs.Cube.{HoldsNumber, IsFirstBad, IsHalf, Meets, text_of};
     ghost use Rattle.cubes.specs.Symbol.{bit};
 
@@ -158,6 +158,8 @@ impl Cube {
         requires meets { Meets self.now other.now }
         ensures within { IfSome result (λ place. place < self.now.width) }
         ensures dash { IfSome result (λ place. bit self.now.care place ≡ false) }
+        ensures other { IfSome result (λ place. bit other.now.care place ≡ true) }
+        ensures lowest { IfSome result (λ place. (k : ℕ) → k < place → bit other.now.care k ≡ true → bit self.now.care k ≡ true) }
         ensures none { IfNone result ((y : ℕ) → HoldsNumber self.now y → HoldsNumber other.now y) }
     {
         let free = other.care & (other.care ^ self.care);
