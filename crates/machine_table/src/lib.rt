@@ -27,7 +27,6 @@ mod open_entry;
 mod pair_list;
 mod pairs;
 mod question;
-mod row_tree;
 mod searching;
 mod walking;
 

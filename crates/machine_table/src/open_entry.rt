@@ -70,7 +70,7 @@ fn earlier(first: Option<(u32, Missing)>, gap: Option<u32>, part: Missing) -> Op
 
 impl Machine {
     /// The first entry that no row says.
-    pub fn first_open(&self, alloc: Global) -> Result<Option<Entry>, AllocError>
+    pub(crate) fn first_open(&self, alloc: Global) -> Result<Option<Entry>, AllocError>
         ensures some { IfOk result (λ found. IfSome found (λ entry. IsFirstOpen self.now entry.state entry.symbol entry.part)) }
         ensures none { IfOk result (λ found. IfNone found ((s number : ℕ) (part : Missing) → IsEntry self.now s number part → IsSaid self.now s number part)) }
     {

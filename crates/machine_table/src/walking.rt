@@ -7,7 +7,7 @@ ghost use Rattle.machine_table.specs.Walk.{outputs_of};
 
 use crate::Machine;
 use crate::open_entry::all_outputs;
-use crate::row_tree::RowTree;
+use state_rows::RowTree;
 use std::alloc::{AllocError, Global};
 
 /// The number of symbols per state from which trees of rows pay off.
