@@ -8,11 +8,13 @@ use Rattle.answers.specs.Laws.Causes.{HasOneAnswer, IsOf, one_of}
 use Rattle.answers.specs.Refusal.{answer_of}
 use Rattle.closed_lattice.specs.Closed.{IsClosedPartition}
 use Rattle.cover_texts.specs.Laws.Causes.{bad_cover_is_of, bad_cover_one}
+use Rattle.hsdec_core.specs.declared.tasks.ListTask.{ListTask}
+use Rattle.hsdec_core.specs.declared.tasks.ListTask.TheVariants.{Closed, InputPairs, Output, OutputPairs, Pairs}
 use Rattle.hsdec_core.specs.declared.tasks.MachineTask.{MachineTask}
-use Rattle.hsdec_core.specs.declared.tasks.MachineTask.TheVariants.{Check, Closed, Cover, Decompose, Definite, High, InputPairs, Low, Output, OutputPairs, Pairs, Reduce, Shift}
+use Rattle.hsdec_core.specs.declared.tasks.MachineTask.TheVariants.{Check, Cover, Decompose, Definite, High, Listing, Low, Reduce, Shift}
 use Rattle.operands.specs.Laws.Causes.{never_has_one}
 use Rattle.hsdec_core.specs.Inner.Made.{IsPlain}
-use Rattle.hsdec_core.specs.Judgement.{own_cause}
+use Rattle.hsdec_core.specs.Judgement.{list_cause, own_cause}
 use Rattle.io_pairs.specs.Inputs.{IsInMmPair}
 use Rattle.io_pairs.specs.Outputs.{IsOutMmPair}
 use Rattle.io_pairs.specs.Sides as rights
@@ -34,18 +36,21 @@ use Rattle.split_texts.specs.Laws.Causes.{has_long_code_is_of, leaves_together_i
 use Rattle.state_codes.specs.declared.split.Kind.{Kind}
 use Rattle.state_codes.specs.declared.split.Kind.TheVariants as kinds
 
+list_have_one : (listed : ListTask) (limit : ℕ) (F : KissFile) → HasOneAnswer (list_cause listed limit F)
+list_have_one Closed limit F = list_has_one_answer Before (IsClosedPartition F) limit
+list_have_one Output limit F = list_has_one_answer Before (IsClosedAndConsistent F) limit
+list_have_one Pairs limit F = list_has_one_answer RightBefore (IsMmPair F) limit
+list_have_one InputPairs limit F = input_pairs_have_one_answer F limit
+list_have_one OutputPairs limit F = output_pairs_have_one_answer F limit
+
 -- each command's own cause has one answer
 pub own_have_one : (task : MachineTask) (job : Job) (F : KissFile) → HasOneAnswer (own_cause task job F)
 own_have_one Check job F = never_has_one
 own_have_one Reduce job F = never_has_one
-own_have_one Closed job F = list_has_one_answer Before (IsClosedPartition F) job.limit
-own_have_one Output job F = list_has_one_answer Before (IsClosedAndConsistent F) job.limit
-own_have_one Pairs job F = list_has_one_answer RightBefore (IsMmPair F) job.limit
+own_have_one (Listing listed) job F = list_have_one listed job.limit F
 own_have_one Low job F = one_of answers.PartRefused (BadPart (length F.states) job.second) (bad_part_is_of (length F.states) job.second)
 own_have_one High job F = one_of answers.PartRefused (BadPart (length F.states) job.second) (bad_part_is_of (length F.states) job.second)
 own_have_one Definite job F = definite_has_one_answer job.reduce F
-own_have_one InputPairs job F = input_pairs_have_one_answer F job.limit
-own_have_one OutputPairs job F = output_pairs_have_one_answer F job.limit
 own_have_one Cover job F = bad_cover_one F job.second
 own_have_one Shift job F = shift_has_one_answer job.reduce F
 own_have_one (Decompose kind) job F = not_written_one kind job.second job.reduce F
@@ -80,22 +85,25 @@ shift_plain reduce F refusal (W, work, inr (_, inr (_, inl h))) = subst IsPlain 
 shift_plain reduce F refusal (W, work, inr (_, inr (_, inr h))) = absurd h.1
 
 -- a command's own refusal is told without a text, but for evidence that there is more than the limit
+list_plain : (listed : ListTask) (limit : ℕ) (F : KissFile) (refusal : Refusal) → list_cause listed limit F refusal → answer_of refusal ≢ answers.More → IsPlain (answer_of refusal)
+list_plain Closed limit F refusal h few = absurd (few (more_than_is_of Before (IsClosedPartition F) limit refusal h))
+list_plain Output limit F refusal h few = absurd (few (more_than_is_of Before (IsClosedAndConsistent F) limit refusal h))
+list_plain Pairs limit F refusal h few = absurd (few (more_than_is_of RightBefore (IsMmPair F) limit refusal h))
+list_plain InputPairs limit F refusal (inl h) few = subst IsPlain (sym (too_many_inputs_is_of F refusal h)) tt
+list_plain InputPairs limit F refusal (inr (_, inl h)) few = absurd (few (more_than_is_of rights.RightBefore (IsInMmPair F) limit refusal h))
+list_plain InputPairs limit F refusal (inr (_, inr h)) few = absurd h.1
+list_plain OutputPairs limit F refusal (inl h) few = subst IsPlain (sym (too_many_inputs_is_of F refusal h)) tt
+list_plain OutputPairs limit F refusal (inr (_, inl h)) few = subst IsPlain (sym (too_many_outputs_is_of F refusal h)) tt
+list_plain OutputPairs limit F refusal (inr (_, inr (_, inl h))) few = absurd (few (more_than_is_of rights.RightBefore (IsOutMmPair F) limit refusal h))
+list_plain OutputPairs limit F refusal (inr (_, inr (_, inr h))) few = absurd h.1
+
 pub own_plain : (task : MachineTask) (job : Job) (F : KissFile) (refusal : Refusal) → own_cause task job F refusal → answer_of refusal ≢ answers.More → IsPlain (answer_of refusal)
 own_plain Check job F refusal h few = absurd h
 own_plain Reduce job F refusal h few = absurd h
-own_plain Closed job F refusal h few = absurd (few (more_than_is_of Before (IsClosedPartition F) job.limit refusal h))
-own_plain Output job F refusal h few = absurd (few (more_than_is_of Before (IsClosedAndConsistent F) job.limit refusal h))
-own_plain Pairs job F refusal h few = absurd (few (more_than_is_of RightBefore (IsMmPair F) job.limit refusal h))
+own_plain (Listing listed) job F refusal h few = list_plain listed job.limit F refusal h few
 own_plain Low job F refusal h few = subst IsPlain (sym (bad_part_is_of (length F.states) job.second refusal h)) tt
 own_plain High job F refusal h few = subst IsPlain (sym (bad_part_is_of (length F.states) job.second refusal h)) tt
 own_plain Definite job F refusal h few = subst IsPlain (sym (not_definite_is_of job.reduce F refusal h)) tt
-own_plain InputPairs job F refusal (inl h) few = subst IsPlain (sym (too_many_inputs_is_of F refusal h)) tt
-own_plain InputPairs job F refusal (inr (_, inl h)) few = absurd (few (more_than_is_of rights.RightBefore (IsInMmPair F) job.limit refusal h))
-own_plain InputPairs job F refusal (inr (_, inr h)) few = absurd h.1
-own_plain OutputPairs job F refusal (inl h) few = subst IsPlain (sym (too_many_inputs_is_of F refusal h)) tt
-own_plain OutputPairs job F refusal (inr (_, inl h)) few = subst IsPlain (sym (too_many_outputs_is_of F refusal h)) tt
-own_plain OutputPairs job F refusal (inr (_, inr (_, inl h))) few = absurd (few (more_than_is_of rights.RightBefore (IsOutMmPair F) job.limit refusal h))
-own_plain OutputPairs job F refusal (inr (_, inr (_, inr h))) few = absurd h.1
 own_plain Cover job F refusal h few = subst IsPlain (sym (bad_cover_is_of F job.second refusal h)) tt
 own_plain Shift job F refusal h few = shift_plain job.reduce F refusal h
 own_plain (Decompose kind) job F refusal h few = not_written_plain kind job.second job.reduce F refusal h

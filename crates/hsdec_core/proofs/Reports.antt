@@ -12,11 +12,12 @@ use Rattle.answers.specs.Cause.{Cause}
 use Rattle.answers.specs.Judged.{IsJudged, IsReported}
 use Rattle.answers.specs.Laws.Causes.{IsOf}
 use Rattle.answers.specs.Refusal.{answer_of}
+use Rattle.hsdec_core.specs.declared.tasks.ListTask.{ListTask}
 use Rattle.hsdec_core.specs.declared.tasks.MachineTask.{MachineTask}
 use Rattle.operands.specs.Causes.{Never}
 use Rattle.hsdec_core.specs.Inner.Made.{IsPlain}
-use Rattle.hsdec_core.specs.Judgement.{own_cause}
-use Rattle.hsdec_core.specs.Promise.{IsReport, IsShown}
+use Rattle.hsdec_core.specs.Judgement.{list_cause, own_cause}
+use Rattle.hsdec_core.specs.Promise.{IsListEvidence, IsListing, IsReport, IsShown}
 use Rattle.job_words.specs.declared.jobs.Job.{Job}
 use Rattle.job_words.specs.Job.{HasFewSlashes}
 use Rattle.kiss2.specs.declared.kiss_file.KissFile.{KissFile}
@@ -28,6 +29,11 @@ pub reported_as : (task done : MachineTask) (job : Job) (F M : KissFile) (result
 reported_as task done job F M result is same reported =
     subst (λ (t : MachineTask). IsReported (own_cause t job F) (IsReport t job F) (IsShown t job F) result) (sym is)
     (subst (λ (G : KissFile). IsReported (own_cause done job G) (IsReport done job G) (IsShown done job G) result) same reported)
+
+pub listed_as : (listed done : ListTask) (limit : ℕ) (F : KissFile) (result : Result Report Refusal) → listed ≡ done → IsReported (list_cause done limit F) (IsListing done limit F) (IsListEvidence done limit F) result
+    → IsReported (list_cause listed limit F) (IsListing listed limit F) (IsListEvidence listed limit F) result
+listed_as listed done limit F result is reported =
+    subst (λ (l : ListTask). IsReported (list_cause l limit F) (IsListing l limit F) (IsListEvidence l limit F) result) (sym is) reported
 
 -- a text that nothing but want of memory stands against
 pub whole_reported : {V : Type 0} (items : V → List ℕ) (P Q : List ℕ → Type 0) (text : Result V AllocError) (result : Result Report Refusal) → MatchResult text (λ v. result ≡ Ok (Whole (items v))) (λ _. result ≡ Err NoMemory) → IfOk text (λ v. P (items v)) → IsReported Never P Q result

@@ -5,8 +5,10 @@ use Rattle.answers.specs.Cause.{Cause, FirstOf}
 use Rattle.closed_lattice.specs.Closed.{IsClosedPartition}
 use Rattle.cover_texts.specs.Flaws.{BadCoverRow}
 use Rattle.generated_texts.specs.Trial.{LongCodeRow}
+use Rattle.hsdec_core.specs.declared.tasks.ListTask.{ListTask}
+use Rattle.hsdec_core.specs.declared.tasks.ListTask.TheVariants.{Closed, InputPairs, Output, OutputPairs, Pairs}
 use Rattle.hsdec_core.specs.declared.tasks.MachineTask.{MachineTask}
-use Rattle.hsdec_core.specs.declared.tasks.MachineTask.TheVariants.{Check, Closed, Cover, Decompose, Definite, High, InputPairs, Low, Output, OutputPairs, Pairs, Reduce, Shift}
+use Rattle.hsdec_core.specs.declared.tasks.MachineTask.TheVariants.{Check, Cover, Decompose, Definite, High, Listing, Low, Reduce, Shift}
 use Rattle.hsdec_core.specs.declared.tasks.Task.{Task}
 use Rattle.hsdec_core.specs.declared.tasks.Task.TheVariants.{Gen, OnMachine, Sim, Trial, Walk}
 use Rattle.operands.specs.Causes.{Never, NoMachineOf, NoNetworkOf, OfMachine, OfNetwork}
@@ -24,19 +26,23 @@ use Rattle.shift_texts.specs.Causes.{RefusesShift}
 use Rattle.split_texts.specs.Causes.{IsNotWritten}
 use Rattle.symbol_runs.specs.Causes.{BadSymbolRow, NoStart}
 
+-- the causes of a list, by what is listed
+abbrev pub list_cause : ListTask → ℕ → KissFile → Cause
+list_cause Closed limit F = MoreThan Before (IsClosedPartition F) limit
+list_cause Output limit F = MoreThan Before (IsClosedAndConsistent F) limit
+list_cause Pairs limit F = MoreThan RightBefore (IsMmPair F) limit
+list_cause InputPairs limit F = RefusesInputPairs F limit
+list_cause OutputPairs limit F = RefusesOutputPairs F limit
+
 -- a command's own causes, by what it does with the machine of FILE; a command that prints a result for every
 -- machine has none
 abbrev pub own_cause : MachineTask → Job → KissFile → Cause
 own_cause Check job F = Never
 own_cause Reduce job F = Never
-own_cause Closed job F = MoreThan Before (IsClosedPartition F) job.limit
-own_cause Output job F = MoreThan Before (IsClosedAndConsistent F) job.limit
-own_cause Pairs job F = MoreThan RightBefore (IsMmPair F) job.limit
+own_cause (Listing listed) job F = list_cause listed job.limit F
 own_cause Low job F = BadPart (length F.states) job.second
 own_cause High job F = BadPart (length F.states) job.second
 own_cause Definite job F = NotDefiniteRow job.reduce F
-own_cause InputPairs job F = RefusesInputPairs F job.limit
-own_cause OutputPairs job F = RefusesOutputPairs F job.limit
 own_cause Cover job F = BadCoverRow F job.second
 own_cause Shift job F = RefusesShift job.reduce F
 own_cause (Decompose kind) job F = IsNotWritten kind job.second job.reduce F

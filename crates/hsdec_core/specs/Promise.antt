@@ -4,8 +4,10 @@ use Rattle.closed_lattice.specs.Closed.{IsClosedPartition}
 use Rattle.cover_texts.specs.Written.{IsCoverText}
 use Rattle.generated_texts.specs.Generated.{OfGenerated}
 use Rattle.generated_texts.specs.Trial.{IsTrialText}
+use Rattle.hsdec_core.specs.declared.tasks.ListTask.{ListTask}
+use Rattle.hsdec_core.specs.declared.tasks.ListTask.TheVariants.{Closed, InputPairs, Output, OutputPairs, Pairs}
 use Rattle.hsdec_core.specs.declared.tasks.MachineTask.{MachineTask}
-use Rattle.hsdec_core.specs.declared.tasks.MachineTask.TheVariants.{Check, Closed, Cover, Decompose, Definite, High, InputPairs, Low, Output, OutputPairs, Pairs, Reduce, Shift}
+use Rattle.hsdec_core.specs.declared.tasks.MachineTask.TheVariants.{Check, Cover, Decompose, Definite, High, Listing, Low, Reduce, Shift}
 use Rattle.hsdec_core.specs.declared.tasks.Task.{Task}
 use Rattle.hsdec_core.specs.declared.tasks.Task.TheVariants.{Gen, OnMachine, Sim, Trial, Walk}
 use Rattle.operands.specs.Fill.{fill_of}
@@ -34,29 +36,37 @@ use Rattle.state_codes.specs.declared.split.Kind.{Kind}
 use Rattle.symbol_runs.specs.Texts.{IsWalkText}
 
 -- ---- of the machine of FILE
+-- the text is the whole list
+abbrev pub IsListing : ListTask → ℕ → KissFile → List ℕ → Type 0
+IsListing Closed limit F text = IsListText partition_line Before (IsClosedPartition F) limit text
+IsListing Output limit F text = IsListText partition_line Before (IsClosedAndConsistent F) limit text
+IsListing Pairs limit F text = IsListText pair_line RightBefore (IsMmPair F) limit text
+IsListing InputPairs limit F text = IsListText pair_line rights.RightBefore (IsInMmPair F) limit text
+IsListing OutputPairs limit F text = IsOutputText F limit text
+
+-- the text is evidence that the list has more than the limit
+abbrev pub IsListEvidence : ListTask → ℕ → KissFile → List ℕ → Type 0
+IsListEvidence Closed limit F text = IsEvidenceText partition_line Before (IsClosedPartition F) limit text
+IsListEvidence Output limit F text = IsEvidenceText partition_line Before (IsClosedAndConsistent F) limit text
+IsListEvidence Pairs limit F text = IsEvidenceText pair_line RightBefore (IsMmPair F) limit text
+IsListEvidence InputPairs limit F text = IsEvidenceText pair_line rights.RightBefore (IsInMmPair F) limit text
+IsListEvidence OutputPairs limit F text = IsOutputEvidence F limit text
+
 -- the text is the whole text of the task
 abbrev pub IsReport : MachineTask → Job → KissFile → List ℕ → Type 0
 IsReport Check job F text = IsChecked F text
 IsReport Reduce job F text = IsReducedText F (fill_of job) text
-IsReport Closed job F text = IsListText partition_line Before (IsClosedPartition F) job.limit text
-IsReport Output job F text = IsListText partition_line Before (IsClosedAndConsistent F) job.limit text
-IsReport Pairs job F text = IsListText pair_line RightBefore (IsMmPair F) job.limit text
+IsReport (Listing listed) job F text = IsListing listed job.limit F text
 IsReport Low job F text = IsLowText F job.second text
 IsReport High job F text = IsHighText F job.second text
 IsReport Definite job F text = IsChainText job.reduce F text
-IsReport InputPairs job F text = IsListText pair_line rights.RightBefore (IsInMmPair F) job.limit text
-IsReport OutputPairs job F text = IsOutputText F job.limit text
 IsReport Cover job F text = IsCoverText F job.second text
 IsReport Shift job F text = IsShiftText job.reduce F text
 IsReport (Decompose kind) job F text = IsWritten kind job.second job.reduce F text
 
 -- the text is evidence that there are more than the limit
 abbrev pub IsShown : MachineTask → Job → KissFile → List ℕ → Type 0
-IsShown Closed job F text = IsEvidenceText partition_line Before (IsClosedPartition F) job.limit text
-IsShown Output job F text = IsEvidenceText partition_line Before (IsClosedAndConsistent F) job.limit text
-IsShown Pairs job F text = IsEvidenceText pair_line RightBefore (IsMmPair F) job.limit text
-IsShown InputPairs job F text = IsEvidenceText pair_line rights.RightBefore (IsInMmPair F) job.limit text
-IsShown OutputPairs job F text = IsOutputEvidence F job.limit text
+IsShown (Listing listed) job F text = IsListEvidence listed job.limit F text
 IsShown _ job F text = ⊥
 
 -- ---- of what a shelf holds

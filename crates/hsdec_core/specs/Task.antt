@@ -1,6 +1,7 @@
 -- What each command works on, and what it does there.
 use Rattle.std.specs.Prelude.{Option, None, Some}
-use Rattle.hsdec_core.specs.declared.tasks.MachineTask.TheVariants.{Check, Closed, Cover, Decompose, Definite, High, InputPairs, Low, Output, OutputPairs, Pairs, Reduce, Shift}
+use Rattle.hsdec_core.specs.declared.tasks.ListTask.TheVariants.{Closed, InputPairs, Output, OutputPairs, Pairs}
+use Rattle.hsdec_core.specs.declared.tasks.MachineTask.TheVariants.{Check, Cover, Decompose, Definite, High, Listing, Low, Reduce, Shift}
 use Rattle.hsdec_core.specs.declared.tasks.Task.{Task}
 use Rattle.hsdec_core.specs.declared.tasks.Task.TheVariants.{Gen, OnMachine, Sim, Trial, Walk}
 use Rattle.job_words.specs.declared.command.Command.{Command}
@@ -11,9 +12,9 @@ use Rattle.state_codes.specs.declared.split.Kind.TheVariants as kinds
 abbrev pub task_of : Command → Task
 task_of commands.Check = OnMachine Check
 task_of commands.Reduce = OnMachine Reduce
-task_of commands.Closed = OnMachine Closed
-task_of commands.Output = OnMachine Output
-task_of commands.Pairs = OnMachine Pairs
+task_of commands.Closed = OnMachine (Listing Closed)
+task_of commands.Output = OnMachine (Listing Output)
+task_of commands.Pairs = OnMachine (Listing Pairs)
 task_of commands.Low = OnMachine Low
 task_of commands.High = OnMachine High
 task_of commands.Code = OnMachine (Decompose kinds.Code)
@@ -30,8 +31,8 @@ task_of commands.Least = OnMachine (Decompose kinds.Least)
 task_of commands.Cover = OnMachine Cover
 task_of commands.Definite = OnMachine Definite
 task_of commands.Shift = OnMachine Shift
-task_of commands.Ispairs = OnMachine InputPairs
-task_of commands.Sopairs = OnMachine OutputPairs
+task_of commands.Ispairs = OnMachine (Listing InputPairs)
+task_of commands.Sopairs = OnMachine (Listing OutputPairs)
 
 -- the kind of decomposition that a task writes, if it writes one
 abbrev pub kind_of : Task → Option Kind

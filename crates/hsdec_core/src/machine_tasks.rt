@@ -9,9 +9,9 @@ ghost use Rattle.hsdec_core.specs.declared.tasks.MachineTask.TheVariants as task
 ghost use Rattle.hsdec_core.specs.declared.tasks.Task.TheVariants.{OnMachine};
 ghost use Rattle.operands.specs.Fill.{fill_of};
 ghost use Rattle.hsdec_core.specs.Inner.Made.{IsMadeOf};
-ghost use Rattle.hsdec_core.specs.Judgement.{own_cause};
+ghost use Rattle.hsdec_core.specs.Judgement.{list_cause, own_cause};
 ghost use Rattle.hsdec_core.specs.Operands.{AreGranted};
-ghost use Rattle.hsdec_core.specs.Promise.{IsReport, IsShown};
+ghost use Rattle.hsdec_core.specs.Promise.{IsListEvidence, IsListing, IsReport, IsShown};
 ghost use Rattle.hsdec_core.specs.Task.{task_of};
 ghost use Rattle.job_words.specs.declared.command.Command.TheVariants as commands;
 ghost use Rattle.job_words.specs.Job.{HasFewSlashes, IsLimit};
@@ -19,7 +19,7 @@ ghost use Rattle.kiss2.specs.Lawful.{IsLawful};
 ghost use Rattle.kiss2.specs.Machine.{Accepted};
 ghost use Rattle.state_codes.specs.declared.split.Kind.TheVariants as kinds;
 
-use crate::tasks::MachineTask;
+use crate::tasks::{ListTask, MachineTask};
 use answers::{Bytes, Refusal, Report};
 use cover_texts::cover;
 use hs_io::Shelf;
@@ -27,6 +27,7 @@ use job_words::Job;
 use machine_reports::{
     check, closed, definite, high, ispairs, low, output, pairs, reduce, sopairs,
 };
+use machine_table::Machine;
 use operands::{OpenedMachine, fill, open_machine};
 use shift_texts::shift;
 use split_texts::decompose;
@@ -69,11 +70,7 @@ fn report(
 {
     let OpenedMachine { file, machine } = opened;
     match task {
-        MachineTask::Closed => closed(alloc, &machine, job.limit),
-        MachineTask::Output => output(alloc, &machine, job.limit),
-        MachineTask::Pairs => pairs(alloc, &machine, job.limit),
-        MachineTask::InputPairs => ispairs(alloc, &machine, job.limit),
-        MachineTask::OutputPairs => sopairs(alloc, &machine, job.limit),
+        MachineTask::Listing(listed) => listing(alloc, listed, &machine, job.limit),
         MachineTask::Check => whole(check(alloc, &file)),
         MachineTask::Reduce => whole(reduce(alloc, &file, &machine, fill(job))),
         MachineTask::Low => judged(low(alloc, &machine, job.second.bytes())),
@@ -90,6 +87,25 @@ fn report(
             fill(job),
             job.reduce,
         )),
+    }
+}
+
+/// Makes a list, or the evidence that it has more than the limit.
+fn listing(
+    alloc: Global,
+    listed: ListTask,
+    machine: &Machine,
+    limit: usize,
+) -> Result<Report, Refusal>
+    requires { IsLimit limit }
+    ensures { IsReported (list_cause listed limit machine.now) (IsListing listed limit machine.now) (IsListEvidence listed limit machine.now) result }
+{
+    match listed {
+        ListTask::Closed => closed(alloc, machine, limit),
+        ListTask::Output => output(alloc, machine, limit),
+        ListTask::Pairs => pairs(alloc, machine, limit),
+        ListTask::InputPairs => ispairs(alloc, machine, limit),
+        ListTask::OutputPairs => sopairs(alloc, machine, limit),
     }
 }
 

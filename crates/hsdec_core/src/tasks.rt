@@ -26,20 +26,32 @@ pub enum Task {
 pub enum MachineTask {
     Check,
     Reduce,
-    Closed,
-    Output,
-    Pairs,
+    /// A list of partitions or of pairs of them, up to a limit.
+    Listing(ListTask),
     Low,
     High,
     Definite,
-    InputPairs,
-    OutputPairs,
     /// The network of a closed cover.
     Cover,
     /// The shift register of a definite machine.
     Shift,
     /// A decomposition of that kind.
     Decompose(Kind),
+}
+
+/// What a command lists.
+#[derive(Clone, Copy, Debug, PartialEq, Eq)]
+pub enum ListTask {
+    /// The closed partitions.
+    Closed,
+    /// The closed partitions that are output-consistent.
+    Output,
+    /// The Mm pairs.
+    Pairs,
+    /// The Mm pairs of inputs and states.
+    InputPairs,
+    /// The Mm pairs of states and outputs.
+    OutputPairs,
 }
 
 /// The task of a command.
@@ -53,9 +65,9 @@ pub fn task_of_command(command: Command) -> Task
         Command::Trial => return Task::Trial,
         Command::Check => MachineTask::Check,
         Command::Reduce => MachineTask::Reduce,
-        Command::Closed => MachineTask::Closed,
-        Command::Output => MachineTask::Output,
-        Command::Pairs => MachineTask::Pairs,
+        Command::Closed => MachineTask::Listing(ListTask::Closed),
+        Command::Output => MachineTask::Listing(ListTask::Output),
+        Command::Pairs => MachineTask::Listing(ListTask::Pairs),
         Command::Low => MachineTask::Low,
         Command::High => MachineTask::High,
         Command::Code => MachineTask::Decompose(Kind::Code),
@@ -68,8 +80,8 @@ pub fn task_of_command(command: Command) -> Task
         Command::Cover => MachineTask::Cover,
         Command::Definite => MachineTask::Definite,
         Command::Shift => MachineTask::Shift,
-        Command::Ispairs => MachineTask::InputPairs,
-        Command::Sopairs => MachineTask::OutputPairs,
+        Command::Ispairs => MachineTask::Listing(ListTask::InputPairs),
+        Command::Sopairs => MachineTask::Listing(ListTask::OutputPairs),
     };
     Task::OnMachine(on_machine)
 }

@@ -4,7 +4,7 @@ use Rattle.answers.specs.Judged.{IsJudged}
 use Rattle.cover_texts.specs.Flaws.{BadCoverRow}
 use Rattle.cover_texts.specs.Laws.Causes.{bad_cover_is_of}
 use Rattle.cover_texts.specs.Written.{IsCoverText}
-use Rattle.hsdec_core.specs.declared.tasks.MachineTask.TheVariants.{Check, Closed, Cover, Decompose, Definite, High, InputPairs, Low, Output, OutputPairs, Pairs, Reduce, Shift}
+use Rattle.hsdec_core.specs.declared.tasks.MachineTask.TheVariants.{Check, Cover, Decompose, Definite, High, Listing, Low, Reduce, Shift}
 use Rattle.hsdec_core.proofs.Reports.{few_of, judged_reported, parts_few, plain_few, reported_as, whole_reported}
 use Rattle.hsdec_core.proofs.Families.{not_written_plain, shift_plain}
 use Rattle.hsdec_core.proofs.machine_tasks.report.Goals as goal
@@ -19,20 +19,9 @@ use Rattle.split_texts.specs.Written.{IsWritten}
 pub decompose-requires-clause-few : goal.decompose-requires-clause-few
 decompose-requires-clause-few c = λ assign. parts_few c.args.job.now.second c.bytes-in-Decompose.result.now c.bytes-in-Decompose.ensures (c.requires.few (c.in-Decompose.is ∙ ap Decompose assign))
 
-pub returns-in-Closed : goal.returns-in-Closed
-returns-in-Closed c = reported_as _ Closed c.args.job.now c.args.opened.file c.args.opened.machine c.closed.result c.in-Closed.is c.requires.machine c.closed.ensures
-
-pub returns-in-Output : goal.returns-in-Output
-returns-in-Output c = reported_as _ Output c.args.job.now c.args.opened.file c.args.opened.machine c.output.result c.in-Output.is c.requires.machine c.output.ensures
-
-pub returns-in-Pairs : goal.returns-in-Pairs
-returns-in-Pairs c = reported_as _ Pairs c.args.job.now c.args.opened.file c.args.opened.machine c.pairs.result c.in-Pairs.is c.requires.machine c.pairs.ensures
-
-pub returns-in-InputPairs : goal.returns-in-InputPairs
-returns-in-InputPairs c = reported_as _ InputPairs c.args.job.now c.args.opened.file c.args.opened.machine c.ispairs.result c.in-InputPairs.is c.requires.machine c.ispairs.ensures
-
-pub returns-in-OutputPairs : goal.returns-in-OutputPairs
-returns-in-OutputPairs c = reported_as _ OutputPairs c.args.job.now c.args.opened.file c.args.opened.machine c.sopairs.result c.in-OutputPairs.is c.requires.machine c.sopairs.ensures
+pub returns-in-Listing : goal.returns-in-Listing
+returns-in-Listing c =
+    reported_as _ (Listing c.in-Listing.listed) c.args.job.now c.args.opened.file c.args.opened.machine c.listing.result c.in-Listing.is c.requires.machine c.listing.ensures
 
 pub returns-in-Check : goal.returns-in-Check
 returns-in-Check c =
