@@ -158,12 +158,17 @@ impl Case {
             err.fail_at(u64::from(call.max(1)), take);
         }
         let code = self.answer(&mut shelf, &mut out, &mut err)?;
-        let found = difference(alloc, &self.wanted, texts, code, out.bytes(), err.bytes())?;
+        self.keep(texts, out.bytes())?;
+        difference(alloc, &self.wanted, texts, code, out.bytes(), err.bytes())
+    }
+
+    /// Keeps what out was given if the case says so.
+    fn keep(&self, texts: &mut Texts, given: &[u8]) -> anyhow::Result<()> {
         if let Some(name) = &self.kept {
-            let name = Name::new(alloc, name.bytes())?;
-            texts.add(name, Vec::from_slice(alloc, out.bytes())?)?;
+            let name = Name::new(self.alloc, name.bytes())?;
+            texts.add(name, Vec::from_slice(self.alloc, given)?)?;
         }
-        Ok(found)
+        Ok(())
     }
 
     /// The exit status, or the number of the answer of `run`.

@@ -13,14 +13,7 @@ use std::{fs, mem};
 pub(crate) fn agrees<R: Files + AllocGlobal + Print>(rt: &R, name: &str) -> anyhow::Result<bool> {
     let text = fs::read_to_string(rt, name).context(format_args!("reading {name}"))?;
     let mut script = Script::new(rt.alloc());
-    for (place, line) in text.split('\n').enumerate() {
-        script
-            .take(rt, name, place, line)
-            .context(format_args!("{name} after {place} lines"))?;
-    }
-    script.end_text()?;
-    script.end_case(rt, name)?;
-    println!(rt; "{name}: {} of {} agree", script.agreeing, script.cases)?;
+    script.take_all(rt, name, &text)?;
     Ok(script.agreeing == script.cases)
 }
 
@@ -57,6 +50,23 @@ impl Script {
             cases: 0,
             agreeing: 0,
         }
+    }
+
+    /// Takes the lines of a file, and prints how many of its cases agree.
+    fn take_all<R: Files + AllocGlobal + Print>(
+        &mut self,
+        rt: &R,
+        name: &str,
+        text: &str,
+    ) -> anyhow::Result<()> {
+        for (place, line) in text.split('\n').enumerate() {
+            self.take(rt, name, place, line)
+                .context(format_args!("{name} after {place} lines"))?;
+        }
+        self.end_text()?;
+        self.end_case(rt, name)?;
+        println!(rt; "{name}: {} of {} agree", self.agreeing, self.cases)?;
+        Ok(())
     }
 
     /// Takes a line, which comes after `place` lines.
