@@ -6,11 +6,12 @@ use Rattle.std.specs.Str.{bytes_eq}
 use Rattle.std.proofs.lemmas.Bool.{cases_Bool, false≢true}
 use Rattle.std.proofs.lemmas.Bool.Decides.{nat_tests}
 use Rattle.std.proofs.lemmas.List.Elements.{Contains-append_cases, Contains-append_left, Contains-append_right}
+use Rattle.list_facts.specs.Laws.Members.{Contains-here, Contains-none, fails_from_none, passes_from_any}
 use Rattle.net_core.specs.declared.Network.{Network}
 use Rattle.net_core.specs.Faults.{AreFaultless, names_another}
 use Rattle.net_core.specs.Faults as faults
 use Rattle.net_core.specs.Statements.{NumberedStatement, Statement, clocks_in}
-use Rattle.net_core.proofs.Members.{Contains-cons, Contains-here, Contains-none, Contains-there, is_same_name, same_name}
+use Rattle.net_core.proofs.Members.{is_same_name, same_name}
 use Rattle.blif_in.specs.declared.fault.BlifFault.{BlifFault}
 use Rattle.blif_in.specs.declared.fault.BlifKind.TheVariants.{Clocks}
 use Rattle.blif_in.specs.Text.{clock_fault, driven_within, names_clock}
@@ -18,33 +19,11 @@ use Rattle.blif_in.specs.Text.{clock_fault, driven_within, names_clock}
 abbrev pub said : List NumberedStatement → List Statement
 said statements = map (λ statement. statement.says) statements
 
--- what no item passes, an item does not
-none_passes : {X : Type 0} (p : X → Bool) (xs : List X) (x : X) → list_any p xs ≡ false → Contains xs x → p x ≡ false
-none_passes p [] x none among = absurd (Contains-none x among)
-none_passes p (y ∷ ys) x none among =
-    let parts = neither (p y) (list_any p ys) none in
-    elim (Contains-cons y x ys among) [
-      | inl is ↦ ap p (sym is) ∙ parts.0
-      | inr later ↦ none_passes p ys x parts.1 later
-    ] where
-      neither : (a b : Bool) → (a || b) ≡ false → (a ≡ false) × (b ≡ false)
-      neither true b h = absurd (false≢true (sym h))
-      neither false b h = (refl, h)
-
--- what some item passes
-some_passes : {X : Type 0} (p : X → Bool) (xs : List X) → list_any p xs ≡ true → (x : X) × Contains xs x × (p x ≡ true)
-some_passes p [] some = absurd (false≢true some)
-some_passes p (y ∷ ys) some =
-    elim (cases_Bool (p y)) [
-      | inl here ↦ (y, Contains-here y ys, here)
-      | inr passed ↦ let found = some_passes p ys (sym (ap (λ b. b || list_any p ys) passed) ∙ some) in (found.0, Contains-there y found.0 ys found.1, found.2)
-    ]
-
 -- where no other name is brought, a name is the one that is known
 the_known : (known names : List (List ℕ)) (name clock : List ℕ) → names_another known names ≡ false → Contains names name → Contains known clock → name ≡ clock
 the_known known names name clock none among is_known =
-    let here = none_passes (λ n. list_any (λ other. not (bytes_eq n other)) known) names name none among in
-    same_name name clock (positive (bytes_eq name clock) (none_passes (λ other. not (bytes_eq name other)) known clock here is_known)) where
+    let here = fails_from_none (λ n. list_any (λ other. not (bytes_eq n other)) known) names none name among in
+    same_name name clock (positive (bytes_eq name clock) (fails_from_none (λ other. not (bytes_eq name other)) known here clock is_known)) where
       positive : (b : Bool) → not b ≡ false → b ≡ true
       positive true h = refl
       positive false h = absurd (false≢true (sym h))
@@ -130,8 +109,8 @@ undriven N statements clock faultless none among driven = by (find names_clock s
   by (Some first) is h =
       let fault : BlifFault = record { line = first.number; kind = Clocks } in
       let quiet = nothing_told fault (list_any (λ c. list_any (bytes_eq c) (driven_within N)) (clocks_in first.says)) h in
-      let here = none_passes (λ c. list_any (bytes_eq c) (driven_within N)) (clocks_in first.says) clock quiet (first_named [] statements first clock faultless is among) in
-      false≢true (sym (none_passes (bytes_eq clock) (driven_within N) clock here driven) ∙ is_same_name clock clock refl)
+      let here = fails_from_none (λ c. list_any (bytes_eq c) (driven_within N)) (clocks_in first.says) quiet clock (first_named [] statements first clock faultless is among) in
+      false≢true (sym (fails_from_none (bytes_eq clock) (driven_within N) here clock driven) ∙ is_same_name clock clock refl)
 
 pub undriven_none : (N : Network) (statements : List NumberedStatement) → ((clock : List ℕ) → Contains (flat_map clocks_in (said statements)) clock → Contains (driven_within N) clock → ⊥) → clock_fault N (find names_clock statements) ≡ None
 undriven_none N statements quiet = by (find names_clock statements) refl where
@@ -140,8 +119,8 @@ undriven_none N statements quiet = by (find names_clock statements) refl where
   by (Some first) is =
       elim (cases_Bool (list_any (λ c. list_any (bytes_eq c) (driven_within N)) (clocks_in first.says))) [
         | inl some ↦
-            let found = some_passes (λ c. list_any (bytes_eq c) (driven_within N)) (clocks_in first.says) some in
-            let driver = some_passes (bytes_eq found.0) (driven_within N) found.2 in
+            let found = passes_from_any (λ c. list_any (bytes_eq c) (driven_within N)) (clocks_in first.says) some in
+            let driver = passes_from_any (bytes_eq found.0) (driven_within N) found.2 in
             absurd (quiet found.0 (found_named statements first found.0 is found.1) (subst (Contains (driven_within N)) (sym (same_name found.0 driver.0 driver.2)) driver.1))
         | inr none ↦ let fault : BlifFault = record { line = first.number; kind = Clocks } in ap (λ b. cond {A = Option BlifFault} b (Some fault) None) none
       ]

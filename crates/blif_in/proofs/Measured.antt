@@ -6,6 +6,7 @@ use Rattle.std.specs.Str.Lines.{strip_carriage_return}
 use Rattle.std.proofs.lemmas.List.{length-take}
 use Rattle.std.proofs.lemmas.List.Elements.{All-from_recursion}
 use Rattle.std.proofs.lemmas.List.Sums.{take_while-cons}
+use Rattle.list_facts.specs.Laws.Everywhere.{each_weaker}
 use Rattle.hs_io.specs.declared.lines.Line.{Line}
 use Rattle.hs_io.specs.Lines.{begins_comment, content, ends_line, fields_of, is_blank, is_field, lines_from, lines_of, lines_of_pieces, physical_lines}
 use Rattle.net_core.specs.Joined.{ends_text, in_front, is_continued, joined, part_of, read_fields, without_backslash}
@@ -20,12 +21,8 @@ Short most text = length text ≤ most
 abbrev AreShort : ℕ → List (List ℕ) → Type 0
 AreShort most texts = AllByRecursion (Short most) texts
 
-weaker : {X : Type 0} (P Q : X → Type 0) → ((x : X) → P x → Q x) → (xs : List X) → AllByRecursion P xs → AllByRecursion Q xs
-weaker P Q f [] h = tt
-weaker P Q f (x ∷ xs) (h, hs) = (f x h, weaker P Q f xs hs)
-
 longer : (most more : ℕ) (texts : List (List ℕ)) → most ≤ more → AreShort most texts → AreShort more texts
-longer most more texts le h = weaker (Short most) (Short more) (λ text short. omega arith) texts h
+longer most more texts le h = each_weaker (Short most) (Short more) (λ text short. omega arith) texts h
 
 onto : (most b : ℕ) (parts : List (List ℕ)) → AreShort most parts → AreShort (suc most) (onto_first b parts)
 onto most b [] h = (omega arith, tt)
@@ -112,8 +109,8 @@ kept_short most (line ∷ lines) (h, hs) = by (ends_text line) (is_skipped line)
 pub statements_measurable : (bytes : List ℕ) → length bytes < 2 ^ 32 → All (λ line. AreMeasurable line.fields) (lines_read bytes)
 statements_measurable bytes short =
     All-from_recursion (λ line. AreMeasurable line.fields) (statement_lines (joined (lines_of bytes)))
-    (weaker (HasShort (length bytes)) (λ line. AreMeasurable line.fields)
-    (λ line h. All-from_recursion (λ field. length field < 2 ^ 32) line.fields (weaker (Short (length bytes)) (λ field. length field < 2 ^ 32) (λ field le. omega arith) line.fields h))
+    (each_weaker (HasShort (length bytes)) (λ line. AreMeasurable line.fields)
+    (λ line h. All-from_recursion (λ field. length field < 2 ^ 32) line.fields (each_weaker (Short (length bytes)) (λ field. length field < 2 ^ 32) (λ field le. omega arith) line.fields h))
     (statement_lines (joined (lines_of bytes)))
     (kept_short (length bytes) (joined (lines_of bytes))
     (joined_short (length bytes) (lines_of bytes)

@@ -5,6 +5,7 @@ use Rattle.std.proofs.lemmas.Option.{none-some}
 use Rattle.std.proofs.lemmas.Slice.Eq.{bytes_eq-Decides}
 use Rattle.std.specs.List.{list_any}
 use Rattle.std.specs.Str.{bytes_eq}
+use Rattle.list_facts.specs.Laws.Members.{Contains-cons, Contains-here, Contains-none, Contains-there}
 use Rattle.net_core.specs.declared.Gate.{Gate}
 use Rattle.net_core.specs.declared.Network.{Network}
 use Rattle.net_core.specs.declared.failing.NetFail.{NetFail}
@@ -13,7 +14,7 @@ use Rattle.net_core.specs.Causes.{AreOnce, IsCause, IsCycle, uses_of}
 use Rattle.net_core.specs.Sound.{driven_by, drivers_of}
 use Rattle.net_core.specs.Worked.{gate, network}
 use Rattle.net_core.proofs.Counted.{cond_of, counted-cons, counted_none}
-use Rattle.net_core.proofs.Members.{Contains-cons, Contains-here, Contains-none, Contains-there, is_same_name, same_name}
+use Rattle.net_core.proofs.Members.{is_same_name, same_name}
 use Rattle.blif_in.specs.declared.fault.BlifKind.{BlifKind}
 use Rattle.blif_in.specs.declared.fault.BlifKind.TheVariants.{Structure}
 use Rattle.blif_in.specs.Text.{IsStructureFault}

@@ -1,8 +1,8 @@
 -- Pieces that are ended by one byte are found again.
-use Rattle.std.proofs.Common.{◌≡◌, ◌≢◌, ℕ, List, [], ◌∷◌, ◌++◌, length, length-append, get_or, map, refl, sym, ap, ◌∙◌, append_assoc, append-nil, arith}
+use Rattle.std.proofs.Common.{◌≡◌, ◌≢◌, ℕ, List, [], ◌∷◌, ◌++◌, length, length-append, get_or, refl, sym, ap, ◌∙◌, append_assoc, append-nil, arith}
 use Rattle.std.specs.List.{flat_map, AllByRecursion}
+use Rattle.list_facts.specs.Laws.Everywhere.{each_weaker}
 use Rattle.hs_io.specs.Spelling.{spaced, IsFieldByte}
-use Rattle.hs_io.proofs.Spelled.{all_weaker}
 use Rattle.blif_out.specs.Head.{comment_text}
 use Rattle.blif_out.proofs.Visible.{IsVisible, AreVisible}
 
@@ -54,14 +54,5 @@ fields_once xs ys p q e =
     let inner : flat_map spaced xs ≡ flat_map spaced ys = ap (λ (t : List ℕ). rest_of t) e in
     let same : flat_map (λ p. p ++ 32 ∷ []) xs ≡ flat_map (λ p. p ++ 32 ∷ []) ys =
     ap (λ (t : List ℕ). rest_of t) (sym (turned xs) ∙ ap (λ (t : List ℕ). t ++ 32 ∷ []) inner ∙ turned ys) in
-    pieces_once 32 IsVisible (λ f h. all_weaker IsFieldByte (λ b. b ≢ 32) (λ b k i. absurd (omega (arith, k.low, i))) f h) [] [] nothing_left nothing_left xs ys p q
+    pieces_once 32 IsVisible (λ f h. each_weaker IsFieldByte (λ b. b ≢ 32) (λ b k i. absurd (omega (arith, k.low, i))) f h) [] [] nothing_left nothing_left xs ys p q
     (append-nil (flat_map (λ p. p ++ 32 ∷ []) xs) ∙ same ∙ sym (append-nil (flat_map (λ p. p ++ 32 ∷ []) ys)))
-
--- what the images of two lists tell of their items, item by item
-pub images_once : {X Y Z : Type 0} (f : X → Y) (g : X → Z) (P : X → Type 0) → ((x y : X) → P x → P y → f x ≡ f y → g x ≡ g y) → (xs ys : List X) → AllByRecursion P xs → AllByRecursion P ys → map f xs ≡ map f ys → map g xs ≡ map g ys
-images_once f g P once [] [] p q e = refl
-images_once f g P once [] (y ∷ ys) p q e = let none : 0 ≡ length (map f (y ∷ ys)) = ap length e in absurd (omega (arith, none))
-images_once f g P once (x ∷ xs) [] p q e = let none : length (map f (x ∷ xs)) ≡ 0 = ap length e in absurd (omega (arith, none))
-images_once {X} {Y} {Z} f g P once (x ∷ xs) (y ∷ ys) (p, ps) (q, qs) e =
-    let first : f x ≡ f y = ap (λ (t : List Y). get_or t 0 (f x)) e in
-    ap (λ (z : Z). z ∷ map g xs) (once x y p q first) ∙ ap (λ (zs : List Z). g y ∷ zs) (images_once f g P once xs ys ps qs (ap (λ (t : List Y). rest_of t) e))

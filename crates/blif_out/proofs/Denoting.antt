@@ -3,9 +3,10 @@ use Rattle.std.proofs.Common.{◌≡◌, ◌≢◌, ℕ, not, List, [], ◌∷�
 use Rattle.std.specs.List.{flat_map, AllByRecursion, take_while, filter}
 use Rattle.std.proofs.lemmas.Grind.{flat_map-append}
 use Rattle.std.proofs.lemmas.List.Folds.{flat_map-map}
+use Rattle.list_facts.specs.Laws.Everywhere.{each_append, each_weaker}
 use Rattle.hs_io.specs.Lines.{lines_of, lines_from}
 use Rattle.hs_io.specs.Spelling.{ended, line_text, ArePlainFields, IsPlainField, IsComment}
-use Rattle.hs_io.proofs.Spelled.{IsLineByte, line_bytes, all_weaker, physical_lines-all}
+use Rattle.hs_io.proofs.Spelled.{IsLineByte, line_bytes, physical_lines-all}
 use Rattle.net_core.specs.declared.Network.{Network}
 use Rattle.net_core.specs.Joined.{joined, read_lines, ends_text}
 use Rattle.net_core.specs.Statements.{numbered_of, is_skipped, statements_of, said_in, inputs_in, outputs_in, clocks_in}
@@ -15,24 +16,20 @@ use Rattle.blif_out.specs.Writable.{IsSignalName, IsWritable}
 use Rattle.blif_out.specs.Law.{NetTextDenotes}
 use Rattle.blif_out.proofs.Grammar.{on_lines, said-on_lines, net_statements, net_said, net_faultless, flat_map-tail, latches_read, gates_read}
 use Rattle.blif_out.proofs.Reading.{numbered, HasNoBackslash, GoesOn, lines_from-comments, joined-numbered, take_while-numbered, statements-comments}
-use Rattle.blif_out.proofs.Words.{AreNames, each_append, all_names, all_go_on, all_have_words, name_word}
+use Rattle.blif_out.proofs.Words.{AreNames, all_names, all_go_on, all_have_words, name_word}
 
 -- the fields of each line, the ending one too
 abbrev pub all_fields : Network → List (List (List ℕ))
 all_fields N = net_fields N ++ (end_word ∷ []) ∷ []
 
-each_map : {X : Type 0} (P Q : X → Type 0) → ((x : X) → P x → Q x) → (xs : List X) → AllByRecursion P xs → AllByRecursion Q xs
-each_map P Q f [] p = tt
-each_map P Q f (x ∷ xs) (h, p) = (f x h, each_map P Q f xs p)
-
 names_to_end : (N : Network) → IsWritable N → AllByRecursion AreNames (all_fields N)
 names_to_end N w = each_append AreNames (net_fields N) ((end_word ∷ []) ∷ []) (all_names N w) ((name_word end_word (omega arith) refl, tt), tt)
 
 plain_to_end : (N : Network) → IsWritable N → AllByRecursion ArePlainFields (all_fields N)
-plain_to_end N w = each_map AreNames ArePlainFields (λ fs p. each_map IsSignalName IsPlainField (λ f q. q.field) fs p) (all_fields N) (names_to_end N w)
+plain_to_end N w = each_weaker AreNames ArePlainFields (λ fs p. each_weaker IsSignalName IsPlainField (λ f q. q.field) fs p) (all_fields N) (names_to_end N w)
 
 unjoined_to_end : (N : Network) → IsWritable N → AllByRecursion HasNoBackslash (all_fields N)
-unjoined_to_end N w = each_map AreNames HasNoBackslash (λ fs p. each_map IsSignalName (AllByRecursion (λ b. b ≢ 92)) (λ f q. q.no_backslash) fs p) (all_fields N) (names_to_end N w)
+unjoined_to_end N w = each_weaker AreNames HasNoBackslash (λ fs p. each_weaker IsSignalName (AllByRecursion (λ b. b ≢ 92)) (λ f q. q.no_backslash) fs p) (all_fields N) (names_to_end N w)
 
 -- the texts of the lines: comments, and then the statements
 abbrev pub line_texts : List (List ℕ) → Network → List (List ℕ)
@@ -53,7 +50,7 @@ comments_inside (c ∷ cs) rest (p, ps) q = (comment_inside c p, comments_inside
 
 bodies_inside : (bodies : List (List (List ℕ))) → AllByRecursion ArePlainFields bodies → AllByRecursion (AllByRecursion (λ b. b ≢ 10)) (map line_text bodies)
 bodies_inside [] p = tt
-bodies_inside (fs ∷ bodies) (p, ps) = (all_weaker IsLineByte (λ b. b ≢ 10) (λ b h e. absurd (omega (arith, h.low, e))) (line_text fs) (line_bytes fs p), bodies_inside bodies ps)
+bodies_inside (fs ∷ bodies) (p, ps) = (each_weaker IsLineByte (λ b. b ≢ 10) (λ b h e. absurd (omega (arith, h.low, e))) (line_text fs) (line_bytes fs p), bodies_inside bodies ps)
 
 -- the lines of the text
 abbrev pub blanks : List (List ℕ) → List (List (List ℕ))

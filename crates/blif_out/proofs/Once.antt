@@ -1,5 +1,5 @@
 -- A text has one header.
-use Rattle.std.proofs.Common.{suc, ◌≡◌, ◌≢◌, ℕ, ◌+◌, ◌^◌, ◌<◌, if◌then◌else◌, Bool, true, false, cond, List, [], ◌∷◌, ◌++◌, Option, None, Some, IfSome, length, map, filter, get_or, refl, sym, ap, ◌∙◌, subst, append-nil, arith, codes}
+use Rattle.std.proofs.Common.{◌≡◌, ◌≢◌, ℕ, ◌+◌, ◌^◌, ◌<◌, if◌then◌else◌, Bool, true, false, cond, List, [], ◌∷◌, ◌++◌, Option, None, Some, IfSome, length, map, filter, get_or, refl, sym, ap, ◌∙◌, subst, append-nil, arith, codes}
 use Rattle.std.specs.Fmt.{decimal}
 use Rattle.std.specs.Int.{bit_at}
 use Rattle.std.specs.List.{enumerate_from, range_with_len, zip, AllByRecursion}
@@ -10,10 +10,11 @@ use Rattle.std.proofs.lemmas.List.Elements.{All-from_recursion, filter-append}
 use Rattle.std.proofs.lemmas.List.FromFn.{get_or-map-range_with_len}
 use Rattle.std.proofs.lemmas.Nat.Bits.{same_from_bits_below}
 use Rattle.std.proofs.lemmas.Str.Parse.{digit_at}
+use Rattle.list_facts.specs.Laws.Everywhere.{images_once}
 use Rattle.hs_io.specs.Spelling.{IsComment}
 use Rattle.net_core.specs.Words.{model_word}
 use Rattle.partition.specs.Text.{labels_text, pieces_of}
-use Rattle.partition.specs.Laws.Labels.{label-le}
+use Rattle.partition.proofs.Texts.{AreSmall, partition_once, text_once}
 use Rattle.partition.proofs.Numerals.{own}
 use Rattle.partition.proofs.Pieces.{pieces_of-labels_text}
 use Rattle.state_codes.specs.declared.split.Kind.{Kind}
@@ -23,41 +24,9 @@ use Rattle.blif_out.specs.declared.header.Header.{Header}
 use Rattle.blif_out.specs.declared.header.LatchNote.{LatchNote}
 use Rattle.blif_out.specs.Head.{kind_word, classes_fields, numbers_text, part_fields, bits_of, bit_text, state_fields, note_fields, head_fields, head_lines, comment_text}
 use Rattle.blif_out.specs.HeadLaw.{IsLawfulPartition, IsLawfulPart, IsLawfulNote, IsLawfulHeader, HeadOnce}
-use Rattle.blif_out.proofs.Cutting.{rest_of, pieces_once, fields_once, images_once}
+use Rattle.blif_out.proofs.Cutting.{rest_of, pieces_once, fields_once}
 use Rattle.blif_out.proofs.Denoting.{comment_inside}
 use Rattle.blif_out.proofs.Visible.{AreVisible, head_visible, head_comments}
-
--- numbers that a decimal numeral tells
-abbrev AreSmall : List ℕ → Type 0
-AreSmall numbers = AllByRecursion (λ n. n < 2 ^ 64) numbers
-
-at_places : (numbers : List ℕ) → AreSmall numbers → (place : ℕ) → place < length numbers → get_or numbers place 0 < 2 ^ 64
-at_places numbers p place within = All-from_recursion (λ n. n < 2 ^ 64) numbers p place 0 within
-
-numerals_once : (xs ys : List ℕ) → AreSmall xs → AreSmall ys → map decimal xs ≡ map decimal ys → xs ≡ ys
-numerals_once xs ys p q e = sym (same xs) ∙ images_once decimal (λ (n : ℕ). n) (λ n. n < 2 ^ 64) (λ x y a b f. decimal_injective x y a b f) xs ys p q e ∙ same ys
-  where
-    same : (ns : List ℕ) → map (λ (n : ℕ). n) ns ≡ ns
-    same [] = refl
-    same (n ∷ ns) = ap (λ (t : List ℕ). n ∷ t) (same ns)
-
-joined_once : (xs ys : List ℕ) → 0 < length xs → 0 < length ys → AreSmall xs → AreSmall ys → labels_text xs ≡ labels_text ys → xs ≡ ys
-joined_once xs ys some some' p q e =
-    numerals_once xs ys p q (sym (pieces_of-labels_text xs some (at_places xs p)) ∙ ap pieces_of e ∙ pieces_of-labels_text ys some' (at_places ys q))
-
-small_from : (xs : List ℕ) → ((place : ℕ) → place < length xs → get_or xs place 0 < 2 ^ 64) → AreSmall xs
-small_from [] h = tt
-small_from (x ∷ xs) h = (h 0 (omega arith), small_from xs (λ place within. h (suc place) (omega (arith, within))))
-
-labels_small : (labels : List ℕ) → IsLawfulPartition labels → AreSmall labels
-labels_small labels p =
-    small_from labels (λ place within. let le = label-le labels p.numbered place within in let count = p.count in omega (arith, within, le, count.1))
-
-pub partition_once : (p q : List ℕ) → IsLawfulPartition p → IsLawfulPartition q → labels_text p ≡ labels_text q → p ≡ q
-partition_once p q a b e =
-    let some = a.count in
-    let some' = b.count in
-    joined_once p q some.0 some'.0 (labels_small p a) (labels_small q b) e
 
 -- a numeral is no dash
 no_dash : (n : ℕ) → n < 2 ^ 64 → decimal n ≢ 45 ∷ []
@@ -68,14 +37,14 @@ no_dash n small e =
 
 no_numbers : (y : ℕ) (ys : List ℕ) → AreSmall (y ∷ ys) → codes "-" ≢ labels_text (y ∷ ys)
 no_numbers y ys q e =
-    let pieces : (45 ∷ []) ∷ [] ≡ map decimal (y ∷ ys) = ap pieces_of e ∙ pieces_of-labels_text (y ∷ ys) (omega arith) (at_places (y ∷ ys) q) in
+    let pieces : (45 ∷ []) ∷ [] ≡ map decimal (y ∷ ys) = ap pieces_of e ∙ pieces_of-labels_text (y ∷ ys) (omega arith) (λ place within. All-from_recursion (λ n. n < 2 ^ 64) (y ∷ ys) q place 0 within) in
     no_dash y q.0 (sym (ap (λ (t : List (List ℕ)). get_or t 0 []) pieces))
 
 numbers_once : (xs ys : List ℕ) → AreSmall xs → AreSmall ys → numbers_text xs ≡ numbers_text ys → xs ≡ ys
 numbers_once [] [] p q e = refl
 numbers_once [] (y ∷ ys) p q e = absurd (no_numbers y ys q e)
 numbers_once (x ∷ xs) [] p q e = absurd (no_numbers x xs p (sym e))
-numbers_once (x ∷ xs) (y ∷ ys) p q e = joined_once (x ∷ xs) (y ∷ ys) (omega arith) (omega arith) p q e
+numbers_once (x ∷ xs) (y ∷ ys) p q e = text_once (x ∷ xs) (y ∷ ys) (omega arith) (omega arith) p q e
 
 bit_text_once : (xs ys : List ℕ) → length xs ≡ length ys → bit_text xs ≡ bit_text ys → xs ≡ ys
 bit_text_once [] [] n e = refl

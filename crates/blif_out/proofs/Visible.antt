@@ -5,8 +5,8 @@ use Rattle.std.specs.Int.{bit_at}
 use Rattle.std.specs.List.{flat_map, enumerate_from, range_with_len, zip, AllByRecursion}
 use Rattle.std.proofs.lemmas.Bool.Decides.{nat_tests}
 use Rattle.std.proofs.lemmas.Nat.Bits.{bit_at-lt}
+use Rattle.list_facts.specs.Laws.Everywhere.{each_append, each_weaker}
 use Rattle.hs_io.specs.Spelling.{spaced, ArePlainFields, IsFieldByte, IsComment}
-use Rattle.hs_io.proofs.Spelled.{all_append, all_weaker}
 use Rattle.partition.specs.Text.{labels_text}
 use Rattle.state_codes.specs.declared.split.Kind.{Kind}
 use Rattle.state_codes.specs.declared.split.Kind.TheVariants.{Code, Assign, Parallel, Serial, Cascade, Feedback, Least}
@@ -14,7 +14,7 @@ use Rattle.state_codes.specs.declared.split.Part.{Part}
 use Rattle.blif_out.specs.declared.header.Header.{Header}
 use Rattle.blif_out.specs.declared.header.LatchNote.{LatchNote}
 use Rattle.blif_out.specs.Head.{kind_word, kind_fields, classes_fields, numbers_text, part_fields, bits_of, bit_text, state_fields, note_fields, head_fields, head_lines, comment_text}
-use Rattle.blif_out.proofs.Words.{each_append, name_word}
+use Rattle.blif_out.proofs.Words.{name_word}
 
 abbrev pub IsVisible : List ℕ → Type 0
 IsVisible text = AllByRecursion IsFieldByte text
@@ -49,7 +49,7 @@ pub text_visible : (labels : List ℕ) → IsVisible (labels_text labels)
 text_visible [] = tt
 text_visible (label ∷ []) = decimal_visible label
 text_visible (label ∷ next ∷ labels) =
-    all_append IsFieldByte (decimal label) (44 ∷ labels_text (next ∷ labels)) (decimal_visible label) (record { low = omega arith; high = omega arith; no_comment = λ e. absurd (omega arith) }, text_visible (next ∷ labels))
+    each_append IsFieldByte (decimal label) (44 ∷ labels_text (next ∷ labels)) (decimal_visible label) (record { low = omega arith; high = omega arith; no_comment = λ e. absurd (omega arith) }, text_visible (next ∷ labels))
 
 numbers_visible : (numbers : List ℕ) → IsVisible (numbers_text numbers)
 numbers_visible [] = (name_word (codes "-") (omega arith) refl).field.visible
@@ -116,7 +116,7 @@ head_visible H plain =
 within_line : (fields : List (List ℕ)) → AreVisible fields → AllByRecursion (λ b. b ≢ 10) (flat_map spaced fields)
 within_line [] p = tt
 within_line (field ∷ fields) (p, ps) =
-    (λ e. absurd (omega (arith, e)), all_append (λ b. b ≢ 10) field (flat_map spaced fields) (all_weaker IsFieldByte (λ b. b ≢ 10) (λ b h e. absurd (omega (arith, h.low, e))) field p) (within_line fields ps))
+    (λ e. absurd (omega (arith, e)), each_append (λ b. b ≢ 10) field (flat_map spaced fields) (each_weaker IsFieldByte (λ b. b ≢ 10) (λ b h e. absurd (omega (arith, h.low, e))) field p) (within_line fields ps))
 
 comments_of : (lines : List (List (List ℕ))) → AllByRecursion AreVisible lines → AllByRecursion IsComment (map comment_text lines)
 comments_of [] p = tt

@@ -3,6 +3,7 @@ use Rattle.std.proofs.Common.{◌≡◌, ℕ, List, [], ◌∷◌, ◌++◌, map
 use Rattle.std.specs.List.{flat_map, enumerate_from, zip, AllByRecursion}
 use Rattle.std.proofs.lemmas.Grind.{flat_map-append}
 use Rattle.std.proofs.lemmas.List.Folds.{flat_map-map}
+use Rattle.list_facts.specs.Laws.Everywhere.{each_append}
 use Rattle.hs_io.specs.Spelling.{ended, line_text, ArePlainFields, IsComment}
 use Rattle.net_core.specs.declared.Gate.{Gate}
 use Rattle.net_core.specs.declared.Network.{Network}
@@ -15,7 +16,6 @@ use Rattle.blif_out.specs.Writable.{IsWritable}
 use Rattle.blif_out.specs.Inner.Pieces.{row_line, latch_line, gate_lines, part_line, state_line, note_line}
 use Rattle.blif_out.proofs.Denoting.{net_denotes}
 use Rattle.blif_out.proofs.Visible.{head_comments}
-use Rattle.blif_out.proofs.Words.{each_append}
 
 -- a statement as a line
 abbrev line : List (List ℕ) → List ℕ

@@ -3,6 +3,7 @@ use Rattle.std.proofs.Common.{◌≡◌, ◌≢◌, ℕ, ◌<◌, ◌&&◌, Bool
 use Rattle.std.specs.List.{flat_map, list_all, AllByRecursion}
 use Rattle.std.proofs.lemmas.Bool.{false≢true}
 use Rattle.std.proofs.lemmas.Bool.Decides.{nat_tests}
+use Rattle.list_facts.specs.Laws.Everywhere.{each_append}
 use Rattle.hs_io.specs.Spelling.{IsFieldByte}
 use Rattle.net_core.specs.declared.Gate.{Gate}
 use Rattle.net_core.specs.declared.Latch.{Latch}
@@ -65,11 +66,6 @@ row_names (c ∷ cs) inputs p = (name_from_bytes (c ∷ cs) (omega arith) (plane
 
 latch_names : (latch : Latch) → IsWritableLatch latch → AreNames (latch_fields latch)
 latch_names latch p = (name_word latch_word (omega arith) refl, (p.input, (p.output, (start_name latch.start, tt))))
-
--- what holds of the items of two lists holds of all
-pub each_append : {X : Type 0} (P : X → Type 0) (xs ys : List X) → AllByRecursion P xs → AllByRecursion P ys → AllByRecursion P (xs ++ ys)
-each_append P [] ys p q = q
-each_append P (x ∷ xs) ys (h, p) q = (h, each_append P xs ys p q)
 
 -- what holds of the statements of a row, a gate and a latch
 pub record OfParts (P : List (List ℕ) → Type 0) : Type 0 where

@@ -2,8 +2,8 @@
 use Rattle.std.proofs.Common.{◌≡◌, ℕ, ◌<◌, List, length, subst, arith}
 use Rattle.partition.specs.Partition.{IsPartition, IsZero, Le, Lt, Together, zero_of}
 use Rattle.partition.specs.Laws.Extremes.{zero_of_is_zero}
+use Rattle.partition.specs.Laws.Chains.{together_itself}
 use Rattle.closed_lattice.specs.Limits.{HoldsApart, MeetInZero}
-use Rattle.closed_lattice.proofs.Growing.{together_itself}
 
 pub strictly_below_down : (top p q : List ℕ) → Le q p → Lt p top → Lt q top
 strictly_below_down top p q le (below, strict) = ((λ s t held. below s t (le s t held)), (λ above. strict (λ s t held. le s t (above s t held))))

@@ -1,16 +1,15 @@
 -- The closed partitions are the joins of the least closed partitions of pairs of states.
-use Rattle.std.proofs.Common.{◌≡◌, ℕ, zero, suc, ◌<◌, ◌≤◌, inl, inr, All, Contains, List, [], ◌∷◌, length, get_or, refl, sym, ap, ◌∙◌, subst, arith}
+use Rattle.std.proofs.Common.{◌≡◌, ℕ, zero, suc, ◌<◌, ◌≤◌, inl, inr, All, Contains, List, [], ◌∷◌, length, refl, sym, ap, ◌∙◌, subst, arith}
 use Rattle.std.specs.List.{AllByRecursion}
 use Rattle.std.proofs.lemmas.Bool.{cases_eq, cases_lt}
 use Rattle.hs_lattice.specs.JoinWorld.{IsJoinOf, IsGenerated, HaveJoins}
-use Rattle.hs_lattice.specs.Listing.{Lists, Evidence}
 use Rattle.hs_lattice.specs.Laws.{IsJoinOf-has, IsGenerated-has}
 use Rattle.kiss2.specs.declared.kiss_file.KissFile.{KissFile}
 use Rattle.pair_operators.specs.Laws.Pairs.{joins_pair, zero_pairs}
 use Rattle.partition.specs.Partition.{IsPartition, IsStateCount, IsZero, Together, Le, zero_of}
 use Rattle.partition.specs.MeetAndJoin.{IsJoin}
 use Rattle.partition.specs.Inside.{least_of}
-use Rattle.partition.specs.Laws.Chains.{together_turned, join_is_least}
+use Rattle.partition.specs.Laws.Chains.{join_is_least, together_itself, together_turned}
 use Rattle.partition.specs.Laws.Extremes.{zero_of_is_zero, zero_of_is_partition}
 use Rattle.partition.specs.Laws.Labels.{same_labels}
 use Rattle.partition.specs.Laws.World.{join_fits}
@@ -18,7 +17,7 @@ use Rattle.partition.proofs.Nesting.{least_of-le, least_of-same}
 use Rattle.closed_lattice.specs.Closed.{HasPrincipal, IsClosedPartition, IsPrincipal}
 use Rattle.closed_lattice.proofs.Blocks.{least_holds}
 use Rattle.machine_table.specs.Staying.{NeverLeaves}
-use Rattle.closed_lattice.proofs.Growing.{together_itself, together_on}
+use Rattle.closed_lattice.proofs.Growing.{together_on}
 
 -- zero, as the world of joins has it
 abbrev pub IsZeroOf : KissFile → List ℕ → Type 0
@@ -131,21 +130,6 @@ module _ (F : KissFile) (generators : List (List ℕ)) (z : List ℕ) (closed : 
 -- a closed partition is the join of least closed ones
 pub closed_made : (F : KissFile) (generators : List (List ℕ)) → ((s t : ℕ) → s < t → t < length F.states → HasPrincipal F generators s t) → (z : List ℕ) → IsClosedPartition F z → IsStateCount (length F.states) → HaveJoins (IsZeroOf F) IsJoin generators → IsMade F generators z
 closed_made F generators have z closed count joins = made_by_pairs F generators z closed (λ s t order below held. have s t order below) count joins
-
--- a list of the values with one property is one of those with another where the two are one
-pub lists_as : {M : Type 0} (precedes : M → M → Type 0) (P Q : M → Type 0) (xs : List M) → ((x : M) → P x → Q x) → ((x : M) → Q x → P x) → Lists precedes P xs → Lists precedes Q xs
-lists_as precedes P Q xs to from lists = record {
-  ascending = lists.ascending;
-  members = λ k d within. to (get_or xs k d) (lists.members k d within);
-  complete = λ z has. lists.complete z (from z has);
-}
-
-pub evidence_as : {M : Type 0} (precedes : M → M → Type 0) (P Q : M → Type 0) (limit : ℕ) (xs : List M) → ((x : M) → P x → Q x) → Evidence precedes P limit xs → Evidence precedes Q limit xs
-evidence_as precedes P Q limit xs to evidence = record {
-  ascending = evidence.ascending;
-  members = λ k d within. to (get_or xs k d) (evidence.members k d within);
-  more = evidence.more;
-}
 
 -- there is one least closed partition
 pub principals_are_one : (F : KissFile) (s t : ℕ) (p q : List ℕ) → IsPrincipal F s t p → IsPrincipal F s t q → p ≡ q

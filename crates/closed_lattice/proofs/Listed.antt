@@ -3,11 +3,12 @@ use Rattle.std.proofs.Common.{◌≡◌, ℕ, List, length, map, sym, subst}
 use Rattle.std.proofs.lemmas.List.{map-id}
 use Rattle.hs_lattice.specs.JoinWorld.{IsGenerated, HaveJoins}
 use Rattle.hs_lattice.specs.Listing.{Lists, Evidence}
+use Rattle.hs_lattice.proofs.Outcomes.{evidence_as, lists_as}
 use Rattle.kiss2.specs.declared.kiss_file.KissFile.{KissFile}
 use Rattle.partition.specs.Partition.{zero_of}
 use Rattle.partition.specs.MeetAndJoin.{IsJoin}
 use Rattle.partition.specs.Before.{Before}
-use Rattle.closed_lattice.proofs.Generating.{IsMade, IsZeroOf, lists_as, evidence_as}
+use Rattle.closed_lattice.proofs.Generating.{IsMade, IsZeroOf}
 
 -- the joins of generators in the world of partitions of n states
 abbrev pub IsMadeOf : ℕ → List (List ℕ) → List ℕ → Type 0

@@ -3,24 +3,24 @@ use Rattle.std.specs.List.{All, Contains}
 use Rattle.std.proofs.lemmas.Bool.{cases_lt}
 use Rattle.std.proofs.lemmas.List.{get_or_default}
 use Rattle.std.proofs.lemmas.List.Elements.{All-contains, All-nil, All-push, Contains-append_left, Contains-get_or, Contains-push}
+use Rattle.list_facts.specs.Laws.Members.{Contains-cons, Contains-here, Contains-none, Contains-there}
 use Rattle.cover_logic.specs.declared.bundles.Entry.{Entry}
 use Rattle.cover_logic.specs.declared.term.Term.{Term}
 use Rattle.cover_logic.specs.Inner.Entries.{terms_in, HasNumber, IsNumbered}
 use Rattle.cover_logic.specs.Inner.Rows.{HasSameTerms}
-use Rattle.cover_logic.proofs.Lists.{Contains-head, Contains-tail, Contains-nil, Contains-cons_cases}
 
 -- the term of an entry is among the terms, and each of the terms is that of an entry
 pub term_of_entry : (entries : List Entry) (e : Entry) → Contains entries e → Contains (terms_in entries) e.term
-term_of_entry [] e h = absurd (Contains-nil e h)
+term_of_entry [] e h = absurd (Contains-none e h)
 term_of_entry (x ∷ xs) e h =
-    ⊎_elim (λ same. subst (λ (y : Entry). Contains (x.term ∷ terms_in xs) y.term) same (Contains-head x.term (terms_in xs)))
-    (λ k. Contains-tail x.term (terms_in xs) e.term (term_of_entry xs e k)) (Contains-cons_cases x xs e h)
+    ⊎_elim (λ same. subst (λ (y : Entry). Contains (x.term ∷ terms_in xs) y.term) same (Contains-here x.term (terms_in xs)))
+    (λ k. Contains-there x.term e.term (terms_in xs) (term_of_entry xs e k)) (Contains-cons x e xs h)
 
 pub entry_of_term : (entries : List Entry) (t : Term) → Contains (terms_in entries) t → (e : Entry) × Contains entries e × (e.term ≡ t)
-entry_of_term [] t h = absurd (Contains-nil t h)
+entry_of_term [] t h = absurd (Contains-none t h)
 entry_of_term (x ∷ xs) t h =
-    ⊎_elim (λ same. (x, Contains-head x xs, same))
-    (λ k. let rest = entry_of_term xs t k in (rest.0, Contains-tail x xs rest.0 rest.1, rest.2)) (Contains-cons_cases x.term (terms_in xs) t h)
+    ⊎_elim (λ same. (x, Contains-here x xs, same))
+    (λ k. let rest = entry_of_term xs t k in (rest.0, Contains-there x rest.0 xs rest.1, rest.2)) (Contains-cons x.term t (terms_in xs) h)
 
 -- entries with the numbers of the terms have the same terms
 pub same_terms : (terms : List Term) (entries : List Entry) → IsNumbered terms entries → HasSameTerms terms (terms_in entries)

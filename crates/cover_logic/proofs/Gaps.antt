@@ -2,13 +2,13 @@ use Rattle.std.proofs.Common.{◌≡◌, ℕ, ◌-◌, ◌<◌, ◌^◌, ◌∙�
 use Rattle.std.specs.Int.{bit_at, bit_not, w128, trailing_zeros}
 use Rattle.std.specs.List.{Contains, filter}
 use Rattle.std.proofs.lemmas.Nat.Bits.{bit_at-lt, bit_at_and, bit_at_not, bit_at-trailing_zeros}
+use Rattle.list_facts.specs.Laws.Members.{Contains-filter, Contains-from_filter, Contains-none}
 use Rattle.cover_logic.specs.declared.term.Term.{Term}
 use Rattle.cover_logic.specs.Term.{Holds, IsCovered}
 use Rattle.cover_logic.specs.Inner.Pair.{Includes, IsColumnHalf, agree}
 use Rattle.cover_logic.specs.Inner.Rows.{IsUncovered}
 use Rattle.cover_logic.proofs.Bits.{below_width, bits_of_zero, zero_or_one}
 use Rattle.cover_logic.proofs.Terms.{agree_at, agree_from_shared, holds_own}
-use Rattle.cover_logic.proofs.Lists.{Contains-nil, Contains-filter, Contains-from_filter}
 
 -- the terms that share a value with the part
 abbrev pub IsNear : Term → List Term → List Term → Type 0
@@ -29,7 +29,7 @@ gap_where_none part terms near e none = (
   holds_own part,
   λ h.
       let n = held_near part terms near e part.value (holds_own part) h in
-      Contains-nil n.0 (subst (λ (ts : List Term). Contains ts n.0) none n.1),
+      Contains-none n.0 (subst (λ (ts : List Term). Contains ts n.0) none n.1),
 )
 
 -- a term that agrees with the part and has no literal outside it holds each of the part's values

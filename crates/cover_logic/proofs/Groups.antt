@@ -7,6 +7,7 @@ use Rattle.std.proofs.lemmas.List.{get_or_default}
 use Rattle.std.proofs.lemmas.List.Elements.{Contains-append_cases, Contains-append_left, Contains-append_right, Contains-get_or, Contains-push, Contains-push_cases}
 use Rattle.std.proofs.lemmas.Nat.{and_le_l}
 use Rattle.std.proofs.lemmas.Nat.Bits.{bit_at-lt, bit_at_and, bit_at_clear_other, bit_at_not}
+use Rattle.list_facts.specs.Laws.Members.{Contains-none}
 use Rattle.cover_logic.specs.declared.bundles.Bundle.{Bundle}
 use Rattle.cover_logic.specs.declared.bundles.Entry.{Entry}
 use Rattle.cover_logic.specs.declared.term.Term.{Term}
@@ -18,7 +19,6 @@ use Rattle.cover_logic.specs.Inner.Groups.{AreDropped, IsDropped, IsLive, IsLive
 use Rattle.cover_logic.specs.Inner.Pair.{refines}
 use Rattle.cover_logic.proofs.Bits.{bits_of_zero, zero_is_not_one, zero_or_one}
 use Rattle.cover_logic.proofs.Entries.{entry_of_term, term_of_entry}
-use Rattle.cover_logic.proofs.Lists.{Contains-nil}
 use Rattle.cover_logic.proofs.Planes.{cleared_less, entries_push}
 
 -- with all places of entries live, each term is
@@ -116,7 +116,7 @@ abbrev pub AreGrouped : List Term → List Bundle → List Group → Type 0
 AreGrouped terms left gs = (t : Term) → (IsLiveInSome gs t ⊎ Contains (terms_in (entries_in left)) t) ↔ Contains terms t
 
 pub grouped_none : (terms : List Term) (left : List Bundle) → HasSameTerms terms (terms_in (entries_in left)) → AreGrouped terms left []
-grouped_none terms left same t = (λ h. ⊎_elim (λ k. absurd (Contains-nil k.0 k.1)) (λ k. (same t).0 k) h, λ h. inr ((same t).1 h))
+grouped_none terms left same t = (λ h. ⊎_elim (λ k. absurd (Contains-none k.0 k.1)) (λ k. (same t).0 k) h, λ h. inr ((same t).1 h))
 
 pub grouped_more : (terms : List Term) (left : List Bundle) (gs : List Group) (b : Bundle) (g : Group) → ((t : Term) → IsLive g t ↔ Contains (terms_in b.entries.items) t) → AreGrouped terms (left ++ b ∷ []) gs → AreGrouped terms left (gs ++ g ∷ [])
 grouped_more terms left gs b g each all t = (
@@ -140,7 +140,7 @@ grouped_more terms left gs b g each all t = (
 
 pub grouped_all : (terms : List Term) (left : List Bundle) (gs : List Group) → left ≡ [] → AreGrouped terms left gs → (t : Term) → IsLiveInSome gs t ↔ Contains terms t
 grouped_all terms left gs none all t =
-    (λ h. (all t).0 (inl h), λ h. ⊎_elim (λ l. l) (λ k. absurd (Contains-nil t (subst (λ (bs : List Bundle). Contains (terms_in (entries_in bs)) t) none k))) ((all t).1 h))
+    (λ h. (all t).0 (inl h), λ h. ⊎_elim (λ l. l) (λ k. absurd (Contains-none t (subst (λ (bs : List Bundle). Contains (terms_in (entries_in bs)) t) none k))) ((all t).1 h))
 
 -- another group instead of one
 pub all_live_set : (gs : List Group) (i : ℕ) (h d : Group) → i < length gs → all_live (set gs i h) + (get_or gs i d).live ≡ all_live gs + h.live

@@ -4,6 +4,7 @@ use Rattle.std.specs.Option.{is_some}
 use Rattle.std.proofs.lemmas.Bool.{cases_lt, false≢true}
 use Rattle.std.proofs.lemmas.List.{take-append-le, drop-append-le, append-nil, take_all}
 use Rattle.std.proofs.lemmas.List.Elements.{All-contains, All-nil, All-push}
+use Rattle.list_facts.specs.Laws.Members.{Contains-here}
 use Rattle.cover_logic.specs.declared.bundles.Entry.{Entry}
 use Rattle.cover_logic.specs.declared.term.Term.{Term}
 use Rattle.cover_logic.specs.Term.{FitsWidth, Holds, IsCovered}
@@ -12,7 +13,7 @@ use Rattle.cover_logic.specs.Inner.Rows.{AreNeededPrimes, AreNeededRows, ArePrim
 use Rattle.cover_logic.proofs.Gaps.{IsNear, held_near, held_from_near}
 use Rattle.cover_logic.proofs.Entries.{entry_of_term, term_of_entry}
 use Rattle.cover_logic.proofs.Terms.{agree_from_shared}
-use Rattle.cover_logic.proofs.Lists.{held_push, held_push_cases, held_left, held_right, held_cases, held_cons_cases, Contains-head}
+use Rattle.cover_logic.proofs.Lists.{held_push, held_push_cases, held_left, held_right, held_cases, held_cons_cases}
 
 -- the others hold each value that the row has in common with the terms
 abbrev pub IsShared : Term → List Term → List Term → Type 0
@@ -76,7 +77,7 @@ moved kept rest row x h =
 
 moved_back : (kept rest : List Term) (row : Term) (x : ℕ) → IsCovered ((kept ++ row ∷ []) ++ rest) x → IsCovered (kept ++ row ∷ rest) x
 moved_back kept rest row x h =
-    ⊎_elim (λ k. ⊎_elim (λ q. held_left kept (row ∷ rest) x q) (λ p. held_right kept (row ∷ rest) x (row, Contains-head row rest, p)) (held_push_cases kept row x k))
+    ⊎_elim (λ k. ⊎_elim (λ q. held_left kept (row ∷ rest) x q) (λ p. held_right kept (row ∷ rest) x (row, Contains-here row rest, p)) (held_push_cases kept row x k))
     (λ k. held_right kept (row ∷ rest) x (later row rest x k))
     (held_cases (kept ++ row ∷ []) rest x h)
 

@@ -3,6 +3,7 @@ use Rattle.std.specs.List.{All, Contains, filter}
 use Rattle.std.proofs.lemmas.Bool.{false≢true, cases_Bool, cases_lt, cases_eq, cond-true, cond-false}
 use Rattle.std.proofs.lemmas.List.{length-append, get_or_append_left, get_or-append_right, get_or_default, append-nil}
 use Rattle.std.proofs.lemmas.List.Elements.{All-nil, All-append, All-contains, All-weaker, Contains-append_left, Contains-append_right, Contains-append_cases, Contains-get_or, All-contains_itself}
+use Rattle.list_facts.specs.Laws.Members.{Contains-cons, Contains-filter, Contains-from_filter, Contains-here, Contains-none, Contains-there}
 use Rattle.cover_logic.specs.declared.index.Node.{Node}
 use Rattle.cover_logic.specs.declared.term.Term.{Term}
 use Rattle.cover_logic.specs.Inner.Nodes.{listed, IsNested, IsAdded}
@@ -10,7 +11,6 @@ use Rattle.cover_logic.specs.Term.{Holds}
 use Rattle.cover_logic.specs.Inner.Pair.{Includes, ShareValue, agree, has_zero, has_one, has_dash}
 use Rattle.cover_logic.specs.Inner.Rows.{HasSameTerms, IsClear, MeetsSome}
 use Rattle.cover_logic.proofs.Terms.{agree_from_shared, shared_from_agree}
-use Rattle.cover_logic.proofs.Lists.{Contains-head, Contains-tail, Contains-nil, Contains-cons_cases, Contains-filter, Contains-from_filter}
 
 -- the terms of two lists of nodes
 pub listed-append : (xs ys : List Node) → listed (xs ++ ys) ≡ listed xs ++ listed ys
@@ -24,11 +24,11 @@ listed-append (x ∷ xs) ys = step x.is_listed (listed xs) (listed (xs ++ ys)) (
 -- a node of the list, at its place
 pub listed_at : (nodes : List Node) (i : ℕ) (d : Node) → i < length nodes → (get_or nodes i d).is_listed ≡ true → Contains (listed nodes) (get_or nodes i d).term
 listed_at [] i d h e = absurd (omega arith)
-listed_at (x ∷ xs) zero d h e = subst (λ (ts : List Term). Contains ts x.term) (sym (cond-true x.is_listed (x.term ∷ listed xs) (listed xs) e)) (Contains-head x.term (listed xs))
+listed_at (x ∷ xs) zero d h e = subst (λ (ts : List Term). Contains ts x.term) (sym (cond-true x.is_listed (x.term ∷ listed xs) (listed xs) e)) (Contains-here x.term (listed xs))
 listed_at (x ∷ xs) (suc i) d h e = behind x.is_listed (listed_at xs i d (omega arith) e)
   where
     behind : (b : Bool) → Contains (listed xs) (get_or xs i d).term → Contains (cond b (x.term ∷ listed xs) (listed xs)) (get_or xs i d).term
-    behind true k = Contains-tail x.term (listed xs) (get_or xs i d).term k
+    behind true k = Contains-there x.term (get_or xs i d).term (listed xs) k
     behind false k = k
 
 -- and a term of the list, at its place
@@ -36,14 +36,14 @@ abbrev pub StandsAt : List Node → Term → Type 0
 StandsAt nodes t = (i : ℕ) × (i < length nodes) × ((d : Node) → ((get_or nodes i d).is_listed ≡ true) × ((get_or nodes i d).term ≡ t))
 
 pub stands : (nodes : List Node) (t : Term) → Contains (listed nodes) t → StandsAt nodes t
-stands [] t h = absurd (Contains-nil t h)
+stands [] t h = absurd (Contains-none t h)
 stands (x ∷ xs) t h = by_first x.is_listed refl (λ k. later (stands xs t k)) h
   where
     later : StandsAt xs t → StandsAt (x ∷ xs) t
     later s = let below = s.1 in (suc s.0, omega arith, s.2)
 
     by_first : (b : Bool) → x.is_listed ≡ b → (Contains (listed xs) t → StandsAt (x ∷ xs) t) → Contains (cond b (x.term ∷ listed xs) (listed xs)) t → StandsAt (x ∷ xs) t
-    by_first true e rest k = ⊎_elim (λ same. (0, omega arith, λ d. (e, same))) rest (Contains-cons_cases x.term (listed xs) t k)
+    by_first true e rest k = ⊎_elim (λ same. (0, omega arith, λ d. (e, same))) rest (Contains-cons x.term t (listed xs) k)
     by_first false e rest k = rest k
 
 -- one node more

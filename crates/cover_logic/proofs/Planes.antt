@@ -6,6 +6,7 @@ use Rattle.std.proofs.lemmas.List.{append-nil, get_or_default, get_or_append_lef
 use Rattle.std.proofs.lemmas.List.Elements.{Contains-append_cases, Contains-append_left, Contains-append_right, Contains-get_or, Contains-push, Contains-push_cases}
 use Rattle.std.proofs.lemmas.Nat.{and_le_l}
 use Rattle.std.proofs.lemmas.Nat.Bits.{bit_at-lt, bit_at-zero, bit_at_clear_other, bit_at_clear_same, bit_at_not, bit_at_set_other, bit_at_set_same}
+use Rattle.list_facts.specs.Laws.Members.{Contains-none}
 use Rattle.cover_logic.specs.declared.bundles.Bundle.{Bundle}
 use Rattle.cover_logic.specs.declared.bundles.Entry.{Entry}
 use Rattle.cover_logic.specs.declared.bundles.Plane.{Plane}
@@ -15,7 +16,6 @@ use Rattle.cover_logic.specs.Inner.Entries.{AreMore, EntryFits, HasLiterals, IsA
 use Rattle.cover_logic.specs.Inner.Pair.{HasLiteral, agree}
 use Rattle.cover_logic.specs.Inner.Planes.{ArePlanes}
 use Rattle.cover_logic.proofs.Bits.{below_width, bits_of_zero, zero_is_not_one, zero_or_one}
-use Rattle.cover_logic.proofs.Lists.{Contains-nil}
 
 -- the set has the places of those of the first entries that have the literal, and none of a later one
 abbrev pub HasFirstLiterals : ℕ → ℕ → List Entry → ℕ → ℕ → Type 0
@@ -144,7 +144,7 @@ entries_push xs b = entries-append xs (b ∷ []) ∙ ap (λ es. entries_in xs ++
 
 -- those that the row meets, of no entry, and of those of one bundle more
 pub met_of_none : (row : Term) → IsMet row [] []
-met_of_none row e = (λ h. absurd (Contains-nil e h), λ h. absurd (Contains-nil e h.0))
+met_of_none row e = (λ h. absurd (Contains-none e h), λ h. absurd (Contains-none e h.0))
 
 pub met_of_more : (row : Term) (entries more met after : List Entry) → IsMet row entries met → IsPutIn row more met after → IsMet row (entries ++ more) after
 met_of_more row entries more met after m p e = (

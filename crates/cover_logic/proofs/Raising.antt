@@ -1,13 +1,13 @@
 use Rattle.std.proofs.Common.{◌≡◌, ℕ, ◌+◌, ◌<◌, ◌≤◌, ◌∙◌, Bool, true, false, not, IsTrue, refl, List, sym, ◌↔◌, ⊎_elim, subst, arith}
 use Rattle.std.specs.List.{Contains, list_any}
 use Rattle.std.proofs.lemmas.Bool.{false≢true, cases_Bool, cases_eq, not_from_false}
+use Rattle.list_facts.specs.Laws.Members.{fails_from_none, passes_from_any}
 use Rattle.cover_logic.specs.declared.term.Term.{Term}
 use Rattle.cover_logic.specs.Term.{FitsWidth, Holds, HoldsWithDash, IsCovered, LooksAt}
 use Rattle.cover_logic.specs.Inner.Pair.{Includes, IsLooser, ShareValue, agree}
 use Rattle.cover_logic.specs.Inner.Rows.{IsClear, IsGrown, IsPrime, NeedsLiteral}
 use Rattle.cover_logic.proofs.Bits.{below_width}
 use Rattle.cover_logic.proofs.Terms.{agree_from_shared, shared_from_agree, looser_holds, looser_with_dash}
-use Rattle.cover_logic.proofs.Lists.{passes_from_any, fails_from_none}
 
 -- a term that touches none of a list is clear of it
 clear_from_none : (t : Term) (terms : List Term) → list_any (agree t) terms ≡ false → IsClear terms t

@@ -5,6 +5,7 @@ use Rattle.std.proofs.lemmas.List.{append_assoc, append-nil, length-append, leng
 use Rattle.std.proofs.lemmas.List.Elements.{All-get_or, All-head, All-tail}
 use Rattle.std.proofs.lemmas.List.Sums.{sum_by-cons}
 use Rattle.std.proofs.lemmas.Option.{get_or_from_slice_get, none-some, same_Some, slice_get_within, slice_get-get_or}
+use Rattle.list_facts.specs.Laws.Places.{get_behind}
 use Rattle.cover_split.specs.Cover.{Has, IsBlock, block_at, places_of}
 use Rattle.cover_split.specs.Expansion.{IsPair, pairs_from, pairs_of, pairs_with}
 
@@ -23,10 +24,6 @@ get_left : {X : Type 0} (xs ys : List X) (i : ℕ) → i < length xs → slice_g
 get_left [] ys i lt = absurd (omega arith)
 get_left (x ∷ xs) ys zero lt = refl
 get_left (x ∷ xs) ys (suc i) lt = get_left xs ys i (omega arith)
-
-get_right : {X : Type 0} (xs ys : List X) (i : ℕ) → slice_get (xs ++ ys) (length xs + i) ≡ slice_get ys i
-get_right [] ys i = let e : 0 + i ≡ i = omega arith in ap (slice_get ys) e
-get_right (x ∷ xs) ys i = let e : suc (length xs) + i ≡ suc (length xs + i) = omega arith in ap (slice_get (x ∷ (xs ++ ys))) e ∙ get_right xs ys i
 
 get_with : (b : ℕ) (xs : List ℕ) (i s : ℕ) → slice_get xs i ≡ Some s → slice_get (pairs_with b xs) i ≡ Some (b, s)
 get_with b [] i s there = absurd (none-some s there)
@@ -50,7 +47,7 @@ pair_from b (block ∷ blocks) zero k s there =
 pair_from b (block ∷ blocks) (suc j) k s there =
     let e : length block + start_of blocks j + k ≡ length (pairs_with b block) + (start_of blocks j + k) = omega (arith, length-tagged b block) in
     let same : suc b + j ≡ b + suc j = omega arith in
-    ap (slice_get (pairs_from b (block ∷ blocks))) e ∙ get_right (pairs_with b block) (pairs_from (suc b) blocks) (start_of blocks j + k)
+    ap (slice_get (pairs_from b (block ∷ blocks))) e ∙ get_behind (pairs_with b block) (pairs_from (suc b) blocks) (start_of blocks j + k)
     ∙ pair_from (suc b) blocks j k s there ∙ ap (λ (n : ℕ). made n s) same
 
 -- the block of a pair, and its place there
@@ -78,7 +75,7 @@ placed_from b (block ∷ blocks) i j s there =
       | inr past ↦
           let rest : ℕ = i - length block in
           let e : length (pairs_with b block) + rest ≡ i = omega (arith, length-tagged b block) in
-          let it = placed_from (suc b) blocks rest j s (sym (ap (slice_get (pairs_from b (block ∷ blocks))) (sym e) ∙ get_right (pairs_with b block) (pairs_from (suc b) blocks) rest) ∙ there) in
+          let it = placed_from (suc b) blocks rest j s (sym (ap (slice_get (pairs_from b (block ∷ blocks))) (sym e) ∙ get_behind (pairs_with b block) (pairs_from (suc b) blocks) rest) ∙ there) in
           record { block = suc it.block; place = it.place; is_block = omega (arith, it.is_block); within = omega (arith, it.within); at_place = it.at_place; number = omega (arith, it.number) }
     ]
 

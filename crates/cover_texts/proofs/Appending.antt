@@ -5,10 +5,10 @@ use Rattle.std.proofs.lemmas.Grind.{flat_map-append}
 use Rattle.std.proofs.lemmas.List.Folds.{flat_map-map}
 use Rattle.std.proofs.lemmas.Option.{get_or_from_slice_get}
 use Rattle.std.proofs.lemmas.Slice.Zip.{length-zip, get_or-zip}
+use Rattle.list_facts.specs.Laws.Appending.{item_more}
 use Rattle.blif_out.specs.declared.header.LatchNote.{LatchNote}
 use Rattle.blif_out.specs.Head.{comment_text, note_fields}
 use Rattle.blif_out.specs.Inner.Pieces.{note_line}
-use Rattle.blif_out.proofs.Appending.{item_more}
 use Rattle.cover_split.specs.Expansion.{pairs_of}
 use Rattle.cover_texts.specs.Inner.Pieces.{block_line, pair_line}
 use Rattle.cover_texts.specs.Lines.{block_fields, cover_fields, cover_lines, pair_fields}

@@ -6,6 +6,7 @@ use Rattle.std.proofs.lemmas.Grind.{flat_map-append}
 use Rattle.std.proofs.lemmas.List.Elements.{All-contains, All-head, All-tail}
 use Rattle.std.proofs.lemmas.Nat.Bits.{bit_at-lt}
 use Rattle.std.proofs.lemmas.Option.{slice_get-get_or}
+use Rattle.list_facts.specs.Laws.Everywhere.{each_append, each_weaker}
 use Rattle.blif_out.specs.declared.header.Header.{Header}
 use Rattle.blif_out.specs.declared.header.LatchNote.{LatchNote}
 use Rattle.blif_out.specs.Head.{bit_text, bits_of, comment_text, note_fields}
@@ -13,13 +14,12 @@ use Rattle.blif_out.specs.Law.{NetTextDenotes}
 use Rattle.blif_out.specs.NetText.{net_text}
 use Rattle.blif_out.specs.Writable.{IsWritable}
 use Rattle.blif_out.proofs.Visible.{AreVisible, IsVisible, decimal_visible, head_visible, text_visible}
-use Rattle.blif_out.proofs.Words.{each_append, name_word}
+use Rattle.blif_out.proofs.Words.{name_word}
 use Rattle.cover_split.specs.Cover.{IsBlock, block_at}
 use Rattle.cover_split.specs.Expansion.{pairs_of}
 use Rattle.cover_split.proofs.PairLemmas.{pair_has}
 use Rattle.cover_texts.specs.Lines.{block_fields, cover_fields, cover_lines, cover_text, pair_fields}
 use Rattle.hs_io.specs.Spelling.{ArePlainFields, IsComment, IsFieldByte, ended, spaced}
-use Rattle.hs_io.proofs.Spelled.{all_append, all_weaker}
 use Rattle.net_core.specs.declared.Network.{Network}
 use Rattle.net_core.specs.Denotes.{Denotes}
 use Rattle.state_codes.specs.declared.split.Kind.TheVariants as kinds
@@ -73,7 +73,7 @@ notes_visible notes =
 within_line : (fields : List (List ℕ)) → AreVisible fields → AllByRecursion (λ b. b ≢ 10) (flat_map spaced fields)
 within_line [] p = tt
 within_line (field ∷ fields) (p, ps) =
-    (λ e. absurd (omega (arith, e)), all_append (λ b. b ≢ 10) field (flat_map spaced fields) (all_weaker IsFieldByte (λ b. b ≢ 10) (λ b h e. absurd (omega (arith, h.low, e))) field p) (within_line fields ps))
+    (λ e. absurd (omega (arith, e)), each_append (λ b. b ≢ 10) field (flat_map spaced fields) (each_weaker IsFieldByte (λ b. b ≢ 10) (λ b h e. absurd (omega (arith, h.low, e))) field p) (within_line fields ps))
 
 comments_of : (lines : List (List (List ℕ))) → AllByRecursion AreVisible lines → AllByRecursion IsComment (map comment_text lines)
 comments_of [] p = tt

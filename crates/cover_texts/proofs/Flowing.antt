@@ -3,6 +3,7 @@ use Rattle.std.proofs.Common.{◌≡◌, ℕ, zero, suc, ◌<◌, All, Bool, Con
 use Rattle.std.specs.List.{slice_get}
 use Rattle.std.proofs.lemmas.List.Elements.{All-cons, All-nil}
 use Rattle.std.proofs.lemmas.Option.{none-some, same_Some}
+use Rattle.list_facts.specs.Laws.Everywhere.{all_at}
 use Rattle.cover_split.specs.Expansion.{IsExpansion, pairs_of}
 use Rattle.cover_texts.specs.Inner.Steps.{AreParts}
 use Rattle.decomposition.specs.Flow.{Flows}
@@ -12,7 +13,6 @@ use Rattle.machine_table.specs.Staying.{NeverLeaves}
 use Rattle.numbered_names.proofs.NumberedNames.{length-numbered_names}
 use Rattle.pair_operators.specs.Pair.{Closed}
 use Rattle.partition.specs.Partition.{IsPartition, Together}
-use Rattle.realise.proofs.Gates.{all_at}
 use Rattle.state_codes.specs.declared.split.Part.{Part}
 use Rattle.state_codes.specs.Kinds.{IsOwnCarrier, PartsMeetInZero}
 use Rattle.state_codes.specs.Split.{IsPart}

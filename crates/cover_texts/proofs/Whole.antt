@@ -2,6 +2,7 @@
 use Rattle.std.proofs.Common.{◌≡◌, ℕ, ◌<◌, ◌++◌, inl, inr, All, Bool, Contains, List, [], Some, length, sym, ap, ◌∙◌, subst, arith}
 use Rattle.std.specs.List.{flat_map, slice_get}
 use Rattle.std.proofs.lemmas.Option.{slice_get_within}
+use Rattle.list_facts.specs.Laws.Places.{item_at}
 use Rattle.blif_out.specs.declared.header.LatchNote.{LatchNote}
 use Rattle.blif_out.specs.Law.{NetTextDenotes}
 use Rattle.blif_out.specs.Writable.{IsWritable}
@@ -34,7 +35,6 @@ use Rattle.realise.specs.Names.{AreNames}
 use Rattle.realise.specs.Realised.{AreCounted}
 use Rattle.realise.proofs.Apart.{names_apart}
 use Rattle.realise.proofs.Carrying.{carried_answers}
-use Rattle.realise.proofs.Gates.{item_at}
 use Rattle.state_codes.specs.declared.Codes.{Codes}
 use Rattle.state_codes.specs.declared.split.Part.{Part}
 use Rattle.state_codes.specs.Agreement.{AreDistinct}

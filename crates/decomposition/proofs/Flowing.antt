@@ -1,5 +1,6 @@
 -- Where information flows as the parts say, the candidates of a latch permit it.
 use Rattle.std.proofs.Common.{◌≡◌, ℕ, ◌<◌, refl, inl, inr, Bool, All, Contains, List, Some, length, get_or, slice_get, sym, subst}
+use Rattle.list_facts.specs.Laws.Places.{item_at}
 use Rattle.cubes.proofs.Bits.{same_bits}
 use Rattle.dependence.specs.Candidates.{IsCandidate}
 use Rattle.dependence.specs.Permits.{AgreeOn, next_value}
@@ -7,7 +8,6 @@ use Rattle.kiss2.specs.declared.kiss_file.KissFile.{KissFile}
 use Rattle.kiss2.specs.Machine.{next}
 use Rattle.machine_table.specs.Staying.{NeverLeaves}
 use Rattle.partition.specs.Partition.{Together}
-use Rattle.realise.proofs.Gates.{item_at}
 use Rattle.state_codes.specs.declared.Codes.{Codes}
 use Rattle.state_codes.specs.declared.split.Part.{Part}
 use Rattle.state_codes.specs.Agreement.{CodesAgreeAt, AgreeOnPart}

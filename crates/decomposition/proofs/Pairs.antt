@@ -1,6 +1,8 @@
 -- The gates of latches read within their own pairs and within their parts.
 use Rattle.std.proofs.Common.{◌≡◌, ℕ, ◌<◌, ◌++◌, inl, inr, true, All, Contains, List, Some, get_or, length, map, slice_get, refl, sym, ap, ◌∙◌, subst, arith}
 use Rattle.std.proofs.lemmas.Option.{same_Some, slice_get-get_or, slice_get_within}
+use Rattle.list_facts.specs.Laws.Everywhere.{all_at}
+use Rattle.list_facts.specs.Laws.Places.{item_at}
 use Rattle.blif_out.specs.declared.header.LatchNote.{LatchNote}
 use Rattle.cubes.proofs.Bits.{same_digits}
 use Rattle.dependence.specs.declared.sets.ReadSet.{ReadSet}
@@ -18,7 +20,7 @@ use Rattle.net_core.specs.Flat.{IsFlat}
 use Rattle.partition.specs.Partition.{IsPartition}
 use Rattle.realise.specs.Laws.{ArePairwiseDistinct}
 use Rattle.realise.specs.Realised.{AreCounted, AreEnough, IsGateFor, IsRealised, IsWithin, name_at}
-use Rattle.realise.proofs.Gates.{all_at, driven_names, item_at}
+use Rattle.realise.proofs.Gates.{driven_names}
 use Rattle.state_codes.specs.declared.Codes.{Codes}
 use Rattle.state_codes.specs.declared.split.Part.{Part}
 use Rattle.state_codes.specs.Agreement.{IsBitPartition}

@@ -4,6 +4,8 @@ use Rattle.std.proofs.lemmas.Bool.{cases_order}
 use Rattle.std.proofs.lemmas.List.{get_or-map, length-map}
 use Rattle.std.proofs.lemmas.List.Elements.{All-contains, Contains-append_cases, Contains-append_right, Contains-get_or}
 use Rattle.std.proofs.lemmas.Option.{get_or_from_slice_get, slice_get_within}
+use Rattle.list_facts.specs.Laws.Members.{Contains-from_map, Contains-map}
+use Rattle.list_facts.specs.Laws.Places.{item_at}
 use Rattle.dependence.specs.declared.sets.ReadSet.{ReadSet}
 use Rattle.kiss2.specs.declared.kiss_file.KissFile.{KissFile}
 use Rattle.net_core.specs.declared.Gate.{Gate}
@@ -13,8 +15,6 @@ use Rattle.net_core.specs.declared.SignalNames.{SignalNames}
 use Rattle.net_core.proofs.Members.{is_same_name, times, times-append, times-cons, times-some}
 use Rattle.realise.specs.Laws.{ArePairwiseDistinct}
 use Rattle.realise.specs.Realised.{AreCounted, IsGateFor, IsWithin, name_at}
-use Rattle.realise.proofs.Gates.{item_at}
-use Rattle.state_reduce.proofs.Members.{has_map, map_has}
 use Rattle.decomposition.specs.OwnPairs.{ReadsLatch}
 
 -- a name that stands at two places stands twice
@@ -78,13 +78,13 @@ module _ (F : KissFile) (bits : ℕ) (words : List ℕ) (names : SignalNames) (N
       let there : Contains (ins ++ outs) latch.output = subst (λ (list : List (List ℕ)). Contains list latch.output) is.inputs reads.2 in
       elim (Contains-append_cases ins outs latch.output there) [
         | inl among ↦
-            let found = map_has (name_at names.inputs) set.inputs latch.output among in
+            let found = Contains-from_map (name_at names.inputs) set.inputs latch.output among in
             let in_a : found.0 < F.inputs = All-contains (λ a. a < F.inputs) set.inputs found.0 within.inputs_within found.1 in
             let one : 1 ≤ times latch.output names.inputs = times-some latch.output names.inputs (subst (Contains names.inputs) found.2 (Contains-get_or names.inputs found.0 [] (omega (arith, in_a, counted.inputs)))) in
             let other : 1 ≤ times latch.output names.latch_outputs = times-some latch.output names.latch_outputs (subst (Contains names.latch_outputs) (sym called) (Contains-get_or names.latch_outputs c [] (omega (arith, in_c, counted.latch_outputs)))) in
             absurd (omega (arith, one, other, counts names latch.output distinct))
         | inr among ↦
-            let found = map_has (name_at names.latch_outputs) set.latches latch.output among in
+            let found = Contains-from_map (name_at names.latch_outputs) set.latches latch.output among in
             let in_d : found.0 < bits = All-contains (λ d. d < bits) set.latches found.0 within.latches_within found.1 in
             let same : found.0 ≡ c =
             one_place names.latch_outputs found.0 c (λ n. omega (arith, counts names n distinct)) (omega (arith, in_d, counted.latch_outputs)) (omega (arith, in_c, counted.latch_outputs)) (found.2 ∙ called) in
@@ -99,5 +99,5 @@ module _ (F : KissFile) (bits : ℕ) (words : List ℕ) (names : SignalNames) (N
         found.0,
         found.1,
         subst (λ (list : List (List ℕ)). Contains list (found.0).output) (sym is.inputs)
-            (Contains-append_right ins outs (found.0).output (subst (Contains outs) (sym (latch_name c found.0 found.1)) (has_map (name_at names.latch_outputs) set.latches c listed))),
+            (Contains-append_right ins outs (found.0).output (subst (Contains outs) (sym (latch_name c found.0 found.1)) (Contains-map (name_at names.latch_outputs) set.latches c listed))),
       )

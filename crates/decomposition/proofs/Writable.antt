@@ -1,5 +1,5 @@
 -- The network of codes can be written: its names are fields, its rows are planes and its starts are known.
-use Rattle.std.proofs.Common.{◌≡◌, ◌≢◌, ℕ, zero, suc, ◌+◌, ◌<◌, ◌≤◌, ◌/◌, ◌%◌, ◌⊎◌, ◌||◌, ◌&&◌, inl, inr, Bool, true, false, cond, eqb, ltb, Option, Some, None, List, [], ◌∷◌, ◌++◌, length, map, get_or, remove, IsTrue, All, refl, subst, arith, length-append}
+use Rattle.std.proofs.Common.{◌≡◌, ◌≢◌, ℕ, zero, suc, ◌+◌, ◌<◌, ◌≤◌, ◌/◌, ◌%◌, ◌⊎◌, ◌||◌, ◌&&◌, inl, inr, Bool, true, false, cond, eqb, ltb, Option, Some, None, List, [], ◌∷◌, ◌++◌, length, map, get_or, remove, IsTrue, All, refl, arith, length-append}
 use Rattle.std.specs.Cmp.Lexicographic.{slice_cmp}
 use Rattle.std.specs.Fmt.{decimal, digit_glyph, digits, digits_onto}
 use Rattle.std.specs.List.{AllByRecursion, list_any, range_with_len}
@@ -8,8 +8,8 @@ use Rattle.std.specs.Option.{unwrap_or}
 use Rattle.std.specs.Ordering.{nat_cmp}
 use Rattle.std.proofs.Math.Nat.{mod-lt}
 use Rattle.std.proofs.lemmas.Bool.Decides.{nat_tests}
-use Rattle.std.proofs.lemmas.List.{get_or-map, length-map}
 use Rattle.std.proofs.lemmas.List.Elements.{All-append, All-map, All-same, All-weaker, recursion_from_All}
+use Rattle.list_facts.specs.Laws.Everywhere.{all_from_map}
 use Rattle.blif_out.specs.Order.{HasRowsInOrder}
 use Rattle.blif_out.specs.Writable.{IsPlane, IsSignalName, IsWritable, IsWritableGate, IsWritableLatch}
 use Rattle.blif_out.proofs.Words.{is_name_byte, name_from_bytes}
@@ -163,12 +163,6 @@ cover_planes On Off rows good k d lt =
     (only_here (λ (row : List ℕ). row_holds row needed.0) rows k d lt (good.on_held needed.0 needed.1) needed.2)
 
 -- ---- the network
--- what holds of each image holds of what it is the image of
-pub all_of_map : {X : Type 0} (P : List ℕ → Type 0) (f : X → List ℕ) (xs : List X) → All P (map f xs) → All (λ x. P (f x)) xs
-all_of_map P f xs all k d lt =
-    let within : k < length (map f xs) = omega (arith, lt, length-map xs f) in
-    subst P (get_or-map f xs k d (f d) lt) (all k (f d) within)
-
 -- names at numbers below their count
 named_at : (names : List (List ℕ)) (count : ℕ) (numbers : List ℕ) → length names ≡ count → All IsSignalName names → All (λ a. a < count) numbers → All IsSignalName (map (name_at names) numbers)
 named_at names count numbers counts are within = All-map IsSignalName (name_at names) numbers (λ k d lt. are (get_or numbers k d) [] (omega (arith, within k d lt, counts)))
@@ -186,7 +180,7 @@ module _ (F : KissFile) (bits : ℕ) (words : List ℕ) (reads : Reads) (names :
 
   driven_are_names : AreSignalNames names → All (λ gate. IsSignalName gate.output) N.gates
   driven_are_names are =
-      all_of_map IsSignalName (λ (gate : Gate). gate.output) N.gates
+      all_from_map IsSignalName (λ (gate : Gate). gate.output) N.gates
       (All-same IsSignalName (driven_by N.gates) (names.latch_inputs ++ names.outputs) (driven_names F bits words reads names N counted enough real)
       (All-append IsSignalName names.latch_inputs names.outputs are.latch_inputs are.outputs))
 
@@ -204,9 +198,9 @@ module _ (F : KissFile) (bits : ℕ) (words : List ℕ) (reads : Reads) (names :
   latches_writable : AreSignalNames names → All IsWritableLatch N.latches
   latches_writable are k d lt = record {
     input =
-        all_of_map IsSignalName (λ (latch : Latch). latch.input) N.latches (All-same IsSignalName (map (λ latch. latch.input) N.latches) names.latch_inputs real.latch_inputs are.latch_inputs) k d lt;
+        all_from_map IsSignalName (λ (latch : Latch). latch.input) N.latches (All-same IsSignalName (map (λ latch. latch.input) N.latches) names.latch_inputs real.latch_inputs are.latch_inputs) k d lt;
     output =
-        all_of_map IsSignalName (λ (latch : Latch). latch.output) N.latches (All-same IsSignalName (map (λ latch. latch.output) N.latches) names.latch_outputs real.latch_outputs are.latch_outputs) k d lt;
+        all_from_map IsSignalName (λ (latch : Latch). latch.output) N.latches (All-same IsSignalName (map (λ latch. latch.output) N.latches) names.latch_outputs real.latch_outputs are.latch_outputs) k d lt;
   }
 
   -- the network can be written

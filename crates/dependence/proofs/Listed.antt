@@ -1,26 +1,11 @@
 -- Lists of numbers of bits.
-use Rattle.std.proofs.Common.{◌≡◌, ◌⊎◌, ℕ, zero, suc, ◌+◌, ◌<◌, Contains, List, [], ◌∷◌, ◌++◌, length, get_or, inl, inr, sym, subst, arith}
+use Rattle.std.proofs.Common.{◌≡◌, ℕ, ◌+◌, ◌<◌, Contains, List, [], ◌∷◌, ◌++◌, length, get_or, inl, inr, sym, subst, arith}
 use Rattle.std.proofs.lemmas.Bool.{cases_eq, cases_lt}
 use Rattle.std.proofs.lemmas.List.{get_or_append_left, get_or_push, length_push}
 use Rattle.std.proofs.lemmas.List.Elements.{Contains-append_left, Contains-get_or, Contains-push, Contains-push_cases}
 use Rattle.std.specs.List.Sorted.{IsStrictlyIncreasing}
 use Rattle.dependence.specs.Permits.{InWord}
 use Rattle.dependence.specs.Listed.{AreListed}
-
--- a number is in a list or not
-pub listed_or_not : (list : List ℕ) (c : ℕ) → Contains list c ⊎ (Contains list c → ⊥)
-listed_or_not [] c = inr (λ is. absurd (omega (arith, is.1)))
-listed_or_not (first ∷ rest) c =
-    elim (cases_eq first c) [
-      | inl at ↦ inl (0, omega arith, at)
-      | inr other ↦ elim (listed_or_not rest c) [
-        | inl is ↦ inl (suc is.0, omega (arith, is.1), is.2)
-        | inr none ↦ inr (behind none other)
-      ]
-    ] where
-      behind : (Contains rest c → ⊥) → (first ≡ c → ⊥) → Contains (first ∷ rest) c → ⊥
-      behind none other (zero, within, is) = other is
-      behind none other (suc k, within, is) = none (k, omega (arith, within), is)
 
 pub listed_none : (set : ℕ) → AreListed [] set 0
 listed_none set = record {

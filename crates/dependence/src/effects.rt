@@ -65,8 +65,8 @@ pub fn no_effects(alloc: Global, inputs: u8) -> Result<Vec<Effect>, AllocError>
 
 /// Adds the gates for which each input matters at the state.
 ///
-/// An input matters for a gate where two rows of a state both say what the gate gives, they say different
-/// bits, and their cubes have different bits at that input and at no other.
+/// An input matters for a gate where two filled rows of the state both say what the gate gives, they say
+/// different bits, and their cubes have different bits at that input and at no other.
 pub fn add_effects(
     alloc: Global,
     m: &Machine,

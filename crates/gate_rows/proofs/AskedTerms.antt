@@ -1,8 +1,10 @@
 -- The terms of a gate hold the numbers that write what is read where the bit is asked for.
-use Rattle.std.proofs.Common.{◌≡◌, ℕ, zero, suc, ◌≤◌, inl, inr, Bool, true, false, List, [], ◌∷◌, ◌++◌, length, All, Contains, refl, ap, sym, ◌∙◌, subst, arith}
+use Rattle.std.proofs.Common.{◌≡◌, ℕ, ◌≤◌, inl, inr, Bool, true, false, List, [], ◌∷◌, ◌++◌, length, refl, ap, sym, ◌∙◌, subst, arith}
 use Rattle.std.specs.Bool.{beq}
 use Rattle.std.proofs.lemmas.Bool.{false≢true}
 use Rattle.std.proofs.lemmas.List.Elements.{All-append, Contains-append_cases, Contains-append_left, Contains-append_right}
+use Rattle.list_facts.specs.Laws.Everywhere.{all_one}
+use Rattle.list_facts.specs.Laws.Members.{Contains-here, Contains-none, Contains-one}
 use Rattle.cover_logic.specs.declared.term.Term.{Term}
 use Rattle.cover_logic.specs.Cover.{CanCover}
 use Rattle.cover_logic.specs.Term.{FitsWidth, Holds}
@@ -16,7 +18,6 @@ use Rattle.gate_rows.specs.Inner.Terms.{HoldWhatIsRead}
 use Rattle.gate_rows.proofs.ReadNumbers.{read_length}
 use Rattle.gate_rows.proofs.RowTexts.{number_for}
 use Rattle.gate_rows.proofs.TermCovers.{same_cover}
-use Rattle.net_core.proofs.Members.{Contains-cons, Contains-here, Contains-none}
 
 -- a test of two bits
 pub same_bit : (a b : Bool) → beq a b ≡ true → a ≡ b
@@ -38,14 +39,6 @@ read_start inputs places given = record {
   held = λ v. (λ h. absurd (Contains-none h.0 h.1), λ h. absurd (Contains-none h.at h.among));
 }
 
-all_one : {X : Type 0} (P : X → Type 0) (x : X) → P x → All P (x ∷ [])
-all_one P x p zero d lt = p
-all_one P x p (suc k) d lt = absurd (omega arith)
-
--- one of a list with one, or that one
-among_one : {X : Type 0} (x y : X) → Contains (x ∷ []) y → x ≡ y
-among_one x y h = elim (Contains-cons x y [] h) [ inl here ↦ here | inr later ↦ absurd (Contains-none y later) ]
-
 module _ (inputs places : List ℕ) (given : Bool) (demands : List Demand) (at : Demand) where
   read_later : (read : List Bool) → IsAsked inputs places given demands read → IsAsked inputs places given (demands ++ at ∷ []) read
   read_later read h = record { at = h.at; among = Contains-append_left demands (at ∷ []) h.at h.among; gives = h.gives; is_read = h.is_read }
@@ -61,7 +54,7 @@ module _ (inputs places : List ℕ) (given : Bool) (demands : List Demand) (at :
               elim (Contains-append_cases old (t ∷ []) h.0 h.1) [
                 | inl first ↦ read_later (code_bits (column_count inputs places) v) ((before.held v).0 (h.0, first, h.2))
                 | inr last ↦
-                    let same : t ≡ h.0 = among_one t h.0 last in
+                    let same : t ≡ h.0 = Contains-one t h.0 last in
                     record { at = at; among = Contains-append_right demands (at ∷ []) at (Contains-here at []); gives = gives; is_read = (is.holds v).0 (subst (λ (u : Term). Holds u v) (sym same) h.2) }
               ],
           λ h.
@@ -70,7 +63,7 @@ module _ (inputs places : List ℕ) (given : Bool) (demands : List Demand) (at :
                     let found = (before.held v).1 (record { at = h.at; among = first; gives = h.gives; is_read = h.is_read }) in
                     (found.0, Contains-append_left old (t ∷ []) found.0 found.1, found.2)
                 | inr last ↦
-                    let same : at ≡ h.at = among_one at h.at last in (
+                    let same : at ≡ h.at = Contains-one at h.at last in (
                       t,
                       Contains-append_right old (t ∷ []) t (Contains-here t []),
                       (is.holds v).1 (subst (λ (p : Demand). IsReadIn inputs places p.cube p.word (code_bits (column_count inputs places) v)) (sym same) h.is_read),
@@ -88,7 +81,7 @@ module _ (inputs places : List ℕ) (given : Bool) (demands : List Demand) (at :
       λ h.
           elim (Contains-append_cases demands (at ∷ []) h.at h.among) [
             | inl first ↦ (before.held v).1 (record { at = h.at; among = first; gives = h.gives; is_read = h.is_read })
-            | inr last ↦ absurd (other (ap (λ (p : Demand). p.given) (among_one at h.at last) ∙ h.gives))
+            | inr last ↦ absurd (other (ap (λ (p : Demand). p.given) (Contains-one at h.at last) ∙ h.gives))
           ],
     );
   }

@@ -1,4 +1,3 @@
-pub mod Items
 pub mod Literals
 pub mod Ranges
 pub mod ReadNumbers

@@ -1,16 +1,16 @@
 -- Terms over the columns of a gate, one column more at a time.
-use Rattle.std.proofs.Common.{◌≡◌, ℕ, zero, suc, ◌+◌, ◌*◌, ◌%◌, ◌^◌, ◌<◌, ◌⊎◌, ◌↔◌, inl, inr, Bool, true, false, if◌then◌else◌, Option, Some, None, List, [], ◌∷◌, ◌++◌, length, map, slice_get, All, bit_or, refl, sym, ap, subst, ◌∙◌, arith, length-append}
+use Rattle.std.proofs.Common.{◌≡◌, ℕ, zero, suc, ◌+◌, ◌*◌, ◌%◌, ◌^◌, ◌<◌, ◌↔◌, inl, inr, Bool, true, false, if◌then◌else◌, Option, Some, None, List, [], ◌∷◌, ◌++◌, length, map, All, bit_or, refl, sym, ap, subst, ◌∙◌, arith, length-append}
 use Rattle.std.specs.Int.{bit_at}
 use Rattle.std.proofs.lemmas.List.{get_or_append_left, length-map, map-append}
 use Rattle.std.proofs.lemmas.Nat.{one_shl, or_lt, pow_pos}
 use Rattle.std.proofs.lemmas.Nat.Bits.{bit_at-zero, bit_at_above}
+use Rattle.list_facts.specs.Laws.Places.{get_behind, get_cases, get_first}
 use Rattle.cover_logic.specs.declared.term.Term.{Term}
 use Rattle.cover_logic.specs.Term.{Holds}
 use Rattle.cover_logic.proofs.Terms.{split_by}
 use Rattle.cubes.specs.Symbol.{bit}
 use Rattle.cubes.proofs.Bits.{bit_from_one, bit_from_zero, one_from_bit, zero_from_bit}
 use Rattle.gate_rows.specs.Inner.Literals.{AllowsFrom, HasCharacters, code_character}
-use Rattle.gate_rows.proofs.Items.{get_behind, get_cases, get_first}
 
 -- ---- characters of two lists, one behind the other
 pub allows_first : (n : ℕ) (cs ds : List (Option Bool)) (v : ℕ) → AllowsFrom n (cs ++ ds) v → AllowsFrom n cs v

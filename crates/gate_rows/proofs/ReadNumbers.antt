@@ -1,5 +1,5 @@
 -- What a gate reads, as a number: the numbers that the columns of a cube allow are those that are read at its symbols.
-use Rattle.std.proofs.Common.{◌≡◌, ℕ, zero, suc, ◌+◌, ◌-◌, ◌^◌, ◌<◌, inl, inr, Bool, eqb, true, false, cond, if◌then◌else◌, Option, Some, None, List, [], ◌∷◌, ◌++◌, length, map, get_or, slice_get, slice_index, All, refl, ap, sym, ◌∙◌, subst, arith, length-append}
+use Rattle.std.proofs.Common.{◌≡◌, ℕ, zero, suc, ◌+◌, ◌-◌, ◌^◌, ◌<◌, inl, inr, Bool, eqb, true, false, cond, if◌then◌else◌, Option, Some, None, List, [], ◌∷◌, ◌++◌, length, map, get_or, slice_get, All, refl, ap, sym, ◌∙◌, subst, arith, length-append}
 use Rattle.std.specs.List.{AllPairs, range_with_len}
 use Rattle.std.specs.List.Sorted.{IsStrictlyIncreasing}
 use Rattle.std.proofs.lemmas.Bool.{cases_Bool, cases_lt, eq-eqb, eqb-true, false≢true}
@@ -7,6 +7,7 @@ use Rattle.std.proofs.lemmas.List.{ext_get_or, get_or-append-add, get_or-map, ge
 use Rattle.std.proofs.lemmas.List.FromFn.{get_or-map-range_with_len, length-map-range_with_len}
 use Rattle.std.proofs.lemmas.List.Kept.{AllPairs-from_increasing}
 use Rattle.std.proofs.lemmas.Option.{get_or_from_slice_get, slice_get-get_or, slice_get_within}
+use Rattle.list_facts.specs.Laws.Places.{from_map, get_behind, get_cases, get_first, get_map}
 use Rattle.cover_logic.specs.declared.term.Term.{Term}
 use Rattle.cubes.specs.declared.cube.Cube.{Cube}
 use Rattle.cubes.specs.Cube.{HoldsNumber}
@@ -17,7 +18,6 @@ use Rattle.cubes.proofs.Numbers.{number_below, symbol_of-number_of}
 use Rattle.gate_rows.specs.Bits.{code_bits}
 use Rattle.gate_rows.specs.Columns.{IsReadIn, IsTermOf, column_count, column_values, input_of}
 use Rattle.gate_rows.specs.Inner.Literals.{AllowsFrom, HasCharacters, code_character, columns_of, input_character}
-use Rattle.gate_rows.proofs.Items.{from_map, get_behind, get_cases, get_first, get_map}
 
 -- ---- symbols by their bits
 pub symbol_at : (w n a : ℕ) → a < w → get_or (symbol_of w n) a false ≡ bit n (w - 1 - a)

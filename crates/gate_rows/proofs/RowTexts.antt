@@ -14,8 +14,8 @@ use Rattle.std.proofs.lemmas.List.Sorted.{All-permutation, Contains-permutation,
 use Rattle.std.proofs.lemmas.List.Sums.{sum_by-append}
 use Rattle.std.proofs.lemmas.Option.{get_or_from_slice_get, slice_get-get_or, unwrap_or-slice_get}
 use Rattle.std.specs.Option.{unwrap_or}
+use Rattle.list_facts.specs.Laws.Members.{Contains-from_map, Contains-map}
 use Rattle.cover_logic.specs.declared.term.Term.{Term}
-use Rattle.cover_logic.specs.Cover.{IsTermCover}
 use Rattle.cover_logic.specs.Term.{FitsWidth, Holds, HoldsWithDash, IsCovered, LooksAt}
 use Rattle.cover_logic.proofs.Bits.{below_width}
 use Rattle.cubes.specs.Field.{allows, byte_of, character}
@@ -24,9 +24,8 @@ use Rattle.cubes.proofs.Bits.{bit_from_one, one_from_bit, same_bits, same_digits
 use Rattle.cubes.proofs.Numbers.{number_below}
 use Rattle.net_core.specs.Step.{character_holds, row_holds}
 use Rattle.gate_rows.specs.Bits.{code_bits}
-use Rattle.gate_rows.specs.Covers.{AreHeld, HoldValues, IsGoodCover, IsWithDash}
+use Rattle.gate_rows.specs.Covers.{AreHeld, IsGoodCover, IsWithDash}
 use Rattle.gate_rows.specs.Inner.Texts.{IsCoverByTerms, byte_at, row_text}
-use Rattle.gate_rows.proofs.Items.{Contains-image, from_image}
 use Rattle.gate_rows.proofs.ReadNumbers.{code_at, number_bit}
 
 -- ---- rows place by place
@@ -121,14 +120,14 @@ module _ (width : ℕ) (rows : List Term) (v : ℕ) where
 
   pub held_from_covered : IsCovered rows v → AreHeld texts (code_bits width v)
   held_from_covered h =
-      let among = Contains-image (row_text width) rows h.0 h.1 in
+      let among = Contains-map (row_text width) rows h.0 h.1 in
       list_any_at (λ row. row_holds row (code_bits width v)) texts among.0 (row_text width h.0) among.1
       (ap (λ (row : List ℕ). row_holds row (code_bits width v)) among.2 ∙ text_from_term width h.0 v h.2)
 
   pub covered_from_held : All (FitsWidth width) rows → AreHeld texts (code_bits width v) → IsCovered rows v
   covered_from_held fits h =
       let one = Any-from_list_any (λ row. row_holds row (code_bits width v)) texts h in
-      let found = from_image (row_text width) rows one.1 (one.0, one.2, one.3) in
+      let found = Contains-from_map (row_text width) rows one.1 (one.0, one.2, one.3) in
       let fit : FitsWidth width found.0 = subst (FitsWidth width) found.1.2 (fits found.1.0 found.0 found.1.1) in (
         found.0,
         found.1,
@@ -250,7 +249,7 @@ module _ (On Off : List Bool → Type 0) (width : ℕ) (rows : List Term) (names
 
   -- a name is the text of a row
   row_of : (name : List ℕ) → Contains names name → (t : Term) × Contains rows t × (row_text width t ≡ name)
-  row_of name among = from_image (row_text width) rows name (Contains-permutation names row_texts name back among)
+  row_of name among = Contains-from_map (row_text width) rows name (Contains-permutation names row_texts name back among)
 
   -- names and texts hold the same
   same_held : (read : List Bool) → list_any (λ row. row_holds row read) row_texts ≡ list_any (λ row. row_holds row read) names

@@ -8,6 +8,7 @@ use Rattle.std.proofs.lemmas.List.Concat.{flat_map-cons}
 use Rattle.std.proofs.lemmas.List.Elements.{All-from_recursion}
 use Rattle.std.proofs.lemmas.List.Splits.{slice_split_none, slice_split_at, length-slice_split}
 use Rattle.std.proofs.lemmas.List.Sums.{position_or_len_is}
+use Rattle.list_facts.specs.Laws.Everywhere.{each_append, each_weaker}
 use Rattle.hs_io.specs.Lines.{begins_comment, content, ends_line, fields_in, fields_of, is_allowed, is_blank, line_of, physical_lines}
 use Rattle.hs_io.specs.Spelling.{spaced, line_text, ended, IsFieldByte, IsPlainField, ArePlainFields, IsComment}
 use Rattle.hs_io.proofs.Cuts.{lines_of_pieces-cons}
@@ -18,16 +19,8 @@ pub record IsLineByte (byte : ℕ) : Type 0 where
   pub high : byte ≤ 126
   pub no_comment : byte ≢ 35
 
-pub all_append : (P : ℕ → Type 0) (xs ys : List ℕ) → AllByRecursion P xs → AllByRecursion P ys → AllByRecursion P (xs ++ ys)
-all_append P [] ys p q = q
-all_append P (x ∷ xs) ys (h, p) q = (h, all_append P xs ys p q)
-
-pub all_weaker : (P Q : ℕ → Type 0) → ((x : ℕ) → P x → Q x) → (xs : List ℕ) → AllByRecursion P xs → AllByRecursion Q xs
-all_weaker P Q f [] p = tt
-all_weaker P Q f (x ∷ xs) (h, p) = (f x h, all_weaker P Q f xs p)
-
 field_in_line : (field : List ℕ) → IsPlainField field → AllByRecursion IsLineByte field
-field_in_line field p = all_weaker IsFieldByte IsLineByte (λ x h. record { low = omega (arith, h.low); high = h.high; no_comment = h.no_comment }) field p.visible
+field_in_line field p = each_weaker IsFieldByte IsLineByte (λ x h. record { low = omega (arith, h.low); high = h.high; no_comment = h.no_comment }) field p.visible
 
 space_in_line : IsLineByte 32
 space_in_line = record { low = omega arith; high = omega arith; no_comment = λ e. absurd (omega arith) }
@@ -37,13 +30,13 @@ pub line_bytes : (fields : List (List ℕ)) → ArePlainFields fields → AllByR
 line_bytes [] p = tt
 line_bytes (field ∷ []) (p, ps) = rw (append-nil field) (field_in_line field p)
 line_bytes (field ∷ next ∷ more) (p, ps) =
-    rw (flat_map-cons spaced next more) (all_append IsLineByte field (spaced next ++ flat_map spaced more) (field_in_line field p) (space_in_line, line_bytes (next ∷ more) ps))
+    rw (flat_map-cons spaced next more) (each_append IsLineByte field (spaced next ++ flat_map spaced more) (field_in_line field p) (space_in_line, line_bytes (next ∷ more) ps))
 
 -- a text that ends a line is its own first line
 pub physical_lines-ended : (text rest : List ℕ) → AllByRecursion (λ b. b ≢ 10) text → physical_lines (ended text ++ rest) ≡ text ∷ physical_lines rest
 physical_lines-ended text rest no_end =
     let apart : All (λ b. ends_line b ≡ false) text =
-    All-from_recursion (λ b. ends_line b ≡ false) text (all_weaker (λ b. b ≢ 10) (λ b. ends_line b ≡ false) (λ b h. grind (arith, nat_tests)) text no_end) in
+    All-from_recursion (λ b. ends_line b ≡ false) text (each_weaker (λ b. b ≢ 10) (λ b. ends_line b ≡ false) (λ b h. grind (arith, nat_tests)) text no_end) in
     rw (append_assoc text (10 ∷ []) rest, slice_split_at ends_line text 10 rest apart refl) (lines_of_pieces-cons text (slice_split ends_line rest) (omega (arith, length-slice_split ends_line rest)))
 
 -- the lines of texts that end lines are these
@@ -55,7 +48,7 @@ physical_lines-all (text ∷ texts) (p, ps) =
 no_blanks : (field : List ℕ) → IsPlainField field → All (λ b. is_blank b ≡ false) field
 no_blanks field p =
     All-from_recursion (λ b. is_blank b ≡ false) field
-    (all_weaker IsFieldByte (λ b. is_blank b ≡ false) (λ b h. let low = h.low in grind (arith, nat_tests)) field p.visible)
+    (each_weaker IsFieldByte (λ b. is_blank b ≡ false) (λ b h. let low = h.low in grind (arith, nat_tests)) field p.visible)
 
 -- a run that is not empty is the first of the fields
 one_field : (field : List ℕ) (runs : List (List ℕ)) → 0 < length field → fields_in (field ∷ runs) ≡ field ∷ fields_in runs

@@ -3,8 +3,8 @@ use Rattle.std.proofs.Common.{zero, suc, ◌≢◌, ◌≡◌, ℕ, ◌/◌, ◌
 use Rattle.std.specs.Fmt.{decimal, digits, digits_onto, digit_glyph}
 use Rattle.std.specs.List.{list_all, AllByRecursion}
 use Rattle.std.proofs.lemmas.Bool.Decides.{nat_tests}
+use Rattle.list_facts.specs.Laws.Everywhere.{each_append}
 use Rattle.hs_io.specs.Spelling.{IsComment}
-use Rattle.hs_io.proofs.Spelled.{all_append}
 use Rattle.hs_texts.specs.Reports.{TrialLinesAreComments, count_within, spaced_numbers}
 
 -- a text without a line feed
@@ -46,7 +46,7 @@ decimal_stays n = digits_stay 64 n [] tt
 numbers_stay : (numbers : List ℕ) → StaysInLine (spaced_numbers numbers)
 numbers_stay [] = tt
 numbers_stay (number ∷ numbers) =
-    (λ e. absurd (omega (arith, e)), all_append (λ c. c ≢ 10) (decimal number) (spaced_numbers numbers) (decimal_stays number) (numbers_stay numbers))
+    (λ e. absurd (omega (arith, e)), each_append (λ c. c ≢ 10) (decimal number) (spaced_numbers numbers) (decimal_stays number) (numbers_stay numbers))
 
 count_stays : (count : Option ℕ) → StaysInLine (count_within count)
 count_stays None = word_stays (codes "more than 1000") refl
@@ -54,7 +54,7 @@ count_stays (Some count) = decimal_stays count
 
 -- a word behind the mark of a comment, and more in its line
 comment_with : (word rest : List ℕ) → list_all (λ c. not (eqb c 10)) word ≡ true → StaysInLine rest → IsComment (35 ∷ word ++ rest)
-comment_with word rest h p = (refl, all_append (λ c. c ≢ 10) word rest (word_stays word h) p)
+comment_with word rest h p = (refl, each_append (λ c. c ≢ 10) word rest (word_stays word h) p)
 
 -- each line of the summary is a comment
 pub trial_lines_are_comments : TrialLinesAreComments

@@ -6,6 +6,7 @@ use Rattle.std.proofs.lemmas.List.Elements.{All-push}
 use Rattle.hs_lattice.specs.JoinWorld.{IsGenerated, HaveJoins}
 use Rattle.hs_lattice.specs.Laws.{IsGenerated-has}
 use Rattle.hs_lattice.specs.Listing.{Lists, Evidence}
+use Rattle.hs_lattice.proofs.Outcomes.{evidence_as}
 use Rattle.partition.specs.Before.{Before}
 use Rattle.partition.specs.MeetAndJoin.{IsJoin}
 use Rattle.io_pairs.specs.declared.worlds.IoPair.{IoPair}
@@ -24,14 +25,6 @@ IsMadeOf n generators q = IsGenerated (IsZeroOf n) IsJoin (map (λ r. r) generat
 
 abbrev pub HaveJoinsOf : ℕ → List (List ℕ) → Type 0
 HaveJoinsOf n generators = HaveJoins (IsZeroOf n) IsJoin (map (λ r. r) generators)
-
--- what has one property has another, and so does a list
-evidence_as : (P Q : List ℕ → Type 0) (limit : ℕ) (xs : List (List ℕ)) → ((x : List ℕ) → P x → Q x) → Evidence Before P limit xs → Evidence Before Q limit xs
-evidence_as P Q limit xs to evidence = record {
-  ascending = evidence.ascending;
-  members = λ k d within. to (get_or xs k d) (evidence.members k d within);
-  more = evidence.more;
-}
 
 module _ (members values : ℕ) (functions : List (List ℕ)) where
   -- each right side of two members is reached
@@ -68,11 +61,11 @@ module _ (members values : ℕ) (functions : List (List ℕ)) where
     pub evident : (limit : ℕ) (items : List (List ℕ)) → Evidence Before (IsMadeOf values found) limit (map (λ q. q) items) → Evidence Before (IsReached members values functions) limit items
     evident limit items evidence =
         subst (λ (xs : List (List ℕ)). Evidence Before (IsReached members values functions) limit xs) (map-id items)
-        (evidence_as (IsMadeOf values found) (IsReached members values functions) limit (map (λ q. q) items) to evidence)
+        (evidence_as Before (IsMadeOf values found) (IsReached members values functions) limit (map (λ q. q) items) to evidence)
 
     pub unevident : (limit : ℕ) → ((xs : List (List ℕ)) → Evidence Before (IsMadeOf values found) limit xs → ⊥) → HaveJoinsOf values found
         → (xs : List (List ℕ)) → Evidence Before (IsRightSide members values functions) limit xs → ⊥
-    unevident limit none joins xs evidence = none xs (evidence_as (IsRightSide members values functions) (IsMadeOf values found) limit xs (from joins) evidence)
+    unevident limit none joins xs evidence = none xs (evidence_as Before (IsRightSide members values functions) (IsMadeOf values found) limit xs (from joins) evidence)
 
   -- the greatest partner is put beside one more partition
   pub lefts_more : (rights : List (List ℕ)) (items : List IoPair) (pair : IoPair) → HaveLefts members functions rights (map sides_of items) → IsParted members functions pair.right pair.left

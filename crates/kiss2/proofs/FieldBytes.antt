@@ -8,6 +8,7 @@ use Rattle.std.proofs.lemmas.Bool.Decides.{nat_tests}
 use Rattle.std.proofs.lemmas.List.{get_or-take, length-take}
 use Rattle.std.proofs.lemmas.List.Elements.{All-from_recursion, recursion_from_All}
 use Rattle.std.proofs.lemmas.List.Sums.{AllPass-from_list_all, fails_before_first}
+use Rattle.list_facts.specs.Laws.Everywhere.{each_weaker}
 use Rattle.hs_io.specs.declared.lines.Line.{Line}
 use Rattle.hs_io.specs.Lines.{begins_comment, content, ends_line, fields_of, is_allowed, is_blank, is_field, line_of, lines_from, lines_of, lines_of_pieces, physical_lines}
 use Rattle.kiss2.specs.Names.{IsNameByte}
@@ -84,10 +85,6 @@ pub record HasGoodFields (most : ℕ) (line : Line) : Type 0 where
 name_byte : (b : ℕ) → is_blank b ≡ false → begins_comment b ≡ false → is_allowed b ≡ true → IsNameByte b
 name_byte b apart plain allowed = record { low = grind (arith, nat_tests); high = grind (arith, nat_tests); no_comment = grind (arith, nat_tests) }
 
-weaker : {X : Type 0} (P Q : X → Type 0) → ((x : X) → P x → Q x) → (xs : List X) → AllByRecursion P xs → AllByRecursion Q xs
-weaker P Q f [] h = tt
-weaker P Q f (x ∷ xs) (h, hs) = (f x h, weaker P Q f xs hs)
-
 bytes_named : (field : List ℕ) → AllByRecursion (λ b. is_blank b ≡ false) field → AllByRecursion (λ b. (begins_comment b ≡ false) × (is_allowed b ≡ true)) field → All IsNameByte field
 bytes_named field uncut held = All-from_recursion IsNameByte field (both field uncut held) where
   both : (bs : List ℕ) → AllByRecursion (λ b. is_blank b ≡ false) bs → AllByRecursion (λ b. (begins_comment b ≡ false) × (is_allowed b ≡ true)) bs → AllByRecursion IsNameByte bs
@@ -105,14 +102,14 @@ line_good number most line le =
       short =
           let parts = parts_of is_blank (λ _. Unit {0}) text (anything text) in
           All-from_recursion (λ field. length field ≤ most) (fields_of text)
-          (weaker (λ run. IsPart is_blank (λ _. Unit {0}) (length text) run × (is_field run ≡ true)) (λ field. length field ≤ most) (λ run h. let s = h.0.short in omega arith) (fields_of text)
+          (each_weaker (λ run. IsPart is_blank (λ _. Unit {0}) (length text) run × (is_field run ≡ true)) (λ field. length field ≤ most) (λ run h. let s = h.0.short in omega arith) (fields_of text)
           (filter_kept (IsPart is_blank (λ _. Unit {0}) (length text)) is_field (slice_split is_blank text) parts));
       visible = λ clean.
           let allowed = AllPass-from_list_all is_allowed text (not-false (list_all is_allowed text) clean) in
           let held : All (λ b. (begins_comment b ≡ false) × (is_allowed b ≡ true)) text = λ k d lt. (content_uncommented line k d lt, allowed k d lt) in
           let parts = parts_of is_blank (λ b. (begins_comment b ≡ false) × (is_allowed b ≡ true)) text (recursion_from_All (λ b. (begins_comment b ≡ false) × (is_allowed b ≡ true)) text held) in
           All-from_recursion (λ field. (0 < length field) × All IsNameByte field) (fields_of text)
-          (weaker (λ run. IsPart is_blank (λ b. (begins_comment b ≡ false) × (is_allowed b ≡ true)) (length text) run × (is_field run ≡ true)) (λ field. (0 < length field) × All IsNameByte field)
+          (each_weaker (λ run. IsPart is_blank (λ b. (begins_comment b ≡ false) × (is_allowed b ≡ true)) (length text) run × (is_field run ≡ true)) (λ field. (0 < length field) × All IsNameByte field)
           (λ run h. (some_byte run h.1, bytes_named run h.0.uncut h.0.held)) (fields_of text)
           (filter_kept (IsPart is_blank (λ b. (begins_comment b ≡ false) × (is_allowed b ≡ true)) (length text)) is_field (slice_split is_blank text) parts));
     } where
@@ -128,7 +125,7 @@ lines_good number most (line ∷ lines) (h, hs) = (line_good number most line h,
 pub fields_good : (bytes : List ℕ) → All (HasGoodFields (length bytes)) (lines_of bytes)
 fields_good bytes =
     let parts = parts_of ends_line (λ _. Unit {0}) bytes (anything bytes) in
-    let short = weaker (IsPart ends_line (λ _. Unit {0}) (length bytes)) (λ line. length line ≤ length bytes) (λ line h. h.short) (slice_split ends_line bytes) parts in
+    let short = each_weaker (IsPart ends_line (λ _. Unit {0}) (length bytes)) (λ line. length line ≤ length bytes) (λ line h. h.short) (slice_split ends_line bytes) parts in
     All-from_recursion (HasGoodFields (length bytes)) (lines_of bytes)
     (lines_good 1 (length bytes) (physical_lines bytes) (pieces_kept (λ line. length line ≤ length bytes) (slice_split ends_line bytes) short)) where
       anything : (bs : List ℕ) → AllByRecursion (λ _. Unit {0}) bs

@@ -1,11 +1,12 @@
 -- The machine of a file: what its rows say, and that it never leaves its states.
-use Rattle.std.proofs.Common.{◌≡◌, ℕ, zero, suc, ◌<◌, ◌⊎◌, ◌&&◌, inl, inr, Bool, true, false, cond, eqb, Option, Some, None, is_some, List, [], ◌∷◌, filter, length, get_or, slice_get, Contains, IfSome, ap, sym, ◌∙◌, refl, subst, arith}
+use Rattle.std.proofs.Common.{◌≡◌, ℕ, ◌<◌, ◌⊎◌, ◌&&◌, inl, inr, Bool, true, false, cond, eqb, Option, Some, None, is_some, List, [], ◌∷◌, filter, length, get_or, slice_get, Contains, IfSome, ap, sym, ◌∙◌, refl, subst, arith}
 use Rattle.std.specs.List.{filter_map, cons_option}
 use Rattle.std.specs.Option.{IsNone}
 use Rattle.std.proofs.lemmas.Bool.{cases_Bool, cases_eq, eqb-true, eq-eqb, false≢true, and_parts, and_from}
 use Rattle.std.proofs.lemmas.List.Elements.{All-contains, Contains-append_cases, Contains-append_right}
 use Rattle.std.proofs.lemmas.List.FromFn.{get_or-map-range_with_len, length-map-range_with_len}
 use Rattle.std.proofs.lemmas.Option.{same_Some, slice_get-get_or}
+use Rattle.list_facts.specs.Laws.Members.{Contains-one}
 use Rattle.cubes.specs.Cube.{holds}
 use Rattle.cubes.proofs.Deciding.{held_from_test, test_from_held}
 use Rattle.kiss2.specs.declared.kiss_file.KissFile.{KissFile}
@@ -14,11 +15,6 @@ use Rattle.kiss2.specs.Lawful.{IsLawfulRow}
 use Rattle.kiss2.specs.Machine.{given_bit, next, output_bit, out, IsRowAt, Conflicting, NextIsAState, RowsDecide}
 
 -- ---- the first value that some item gives
--- what is in a list of one is that one
-only_one : {X : Type 0} (x y : X) → Contains (x ∷ []) y → x ≡ y
-only_one x y (zero, lt, is) = is
-only_one x y (suc k, lt, is) = absurd (omega arith)
-
 module _ {X V : Type 0} (test : X → Bool) (gives : X → Option V) where
   -- the first value that an item that passes the test gives, or the other value
   abbrev first_given : List X → V → V
@@ -40,7 +36,7 @@ module _ {X V : Type 0} (test : X → Bool) (gives : X → Option V) where
   gives_none_more : (x : X) (xs : List X) → (test x ≡ true → IsNone (gives x)) → GivesNone xs → GivesNone (x ∷ xs)
   gives_none_more x xs here there y among passes =
       elim (Contains-append_cases (x ∷ []) xs y among) [
-        | inl first ↦ subst (λ z. test z ≡ true → IsNone (gives z)) (only_one x y first) here passes
+        | inl first ↦ subst (λ z. test z ≡ true → IsNone (gives z)) (Contains-one x y first) here passes
         | inr later ↦ there y later passes
       ]
 

@@ -13,6 +13,7 @@ use Rattle.std.proofs.lemmas.List.Folds.{find-append, list_any-append}
 use Rattle.std.proofs.lemmas.Nat.Bits.{bit_at-lt, bit_at-suc, bit_at_above, bit_at_lowest}
 use Rattle.std.proofs.lemmas.Option.{get_or_from_slice_get, none-some, same_Some, slice_get-get_or, slice_get_within}
 use Rattle.std.proofs.lemmas.Slice.Eq.{bytes_eq-Decides}
+use Rattle.list_facts.specs.Laws.Everywhere.{all_at}
 use Rattle.cubes.specs.Symbol.{bit}
 use Rattle.hs_io.specs.declared.lines.Line.{Line}
 use Rattle.hs_io.specs.Lines.{lines_of}
@@ -56,14 +57,11 @@ read_good : (bytes : List ℕ) → All (HasGoodFields (length bytes)) (lines_rea
 unfolding lines_read
 read_good bytes = All-take (HasGoodFields (length bytes)) (prefix_len (λ line. not (is_ending line)) (lines_of bytes)) (lines_of bytes) (fields_good bytes)
 
-at_place : {X : Type 0} (P : X → Type 0) (xs : List X) (place : ℕ) (x : X) → All P xs → slice_get xs place ≡ Some x → P x
-at_place P xs place x all stands = subst P (get_or_from_slice_get xs place x x stands) (all place x (slice_get_within xs place x stands))
-
 module _ (most : ℕ) (lines : List Line) (fields : All (HasGoodFields most) lines) (faultless : HaveNoFault lines) where
   -- the bytes of a line's fields
   visible_at : (place : ℕ) (line : Line) → slice_get lines place ≡ Some line → All (λ field. (0 < length field) × All IsNameByte field) line.fields
   visible_at place line stands =
-      (at_place (HasGoodFields most) lines place line fields stands).visible (fine (take place lines) line (faultless place line stands)).clean
+      (all_at (HasGoodFields most) lines place line fields stands).visible (fine (take place lines) line (faultless place line stands)).clean
 
   record HasNames (line : Line) : Type 0 where
     current : (0 < length (current_field line)) × All IsNameByte (current_field line)

@@ -3,6 +3,7 @@ use Rattle.std.proofs.Common.{◌≡◌, ◌↔◌, ℕ, ◌<◌, ◌≤◌, Boo
 use Rattle.std.proofs.lemmas.Bool.{cases_lt}
 use Rattle.std.proofs.lemmas.List.Elements.{All-contains, All-from_get_or, Contains-get_or}
 use Rattle.std.specs.List.Sorted.{IsStrictlyIncreasing}
+use Rattle.list_facts.specs.Laws.Members.{among_or_not}
 use Rattle.kiss2.specs.declared.kiss_file.KissFile.{KissFile}
 use Rattle.state_codes.specs.Code.{need}
 use Rattle.state_codes.specs.Laws.Need.{need-least}
@@ -10,7 +11,6 @@ use Rattle.dependence.specs.Permits.{InWord, PermitsValue}
 use Rattle.dependence.specs.ReadRule.{Beside, IsIrredundant, IsReadRule}
 use Rattle.dependence.proofs.Judged.{permits_more}
 use Rattle.dependence.proofs.Irredundant.{rule_least}
-use Rattle.dependence.proofs.Listed.{listed_or_not}
 use Rattle.least_codes.specs.Inner.Choice.{Ascend}
 use Rattle.least_codes.specs.Laws.{RuleGivesLeast, RuleGivesLeastSet}
 use Rattle.least_codes.specs.LeastCode.{AreCodes}
@@ -40,7 +40,7 @@ module _ (F : KissFile) (words : List ℕ) (value : ℕ → List Bool → Bool) 
     permit = least.permits;
   } where
     least : IsIrredundant F words (Contains reads) value
-    least = rule_least F words Candidate (Contains reads) value (listed_or_not reads) rule (need (length F.states)) (λ c is. is) (all_bits_permit F words (need (length F.states)) value codes)
+    least = rule_least F words Candidate (Contains reads) value (among_or_not reads) rule (need (length F.states)) (λ c is. is) (all_bits_permit F words (need (length F.states)) value codes)
 
   -- no others that permit the value are among the bits below a read one and the read ones above it
   never : (others : List ℕ) → AreEnough F words Candidate value others → NeverHas (need (length F.states)) reads others

@@ -6,6 +6,7 @@ use Rattle.std.proofs.lemmas.List.Elements.{All-append, All-contains, All-push, 
 use Rattle.std.proofs.lemmas.Nat.Bits.{bit_at_and, bit_at_ones_above, bit_at_xor, bit_at-lt}
 use Rattle.std.specs.Int.{bit_at}
 use Rattle.std.specs.Int.RustNames.{bit_xor}
+use Rattle.list_facts.specs.Laws.Members.{Contains-here, Contains-none, Contains-one}
 use Rattle.cubes.specs.declared.cube.Cube.{Cube}
 use Rattle.cubes.specs.Cube.{HoldsNumber, IsHalf, Meets}
 use Rattle.cubes.specs.Symbol.{bit, symbol_of}
@@ -26,7 +27,6 @@ use Rattle.machine_table.specs.Table.{IsTable}
 use Rattle.machine_table.proofs.Asking.{lawful_row, number_of_row}
 use Rattle.machine_table.proofs.OpenParts.{one_part}
 use Rattle.state_rows.proofs.Outputs.{gives_where_cares, given_in_all, value_of_given}
-use Rattle.machine_table.proofs.OpenCubes.{itself, only_one}
 use Rattle.cubes.proofs.SharedCubes.{meets_from_held}
 use Rattle.machine_table.proofs.Sought.{at_from_held, held_from_at, row_from_at}
 
@@ -87,7 +87,7 @@ among_cases : (rows : List KissRow) (row : KissRow) (P : KissRow → Type 0) →
 among_cases rows row P before here r among =
     elim (Contains-append_cases rows (row ∷ []) r among) [
       | inl earlier ↦ before r earlier
-      | inr last ↦ subst P (sym (only_one row r last)) here
+      | inr last ↦ subst P (Contains-one row r last) here
     ]
 
 pub next_row : (rows : List KissRow) (k : ℕ) (row : KissRow) → k < length rows → row ≡ get_or rows k row → take k rows ++ row ∷ [] ≡ take (k + 1) rows
@@ -98,9 +98,6 @@ pub among_more : (rows : List KissRow) (k : ℕ) (row : KissRow) (P : KissRow �
 among_more rows k row P within is before here r among = among_cases (take k rows) row P before here r (subst (λ (list : List KissRow). Contains list r) (sym (next_row rows k row within is)) among)
 
 -- ---- the row that fills up a cube
-none_among : {X : Type 0} (x : X) → Contains [] x → ⊥
-none_among x (k, lt, e) = omega arith
-
 pub filling_alone : (s : ℕ) (cube : Cube) (outputs : ℕ) (added : KissRow) → added.cube ≡ cube → added.from ≡ s → added.to ≡ Some s → added.care ≡ 2 ^ outputs - 1 → added.value ≡ 0
     → IsFilling [] s cube outputs added
 filling_alone s cube outputs added is_cube from names cares value = record {
@@ -109,7 +106,7 @@ filling_alone s cube outputs added is_cube from names cares value = record {
   next_state = λ t is. let both : Some t ≡ Some s = sym is ∙ names in cc;
   value = value;
   counted = counted;
-  nothing_else = λ part says row among. absurd (none_among row among);
+  nothing_else = λ part says row among. absurd (Contains-none row among);
   says = says;
 }
   where
@@ -153,7 +150,7 @@ module _ (rows : List KissRow) (row : KissRow) (s : ℕ) (cube : Cube) (outputs 
     counted = λ part says. known.counted part ((says_is part).0 says).0;
     nothing_else = λ part says. among_cases rows row (λ r. Meets cube r.cube → ¬ Says part r) (known.nothing_else part ((says_is part).0 says).0) (λ _. ((says_is part).0 says).1);
     says = λ part counted silent. (says_is part).1
-        (known.says part counted (fewer part silent), silent row (Contains-append_right rows (row ∷ []) row (itself row)) meets);
+        (known.says part counted (fewer part silent), silent row (Contains-append_right rows (row ∷ []) row (Contains-here row [])) meets);
   }
 
 -- ---- rows of a state
@@ -221,7 +218,7 @@ module _ (F : KissFile) (table : IsTable F) (no_conflict : Conflicting F → ⊥
       kept = λ row among. Contains-append_left old (added ∷ []) row among;
       each = λ x held. inr (
         added,
-        Contains-append_right old (added ∷ []) added (itself added),
+        Contains-append_right old (added ∷ []) added (Contains-here added []),
         subst (λ (c : Cube). HoldsNumber c x) (sym filling.same_cube) held,
         filling.says part counted silent,
       );
@@ -243,8 +240,8 @@ met_none cube = record { among = λ row among. among; each = λ row among meets.
 module _ (front : List KissRow) (cube : Cube) (met : List KissRow) (row : KissRow) (before : AreThoseMet front cube met) where
   pub met_more : AreThoseMet (front ++ row ∷ []) cube (met ++ row ∷ [])
   met_more = record {
-    among = among_cases met row (Contains (front ++ row ∷ [])) (λ r among. Contains-append_left front (row ∷ []) r (before.among r among)) (Contains-append_right front (row ∷ []) row (itself row));
-    each = among_cases front row (λ r. Meets cube r.cube → Contains (met ++ row ∷ []) r) (λ r among meets. Contains-append_left met (row ∷ []) r (before.each r among meets)) (λ meets. Contains-append_right met (row ∷ []) row (itself row));
+    among = among_cases met row (Contains (front ++ row ∷ [])) (λ r among. Contains-append_left front (row ∷ []) r (before.among r among)) (Contains-append_right front (row ∷ []) row (Contains-here row []));
+    each = among_cases front row (λ r. Meets cube r.cube → Contains (met ++ row ∷ []) r) (λ r among meets. Contains-append_left met (row ∷ []) r (before.each r among meets)) (λ meets. Contains-append_right met (row ∷ []) row (Contains-here row []));
   }
 
   pub met_skip : ¬ Meets cube row.cube → AreThoseMet (front ++ row ∷ []) cube met

@@ -1,6 +1,7 @@
 -- The cubes of the rows of a state that say a part.
-use Rattle.std.proofs.Common.{◌≡◌, ℕ, zero, suc, ◌+◌, ◌<◌, ◌^◌, ◌↔◌, List, [], ◌∷◌, ◌++◌, length, get_or, All, Contains, Option, Some, None, IfSome, IfNone, IfOk, Result, Ok, Err, slice_get, inl, inr, sym, ◌∙◌, subst, refl, arith, ap}
+use Rattle.std.proofs.Common.{◌≡◌, ℕ, ◌+◌, ◌<◌, ◌^◌, ◌↔◌, List, [], ◌∷◌, ◌++◌, length, get_or, All, Contains, Option, Some, None, IfSome, IfNone, IfOk, Result, Ok, Err, slice_get, inl, inr, sym, ◌∙◌, subst, arith, ap}
 use Rattle.std.proofs.lemmas.List.Elements.{Contains-append_cases, Contains-append_left, Contains-append_right, Contains-get_or}
+use Rattle.list_facts.specs.Laws.Members.{Contains-here, Contains-one}
 use Rattle.cubes.specs.declared.cube.Cube.{Cube}
 use Rattle.cubes.specs.Cube.{Holds, HoldsNumber}
 use Rattle.cubes.specs.Gap.{HoldsEach, IsFirstGap, IsHeld}
@@ -17,13 +18,6 @@ use Rattle.state_rows.specs.Places.{IsNumberOf}
 use Rattle.machine_table.proofs.Asking.{is_row_at, lawful_row, looked_at, number_of_row}
 use Rattle.machine_table.proofs.Sought.{at_from_held}
 
-pub only_one : {X : Type 0} (x y : X) → Contains (x ∷ []) y → y ≡ x
-only_one x y (zero, lt, e) = sym e
-only_one x y (suc k, lt, e) = absurd (omega arith)
-
-pub itself : {X : Type 0} (x : X) → Contains (x ∷ []) x
-itself x = (0, omega arith, refl)
-
 module _ (F : KissFile) (s : ℕ) (part : Missing) (numbers : List ℕ) (count : ℕ) (cubes : List Cube) (row : KissRow)
     (known : AreCubesOf F s part numbers count cubes) (inside : count < length numbers)
     (own : IsNumberOf F s (get_or numbers count 0)) (at_row : slice_get F.rows (get_or numbers count 0) ≡ Some row) where
@@ -32,11 +26,11 @@ module _ (F : KissFile) (s : ℕ) (part : Missing) (numbers : List ℕ) (count :
   with_cube says = record {
     own = λ cube among. elim (Contains-append_cases cubes (row.cube ∷ []) cube among) [
       | inl before ↦ known.own cube before
-      | inr last ↦ (get_or numbers count 0, row, own, at_row, says, sym (only_one row.cube cube last))
+      | inr last ↦ (get_or numbers count 0, row, own, at_row, says, Contains-one row.cube cube last)
     ];
     each = looked_at F.rows numbers count (λ r. Says part r → Contains (cubes ++ row.cube ∷ []) r.cube) row
         (λ k d r before at_r said. Contains-append_left cubes (row.cube ∷ []) r.cube (known.each k d r before at_r said))
-        inside at_row (λ _. Contains-append_right cubes (row.cube ∷ []) row.cube (itself row.cube));
+        inside at_row (λ _. Contains-append_right cubes (row.cube ∷ []) row.cube (Contains-here row.cube []));
   }
 
   -- a row that does not say it gives none
@@ -103,7 +97,7 @@ module _ (F : KissFile) (s : ℕ) (cubes : List Cube) (known : AreFullCubes F s 
   with_full_cube row of_state full cube among =
       elim (Contains-append_cases cubes (row.cube ∷ []) cube among) [
         | inl before ↦ known cube before
-        | inr last ↦ (row, of_state, full, sym (only_one row.cube cube last))
+        | inr last ↦ (row, of_state, full, Contains-one row.cube cube last)
       ]
 
   -- where they hold each symbol, each part is said

@@ -6,6 +6,7 @@ use Rattle.std.proofs.lemmas.List.Elements.{All-push}
 use Rattle.hs_lattice.specs.JoinWorld.{IsGenerated, HaveJoins}
 use Rattle.hs_lattice.specs.Laws.{IsGenerated-has}
 use Rattle.hs_lattice.specs.Listing.{Lists, Evidence}
+use Rattle.hs_lattice.proofs.Outcomes.{evidence_as}
 use Rattle.kiss2.specs.declared.kiss_file.KissFile.{KissFile}
 use Rattle.partition.specs.Before.{Before}
 use Rattle.partition.specs.MeetAndJoin.{IsJoin}
@@ -26,14 +27,6 @@ IsMadeOf n generators q = IsGenerated (λ r. r ≡ zero_of n) IsJoin (map (λ r.
 
 abbrev pub HaveJoinsOf : ℕ → List (List ℕ) → Type 0
 HaveJoinsOf n generators = HaveJoins (λ r. r ≡ zero_of n) IsJoin (map (λ r. r) generators)
-
--- what has one property has another, and so does a list
-evidence_as : (P Q : List ℕ → Type 0) (limit : ℕ) (xs : List (List ℕ)) → ((x : List ℕ) → P x → Q x) → Evidence Before P limit xs → Evidence Before Q limit xs
-evidence_as P Q limit xs to evidence = record {
-  ascending = evidence.ascending;
-  members = λ k d within. to (get_or xs k d) (evidence.members k d within);
-  more = evidence.more;
-}
 
 -- each right side of two states is reached
 pub are_reached : (F : KissFile) (found : List (List ℕ)) → AreRights F found → All (IsReached F) found
@@ -71,10 +64,10 @@ module _ (F : KissFile) (n : ℕ) (size : n ≡ length F.states) (count : IsStat
   pub evident : (limit : ℕ) (items : List (List ℕ)) → Evidence Before (IsMadeOf n found) limit (map (λ q. q) items) → Evidence Before (IsReached F) limit items
   evident limit items evidence =
       subst (λ (xs : List (List ℕ)). Evidence Before (IsReached F) limit xs) (map-id items)
-      (evidence_as (IsMadeOf n found) (IsReached F) limit (map (λ q. q) items) to evidence)
+      (evidence_as Before (IsMadeOf n found) (IsReached F) limit (map (λ q. q) items) to evidence)
 
   pub unevident : (limit : ℕ) → ((values : List (List ℕ)) → Evidence Before (IsMadeOf n found) limit values → ⊥) → HaveJoinsOf n found → (values : List (List ℕ)) → Evidence Before (IsRightSide F) limit values → ⊥
-  unevident limit none joins values evidence = none values (evidence_as (IsRightSide F) (IsMadeOf n found) limit values (from joins) evidence)
+  unevident limit none joins values evidence = none values (evidence_as Before (IsRightSide F) (IsMadeOf n found) limit values (from joins) evidence)
 
 -- M is put beside one more partition
 pub lefts_more : (F : KissFile) (rights : List (List ℕ)) (items : List MmPair) (right : List ℕ) (pair : MmPair) → HaveLefts F rights (map sides_of items) → pair.right ≡ right → IsHigh F right pair.left → HaveLefts F (rights ++ right ∷ []) (map sides_of (items ++ pair ∷ []))

@@ -6,6 +6,7 @@ use Rattle.std.proofs.lemmas.List.Elements.{All-append, All-contains, All-contai
 use Rattle.std.proofs.lemmas.List.Sorted.{All-permutation, Contains-permutation, IsPermutation-map}
 use Rattle.std.proofs.lemmas.Option.{same_Some, slice_get-get_or}
 use Rattle.std.proofs.lemmas.Slice.Eq.{bytes_eq-Decides}
+use Rattle.list_facts.specs.Laws.Members.{Contains-cons, Contains-here, Contains-none, Contains-there}
 use Rattle.net_core.specs.declared.Gate.{Gate}
 use Rattle.net_core.specs.declared.Network.{Network}
 use Rattle.net_core.specs.declared.failing.NetFail.{NetFail}
@@ -16,7 +17,6 @@ use Rattle.net_core.specs.Sound.{IsOrdered, Sound, driven_by, drivers_of}
 use Rattle.net_core.proofs.Counted.{once_place, once_right, twice}
 use Rattle.net_core.proofs.Numbered.{stands_at}
 use Rattle.net_core.proofs.Ordered.{name_of_gate}
-use Rattle.net_core.proofs.Members.{Contains-cons, Contains-here, Contains-none, Contains-there}
 
 flat_all : (P : List ℕ → Type 0) (gates : List Gate) → AllByRecursion (λ gate. All P gate.inputs) gates → All P (flat_map (λ gate. gate.inputs) gates)
 flat_all P [] all k d lt = absurd (omega arith)

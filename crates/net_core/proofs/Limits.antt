@@ -5,6 +5,7 @@ use Rattle.std.proofs.lemmas.Bool.Decides.{nat_tests}
 use Rattle.std.proofs.lemmas.Bool.{false≢true}
 use Rattle.std.proofs.lemmas.List.Elements.{recursion_from_All, All-from_recursion}
 use Rattle.std.proofs.lemmas.List.Sums.{sum_by-append}
+use Rattle.list_facts.specs.Laws.Everywhere.{each_append, each_weaker}
 use Rattle.net_core.specs.declared.Gate.{Gate}
 use Rattle.net_core.specs.declared.Latch.{Latch}
 use Rattle.net_core.specs.declared.Network.{Network}
@@ -80,17 +81,9 @@ none_any : (p : List ℕ → Bool) (names : List (List ℕ)) → AllByRecursion 
 none_any p [] h = refl
 none_any p (name ∷ names) (h, hs) = ap (λ b. b || list_any p names) h ∙ none_any p names hs
 
-all_joined : (P : List ℕ → Type 0) (xs ys : List (List ℕ)) → AllByRecursion P xs → AllByRecursion P ys → AllByRecursion P (xs ++ ys)
-all_joined P [] ys p q = q
-all_joined P (x ∷ xs) ys (p, ps) q = (p, all_joined P xs ys ps q)
-
 all_parts : (P : List ℕ → Type 0) (xs ys : List (List ℕ)) → AllByRecursion P (xs ++ ys) → AllByRecursion P xs × AllByRecursion P ys
 all_parts P [] ys q = (tt, q)
 all_parts P (x ∷ xs) ys (p, ps) = let rest = all_parts P xs ys ps in ((p, rest.0), rest.1)
-
-all_mapped : (P Q : List ℕ → Type 0) → ((name : List ℕ) → P name → Q name) → (names : List (List ℕ)) → AllByRecursion P names → AllByRecursion Q names
-all_mapped P Q f [] p = tt
-all_mapped P Q f (name ∷ names) (p, ps) = (f name p, all_mapped P Q f names ps)
 
 -- names are short enough where those of each statement are
 abbrev IsShort : List ℕ → Type 0
@@ -100,15 +93,15 @@ names_kept : (earlier statements : List Statement) → AllByRecursion IsShort (f
 names_kept earlier [] short = tt
 names_kept earlier (s ∷ ss) short =
     let parts = all_parts IsShort (names_in s) (flat_map names_in ss) short in (
-      none_any (λ name. ltb 64 (length name)) (names_in s) (all_mapped IsShort (λ name. ltb 64 (length name) ≡ false) (λ name h. over_none 64 (length name) h) (names_in s) parts.0),
+      none_any (λ name. ltb 64 (length name)) (names_in s) (each_weaker IsShort (λ name. ltb 64 (length name) ≡ false) (λ name h. over_none 64 (length name) h) (names_in s) parts.0),
       names_kept (s ∷ earlier) ss parts.1,
     )
 
 names_short : (earlier statements : List Statement) → KeepsLimit NameBytes earlier statements → AllByRecursion IsShort (flat_map names_in statements)
 names_short earlier [] keeps = tt
 names_short earlier (s ∷ ss) (keep, keeps) =
-    all_joined IsShort (names_in s) (flat_map names_in ss)
-    (all_mapped (λ name. ltb 64 (length name) ≡ false) IsShort (λ name h. not_over 64 (length name) h) (names_in s) (any_none (λ name. ltb 64 (length name)) (names_in s) keep))
+    each_append IsShort (names_in s) (flat_map names_in ss)
+    (each_weaker (λ name. ltb 64 (length name) ≡ false) IsShort (λ name h. not_over 64 (length name) h) (names_in s) (any_none (λ name. ltb 64 (length name)) (names_in s) keep))
     (names_short (s ∷ earlier) ss keeps)
 
 -- gates read few enough signals where each statement of names has few enough

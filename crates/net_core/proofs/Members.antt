@@ -1,9 +1,9 @@
 -- Names that stand in a list, and how often they do.
-use Rattle.std.proofs.Common.{zero, suc, zero-add, ◌≡◌, ℕ, ◌+◌, ◌≤◌, ◌⊎◌, inl, inr, Bool, true, false, cond, List, [], ◌∷◌, ◌++◌, map, get_or, Contains, count_by, sym, ◌∙◌, refl, ap, arith}
+use Rattle.std.proofs.Common.{zero-add, ◌≡◌, ℕ, ◌+◌, ◌≤◌, inl, inr, Bool, true, cond, List, [], ◌∷◌, ◌++◌, map, Contains, count_by, sym, ◌∙◌, refl, ap, arith}
 use Rattle.std.specs.Str.{bytes_eq}
 use Rattle.std.proofs.lemmas.Slice.Eq.{bytes_eq-Decides}
-use Rattle.std.proofs.lemmas.List.{get_or-map}
 use Rattle.std.proofs.lemmas.List.Sums.{sum_by-append}
+use Rattle.list_facts.specs.Laws.Members.{Contains-cons, Contains-here, Contains-none, Contains-there}
 
 -- how often a name stands in a list
 abbrev pub times : List ℕ → List (List ℕ) → ℕ
@@ -20,19 +20,6 @@ times-append name xs ys = sum_by-append (λ x. cond (bytes_eq name x) 1 0) xs ys
 
 pub times-cons : (name x : List ℕ) (xs : List (List ℕ)) → times name (x ∷ xs) ≡ cond (bytes_eq name x) 1 0 + times name xs
 times-cons name x xs = times-append name (x ∷ []) xs ∙ ap (λ n. n + times name xs) (zero-add (cond (bytes_eq name x) 1 0))
-
-pub Contains-here : {X : Type 0} (x : X) (xs : List X) → Contains (x ∷ xs) x
-Contains-here x xs = (0, omega arith, refl)
-
-pub Contains-there : {X : Type 0} (y x : X) (xs : List X) → Contains xs x → Contains (y ∷ xs) x
-Contains-there y x xs (k, lt, is) = (suc k, omega arith, is)
-
-pub Contains-cons : {X : Type 0} (y x : X) (xs : List X) → Contains (y ∷ xs) x → (y ≡ x) ⊎ Contains xs x
-Contains-cons y x xs (zero, lt, is) = inl is
-Contains-cons y x xs (suc k, lt, is) = inr (k, omega arith, is)
-
-pub Contains-none : {X : Type 0} (x : X) → Contains [] x → ⊥
-Contains-none x (k, lt, is) = absurd (omega arith)
 
 -- a name of the list stands in it at least once
 pub times-some : (name : List ℕ) (names : List (List ℕ)) → Contains names name → 1 ≤ times name names
@@ -51,7 +38,3 @@ pub map_same : (f g : List ℕ → Bool) (names : List (List ℕ)) → Agree f g
 map_same f g [] agree = refl
 map_same f g (x ∷ xs) agree =
     ap (λ b. b ∷ map f xs) (agree x (Contains-here x xs)) ∙ ap (λ bs. g x ∷ bs) (map_same f g xs (λ name h. agree name (Contains-there x name xs h)))
-
-pub agree_from_map : {X : Type 0} (f g : X → Bool) (xs : List X) → map f xs ≡ map g xs → (x : X) → Contains xs x → f x ≡ g x
-agree_from_map f g xs same x (k, lt, is) =
-    ap f (sym is) ∙ (sym (get_or-map f xs k x false lt) ∙ (ap (λ bs. get_or bs k false) same ∙ (get_or-map g xs k x false lt ∙ ap g is)))

@@ -8,6 +8,8 @@ use Rattle.std.proofs.lemmas.List.{append_assoc, drop_more, get_or-take, length-
 use Rattle.std.proofs.lemmas.List.Elements.{All-contains, Contains-get_or}
 use Rattle.std.proofs.lemmas.Option.{none-some, same_Some, slice_get_cases, slice_get-get_or, slice_get-map, slice_get_within}
 use Rattle.std.proofs.lemmas.Slice.Eq.{bytes_eq-Decides}
+use Rattle.list_facts.specs.Laws.Members.{Contains-cons, Contains-here, Contains-none, Contains-there}
+use Rattle.list_facts.specs.Laws.Places.{get_behind}
 use Rattle.net_core.specs.declared.Gate.{Gate}
 use Rattle.net_core.specs.declared.Network.{Network}
 use Rattle.net_core.specs.declared.ordering.NumberedGate.{NumberedGate}
@@ -16,7 +18,6 @@ use Rattle.net_core.specs.Order.{AreAt, IsNumbered}
 use Rattle.net_core.specs.Sound.{IsOrdered, driven_by, drivers_of}
 use Rattle.net_core.specs.Inner.Walk.{read_by, reads_of, Needs, NeedsAlong, StandOnce, IsBehind, IsGateCycle, IsSequence}
 use Rattle.net_core.proofs.Counted.{once_apart, once_place, once_right, counted-cons, counted_none, cond_of}
-use Rattle.net_core.proofs.Members.{Contains-cons, Contains-here, Contains-none, Contains-there}
 use Rattle.net_core.proofs.Numbered.{stands_at, zip_lengths}
 use Rattle.net_core.proofs.Permuted.{permuted}
 
@@ -72,12 +73,6 @@ once_items names (p ∷ places) (y ∷ items) once (here, at) apart name =
       | inr other ↦ omega (arith, more, other.1, rest name)
     ]
 
-slice_get-append : {X : Type 0} (xs ys : List X) (i : ℕ) → slice_get (xs ++ ys) (length xs + i) ≡ slice_get ys i
-slice_get-append [] ys i = let e : 0 + i ≡ i = omega arith in ap (λ (n : ℕ). slice_get ys n) e
-slice_get-append (x ∷ xs) ys i =
-    let e : length (x ∷ xs) + i ≡ suc (length xs + i) = omega arith in
-    ap (λ (n : ℕ). slice_get (x ∷ (xs ++ ys)) n) e ∙ slice_get-append xs ys i
-
 -- what a gate drives, by its place
 pub name_of_gate : (gates : List Gate) (g : ℕ) (gate : Gate) → slice_get gates g ≡ Some gate → slice_get (driven_by gates) g ≡ Some gate.output
 name_of_gate gates g gate is = slice_get-map (λ x. x.output) gates g ∙ ap (λ o. option_map (λ x. x.output) o) is
@@ -98,7 +93,7 @@ module _ (N : Network) (numbered : List NumberedGate) (once : AreOnce (drivers_o
   driver_at h =
       let outs = map (λ latch. latch.output) N.latches in
       ap (λ i. slice_get (drivers_of N) (i + h)) (ap (λ m. length N.inputs + m) (sym (length-map N.latches (λ latch. latch.output))) ∙ sym (length-append N.inputs outs))
-      ∙ (ap (λ list. slice_get list (length (N.inputs ++ outs) + h)) (sym (append_assoc N.inputs outs (driven_by N.gates))) ∙ slice_get-append (N.inputs ++ outs) (driven_by N.gates) h)
+      ∙ (ap (λ list. slice_get list (length (N.inputs ++ outs) + h)) (sym (append_assoc N.inputs outs (driven_by N.gates))) ∙ get_behind (N.inputs ++ outs) (driven_by N.gates) h)
 
   once_driven : AreOnce (driven_by N.gates)
   once_driven =

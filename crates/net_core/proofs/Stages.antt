@@ -6,13 +6,13 @@ use Rattle.std.proofs.lemmas.List.{get_or-set_same, get_or-set_other, get_or-map
 use Rattle.std.proofs.lemmas.List.Elements.{Contains-append_left, Contains-get_or, Contains-push, Contains-push_cases}
 use Rattle.std.proofs.lemmas.List.Sums.{sum_by-cons, sum_by-set}
 use Rattle.std.proofs.lemmas.Option.{get_or_from_slice_get, slice_get_within}
+use Rattle.list_facts.specs.Laws.Members.{Contains-cons, Contains-here, Contains-none, Contains-there}
 use Rattle.net_core.specs.declared.ordering.NumberedGate.{NumberedGate}
 use Rattle.net_core.specs.declared.walking.Walk.{Walk}
 use Rattle.net_core.specs.declared.walking.Stop.{Stop}
 use Rattle.net_core.specs.declared.walking.Look.{Look}
 use Rattle.net_core.specs.declared.walking.Look.TheVariants.{Whole, Settled, New, Open}
 use Rattle.net_core.specs.Inner.Walk.{read_by, reads_of, Needs, IsPath, IsBehind, IsWalk, IsLook, IsStanding, IsSequence, TellsCycle, last_stage}
-use Rattle.net_core.proofs.Members.{Contains-cons, Contains-here, Contains-none, Contains-there}
 use Rattle.net_core.proofs.Counted.{once_left, once_push, twice}
 
 -- a list whose last item is known

@@ -6,11 +6,12 @@ use Rattle.net_core.specs.declared.Gate.{Gate}
 use Rattle.net_core.specs.declared.Network.{Network}
 use Rattle.net_core.specs.Step.{gate_value, IsValuation}
 use Rattle.net_core.specs.Sound.{driven_by, drivers_of, IsOrdered, Sound, SoundIsDetermined}
-use Rattle.net_core.proofs.Members.{Agree, agree_from_map, Contains-cons, Contains-none, is_same_name, map_same, times, times-append, times-cons, times-some}
+use Rattle.net_core.proofs.Members.{Agree, is_same_name, map_same, times, times-append, times-cons, times-some}
 use Rattle.std.proofs.lemmas.List.{length-map, map-append}
 use Rattle.std.proofs.lemmas.Simd.{map-map}
 use Rattle.std.proofs.lemmas.List.Elements.{All-contains, Contains-append_cases, Contains-append_left, Contains-append_right, recursion_from_All, All-from_recursion}
 use Rattle.std.proofs.lemmas.List.Sorted.{All-permutation, Contains-permutation, IsPermutation-map, IsPermutation-sym, sum_by-IsPermutation}
+use Rattle.list_facts.specs.Laws.Members.{Contains-cons, Contains-none, agree_from_map}
 
 -- the gate has the value of its inputs
 abbrev pub FitsGate : (List ℕ → Bool) → Gate → Type 0

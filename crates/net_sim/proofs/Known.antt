@@ -7,6 +7,7 @@ use Rattle.std.proofs.lemmas.Slice.Eq.{bytes_eq-Decides}
 use Rattle.std.proofs.lemmas.List.{get_or-set_other, get_or-set_same, length-set}
 use Rattle.std.proofs.lemmas.List.Elements.{All-contains}
 use Rattle.std.proofs.lemmas.Option.{same_Some, none-some, slice_get_within}
+use Rattle.list_facts.specs.Laws.Members.{Contains-cons, Contains-here, Contains-none, Contains-there}
 use Rattle.net_core.specs.declared.Gate.{Gate}
 use Rattle.net_core.specs.declared.ordering.NumberedGate.{NumberedGate}
 use Rattle.net_core.specs.Causes.{AreOnce}
@@ -14,7 +15,6 @@ use Rattle.net_core.specs.Order.{AreAt, IsNumbered}
 use Rattle.net_core.specs.Sound.{IsOrdered, driven_by}
 use Rattle.net_core.specs.Step.{gate_value, row_holds}
 use Rattle.net_core.proofs.Counted.{once_place}
-use Rattle.net_core.proofs.Members.{Contains-cons, Contains-here, Contains-none, Contains-there}
 use Rattle.net_core.proofs.Valuations.{FitsGate, ReadsDriven}
 use Rattle.net_sim.specs.Inner.Evaluated.{bits_at, evaluated, value_at, with_value}
 

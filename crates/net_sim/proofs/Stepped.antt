@@ -7,8 +7,10 @@ use Rattle.std.proofs.Math.Seq.{take-append_seam}
 use Rattle.std.proofs.lemmas.Simd.{map-map}
 use Rattle.std.proofs.lemmas.List.Elements.{Contains-append_cases, recursion_from_All}
 use Rattle.std.proofs.lemmas.List.Sorted.{All-permutation, Contains-permutation, IsPermutation-map}
-use Rattle.std.proofs.lemmas.Option.{get_or_from_slice_get, none-some, slice_get-get_or, slice_get-map, slice_get_within}
+use Rattle.std.proofs.lemmas.Option.{get_or_from_slice_get, slice_get-get_or, slice_get-map, slice_get_within}
 use Rattle.std.proofs.lemmas.Slice.Eq.{bytes_eq-Decides}
+use Rattle.list_facts.specs.Laws.Members.{Contains-none}
+use Rattle.list_facts.specs.Laws.Places.{get_first}
 use Rattle.net_core.specs.declared.Gate.{Gate}
 use Rattle.net_core.specs.declared.Network.{Network}
 use Rattle.net_core.specs.declared.ordering.Order.{Order}
@@ -17,16 +19,9 @@ use Rattle.net_core.specs.Order.{AreAt, IsOrderOf}
 use Rattle.net_core.specs.Sound.{HasOneValuation, Sound, driven_by, drivers_of}
 use Rattle.net_core.specs.Step.{Gives, IsValuation, Step}
 use Rattle.net_core.proofs.Counted.{once_place}
-use Rattle.net_core.proofs.Members.{Contains-none}
 use Rattle.net_core.proofs.Valuations.{FitsGate, ReadsDriven, reads_driven, sound_one}
 use Rattle.net_sim.specs.Inner.Evaluated.{bits_at, evaluated}
 use Rattle.net_sim.proofs.Known.{Knows, bits_known, evaluated_known}
-
--- the item at a place of the first of two lists, and of the second
-pub slice_get-append_left : {X : Type 0} (xs ys : List X) (i : ℕ) (x : X) → slice_get xs i ≡ Some x → slice_get (xs ++ ys) i ≡ Some x
-slice_get-append_left [] ys i x at = absurd (none-some x at)
-slice_get-append_left (y ∷ xs) ys zero x at = at
-slice_get-append_left (y ∷ xs) ys (suc i) x at = slice_get-append_left xs ys i x at
 
 pub slice_get-append_right : {X : Type 0} (xs ys : List X) (n i : ℕ) (x : X) → n ≡ length xs → slice_get ys i ≡ Some x → slice_get (xs ++ ys) (n + i) ≡ Some x
 slice_get-append_right [] ys n i x is at =
@@ -75,7 +70,7 @@ module _ (N : Network) (sound : Sound N) where
     base_known rest s name at (k, lt, is) =
         let at_k : slice_get (drivers_of N) k ≡ Some name =
         ap (λ list. slice_get list k) drivers_split
-        ∙ slice_get-append_left (base_of N) (driven_by N.gates) k name (slice_get-get_or (base_of N) k name lt ∙ ap Some is) in
+        ∙ get_first (base_of N) (driven_by N.gates) k name (slice_get-get_or (base_of N) k name lt ∙ ap Some is) in
         let same : s ≡ k = once_place bytes_eq bytes_eq-Decides (drivers_of N) s k name sound.driven_once at at_k in
         let bits : symbol ++ (state ++ rest) ≡ map f (base_of N) ++ rest =
         sym (append_assoc symbol state rest) ∙ ap (λ list. list ++ rest) (sym base_bits) in

@@ -1,23 +1,16 @@
 -- Rows that come state by state, of a file with numbered states.
-use Rattle.std.proofs.Common.{◌≡◌, ℕ, ◌<◌, ◌≤◌, Option, None, Some, IfSome, List, [], ◌∷◌, ◌++◌, All, AllPairs, Contains, length, get_or, map, take, unwrap_or, sym, ap, ◌∙◌, subst, inl, inr, arith}
-use Rattle.std.specs.List.{cons_option, filter_map}
+use Rattle.std.proofs.Common.{◌≡◌, ℕ, ◌<◌, ◌≤◌, Option, None, IfSome, List, [], ◌++◌, All, AllPairs, Contains, length, get_or, map, take, unwrap_or, sym, ap, ◌∙◌, subst, inl, inr, arith}
+use Rattle.std.specs.List.{filter_map}
 use Rattle.std.proofs.lemmas.Bool.{cases_lt}
 use Rattle.std.proofs.lemmas.List.{get_or-map, get_or-take, get_or_append_left, length-append, length-map, length-take-le}
-use Rattle.std.proofs.lemmas.List.Elements.{All-append, All-cons, All-get_or, All-head, All-map, All-nil, All-tail, All-weaker}
+use Rattle.std.proofs.lemmas.List.Elements.{All-append, All-get_or, All-map, All-weaker}
+use Rattle.list_facts.specs.Laws.Everywhere.{all_given}
 use Rattle.kiss2.specs.declared.kiss_file.KissFile.{KissFile}
 use Rattle.kiss2.specs.declared.kiss_file.KissRow.{KissRow}
 use Rattle.kiss2.specs.Lawful.{AreGiven, AreNumbered, IsLawful, IsLawfulRow, appearances, given_names}
 use Rattle.kiss2.specs.Names.{AreDistinct, IsPlainName}
 use Rattle.numbered_names.specs.NumberedNames.{numbered_names}
 use Rattle.numbered_names.proofs.NumberedNames.{length-numbered_names, numbered_names-distinct, numbered_names-plain}
-
--- what holds of each value that some item gives
-all_given : {X Y : Type 0} (P : Y → Type 0) (h : X → Option Y) (xs : List X) → All (λ x. IfSome (h x) P) xs → All P (filter_map h xs)
-all_given P h [] all = All-nil P
-all_given {Y = Y} P h (x ∷ xs) all = put (h x) (All-head (λ x. IfSome (h x) P) x xs all) (all_given P h xs (All-tail (λ x. IfSome (h x) P) x xs all)) where
-  put : (o : Option Y) → IfSome o P → All P (filter_map h xs) → All P (cons_option o (filter_map h xs))
-  put None here rest = rest
-  put (Some y) here rest = All-cons P y (filter_map h xs) here rest
 
 -- a file with n numbered states and no other names, whose rows come state by state; it may have too many rows
 pub record IsByState (F : KissFile) (n : ℕ) : Type 0 where

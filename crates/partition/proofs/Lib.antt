@@ -17,3 +17,4 @@ pub mod SingleRow
 pub mod JoinedStates
 pub mod Relabelling
 pub mod Gathering
+pub mod Texts

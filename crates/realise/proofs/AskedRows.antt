@@ -4,6 +4,8 @@ use Rattle.std.specs.List.{cons_option, filter_map}
 use Rattle.std.specs.Option.{option_map}
 use Rattle.std.proofs.lemmas.Bool.{false≢true}
 use Rattle.std.proofs.lemmas.List.Elements.{Contains-get_or, filter_map-append}
+use Rattle.list_facts.specs.Laws.Members.{Contains-filter_map, Contains-from_filter_map}
+use Rattle.list_facts.specs.Laws.Places.{ascending_count}
 use Rattle.cubes.specs.declared.cube.Cube.{Cube}
 use Rattle.cubes.specs.Symbol.{number_of, symbol_of}
 use Rattle.cubes.proofs.Numbers.{length-symbol_of, number_below, symbol_of-number_of}
@@ -16,7 +18,6 @@ use Rattle.gate_rows.specs.declared.demands.Demand.{Demand}
 use Rattle.gate_rows.specs.Columns.{IsReadIn}
 use Rattle.gate_rows.specs.Covers.{IsGoodCover}
 use Rattle.gate_rows.specs.Demands.{AreApart, CanBeRead, IsAsked, demand_at}
-use Rattle.gate_rows.proofs.Items.{Contains-filter_map, ascending_count, from_filter_map}
 use Rattle.gate_rows.proofs.TermCovers.{same_cover}
 use Rattle.kiss2.specs.declared.kiss_file.KissFile.{KissFile}
 use Rattle.kiss2.specs.declared.kiss_file.KissRow.{KissRow}
@@ -57,7 +58,7 @@ module _ (F : KissFile) (words : List ℕ) (bits : ℕ) (set : ReadSet) (bit : B
 
   row_of : (at : Demand) → Contains demands at → IsAskedByRow words bit filled at
   row_of at among =
-      let asks = from_filter_map (asked_by words bit) filled at among in
+      let asks = Contains-from_filter_map (asked_by words bit) filled at among in
       let row : KissRow = asks.0 in
       let found = mapped (demand_at row.cube (slice_index words row.from)) (row_value words bit row) at asks.2 in
       subst (IsAskedByRow words bit filled) found.2 (record { row = row; among = asks.1; cube = refl; word = refl; gives = found.1 })

@@ -2,13 +2,13 @@
 use Rattle.std.proofs.Common.{◌≡◌, ◌≢◌, ℕ, zero, suc, ◌+◌, ◌<◌, Bool, true, false, Some, List, [], ◌∷◌, ◌++◌, length, map, get_or, slice_get, slice_index, Contains, refl, ap, sym, ◌∙◌, subst, arith, append_assoc, length-append}
 use Rattle.std.proofs.lemmas.Bool.{false≢true}
 use Rattle.std.proofs.lemmas.List.{length-map}
+use Rattle.list_facts.specs.Laws.Members.{agree_from_map}
+use Rattle.list_facts.specs.Laws.Places.{get_behind}
 use Rattle.cubes.specs.Symbol.{bit}
 use Rattle.cubes.proofs.Bits.{same_digits}
 use Rattle.dependence.specs.declared.sets.ReadSet.{ReadSet}
 use Rattle.gate_rows.specs.Columns.{input_of}
-use Rattle.gate_rows.proofs.Items.{get_behind}
 use Rattle.kiss2.specs.declared.kiss_file.KissFile.{KissFile}
-use Rattle.net_core.proofs.Members.{agree_from_map}
 use Rattle.net_core.proofs.Valuations.{parts_of_append}
 use Rattle.realise.specs.Laws.{EqualReads}
 use Rattle.realise.specs.Realised.{IsEnough}

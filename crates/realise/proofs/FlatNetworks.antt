@@ -1,7 +1,7 @@
 -- The network of codes is flat.
 use Rattle.std.proofs.Common.{◌≡◌, ℕ, ◌<◌, ◌≤◌, List, [], ◌++◌, length, map, get_or, All, Contains, ap, sym, ◌∙◌, subst, arith}
-use Rattle.std.proofs.lemmas.List.{get_or-map, length-map}
 use Rattle.std.proofs.lemmas.List.Elements.{All-append, All-contains_itself, All-map, All-same, All-weaker, Contains-append_left, Contains-append_right, Contains-get_or}
+use Rattle.list_facts.specs.Laws.Everywhere.{all_from_map}
 use Rattle.dependence.specs.declared.sets.Reads.{Reads}
 use Rattle.kiss2.specs.declared.kiss_file.KissFile.{KissFile}
 use Rattle.net_core.specs.declared.Gate.{Gate}
@@ -14,12 +14,6 @@ use Rattle.net_core.proofs.Members.{times, times-append}
 use Rattle.realise.specs.Laws.{ArePairwiseDistinct, RealisedIsFlat}
 use Rattle.realise.specs.Realised.{AreCounted, AreEnough, IsRealised, name_at}
 use Rattle.realise.proofs.Gates.{IsSomeGate, driven_names, each_gate}
-
--- what holds of each image holds of what it is the image of
-all_of_map : {X : Type 0} (P : List ℕ → Type 0) (f : X → List ℕ) (xs : List X) → All P (map f xs) → All (λ x. P (f x)) xs
-all_of_map P f xs all k d lt =
-    let within : k < length (map f xs) = omega (arith, lt, length-map xs f) in
-    subst P (get_or-map f xs k d (f d) lt) (all k (f d) within)
 
 -- names at numbers below their count are among them
 named : (names : List (List ℕ)) (count : ℕ) (numbers : List ℕ) → length names ≡ count → All (λ a. a < count) numbers → All (Contains names) (map (name_at names) numbers)
@@ -94,5 +88,5 @@ realised_flat F bits words reads names N counted distinct enough real =
           (reads_base F bits words reads names N counted enough real) N.gates
           (each_gate F bits words reads names N counted enough real);
       outputs = outputs_driven F bits words reads names N counted enough real;
-      latch_inputs = all_of_map (Contains (driven_by N.gates)) (λ (latch : Latch). latch.input) N.latches (inputs_driven F bits words reads names N counted enough real);
+      latch_inputs = all_from_map (Contains (driven_by N.gates)) (λ (latch : Latch). latch.input) N.latches (inputs_driven F bits words reads names N counted enough real);
     }

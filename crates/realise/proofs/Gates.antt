@@ -1,8 +1,10 @@
 -- The gates of the network of codes, one by one.
-use Rattle.std.proofs.Common.{◌≡◌, ℕ, ◌+◌, ◌-◌, ◌<◌, inl, inr, Bool, Some, List, [], ◌∷◌, ◌++◌, length, get_or, slice_get, All, ap, sym, ◌∙◌, subst, arith, length-append}
+use Rattle.std.proofs.Common.{◌≡◌, ℕ, ◌+◌, ◌-◌, ◌<◌, inl, inr, Bool, Some, List, [], ◌++◌, length, get_or, slice_get, All, ap, sym, ◌∙◌, subst, arith, length-append}
 use Rattle.std.proofs.lemmas.Bool.{cases_lt}
 use Rattle.std.proofs.lemmas.List.{ext_get_or, get_or-append-add, get_or-map, get_or_append_left, length-map}
-use Rattle.std.proofs.lemmas.Option.{get_or_from_slice_get, slice_get-get_or, slice_get_within}
+use Rattle.std.proofs.lemmas.Option.{get_or_from_slice_get, slice_get_within}
+use Rattle.list_facts.specs.Laws.Everywhere.{all_at}
+use Rattle.list_facts.specs.Laws.Places.{item_at}
 use Rattle.dependence.specs.declared.sets.ReadSet.{ReadSet}
 use Rattle.dependence.specs.declared.sets.Reads.{Reads}
 use Rattle.dependence.specs.Permits.{next_value, output_value}
@@ -12,15 +14,6 @@ use Rattle.net_core.specs.declared.Network.{Network}
 use Rattle.net_core.specs.declared.SignalNames.{SignalNames}
 use Rattle.net_core.specs.Sound.{driven_by}
 use Rattle.realise.specs.Realised.{AreCounted, AreEnough, HasGate, IsGateFor, IsRealised, IsWithin, name_at}
-
--- a list has an item at each place below its length
-pub item_at : {X : Type 0} (xs : List X) (k : ℕ) → k < length xs → (x : X) × (slice_get xs k ≡ Some x)
-item_at [] k lt = absurd (omega arith)
-item_at (x ∷ xs) k lt = (get_or (x ∷ xs) k x, slice_get-get_or (x ∷ xs) k x lt)
-
--- what holds of each item holds of the one at a place
-pub all_at : {X : Type 0} (P : X → Type 0) (xs : List X) (k : ℕ) (x : X) → All P xs → slice_get xs k ≡ Some x → P x
-all_at P xs k x all is = subst P (get_or_from_slice_get xs k x x is) (all k x (slice_get_within xs k x is))
 
 -- a gate of some read set, value and name
 pub record IsSomeGate (F : KissFile) (bits : ℕ) (words : List ℕ) (names : SignalNames) (gate : Gate) : Type 0 where

@@ -5,11 +5,11 @@ use Rattle.std.proofs.lemmas.Bool.{cases_Bool}
 use Rattle.std.proofs.lemmas.List.{ext_get_or, get_or-map, length-map, map-append}
 use Rattle.std.proofs.lemmas.List.FromFn.{get_or-map-range_with_len, length-map-range_with_len}
 use Rattle.std.proofs.lemmas.Simd.{map-map}
+use Rattle.list_facts.specs.Laws.Everywhere.{all_at, map_same}
 use Rattle.cubes.specs.Symbol.{bit}
 use Rattle.dependence.specs.declared.sets.ReadSet.{ReadSet}
 use Rattle.dependence.specs.declared.sets.Reads.{Reads}
 use Rattle.dependence.specs.Permits.{next_value, output_value}
-use Rattle.gate_rows.proofs.Items.{map_same}
 use Rattle.gate_rows.specs.Columns.{input_of}
 use Rattle.kiss2.specs.declared.kiss_file.KissFile.{KissFile}
 use Rattle.kiss2.specs.Machine.{next, out, output_bit}
@@ -25,7 +25,7 @@ use Rattle.realise.specs.Laws.{ArePairwiseDistinct, RealisedCarries}
 use Rattle.realise.specs.Realised.{AreCounted, AreEnough, HasGate, IsGateFor, IsRealised, IsWithin, name_at}
 use Rattle.realise.specs.Rows.{read_values}
 use Rattle.realise.proofs.FlatNetworks.{realised_flat}
-use Rattle.realise.proofs.Gates.{all_at, latch_count, latch_gate, output_gate}
+use Rattle.realise.proofs.Gates.{latch_count, latch_gate, output_gate}
 
 -- ---- the value of a gate
 -- some row of the gate holds the values

@@ -4,8 +4,8 @@ use Rattle.std.proofs.lemmas.Bool.{cases_eq}
 use Rattle.kiss2.specs.declared.kiss_file.KissFile.{KissFile}
 use Rattle.partition.specs.Partition.{IsNontrivial, IsOne, IsPartition, IsZero, Le, Lt, Together, zero_of}
 use Rattle.partition.specs.Laws.Labels.{same_labels}
+use Rattle.partition.specs.Laws.Chains.{together_itself}
 use Rattle.closed_lattice.specs.Limits.{IsGreatestGrown}
-use Rattle.closed_lattice.proofs.Growing.{together_itself}
 use Rattle.serial_split.specs.Kind.{HasNoneNontrivial}
 use Rattle.serial_split.specs.Best.{NothingBetween}
 

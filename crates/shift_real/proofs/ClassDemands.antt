@@ -4,12 +4,12 @@ use Rattle.std.specs.List.{cons_option, filter_map}
 use Rattle.std.specs.Option.{option_map}
 use Rattle.std.proofs.lemmas.Bool.{cases_eq}
 use Rattle.std.proofs.lemmas.List.Elements.{All-append, All-contains, Contains-append_left, Contains-append_right, Contains-get_or, filter_map-append}
+use Rattle.list_facts.specs.Laws.Members.{Contains-filter_map, Contains-from_filter_map}
 use Rattle.cubes.specs.Symbol.{bit, symbol_of}
 use Rattle.dependence.specs.declared.bit.Bit.TheVariants.{Output}
 use Rattle.dependence.proofs.Said.{mapped, says_value}
 use Rattle.gate_rows.specs.declared.demands.Demand.{Demand}
 use Rattle.gate_rows.specs.Demands.{demand_at}
-use Rattle.gate_rows.proofs.Items.{Contains-filter_map, from_filter_map}
 use Rattle.kiss2.specs.declared.kiss_file.KissFile.{KissFile}
 use Rattle.kiss2.specs.declared.kiss_file.KissRow.{KissRow}
 use Rattle.kiss2.specs.Machine.{given_bit, output_bit}
@@ -58,7 +58,7 @@ module _ (F : KissFile) (b : ℕ) (of_output : b < F.outputs) (classes : List �
 
   all_asked : (own : List KissRow) → slice_index classes number ≡ class → All (IsRightRow F class) own → All (IsClassDemand F b classes) (filter_map (asked_by b number) own)
   all_asked own is right k d inside =
-      let asks = from_filter_map (asked_by b number) own (get_or (filter_map (asked_by b number) own) k d) (Contains-get_or (filter_map (asked_by b number) own) k d inside) in
+      let asks = Contains-from_filter_map (asked_by b number) own (get_or (filter_map (asked_by b number) own) k d) (Contains-get_or (filter_map (asked_by b number) own) k d inside) in
       asked asks.0 (get_or (filter_map (asked_by b number) own) k d) is (All-contains (IsRightRow F class) own asks.0 right asks.1) asks.2
 
   held_here : (own : List KissRow) (x : ℕ) → IsSaidBy own x (OutputPart b) → IsHeldAfter (filter_map (asked_by b number) own) number x

@@ -1,8 +1,8 @@
 -- The gates of the outputs, one by one.
 use Rattle.std.proofs.Common.{◌≡◌, ℕ, ◌+◌, inl, inr, List, [], ◌∷◌, ◌++◌, length, slice_get, ap, sym, ◌∙◌, subst, arith, length-append}
 use Rattle.std.proofs.lemmas.Bool.{cases_lt}
+use Rattle.list_facts.specs.Laws.Places.{get_behind, get_first}
 use Rattle.dependence.specs.declared.sets.ReadSet.{ReadSet}
-use Rattle.gate_rows.proofs.Items.{get_behind, get_first}
 use Rattle.kiss2.specs.declared.kiss_file.KissFile.{KissFile}
 use Rattle.net_core.specs.declared.Gate.{Gate}
 use Rattle.net_core.specs.declared.SignalNames.{SignalNames}

@@ -1,16 +1,12 @@
 -- Words that bring two states to one, symbol by symbol.
-use Rattle.std.proofs.Common.{◌≡◌, ℕ, zero, suc, ◌+◌, Bool, All, List, [], ◌∷◌, length, refl, ap, subst, arith}
-use Rattle.std.proofs.lemmas.List.Elements.{All-head, All-tail}
+use Rattle.std.proofs.Common.{◌≡◌, ℕ, zero, suc, ◌+◌, Bool, List, [], ◌∷◌, length, refl, ap, subst, arith}
+use Rattle.std.proofs.lemmas.List.Elements.{All-cons, All-head, All-tail}
 use Rattle.kiss2.specs.declared.kiss_file.KissFile.{KissFile}
 use Rattle.kiss2.specs.Machine.{next}
 use Rattle.shift_real.specs.Words.{IsWord, MeetAfter, next_along}
 
 no_symbols : (F : KissFile) → IsWord F 0 []
 no_symbols F = record { count = refl; symbols = λ k d lt. absurd (omega arith) }
-
-all_cons : {X : Type 0} (P : X → Type 0) (x : X) (xs : List X) → P x → All P xs → All P (x ∷ xs)
-all_cons P x xs p all zero d lt = p
-all_cons P x xs p all (suc k) d lt = all k d (omega arith)
 
 -- at no symbols the states are one
 pub meet_at_once : (F : KissFile) (s t : ℕ) → MeetAfter F 0 s t → s ≡ t
@@ -27,7 +23,7 @@ meets_from_steps F k s t each (x ∷ word) is =
 
 pub steps_from_meets : (F : KissFile) (k s t : ℕ) → MeetAfter F (suc k) s t → (x : List Bool) → length x ≡ F.inputs → MeetAfter F k (next F s x) (next F t x)
 steps_from_meets F k s t meets x long word is =
-    meets (x ∷ word) (record { count = ap suc is.count; symbols = all_cons (λ y. length y ≡ F.inputs) x word long is.symbols })
+    meets (x ∷ word) (record { count = ap suc is.count; symbols = All-cons (λ y. length y ≡ F.inputs) x word long is.symbols })
 
 -- longer words do too
 meets_later : (F : KissFile) (k s t : ℕ) → MeetAfter F k s t → MeetAfter F (suc k) s t

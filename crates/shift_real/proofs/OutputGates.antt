@@ -8,6 +8,9 @@ use Rattle.std.proofs.lemmas.List.{length-map}
 use Rattle.std.proofs.lemmas.List.Elements.{All-contains, All-map, All-weaker, Contains-get_or}
 use Rattle.std.proofs.lemmas.Nat.{and_le_l}
 use Rattle.std.proofs.lemmas.Nat.Bits.{bit_at-lt, bit_at_and, same_from_bits}
+use Rattle.list_facts.specs.Laws.Everywhere.{map_same}
+use Rattle.list_facts.specs.Laws.Members.{agree_from_map}
+use Rattle.list_facts.specs.Laws.Places.{ascending_count}
 use Rattle.cubes.specs.Cube.{HoldsNumber}
 use Rattle.cubes.specs.Symbol.{bit, number_of, symbol_of}
 use Rattle.cubes.proofs.Bits.{same_bits}
@@ -21,14 +24,12 @@ use Rattle.gate_rows.specs.Columns.{column_count, column_values, input_of}
 use Rattle.gate_rows.specs.Covers.{IsGoodCover}
 use Rattle.gate_rows.specs.Demands.{AreApart, CanBeRead, IsAsked}
 use Rattle.gate_rows.specs.Names.{name_at}
-use Rattle.gate_rows.proofs.Items.{ascending_count, map_same}
 use Rattle.gate_rows.proofs.LatchNames.{listed_count}
 use Rattle.gate_rows.proofs.ReadNumbers.{code_at}
 use Rattle.gate_rows.proofs.TermCovers.{same_cover}
 use Rattle.kiss2.specs.declared.kiss_file.KissFile.{KissFile}
 use Rattle.net_core.specs.declared.Gate.{Gate}
 use Rattle.net_core.specs.declared.SignalNames.{SignalNames}
-use Rattle.net_core.proofs.Members.{agree_from_map}
 use Rattle.net_core.proofs.Valuations.{parts_of_append}
 use Rattle.shift_real.specs.Gates.{GivesAfter, InputMatters, IsOutputGate, IsReadAfter, LatchMatters, output_after}
 use Rattle.shift_real.specs.Inner.ContentDemands.{AreClassDemands, IsClassDemand, IsWithinMask}

@@ -1,7 +1,7 @@
 -- A value of bits is one wherever the bits that matter are the same.
 use Rattle.std.proofs.Common.{◌≡◌, ◌≢◌, ◌⊎◌, ℕ, zero, suc, ◌+◌, ◌<◌, inl, inr, Bool, true, false, Some, List, [], ◌∷◌, ◌++◌, length, get_or, slice_get, refl, ap, sym, ◌∙◌, subst, arith, append_assoc, length-append}
 use Rattle.std.proofs.lemmas.Bool.{cases_lt, false≢true}
-use Rattle.gate_rows.proofs.Items.{get_behind}
+use Rattle.list_facts.specs.Laws.Places.{get_behind}
 use Rattle.dependence.specs.Inputs.{DifferAlone}
 
 -- bits that do not differ are one

@@ -8,12 +8,12 @@ use Rattle.std.proofs.lemmas.List.Elements.{All-append, All-contains_itself, All
 use Rattle.std.proofs.lemmas.List.FromFn.{get_or-map-range_with_len, length-map-range_with_len}
 use Rattle.std.proofs.lemmas.Option.{get_or_from_slice_get, slice_get_within}
 use Rattle.std.proofs.lemmas.Simd.{map-map}
+use Rattle.list_facts.specs.Laws.Everywhere.{all_at, all_from_map, all_one, map_same}
 use Rattle.dependence.specs.declared.sets.ReadSet.{ReadSet}
 use Rattle.gate_rows.specs.Bits.{code_bits}
 use Rattle.gate_rows.specs.Columns.{input_of}
 use Rattle.gate_rows.specs.Latches.{AreLatches}
 use Rattle.gate_rows.specs.Names.{name_at}
-use Rattle.gate_rows.proofs.Items.{map_same}
 use Rattle.kiss2.specs.declared.kiss_file.KissFile.{KissFile}
 use Rattle.kiss2.specs.Machine.{answers, out, output_bit}
 use Rattle.machine_table.specs.Staying.{NeverLeaves}
@@ -41,15 +41,6 @@ use Rattle.shift_real.proofs.Blocks.{image_at}
 use Rattle.shift_real.proofs.ContentWords.{values_length}
 use Rattle.shift_real.proofs.Shifting.{latches_follow, shifted_word, states_follow}
 use Rattle.shift_real.proofs.StartContent.{order_once}
-
--- ---- lists
-all_at : {X : Type 0} (P : X → Type 0) (xs : List X) (k : ℕ) (x : X) → All P xs → slice_get xs k ≡ Some x → P x
-all_at P xs k x all is = subst P (get_or_from_slice_get xs k x x is) (all k x (slice_get_within xs k x is))
-
-all_of_map : {X : Type 0} (P : List ℕ → Type 0) (f : X → List ℕ) (xs : List X) → All P (map f xs) → All (λ x. P (f x)) xs
-all_of_map P f xs all k d lt =
-    let within : k < length (map f xs) = omega (arith, lt, length-map xs f) in
-    subst P (get_or-map f xs k d (f d) lt) (all k (f d) within)
 
 -- names at numbers below their count are among them
 named : (names : List (List ℕ)) (count : ℕ) (numbers : List ℕ) → length names ≡ count → All (λ a. a < count) numbers → All (Contains names) (map (name_at names) numbers)
@@ -169,13 +160,9 @@ module _ (F : KissFile) (k : ℕ) (names : SignalNames) (N : Network) (counted :
       (named names.latch_outputs bits set.latches counted.latch_outputs is.reads.latches_within)) in
       All-same (Contains (base_of N)) gate.inputs (ins ++ outs) is.inputs (in_base (ins ++ outs) all)
 
-  one_name : (P : List ℕ → Type 0) (name : List ℕ) → P name → All P (name ∷ [])
-  one_name P name p zero d lt = p
-  one_name P name p (suc i) d lt = absurd (omega arith)
-
   latch_reads : (i : ℕ) → i < bits → All (Contains (base_of N)) (taken_by names i ∷ [])
   latch_reads i lt =
-      in_base (taken_by names i ∷ []) (one_name (Contains (names.inputs ++ names.latch_outputs)) (taken_by names i)
+      in_base (taken_by names i ∷ []) (all_one (Contains (names.inputs ++ names.latch_outputs)) (taken_by names i)
       (Contains-get_or (names.inputs ++ names.latch_outputs) i [] (omega (arith, lt, length-append names.inputs names.latch_outputs, counted.latch_outputs))))
 
   all_read : All (λ gate. All (Contains (base_of N)) gate.inputs) N.gates
@@ -207,7 +194,7 @@ module _ (F : KissFile) (k : ℕ) (names : SignalNames) (N : Network) (counted :
     driven_once = once;
     reads = all_read;
     outputs = outputs_driven;
-    latch_inputs = all_of_map (Contains (driven_by N.gates)) (λ (latch : Latch). latch.input) N.latches inputs_driven;
+    latch_inputs = all_from_map (Contains (driven_by N.gates)) (λ (latch : Latch). latch.input) N.latches inputs_driven;
   })
 
   -- ---- one step

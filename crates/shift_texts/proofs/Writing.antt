@@ -7,9 +7,10 @@ use Rattle.std.proofs.Math.Nat.{add-mul, suc-mul}
 use Rattle.std.proofs.lemmas.Bool.{cases_lt}
 use Rattle.std.proofs.lemmas.List.Elements.{All-append, All-map, All-same, All-weaker, recursion_from_All}
 use Rattle.std.proofs.lemmas.Option.{get_or_from_slice_get}
+use Rattle.list_facts.specs.Laws.Everywhere.{all_from_map}
 use Rattle.blif_out.specs.Order.{HasKnownStarts, HasRowsInOrder}
 use Rattle.blif_out.specs.Writable.{IsPlane, IsSignalName, IsWritable, IsWritableGate, IsWritableLatch}
-use Rattle.decomposition.proofs.Writable.{AreSignalNames, all_of_map, cover_planes, known_starts, plane_character}
+use Rattle.decomposition.proofs.Writable.{AreSignalNames, cover_planes, known_starts, plane_character}
 use Rattle.dependence.specs.declared.sets.ReadSet.{ReadSet}
 use Rattle.kiss2.specs.declared.kiss_file.KissFile.{KissFile}
 use Rattle.net_core.specs.declared.Gate.{Gate}
@@ -98,9 +99,9 @@ module _ (W : KissFile) (k : ℕ) (names : SignalNames) (N : Network) (are : Are
   latches_writable : All IsWritableLatch N.latches
   latches_writable i d lt = record {
     input =
-        all_of_map IsSignalName (λ (latch : Latch). latch.input) N.latches (All-same IsSignalName (map (λ latch. latch.input) N.latches) names.latch_inputs is.named.latch_inputs are.latch_inputs) i d lt;
+        all_from_map IsSignalName (λ (latch : Latch). latch.input) N.latches (All-same IsSignalName (map (λ latch. latch.input) N.latches) names.latch_inputs is.named.latch_inputs are.latch_inputs) i d lt;
     output =
-        all_of_map IsSignalName (λ (latch : Latch). latch.output) N.latches (All-same IsSignalName (map (λ latch. latch.output) N.latches) names.latch_outputs is.named.latch_outputs are.latch_outputs) i d lt;
+        all_from_map IsSignalName (λ (latch : Latch). latch.output) N.latches (All-same IsSignalName (map (λ latch. latch.output) N.latches) names.latch_outputs is.named.latch_outputs are.latch_outputs) i d lt;
   }
 
   pub writable : IsWritable N

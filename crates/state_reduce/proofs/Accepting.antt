@@ -6,6 +6,7 @@ use Rattle.std.specs.List.{filter_map}
 use Rattle.std.proofs.lemmas.Bool.{eq-eqb, eqb-true}
 use Rattle.std.proofs.lemmas.List.Elements.{All-contains, Contains-append_cases, Contains-get_or}
 use Rattle.std.proofs.lemmas.Option.{slice_get-get_or}
+use Rattle.list_facts.specs.Laws.Members.{Contains-filter, Contains-from_filter, Contains-from_filter_map, Contains-from_map, Contains-map}
 use Rattle.cubes.specs.Cube.{Meets}
 use Rattle.kiss2.specs.declared.fill.Fill.{Fill}
 use Rattle.kiss2.specs.declared.kiss_file.KissFile.{KissFile}
@@ -21,7 +22,6 @@ use Rattle.state_reduce.specs.Inner.Named.{AreAllNamed, currents_of, kept_of, ne
 use Rattle.state_reduce.specs.Quotient.{AnswersAsMembers, IsQuotient, block_name, block_names, block_number, row_of_blocks}
 use Rattle.state_reduce.proofs.Appearing.{place_at}
 use Rattle.state_reduce.proofs.Lawfully.{all_names, mapped, some_mapped}
-use Rattle.state_reduce.proofs.Members.{filter_has, filter_map_has, has_filter, has_map, map_has}
 use Rattle.state_reduce.proofs.Names.{has_once}
 use Rattle.state_reduce.proofs.Numbers.{least_again, least_below, number_one, number_same}
 
@@ -37,8 +37,8 @@ module _ (F : KissFile) (p : List ℕ) (Q : KissFile) (made : IsQuotient F p Q) 
   -- the row of the file behind a row of the blocks
   row_behind : (row : KissRow) → Contains Q.rows row → (old : KissRow) × Contains F.rows old × (least_of p old.from ≡ old.from) × (row_of_blocks F p old ≡ row)
   row_behind row among =
-      let found = map_has (row_of_blocks F p) (kept_of p F.rows) row (subst (λ (rows : List KissRow). Contains rows row) made.rows among) in
-      let kept = filter_has (λ (r : KissRow). least_of p r.from == r.from) F.rows found.0 found.1 in
+      let found = Contains-from_map (row_of_blocks F p) (kept_of p F.rows) row (subst (λ (rows : List KissRow). Contains rows row) made.rows among) in
+      let kept = Contains-from_filter (λ (r : KissRow). least_of p r.from == r.from) F.rows found.0 found.1 in
       (found.0, kept.0, eqb-true (least_of p (found.0).from) (found.0).from kept.1, found.2)
 
   -- what two rows of blocks say, the rows behind them say
@@ -79,13 +79,13 @@ module _ (F : KissFile) (p : List ℕ) (Q : KissFile) (made : IsQuotient F p Q) 
       let here : slice_get (block_names F p) c ≡ Some name = slice_get-get_or (block_names F p) c [] within in
       elim (Contains-append_cases (currents_of F p F.rows) (nexts_of F p F.rows) name (has_once (all_names F p) name (Contains-get_or (block_names F p) c [] within))) [
         | inl current ↦
-            let found = map_has (λ (row : KissRow). block_name F p row.from) (kept_of p F.rows) name current in
-            let kept = filter_has (λ (row : KissRow). least_of p row.from == row.from) F.rows found.0 found.1 in
+            let found = Contains-from_map (λ (row : KissRow). block_name F p row.from) (kept_of p F.rows) name current in
+            let kept = Contains-from_filter (λ (row : KissRow). least_of p row.from == row.from) F.rows found.0 found.1 in
             from_state c (found.0).from (lawful_row found.0 kept.0).from (here ∙ ap (λ (n : List ℕ). Some n) (sym found.2))
         | inr next_one ↦
-            let found = map_has (block_name F p) (filter_map (λ (row : KissRow). row.to) (kept_of p F.rows)) name next_one in
-            let given = filter_map_has (λ (row : KissRow). row.to) (kept_of p F.rows) found.0 found.1 in
-            let kept = filter_has (λ (row : KissRow). least_of p row.from == row.from) F.rows given.0 given.1 in
+            let found = Contains-from_map (block_name F p) (filter_map (λ (row : KissRow). row.to) (kept_of p F.rows)) name next_one in
+            let given = Contains-from_filter_map (λ (row : KissRow). row.to) (kept_of p F.rows) found.0 found.1 in
+            let kept = Contains-from_filter (λ (row : KissRow). least_of p row.from == row.from) F.rows given.0 given.1 in
             from_state c found.0 (named_state (length F.states) found.0 (given.0).to given.2 (lawful_row given.0 kept.0).to) (here ∙ ap (λ (n : List ℕ). Some n) (sym found.2))
       ]
 
@@ -93,8 +93,8 @@ module _ (F : KissFile) (p : List ℕ) (Q : KissFile) (made : IsQuotient F p Q) 
   row_ahead : (a c : ℕ) (x : List Bool) (row : KissRow) → least_of p a ≡ a → block_number F p a ≡ c → IsRowAt F a x row → IsRowAt Q c x (row_of_blocks F p row)
   row_ahead a c x row least number at = record {
     among = subst (λ (rows : List KissRow). Contains rows (row_of_blocks F p row)) (sym made.rows)
-        (has_map (row_of_blocks F p) (kept_of p F.rows) row
-        (has_filter (λ (r : KissRow). least_of p r.from == r.from) F.rows row at.among (eq-eqb (least_of p row.from) row.from (ap (least_of p) at.from ∙ least ∙ sym at.from))));
+        (Contains-map (row_of_blocks F p) (kept_of p F.rows) row
+        (Contains-filter (λ (r : KissRow). least_of p r.from == r.from) F.rows row at.among (eq-eqb (least_of p row.from) row.from (ap (least_of p) at.from ∙ least ∙ sym at.from))));
     from = ap (block_number F p) at.from ∙ number;
     held = at.held;
   }

@@ -1,10 +1,11 @@
 -- Each block of a closed partition stands in the rows that are kept.
-use Rattle.std.proofs.Common.{◌≡◌, ℕ, ◌+◌, ◌<◌, ◌≤◌, ◌++◌, inl, inr, Bool, Some, List, [], ◌∷◌, Contains, drop, length, length-append, get_or, map, take, refl, sym, ap, ◌∙◌, subst, arith}
+use Rattle.std.proofs.Common.{◌≡◌, ℕ, ◌+◌, ◌<◌, ◌≤◌, ◌++◌, inl, inr, Bool, Some, List, [], ◌∷◌, Contains, length, length-append, get_or, map, take, refl, sym, ap, ◌∙◌, subst, arith}
 use Rattle.std.specs.Prelude.{◌==◌}
 use Rattle.std.specs.List.{filter_map}
 use Rattle.std.proofs.lemmas.Bool.{and_parts, cases_eq, eq-eqb, eqb-true}
-use Rattle.std.proofs.lemmas.List.{get_or-map, get_or_append_left, length-map, take-append-drop, take-append-le}
+use Rattle.std.proofs.lemmas.List.{get_or-map, get_or_append_left, length-map, take-append-le}
 use Rattle.std.proofs.lemmas.List.Elements.{All-contains, Contains-append_cases, Contains-append_left, Contains-append_right}
+use Rattle.list_facts.specs.Laws.Members.{Contains-filter, Contains-filter_map, Contains-from_filter, Contains-from_filter_map, Contains-from_map, Contains-from_take, Contains-here, Contains-map}
 use Rattle.cubes.specs.Cube.{Holds}
 use Rattle.cubes.specs.Symbol.{symbol_of}
 use Rattle.cubes.proofs.Ends.{least_held}
@@ -22,13 +23,8 @@ use Rattle.partition.specs.Inside.{least_of}
 use Rattle.partition.specs.Partition.{Together}
 use Rattle.state_reduce.specs.Inner.Named.{AreAllNamed, currents_of, kept_of, nexts_of}
 use Rattle.state_reduce.specs.Quotient.{block_name}
-use Rattle.state_reduce.proofs.Members.{filter_has, filter_map_has, has_filter, has_filter_map, has_first, has_map, map_has}
 use Rattle.state_reduce.proofs.Names.{once_has}
 use Rattle.state_reduce.proofs.Numbers.{least_again, least_below, least_together}
-
--- what stands among the first stands among all
-take_has : {X : Type 0} (k : ℕ) (xs : List X) (x : X) → Contains (take k xs) x → Contains xs x
-take_has k xs x there = subst (λ ys. Contains ys x) (take-append-drop k xs) (Contains-append_left (take k xs) (drop k xs) x there)
 
 module _ (F : KissFile) (p : List ℕ) (table : IsTable F) (size : length p ≡ length F.states) (numbered : AreNumbered F) where
   lawful_row : (row : KissRow) → Contains F.rows row → IsLawfulRow F.inputs F.outputs (length F.states) row
@@ -44,13 +40,13 @@ module _ (F : KissFile) (p : List ℕ) (table : IsTable F) (size : length p ≡ 
       let stands : get_or (froms ++ tos) k 0 ≡ row.from =
       get_or_append_left froms tos 0 k (omega arith) ∙ get_or-map (λ (r : KissRow). r.from) F.rows k row 0 within ∙ ap (λ (r : KissRow). r.from) here in
       let seen : Contains (take k (froms ++ tos)) a = numbered.in_order k a (omega arith) (omega arith) in
-      map_has (λ (r : KissRow). r.from) F.rows a (take_has k froms a (subst (λ (xs : List ℕ). Contains xs a) (take-append-le k froms tos (omega arith)) seen))
+      Contains-from_map (λ (r : KissRow). r.from) F.rows a (Contains-from_take k froms a (subst (λ (xs : List ℕ). Contains xs a) (take-append-le k froms tos (omega arith)) seen))
 
   -- a row of a least state names its block
   named_by : (row : KissRow) → Contains F.rows row → least_of p row.from ≡ row.from → Contains (currents_of F p F.rows) (block_name F p row.from)
   named_by row among least =
-      has_map (λ (r : KissRow). block_name F p r.from) (kept_of p F.rows) row
-      (has_filter (λ (r : KissRow). least_of p r.from == r.from) F.rows row among (eq-eqb (least_of p row.from) row.from least))
+      Contains-map (λ (r : KissRow). block_name F p r.from) (kept_of p F.rows) row
+      (Contains-filter (λ (r : KissRow). least_of p r.from == r.from) F.rows row among (eq-eqb (least_of p row.from) row.from least))
 
   current_named : (row : KissRow) → Contains F.rows row → Contains (currents_of F p F.rows) (block_name F p row.from)
   current_named row among =
@@ -96,15 +92,15 @@ module _ (F : KissFile) (p : List ℕ) (table : IsTable F) (size : length p ≡ 
           (subst (Contains (currents_of F p F.rows)) (ap (name_of F.states) same) (current_named row among))
       by_first (t ∷ ts) given =
           let goes_to : next F least_from symbol ≡ t = ap (λ (us : List ℕ). get_or us 0 least_from) given in
-          let found = filter_map_has (λ (r : KissRow). r.to) (rows_at F least_from symbol) t (subst (λ (us : List ℕ). Contains us t) (sym given) (has_first t ts)) in
-          let of_state = filter_has _ F.rows found.0 found.1 in
+          let found = Contains-from_filter_map (λ (r : KissRow). r.to) (rows_at F least_from symbol) t (subst (λ (us : List ℕ). Contains us t) (sym given) (Contains-here t ts)) in
+          let of_state = Contains-from_filter _ F.rows found.0 found.1 in
           let from_least : (found.0).from ≡ least_from = eqb-true (found.0).from least_from (and_parts _ _ of_state.1).0 in
           let least : least_of p (found.0).from ≡ (found.0).from = ap (least_of p) from_least ∙ least_again p row.from in_p ∙ sym from_least in
-          let kept = has_filter (λ (r : KissRow). least_of p r.from == r.from) F.rows found.0 of_state.0 (eq-eqb (least_of p (found.0).from) (found.0).from least) in
+          let kept = Contains-filter (λ (r : KissRow). least_of p r.from == r.from) F.rows found.0 of_state.0 (eq-eqb (least_of p (found.0).from) (found.0).from least) in
           let same : least_of p t ≡ least_of p z = ap (least_of p) (sym goes_to) ∙ least_of-same p (next F least_from symbol) z goes.2 in
           Contains-append_right (currents_of F p F.rows) (nexts_of F p F.rows) _
           (subst (Contains (nexts_of F p F.rows)) (ap (name_of F.states) same)
-          (has_map (block_name F p) (filter_map (λ (r : KissRow). r.to) (kept_of p F.rows)) t (has_filter_map (λ (r : KissRow). r.to) (kept_of p F.rows) found.0 t kept found.2)))
+          (Contains-map (block_name F p) (filter_map (λ (r : KissRow). r.to) (kept_of p F.rows)) t (Contains-filter_map (λ (r : KissRow). r.to) (kept_of p F.rows) found.0 t kept found.2)))
 
       -- the block of a next state is named
       next_named : Contains (currents_of F p F.rows ++ nexts_of F p F.rows) (block_name F p z)
@@ -116,10 +112,10 @@ module _ (F : KissFile) (p : List ℕ) (table : IsTable F) (size : length p ≡ 
         once_has (currents_of F p F.rows ++ nexts_of F p F.rows) (block_name F p s)
         (elim (Contains-append_cases (map (λ (r : KissRow). r.from) F.rows) (filter_map (λ (r : KissRow). r.to) F.rows) s (numbered.each s inside)) [
           | inl current ↦
-              let found = map_has (λ (r : KissRow). r.from) F.rows s current in
+              let found = Contains-from_map (λ (r : KissRow). r.from) F.rows s current in
               Contains-append_left (currents_of F p F.rows) (nexts_of F p F.rows) _
               (subst (λ (u : ℕ). Contains (currents_of F p F.rows) (block_name F p u)) found.2 (current_named found.0 found.1))
           | inr next_one ↦
-              let found = filter_map_has (λ (r : KissRow). r.to) F.rows s next_one in
+              let found = Contains-from_filter_map (λ (r : KissRow). r.to) F.rows s next_one in
               next_named found.0 s found.1 found.2
         ])

@@ -6,12 +6,12 @@ use Rattle.std.proofs.lemmas.Bool.{cases_Bool}
 use Rattle.std.proofs.lemmas.List.{get_or-map, length-map, take-append-drop, take-map, take_more}
 use Rattle.std.proofs.lemmas.List.Elements.{Contains-get_or}
 use Rattle.std.proofs.lemmas.Option.{slice_get-get_or}
+use Rattle.list_facts.specs.Laws.Members.{Contains-map}
 use Rattle.kiss2.specs.Inner.Judging.{once_after}
 use Rattle.kiss2.specs.Names.{AreDistinct}
 use Rattle.kiss2.specs.Standing.{each_once}
 use Rattle.kiss2.proofs.Finding.{contained_from_test}
 use Rattle.kiss2.proofs.Once.{among, distinct_from_once, each_once-append, once-each_once}
-use Rattle.state_reduce.proofs.Members.{has_map}
 use Rattle.state_reduce.proofs.Names.{has_once, place_is}
 
 -- names that are added go behind those that are there
@@ -51,7 +51,7 @@ module _ (names : List (List ℕ)) where
   each_place s within =
       let name : List ℕ = get_or (each_once names) s [] in
       let there : Contains names name = has_once names name (Contains-get_or (each_once names) s [] within) in
-      subst (Contains (map place names)) (place_at name s (slice_get-get_or (each_once names) s [] within)) (has_map place names name there)
+      subst (Contains (map place names)) (place_at name s (slice_get-get_or (each_once names) s [] within)) (Contains-map place names name there)
 
   module _ (k : ℕ) (within : k < length names) where
     abbrev name : List ℕ
@@ -101,7 +101,7 @@ module _ (names : List (List ℕ)) where
         let here : slice_get (each_once names) s ≡ Some other = in_front s inside ∙ slice_get-get_or before s [] inside in
         let there : Contains (take k names) other = has_once (take k names) other (Contains-get_or before s [] inside) in
         subst (λ (xs : List ℕ). Contains xs s) (sym (take-map place k names))
-        (subst (Contains (map place (take k names))) (place_at other s here) (has_map place (take k names) other there))
+        (subst (Contains (map place (take k names))) (place_at other s here) (Contains-map place (take k names) other there))
 
   pub in_order : (k s : ℕ) → k < length (map place names) → s < get_or (map place names) k 0 → Contains (take k (map place names)) s
   in_order k s within lt =

@@ -5,6 +5,7 @@ use Rattle.std.specs.List.{filter_map}
 use Rattle.std.proofs.lemmas.Bool.{cases_Bool}
 use Rattle.std.proofs.lemmas.List.{length-map, map-append}
 use Rattle.std.proofs.lemmas.List.Elements.{All-append, All-contains, All-filter, All-from_get_or, All-map, All-weaker, Contains-get_or}
+use Rattle.list_facts.specs.Laws.Members.{Contains-none}
 use Rattle.kiss2.specs.declared.kiss_file.KissFile.{KissFile}
 use Rattle.kiss2.specs.declared.kiss_file.KissRow.{KissRow}
 use Rattle.kiss2.specs.Lawful.{AreGiven, AreNumbered, IsLawful, IsLawfulRow, appearances}
@@ -15,7 +16,6 @@ use Rattle.state_reduce.specs.Inner.Named.{AreAllNamed, currents_of, kept_of, ne
 use Rattle.state_reduce.specs.Quotient.{IsQuotient, block_name, block_names, block_number, row_of_blocks}
 use Rattle.state_reduce.proofs.Answered.{given_mapped}
 use Rattle.state_reduce.proofs.Appearing.{distinct_once, each_place, in_order, place}
-use Rattle.state_reduce.proofs.Members.{has_none}
 use Rattle.state_reduce.proofs.Names.{currents_known, few_blocks, has_once, nexts_known}
 use Rattle.state_reduce.proofs.Numbers.{number_within}
 
@@ -108,7 +108,7 @@ module _ (F : KissFile) (p : List ℕ) where
       some_row = among Q.rows (blocks_numbered.each Q.reset reset_within)
         where
           among : (rows : List KissRow) → Contains (map (λ (row : KissRow). row.from) rows ++ filter_map (λ (row : KissRow). row.to) rows) Q.reset → 1 ≤ length rows
-          among [] there = absurd (has_none Q.reset there)
+          among [] there = absurd (Contains-none Q.reset there)
           among (row ∷ rows) there = omega arith
 
       pub blocks_table : IsTable Q

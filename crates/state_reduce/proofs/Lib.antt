@@ -6,7 +6,6 @@ pub mod Counted
 pub mod Judged
 pub mod Lawfully
 pub mod Leasts
-pub mod Members
 pub mod Names
 pub mod Numbers
 pub mod Ordered

@@ -9,6 +9,7 @@ use Rattle.std.proofs.lemmas.List.{map-append}
 use Rattle.std.proofs.lemmas.List.Sums.{position_or_len_is}
 use Rattle.std.proofs.lemmas.Option.{get_or_from_slice_get, slice_get_within}
 use Rattle.std.proofs.lemmas.Slice.Eq.{bytes_eq-Decides}
+use Rattle.list_facts.specs.Laws.Everywhere.{all_given}
 use Rattle.kiss2.specs.declared.kiss_file.KissFile.{KissFile}
 use Rattle.kiss2.specs.declared.kiss_file.KissRow.{KissRow}
 use Rattle.kiss2.specs.Lawful.{IsLawfulRow}
@@ -21,7 +22,6 @@ use Rattle.partition.proofs.Nesting.{least_of-le}
 use Rattle.partition.specs.Inside.{least_of}
 use Rattle.state_reduce.specs.Inner.Named.{currents_of, kept_of, nexts_of}
 use Rattle.state_reduce.specs.Quotient.{block_name, block_names, block_number}
-use Rattle.state_reduce.proofs.Members.{all_given}
 
 -- a name, each once, is one of the names
 pub once_has : (names : List (List ℕ)) (name : List ℕ) → Contains names name → Contains (each_once names) name

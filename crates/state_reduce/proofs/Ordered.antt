@@ -6,6 +6,7 @@ use Rattle.std.proofs.lemmas.Bool.{cases_Bool, cases_eq, cases_lt, eq-eqb, eqb-t
 use Rattle.std.proofs.lemmas.List.{get_or-map, get_or_append_left, length-map, length_push, take-append-le, take-map, take_all}
 use Rattle.std.proofs.lemmas.List.Elements.{All-contains, All-tail, Contains-get_or}
 use Rattle.std.proofs.lemmas.Option.{get_or_from_slice_get, same_Some}
+use Rattle.list_facts.specs.Laws.Members.{Contains-cons, Contains-filter, Contains-from_filter, Contains-from_map, Contains-here, Contains-map, Contains-none, Contains-there}
 use Rattle.kiss2.specs.declared.kiss_file.KissFile.{KissFile}
 use Rattle.kiss2.specs.declared.kiss_file.KissRow.{KissRow}
 use Rattle.kiss2.specs.Lawful.{AreNumbered, IsLawfulRow}
@@ -25,7 +26,6 @@ use Rattle.state_reduce.specs.Quotient.{AreBlocksInOrder, HasRow, IsQuotient, bl
 use Rattle.state_reduce.proofs.Accepting.{block_at}
 use Rattle.state_reduce.proofs.Appearing.{at_some_place, get_left, get_middle, once_front, place_at}
 use Rattle.state_reduce.proofs.Lawfully.{all_names}
-use Rattle.state_reduce.proofs.Members.{filter_has, first_or_later, has_filter, has_first, has_later, has_map, has_none, map_has}
 use Rattle.state_reduce.proofs.Names.{currents_none, currents_one, has_once, once_has}
 use Rattle.state_reduce.proofs.Numbers.{block_one, least_again, least_below, least_label, number_has, number_same, number_within}
 
@@ -38,7 +38,7 @@ item_at (x ∷ xs) (suc i) within = item_at xs i (omega arith)
 filter_none : {X : Type 0} (test : X → Bool) (xs : List X) → ((x : X) → Contains xs x → test x ≡ false) → filter test xs ≡ []
 filter_none test [] fails = refl
 filter_none test (x ∷ xs) fails =
-    ap (λ b. cond b (x ∷ filter test xs) (filter test xs)) (fails x (has_first x xs)) ∙ filter_none test xs (λ y among. fails y (has_later x y xs among))
+    ap (λ b. cond b (x ∷ filter test xs) (filter test xs)) (fails x (Contains-here x xs)) ∙ filter_none test xs (λ y among. fails y (Contains-there x y xs among))
 
 and_off : (a b : Bool) → a ≡ false → (a && b) ≡ false
 and_off true b off = absurd (false≢true (sym off))
@@ -46,13 +46,13 @@ and_off false b off = refl
 
 -- a state has a row, or none
 row_or_none : (rows : List KissRow) (s : ℕ) → ((row : KissRow) × Contains rows row × (row.from ≡ s)) ⊎ ((row : KissRow) → Contains rows row → row.from ≢ s)
-row_or_none [] s = inr (λ row among. absurd (has_none row among))
+row_or_none [] s = inr (λ row among. absurd (Contains-none row among))
 row_or_none (first ∷ rows) s =
     elim (cases_eq (first).from s) [
-      | inl same ↦ inl (first, has_first first rows, same)
+      | inl same ↦ inl (first, Contains-here first rows, same)
       | inr other ↦ elim (row_or_none rows s) [
-        | inl found ↦ inl (found.0, has_later first found.0 rows found.1, found.2)
-        | inr none ↦ inr (λ row among same. elim (first_or_later first row rows among) [
+        | inl found ↦ inl (found.0, Contains-there first found.0 rows found.1, found.2)
+        | inr none ↦ inr (λ row among same. elim (Contains-cons first row rows among) [
           | inl here ↦ other (ap (λ (r : KissRow). r.from) here ∙ same)
           | inr later ↦ none row later same
         ])
@@ -151,14 +151,14 @@ module _ (F : KissFile) (p : List ℕ) (table : IsTable F) (distinct : AreDistin
       let stands : get_or (froms ++ tos) i 0 ≡ row.from =
       get_or_append_left froms tos 0 i (omega arith) ∙ get_or-map (λ (r : KissRow). r.from) F.rows i row 0 within ∙ ap (λ (r : KissRow). r.from) (sym here) in
       let seen : Contains (take i (froms ++ tos)) v = numbered.in_order i v (omega arith) (omega arith) in
-      map_has (λ (r : KissRow). r.from) (take i F.rows) v
+      Contains-from_map (λ (r : KissRow). r.from) (take i F.rows) v
       (subst (λ (xs : List ℕ). Contains xs v) (take-append-le i froms tos (omega arith) ∙ take-map (λ (r : KissRow). r.from) i F.rows) seen)
 
   -- rows of a least state name its block
   named_by : (rows : List KissRow) (row : KissRow) → Contains rows row → least_of p row.from ≡ row.from → Contains (currents_of F p rows) (block_name F p row.from)
   named_by rows row among least =
-      has_map (λ (r : KissRow). block_name F p r.from) (kept_of p rows) row
-      (has_filter (λ (r : KissRow). least_of p r.from == r.from) rows row among (eq-eqb (least_of p row.from) row.from least))
+      Contains-map (λ (r : KissRow). block_name F p r.from) (kept_of p rows) row
+      (Contains-filter (λ (r : KissRow). least_of p r.from == r.from) rows row among (eq-eqb (least_of p row.from) row.from least))
 
   -- the label of the next new least state is the number of names so far
   next_label : (i : ℕ) (row : KissRow) → i < length F.rows → row ≡ get_or F.rows i row → IsLeast row.from → AreLabelled (named_so_far i)
@@ -217,7 +217,7 @@ module _ (F : KissFile) (p : List ℕ) (table : IsTable F) (distinct : AreDistin
       none j inside = absurd (has_nothing inside)
         where
           has_nothing : {k : ℕ} → k < length (each_once []) → ⊥
-          has_nothing {k} below = has_none (get_or (each_once []) k []) (has_once [] _ (Contains-get_or (each_once []) k [] below))
+          has_nothing {k} below = Contains-none (get_or (each_once []) k []) (has_once [] _ (Contains-get_or (each_once []) k [] below))
   labelled_upto (suc i) within = subst (λ (k : ℕ). AreLabelled (named_so_far k)) (add-one i) (labelled_more i (omega arith) (labelled_upto i (omega arith)))
 
   -- the names of current states, all rows together
@@ -272,8 +272,8 @@ module _ (F : KissFile) (p : List ℕ) (table : IsTable F) (distinct : AreDistin
 
     not_current : (a : ℕ) → IsLeast a → IsRowless F a → Contains current_names (block_name F p a) → ⊥
     not_current a least none there =
-        let found = map_has (λ (row : KissRow). block_name F p row.from) (kept_of p F.rows) (block_name F p a) (has_once (currents_of F p F.rows) (block_name F p a) there) in
-        let kept = filter_has (λ (row : KissRow). least_of p row.from == row.from) F.rows found.0 found.1 in
+        let found = Contains-from_map (λ (row : KissRow). block_name F p row.from) (kept_of p F.rows) (block_name F p a) (has_once (currents_of F p F.rows) (block_name F p a) there) in
+        let kept = Contains-from_filter (λ (row : KissRow). least_of p row.from == row.from) F.rows found.0 found.1 in
         none found.0 kept.0
         (one_least (found.0).from a (lawful_row found.0 kept.0).from least.inside (eqb-true (least_of p (found.0).from) (found.0).from kept.1) least.least found.2)
 

@@ -2,6 +2,7 @@
 use Rattle.std.proofs.Common.{◌≡◌, ◌↔◌, ◌∙◌, ℕ, ◌<◌, ◌≤◌, Bool, true, false, Contains, List, Option, None, Some, length, get_or, slice_get, refl, sym, ap, subst, arith}
 use Rattle.std.proofs.lemmas.List.{ext_get_or}
 use Rattle.std.proofs.lemmas.Option.{slice_get_within}
+use Rattle.list_facts.specs.Laws.Places.{item_at}
 use Rattle.blif_out.specs.declared.header.Header.{Header}
 use Rattle.blif_out.specs.declared.header.LatchNote.{LatchNote}
 use Rattle.decomposition.specs.Decomposition.{PrintsCodes}
@@ -14,7 +15,6 @@ use Rattle.net_core.specs.declared.Latch.{Latch}
 use Rattle.net_core.specs.declared.Network.{Network}
 use Rattle.partition.specs.Partition.{IsPartition, Together}
 use Rattle.partition.specs.Laws.Labels.{same_labels}
-use Rattle.realise.proofs.Gates.{item_at}
 use Rattle.state_codes.specs.declared.Codes.{Codes}
 use Rattle.state_codes.specs.Agreement.{CodesAgreeAt}
 use Rattle.state_codes.specs.declared.split.Kind.{Kind}

@@ -2,6 +2,7 @@
 use Rattle.std.proofs.Common.{◌≡◌, ◌∙◌, ℕ, ◌+◌, ◌-◌, ◌≤◌, Bool, true, false, List, [], ◌∷◌, Some, length, map, slice_get, unwrap_or, inl, inr, refl, sym, ap, subst, arith}
 use Rattle.std.proofs.lemmas.Bool.{cases_lt}
 use Rattle.std.proofs.lemmas.Option.{same_Some, slice_get_within}
+use Rattle.list_facts.specs.Laws.Places.{item_at}
 use Rattle.dependence.specs.declared.sets.ReadSet.{ReadSet}
 use Rattle.dependence.specs.declared.sets.Reads.{Reads}
 use Rattle.dependence.specs.Permits.{next_value, output_value}
@@ -16,7 +17,6 @@ use Rattle.net_core.specs.Step.{AreStarts, bit_of_start}
 use Rattle.realise.specs.Codes.{code_of}
 use Rattle.realise.specs.Names.{AreNames, input_letter, output_letter, next_letter, state_letter, own_names}
 use Rattle.realise.specs.Realised.{HasGate, IsRealised, name_at}
-use Rattle.realise.proofs.Gates.{item_at}
 use Rattle.text_laws.specs.Rows.{EqualButForRows, HasSameSignals}
 use Rattle.text_laws.proofs.Lists.{zip_at}
 

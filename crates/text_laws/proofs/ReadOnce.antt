@@ -1,6 +1,7 @@
 -- What a gate reads is determined.
 use Rattle.std.proofs.Common.{◌≡◌, ◌↔◌, ◌⊎◌, ◌∙◌, ℕ, zero, suc, ◌+◌, ◌<◌, ◌≤◌, Bool, Contains, List, inl, inr, sym, arith}
 use Rattle.std.proofs.lemmas.Bool.{cases_eq}
+use Rattle.list_facts.specs.Laws.Members.{among_or_not}
 use Rattle.dependence.specs.declared.sets.ReadSet.{ReadSet}
 use Rattle.dependence.specs.declared.sets.Reads.{Reads}
 use Rattle.dependence.specs.Candidates.{IsBitOfCode, IsCandidate}
@@ -8,7 +9,6 @@ use Rattle.dependence.specs.Permits.{next_value, output_value}
 use Rattle.dependence.specs.ReadRule.{Beside, IsReadRule}
 use Rattle.dependence.specs.Reads.{AreReads, IsReadSet}
 use Rattle.dependence.proofs.Judged.{permits_more}
-use Rattle.dependence.proofs.Listed.{listed_or_not}
 use Rattle.kiss2.specs.declared.kiss_file.KissFile.{KissFile}
 use Rattle.state_codes.specs.declared.Codes.{Codes}
 use Rattle.state_codes.specs.declared.split.Part.{Part}
@@ -35,8 +35,8 @@ module _ (F : KissFile) (words : List ℕ) (Candidate : ℕ → Type 0) (value :
       let above : (e : ℕ) → c + 1 ≤ e → Contains read e ↔ Contains others e = read_from gap (c + 1) (omega (arith, at)) in
       elim (cases_eq d c) [
         | inl here ↦ (
-          also_read F words Candidate (Contains read) (Contains others) value d (listed_or_not others d) one other (λ e high. (above e (omega (arith, high, low))).1),
-          also_read F words Candidate (Contains others) (Contains read) value d (listed_or_not read d) other one (λ e high. (above e (omega (arith, high, low))).0),
+          also_read F words Candidate (Contains read) (Contains others) value d (among_or_not others d) one other (λ e high. (above e (omega (arith, high, low))).1),
+          also_read F words Candidate (Contains others) (Contains read) value d (among_or_not read d) other one (λ e high. (above e (omega (arith, high, low))).0),
         )
         | inr apart ↦ above d (omega (arith, low, apart))
       ]

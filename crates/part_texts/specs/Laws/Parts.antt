@@ -7,10 +7,10 @@ use Rattle.answers.specs.Cause.{CallsForNone}
 use Rattle.answers.specs.Laws.Causes.{IsOf}
 use Rattle.answers.specs.Refusal.{answer_of}
 use Rattle.answers.specs.declared.numbers.Answer.TheVariants as answers
-use Rattle.blif_out.proofs.Once.{partition_once}
 use Rattle.partition.specs.declared.PartFail.TheVariants.{BadText, WrongLength}
 use Rattle.partition.specs.Partition.{IsPartition}
 use Rattle.partition.specs.Laws.Labels.{IsPartition-of}
+use Rattle.partition.proofs.Texts.{partition_once}
 use Rattle.partition.proofs.Faults.{no_fault_of_partition}
 use Rattle.part_texts.specs.Faults.{BadPart, BadPartAt, BadParts}
 use Rattle.part_texts.specs.Texts.{ArePartTexts, IsTextOfPartition, texts_of_parts}

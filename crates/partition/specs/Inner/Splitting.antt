@@ -1,5 +1,5 @@
 -- For private functions and proofs only: how a relation of states splits them into blocks, one state after another.
-use Rattle.std.specs.Prelude.{◌≡◌, ◌<◌, ◌⊎◌, ℕ, List, length, take}
+use Rattle.std.specs.Prelude.{◌≡◌, ◌<◌, ◌⊎◌, ℕ, List, take}
 use Rattle.partition.specs.Partition.{IsPartition, Together, blocks_of}
 
 -- states that are together are equal or related

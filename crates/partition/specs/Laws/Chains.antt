@@ -7,6 +7,9 @@ use Rattle.partition.specs.MeetAndJoin.{IsMeet, IsJoin, IsGreatestBelow, IsLeast
 abbrev pub Link : List ℕ → List ℕ → ℕ → ℕ → Type 0
 Link p q s t = Together p s t ⊎ Together q s t
 
+pub together_itself : (p : List ℕ) (s : ℕ) → s < length p → Together p s s
+together_itself p s within = (within, within, refl)
+
 pub together_turned : (p : List ℕ) (s t : ℕ) → Together p s t → Together p t s
 together_turned p s t held = (held.1, held.0, sym held.2)
 

@@ -5,8 +5,9 @@ use Rattle.std.proofs.lemmas.Bool.{cases_eq, cases_order, ne_eqb}
 use Rattle.std.proofs.lemmas.List.Elements.{All-cons, All-nil}
 use Rattle.std.proofs.lemmas.List.FromFn.{get_or-range_with_len, length-range_with_len}
 use Rattle.std.proofs.lemmas.Option.{none-some, same_Some, slice_get-get_or, slice_get_within}
+use Rattle.list_facts.specs.Laws.Everywhere.{all_at}
+use Rattle.list_facts.specs.Laws.Members.{Contains-filter}
 use Rattle.closed_lattice.specs.Closed.{IsClosedPartition}
-use Rattle.closed_lattice.proofs.Growing.{together_itself}
 use Rattle.decomposition.specs.Flow.{Flows, TogetherInReads}
 use Rattle.feedback_split.specs.Carrier.{Suffices}
 use Rattle.feedback_split.specs.Kind.{IsFeedback}
@@ -17,14 +18,13 @@ use Rattle.least_codes.specs.Kind.{IsLeastSplit}
 use Rattle.machine_table.specs.Staying.{NeverLeaves}
 use Rattle.parallel_split.specs.Kind.{IsParallel}
 use Rattle.partition.specs.Partition.{IsPartition, Together}
-use Rattle.realise.proofs.Gates.{all_at}
+use Rattle.partition.specs.Laws.Chains.{together_itself}
 use Rattle.serial_split.specs.Kind.{Descends, IsCascade, IsSerial}
 use Rattle.state_codes.specs.declared.split.Part.{Part}
 use Rattle.state_codes.specs.Fault.{AreApart}
 use Rattle.state_codes.specs.Kinds.{IsOwnCarrier, PartsMeetInZero}
 use Rattle.state_codes.specs.Split.{IsPart, TogetherInAll, given_parts, others}
 use Rattle.state_codes.specs.Laws.Splits.{given_parts-length}
-use Rattle.state_reduce.proofs.Members.{has_filter}
 
 -- equal states have equal next states
 same_state : (W : KissFile) (p : List ℕ) (s t : ℕ) (x : List Bool) → NeverLeaves W → IsPartition (length W.states) p → s < length W.states → length x ≡ W.inputs → s ≡ t → Together p (next W s x) (next W t x)
@@ -47,7 +47,7 @@ given_part count j (suc k) (p ∷ partitions) part at =
 -- the numbers of all parts but j
 other_among : (count j k : ℕ) → k < count → (k ≡ j → ⊥) → Contains (others count j) k
 other_among count j k within apart =
-    has_filter (λ (part : ℕ). not (part == j)) (range_with_len 0 count) k (k, omega (arith, length-range_with_len 0 count), get_or-range_with_len 0 count k k within ∙ omega arith) (ap not (ne_eqb k j apart))
+    Contains-filter (λ (part : ℕ). not (part == j)) (range_with_len 0 count) k (k, omega (arith, length-range_with_len 0 count), get_or-range_with_len 0 count k k within ∙ omega arith) (ap not (ne_eqb k j apart))
 
 -- states that a given part and all parts that it reads hold together are together in all parts
 given_together : (partitions : List (List ℕ)) (j : ℕ) (part : Part) (s t : ℕ) → slice_get (given_parts (length partitions) 0 partitions) j ≡ Some part → Together part.partition s t

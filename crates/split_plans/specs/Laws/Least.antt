@@ -1,6 +1,7 @@
 -- Laws of the least code: what is refused for it, and what its gates read.
 use Rattle.std.proofs.Common.{◌≤◌, inl, inr, List, length, refl, ap, ◌∙◌, arith}
 use Rattle.std.proofs.lemmas.Bool.{cases_lt}
+use Rattle.list_facts.specs.Laws.Places.{item_at}
 use Rattle.answers.specs.declared.numbers.Answer.TheVariants as answers
 use Rattle.answers.specs.declared.refusals.Refusal.TheVariants.{StateCount}
 use Rattle.answers.specs.Cause.{CallsForNone}
@@ -12,7 +13,6 @@ use Rattle.least_codes.proofs.Gates.{least_code_reads_least}
 use Rattle.least_codes.specs.Gates.{EachReadsLeast}
 use Rattle.least_codes.specs.Kind.{GiveLeastCode, IsLeastSplit}
 use Rattle.net_core.specs.declared.Network.{Network}
-use Rattle.realise.proofs.Gates.{item_at}
 use Rattle.state_codes.specs.declared.Codes.{Codes}
 use Rattle.state_codes.specs.declared.split.Part.{Part}
 use Rattle.state_codes.specs.Code.{IsCode}

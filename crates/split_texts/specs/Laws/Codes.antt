@@ -5,8 +5,9 @@ use Rattle.std.proofs.lemmas.Bool.{cases_lt}
 use Rattle.std.proofs.lemmas.List.{get_or_past, length-map}
 use Rattle.std.proofs.lemmas.Nat.Bits.{same_from_bits}
 use Rattle.std.specs.Int.{bit_at}
+use Rattle.list_facts.specs.Laws.Everywhere.{all_at}
+use Rattle.list_facts.specs.Laws.Places.{item_at}
 use Rattle.partition.specs.Partition.{Together}
-use Rattle.realise.proofs.Gates.{all_at, item_at}
 use Rattle.state_codes.specs.declared.Codes.{Codes}
 use Rattle.state_codes.specs.declared.split.Part.{Part}
 use Rattle.state_codes.specs.Agreement.{AreDistinct}

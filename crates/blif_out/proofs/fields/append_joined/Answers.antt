@@ -1,8 +1,9 @@
 use Rattle.std.proofs.Common.{ℕ, List, ◌++◌, ap, ◌∙◌}
 use Rattle.std.specs.Fmt.{decimal}
 use Rattle.std.specs.List.{flat_map}
+use Rattle.list_facts.specs.Laws.Appending.{text_more}
 use Rattle.blif_out.specs.Inner.Pieces.{comma_number}
-use Rattle.blif_out.proofs.Appending.{text_more, joined-is}
+use Rattle.blif_out.proofs.Appending.{joined-is}
 use Rattle.blif_out.proofs.fields.append_joined.Goals as goal
 
 pub returns : goal.returns

@@ -1,10 +1,10 @@
 use Rattle.std.proofs.Common.{ℕ, List, ◌++◌, length, ap, ◌∙◌}
 use Rattle.std.specs.List.{enumerate_from, flat_map, zip}
+use Rattle.list_facts.specs.Laws.Appending.{text_more}
 use Rattle.state_codes.specs.declared.split.Part.{Part}
 use Rattle.blif_out.specs.declared.header.Header.{Header}
 use Rattle.blif_out.specs.declared.header.LatchNote.{LatchNote}
 use Rattle.blif_out.specs.Inner.Pieces.{part_line, state_line, note_line}
-use Rattle.blif_out.proofs.Appending.{text_more}
 use Rattle.blif_out.proofs.Whole.{head_text-is}
 use Rattle.blif_out.proofs.header_text.append_header.Goals as goal
 

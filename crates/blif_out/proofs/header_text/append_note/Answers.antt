@@ -1,8 +1,9 @@
 use Rattle.std.proofs.Common.{ℕ, List, [], ◌∷◌, ◌++◌, ap, ◌∙◌, codes}
 use Rattle.std.specs.Fmt.{decimal}
+use Rattle.list_facts.specs.Laws.Appending.{text_more}
 use Rattle.hs_io.specs.Spelling.{spaced, line_text}
 use Rattle.partition.specs.Text.{labels_text}
-use Rattle.blif_out.proofs.Appending.{text_more, field_more}
+use Rattle.blif_out.proofs.Appending.{field_more}
 use Rattle.blif_out.proofs.header_text.append_note.Goals as goal
 
 pub returns : goal.returns

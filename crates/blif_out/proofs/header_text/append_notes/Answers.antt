@@ -1,6 +1,6 @@
 use Rattle.std.proofs.Common.{arith, sym}
+use Rattle.list_facts.specs.Laws.Appending.{all_numbered, numbered_more}
 use Rattle.blif_out.specs.Inner.Pieces.{note_line}
-use Rattle.blif_out.proofs.Appending.{numbered_more, all_numbered}
 use Rattle.blif_out.proofs.header_text.append_notes.Goals as goal
 
 pub loop-number-preserved : goal.loop-number-preserved

@@ -3,8 +3,8 @@ use Rattle.std.specs.List.{zip}
 use Rattle.std.proofs.lemmas.Slice.Zip.{length-zip}
 use Rattle.std.proofs.lemmas.Option.{get_or_from_slice_get}
 use Rattle.std.proofs.lemmas.Grind.{get_or_default_zero}
+use Rattle.list_facts.specs.Laws.Appending.{all_items, zipped_more}
 use Rattle.blif_out.specs.Inner.Pieces.{state_line}
-use Rattle.blif_out.proofs.Appending.{zipped_more, all_items}
 use Rattle.blif_out.proofs.header_text.append_states.Goals as goal
 
 pub loop-number-preserved : goal.loop-number-preserved

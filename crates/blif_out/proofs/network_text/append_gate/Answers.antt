@@ -1,7 +1,7 @@
 use Rattle.std.proofs.Common.{ℕ, List, ◌++◌, ap, ◌∙◌}
 use Rattle.std.specs.List.{flat_map}
+use Rattle.list_facts.specs.Laws.Appending.{text_more}
 use Rattle.blif_out.specs.Inner.Pieces.{row_line}
-use Rattle.blif_out.proofs.Appending.{text_more}
 use Rattle.blif_out.proofs.Whole.{gate_lines-are}
 use Rattle.blif_out.proofs.network_text.append_gate.Goals as goal
 

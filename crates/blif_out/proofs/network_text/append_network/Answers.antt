@@ -1,9 +1,9 @@
 use Rattle.std.proofs.Common.{ℕ, List, ◌++◌, ap, ◌∙◌, codes}
 use Rattle.std.specs.List.{flat_map}
+use Rattle.list_facts.specs.Laws.Appending.{text_more}
 use Rattle.net_core.specs.declared.Gate.{Gate}
 use Rattle.net_core.specs.declared.Latch.{Latch}
 use Rattle.blif_out.specs.Inner.Pieces.{latch_line, gate_lines}
-use Rattle.blif_out.proofs.Appending.{text_more}
 use Rattle.blif_out.proofs.Whole.{net_text-is}
 use Rattle.blif_out.proofs.network_text.append_network.Goals as goal
 

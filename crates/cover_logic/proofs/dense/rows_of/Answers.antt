@@ -1,10 +1,10 @@
 use Rattle.std.proofs.Common.{◌≡◌, ◌∙◌, ℕ, List, [], ◌∷◌, ◌++◌, ⊎_elim, inl, inr, refl, sym, subst, rules}
 use Rattle.std.specs.List.{Contains}
 use Rattle.std.proofs.lemmas.List.Elements.{Contains-append_left, Contains-push, Contains-push_cases}
+use Rattle.list_facts.specs.Laws.Members.{Contains-none}
 use Rattle.cover_logic.specs.declared.term.Term.{Term}
 use Rattle.cover_logic.specs.Term.{FitsWidth}
 use Rattle.cover_logic.specs.Inner.Pair.{Includes}
-use Rattle.cover_logic.proofs.Lists.{Contains-nil}
 use Rattle.cover_logic.proofs.PrimeRows.{ArePrimes, primes_none, primes_more, primes_skip, primes_all}
 use Rattle.cover_logic.proofs.dense.rows_of.Goals as goal
 
@@ -72,4 +72,4 @@ loop-seed-preserved c =
 pub returns : goal.returns
 returns c =
     let none : c.loop-seed.left.items ≡ [] = search rules in
-    primes_all _ _ _ (Contains c.loop-seed.left.items) _ (λ t h. Contains-nil t (subst (λ (ts : List Term). Contains ts t) none h)) c.loop-seed.invariant.0
+    primes_all _ _ _ (Contains c.loop-seed.left.items) _ (λ t h. Contains-none t (subst (λ (ts : List Term). Contains ts t) none h)) c.loop-seed.invariant.0

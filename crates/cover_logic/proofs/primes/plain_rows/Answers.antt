@@ -1,9 +1,9 @@
 use Rattle.std.proofs.Common.{◌≡◌, ◌<◌, ◌+◌, List, [], ◌∷◌, ◌++◌, subst, rules, arith, vec_len}
 use Rattle.std.specs.List.{Contains}
 use Rattle.std.proofs.lemmas.List.Elements.{Contains-push}
+use Rattle.list_facts.specs.Laws.Members.{Contains-none}
 use Rattle.cover_logic.specs.declared.term.Term.{Term}
 use Rattle.cover_logic.specs.Inner.Index.{terms_of}
-use Rattle.cover_logic.proofs.Lists.{Contains-nil}
 use Rattle.cover_logic.proofs.PrimeRows.{ArePrimes, primes_none, primes_more, primes_all, gone_from_list, left_in_list}
 use Rattle.cover_logic.proofs.primes.plain_rows.Goals as goal
 
@@ -44,4 +44,4 @@ loop-seed-preserved c =
 pub returns : goal.returns
 returns c =
     let none : c.loop-seed.left.items ≡ [] = search rules in
-    primes_all _ _ _ (Contains c.loop-seed.left.items) _ (λ t h. Contains-nil t (subst (λ (ts : List Term). Contains ts t) none h)) c.loop-seed.invariant
+    primes_all _ _ _ (Contains c.loop-seed.left.items) _ (λ t h. Contains-none t (subst (λ (ts : List Term). Contains ts t) none h)) c.loop-seed.invariant

@@ -1,7 +1,8 @@
 use Rattle.std.proofs.Common.{◌≡◌, ℕ, ◌<◌, List, [], ◌∷◌, ◌++◌, length, refl, ap, ◌∙◌, codes, arith}
 use Rattle.std.specs.Fmt.{decimal}
+use Rattle.list_facts.specs.Laws.Appending.{text_more}
 use Rattle.blif_out.specs.Head.{numbers_text}
-use Rattle.blif_out.proofs.Appending.{field_more, text_more}
+use Rattle.blif_out.proofs.Appending.{field_more}
 use Rattle.hs_io.specs.Spelling.{line_text, spaced}
 use Rattle.partition.specs.Text.{labels_text}
 use Rattle.cover_texts.proofs.blocks.append_block.Goals as goal

@@ -1,5 +1,5 @@
 use Rattle.std.proofs.Common.{ℕ, List, ◌++◌, sym, ap, ◌∙◌, arith}
-use Rattle.blif_out.proofs.Appending.{all_numbered, numbered_more}
+use Rattle.list_facts.specs.Laws.Appending.{all_numbered, numbered_more}
 use Rattle.cover_texts.specs.Inner.Pieces.{block_line}
 use Rattle.cover_texts.proofs.blocks.append_blocks.Goals as goal
 

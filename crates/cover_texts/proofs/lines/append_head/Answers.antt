@@ -1,6 +1,6 @@
 use Rattle.std.proofs.Common.{◌≡◌, ℕ, ◌<◌, All, List, ◌++◌, codes, length, sym, ap, ◌∙◌, subst, arith}
 use Rattle.std.specs.List.{enumerate_from, flat_map, zip}
-use Rattle.blif_out.proofs.Appending.{text_more}
+use Rattle.list_facts.specs.Laws.Appending.{text_more}
 use Rattle.cover_split.specs.Expansion.{pairs_of}
 use Rattle.cover_split.proofs.PairLemmas.{few_blocks}
 use Rattle.cover_texts.specs.Inner.Pieces.{block_line, pair_line}

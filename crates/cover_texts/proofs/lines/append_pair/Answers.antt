@@ -1,7 +1,8 @@
 use Rattle.std.proofs.Common.{ℕ, List, [], ◌∷◌, ◌++◌, get_or, ap, ◌∙◌, codes}
 use Rattle.std.specs.Fmt.{decimal}
+use Rattle.list_facts.specs.Laws.Appending.{text_more}
 use Rattle.blif_out.specs.Head.{bit_text, bits_of}
-use Rattle.blif_out.proofs.Appending.{field_more, text_more}
+use Rattle.blif_out.proofs.Appending.{field_more}
 use Rattle.hs_io.specs.Spelling.{line_text, spaced}
 use Rattle.cover_texts.proofs.Appending.{name_there}
 use Rattle.cover_texts.proofs.lines.append_pair.Goals as goal

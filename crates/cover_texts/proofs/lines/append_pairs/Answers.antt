@@ -3,7 +3,7 @@ use Rattle.std.specs.List.{zip}
 use Rattle.std.proofs.lemmas.List.{get_or_default}
 use Rattle.std.proofs.lemmas.Slice.Zip.{length-zip}
 use Rattle.std.proofs.lemmas.Grind.{get_or_default_zero}
-use Rattle.blif_out.proofs.Appending.{all_items}
+use Rattle.list_facts.specs.Laws.Appending.{all_items}
 use Rattle.cover_texts.specs.Inner.Pieces.{pair_line}
 use Rattle.cover_texts.proofs.Appending.{pairs_more}
 use Rattle.cover_texts.proofs.lines.append_pairs.Goals as goal

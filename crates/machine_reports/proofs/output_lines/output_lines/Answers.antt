@@ -1,6 +1,6 @@
 use Rattle.std.proofs.Common.{[], get_or, arith}
 use Rattle.std.proofs.lemmas.List.{get_or_default}
-use Rattle.blif_out.proofs.Appending.{numbered_more, all_numbered}
+use Rattle.list_facts.specs.Laws.Appending.{all_numbered, numbered_more}
 use Rattle.machine_reports.specs.OutputTexts.{output_line}
 use Rattle.machine_reports.proofs.output_lines.output_lines.Goals as goal
 

@@ -1,6 +1,6 @@
 use Rattle.std.proofs.Common.{refl, arith, sym, subst, codes, Contains, map, []}
+use Rattle.list_facts.specs.Laws.Members.{Contains-here}
 use Rattle.net_core.specs.Worked.{controls_text, controls_network}
-use Rattle.net_core.proofs.Members.{Contains-here}
 use Rattle.net_core.proofs.Judged.{denotes_from_test, nothing_from_fault}
 use Rattle.net_core.proofs.worked.worked_latches.Goals as goal
 

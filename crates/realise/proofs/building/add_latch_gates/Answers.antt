@@ -1,7 +1,7 @@
 use Rattle.std.proofs.Common.{◌≡◌, Some, slice_get, subst, take}
+use Rattle.list_facts.specs.Laws.Everywhere.{all_at}
 use Rattle.dependence.specs.Permits.{next_value}
 use Rattle.realise.specs.Realised.{IsGateFor, IsWithin}
-use Rattle.realise.proofs.Gates.{all_at}
 use Rattle.realise.proofs.GateLists.{gates_more, item_there, items_count, items_more}
 use Rattle.realise.proofs.building.add_latch_gates.Goals as goal
 

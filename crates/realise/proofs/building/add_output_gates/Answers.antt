@@ -1,7 +1,7 @@
 use Rattle.std.proofs.Common.{◌≡◌, ◌∙◌, Some, slice_get, ap, subst, take, arith}
+use Rattle.list_facts.specs.Laws.Everywhere.{all_at}
 use Rattle.dependence.specs.Permits.{output_value}
 use Rattle.realise.specs.Realised.{IsGateFor, IsWithin, name_at}
-use Rattle.realise.proofs.Gates.{all_at}
 use Rattle.realise.proofs.GateLists.{gates_more, item_numbered, items_count, items_more}
 use Rattle.realise.proofs.building.add_output_gates.Goals as goal
 

@@ -4,7 +4,7 @@ use Rattle.kiss2.specs.declared.kiss_file.KissRow.{KissRow}
 use Rattle.machine_table.specs.Covering.{IsRightRow}
 use Rattle.machine_table.proofs.Asking.{looked_at, number_of_row}
 use Rattle.machine_table.proofs.FilledRows.{own_is_right}
-use Rattle.machine_table.proofs.OpenCubes.{itself}
+use Rattle.list_facts.specs.Laws.Members.{Contains-here}
 use Rattle.machine_table.proofs.Sought.{row_of}
 use Rattle.machine_table.proofs.machine.Machine.rows_of.Goals as goal
 
@@ -31,7 +31,7 @@ loop-number-preserved c =
       each = λ i d r before at.
           subst (λ (list : List KissRow). Contains list r) (sym pushed)
           (looked_at F.rows asked.result.now k (Contains more) row (λ i d r before at. Contains-append_left old (row ∷ []) r (c.loop-number.invariant.each i d r before at))
-          c.loop-number-test.true c.row.ensures.row (Contains-append_right old (row ∷ []) row (itself row)) i d r before at);
+          c.loop-number-test.true c.row.ensures.row (Contains-append_right old (row ∷ []) row (Contains-here row [])) i d r before at);
     }
 
 pub returns : goal.returns

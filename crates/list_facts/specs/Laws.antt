@@ -1,0 +1,4 @@
+pub mod Appending
+pub mod Everywhere
+pub mod Members
+pub mod Places
