@@ -1,12 +1,13 @@
 //! Files and machines of cases.
 
 ghost use Rattle.std.specs.Prelude.{IfOk};
-ghost use Rattle.kiss2.specs.Lawful.{IsLawful};
+ghost use Rattle.kiss_file.specs.Lawful.{IsLawful};
 
 use crate::Case;
 use crate::texts::{shape_of, text_of};
 use anyhow::{Error, bail};
-use kiss2::{Fill, KissFile, read};
+use kiss2::read;
+use kiss_file::{Fill, KissFile};
 use machine_table::Machine;
 use std::alloc::Global;
 

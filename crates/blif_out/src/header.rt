@@ -1,7 +1,7 @@
 //! What the comments at the head of a network say about it.
 
 use hs_list::Items;
-use kiss2::StateNames;
+use kiss_file::StateNames;
 use partition::Partition;
 use state_codes::{CodeWords, Kind, Parts};
 

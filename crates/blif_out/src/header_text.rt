@@ -11,7 +11,7 @@ use crate::fields::{
     append_partition_field,
 };
 use crate::{Header, LatchNote};
-use kiss2::StateNames;
+use kiss_file::StateNames;
 use partition::Partition;
 use state_codes::{Kind, Part};
 use std::alloc::{AllocError, Global};

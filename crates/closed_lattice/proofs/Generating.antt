@@ -4,7 +4,7 @@ use Rattle.std.specs.List.{AllByRecursion}
 use Rattle.std.proofs.lemmas.Bool.{cases_eq, cases_lt}
 use Rattle.hs_lattice.specs.JoinWorld.{IsJoinOf, IsGenerated, HaveJoins}
 use Rattle.hs_lattice.specs.Laws.{IsJoinOf-has, IsGenerated-has}
-use Rattle.kiss2.specs.declared.kiss_file.KissFile.{KissFile}
+use Rattle.kiss_file.specs.declared.file.KissFile.{KissFile}
 use Rattle.pair_operators.specs.Laws.Pairs.{joins_pair, zero_pairs}
 use Rattle.partition.specs.Partition.{IsPartition, IsStateCount, IsZero, Together, Le, zero_of}
 use Rattle.partition.specs.MeetAndJoin.{IsJoin}

@@ -3,8 +3,8 @@ use Rattle.std.proofs.Common.{◌≡◌, ℕ, ◌<◌, ◌^◌, inl, inr, Bool, 
 use Rattle.std.proofs.lemmas.List.Elements.{Contains-push_cases}
 use Rattle.cubes.specs.Symbol.{number_of, symbol_of}
 use Rattle.cubes.proofs.Numbers.{number_below, symbol_of-number_of, length-symbol_of}
-use Rattle.kiss2.specs.declared.kiss_file.KissFile.{KissFile}
-use Rattle.kiss2.specs.Machine.{next}
+use Rattle.kiss_file.specs.declared.file.KissFile.{KissFile}
+use Rattle.kiss_file.specs.Machine.{next}
 use Rattle.machine_table.specs.Covering.{IsImage}
 use Rattle.machine_table.specs.Staying.{NeverLeaves}
 use Rattle.partition.specs.Partition.{IsPartition, IsOne, IsZero, Together, Le}

@@ -1,7 +1,7 @@
 -- What growth over the least closed partitions gives.
 use Rattle.std.proofs.Common.{ℕ, ◌<◌, inl, inr, List, length, subst, arith}
 use Rattle.std.proofs.lemmas.Bool.{cases_eq, cases_lt}
-use Rattle.kiss2.specs.declared.kiss_file.KissFile.{KissFile}
+use Rattle.kiss_file.specs.declared.file.KissFile.{KissFile}
 use Rattle.partition.specs.Partition.{Together, Le}
 use Rattle.partition.specs.Laws.Chains.{together_itself, together_turned}
 use Rattle.pair_operators.specs.Growth.{IsGrowth, pairs_of}

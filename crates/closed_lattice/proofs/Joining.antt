@@ -1,7 +1,7 @@
 -- Partitions that grow by joins with least closed partitions that are known.
 use Rattle.std.proofs.Common.{◌≡◌, ℕ, ◌<◌, All, List, [], ◌∷◌, ◌++◌, get_or, length, refl, sym, ◌∙◌, subst}
 use Rattle.std.proofs.lemmas.List.Elements.{All-push, Contains-get_or}
-use Rattle.kiss2.specs.declared.kiss_file.KissFile.{KissFile}
+use Rattle.kiss_file.specs.declared.file.KissFile.{KissFile}
 use Rattle.partition.specs.Partition.{IsPartition, Together}
 use Rattle.partition.specs.MeetAndJoin.{IsJoin, IsLeastAbove}
 use Rattle.partition.specs.Laws.Chains.{join_is_least, together_turned}

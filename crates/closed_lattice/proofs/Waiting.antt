@@ -1,7 +1,7 @@
 -- Pairs of states that wait to be put together.
 use Rattle.std.proofs.Common.{◌≡◌, ℕ, ◌<◌, inl, inr, List, [], ◌∷◌, ◌++◌, Contains, sym, ap, subst, arith}
 use Rattle.std.proofs.lemmas.List.Elements.{Contains-push, Contains-push_cases, Contains-append_left, Contains-append_right, Contains-append_cases}
-use Rattle.kiss2.specs.declared.kiss_file.KissFile.{KissFile}
+use Rattle.kiss_file.specs.declared.file.KissFile.{KissFile}
 use Rattle.machine_table.specs.Covering.{IsImage}
 use Rattle.partition.specs.Partition.{Together}
 use Rattle.closed_lattice.specs.Inner.Waiting.{AreStates, AreTogether, LeavesOut, TakesApart, AddsImages}

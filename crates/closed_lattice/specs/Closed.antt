@@ -1,7 +1,7 @@
 -- Closed partitions of a machine's states, and the least of them (source: Hartmanis and Stearns, partitions with the
 -- substitution property).
 use Rattle.std.specs.Prelude.{ℕ, ◌<◌, Contains, List, length}
-use Rattle.kiss2.specs.declared.kiss_file.KissFile.{KissFile}
+use Rattle.kiss_file.specs.declared.file.KissFile.{KissFile}
 use Rattle.partition.specs.Partition.{IsPartition, Together, Le}
 use Rattle.pair_operators.specs.Pair.{Closed}
 

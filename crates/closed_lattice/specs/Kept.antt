@@ -1,6 +1,6 @@
 -- The least closed partitions of pairs of states that are kept from one call to the next.
 use Rattle.std.specs.Prelude.{All}
-use Rattle.kiss2.specs.declared.kiss_file.KissFile.{KissFile}
+use Rattle.kiss_file.specs.declared.file.KissFile.{KissFile}
 use Rattle.closed_lattice.specs.declared.known.Item.{Item}
 use Rattle.closed_lattice.specs.declared.known.Principals.{Principals}
 use Rattle.closed_lattice.specs.Closed.{IsPrincipal}

@@ -1,6 +1,6 @@
 -- How far closed partitions grow, and what a growth is for.
 use Rattle.std.specs.Prelude.{◌≡◌, ℕ, List}
-use Rattle.kiss2.specs.declared.kiss_file.KissFile.{KissFile}
+use Rattle.kiss_file.specs.declared.file.KissFile.{KissFile}
 use Rattle.partition.specs.Partition.{Le, Together}
 use Rattle.closed_lattice.specs.Closed.{IsClosedPartition}
 

@@ -3,7 +3,7 @@
 ghost use Rattle.std.specs.Prelude.{◌≡◌, All, IfOk, IfSome, OnOk, length};
 ghost use Rattle.closed_lattice.specs.Closed.{IsPrincipal};
 ghost use Rattle.closed_lattice.specs.Kept.{ArePrincipalsOf};
-ghost use Rattle.kiss2.specs.declared.kiss_file.KissFile.{KissFile};
+ghost use Rattle.kiss_file.specs.declared.file.KissFile.{KissFile};
 
 use partition::Partition;
 use std::alloc::{AllocError, Global};

@@ -3,7 +3,7 @@
 
 ghost use Rattle.std.specs.Prelude.{ℕ, ◌≡◌, ◌<◌, All, Contains, List, length};
 ghost use Rattle.hs_lattice.specs.JoinWorld.{HaveJoins, IsGenerated};
-ghost use Rattle.kiss2.specs.declared.kiss_file.KissFile.{KissFile};
+ghost use Rattle.kiss_file.specs.declared.file.KissFile.{KissFile};
 ghost use Rattle.machine_table.specs.Staying.{NeverLeaves};
 ghost use Rattle.partition.specs.MeetAndJoin.{IsJoin};
 ghost use Rattle.partition.specs.Partition.{IsStateCount, zero_of};

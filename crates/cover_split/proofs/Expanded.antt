@@ -12,12 +12,12 @@ use Rattle.cubes.specs.Symbol.{bit, number_of, symbol_of}
 use Rattle.cubes.proofs.Bits.{bit_from_one, one_from_bit}
 use Rattle.cubes.proofs.Meeting.{length_of_held, number_of_held}
 use Rattle.cubes.proofs.Numbers.{number_below, symbol_of-number_of}
-use Rattle.kiss2.specs.declared.kiss_file.KissFile.{KissFile}
-use Rattle.kiss2.specs.declared.kiss_file.KissRow.{KissRow}
-use Rattle.kiss2.specs.Lawful.{AreGiven, AreNumbered, IsLawful, IsLawfulRow, appearances, given_names}
-use Rattle.kiss2.specs.Machine.{Conflicting, IsRowAt, Specified, answers, given_bit, next, out, output_bit}
-use Rattle.kiss2.specs.Names.{AreDistinct, IsPlainName}
-use Rattle.kiss2.proofs.Machine.{next_said, output_bit_said}
+use Rattle.kiss_file.specs.declared.file.KissFile.{KissFile}
+use Rattle.kiss_file.specs.declared.file.KissRow.{KissRow}
+use Rattle.kiss_file.specs.Lawful.{AreGiven, AreNumbered, IsLawful, IsLawfulRow, appearances, given_names}
+use Rattle.kiss_file.specs.Machine.{Conflicting, IsRowAt, Specified, answers, given_bit, next, out, output_bit}
+use Rattle.kiss_file.specs.Names.{AreDistinct, IsPlainName}
+use Rattle.kiss_file.proofs.Machine.{next_said, output_bit_said}
 use Rattle.machine_table.specs.Staying.{NeverLeaves}
 use Rattle.machine_table.specs.Table.{IsTable}
 use Rattle.machine_table.specs.Walk.{outputs_of}

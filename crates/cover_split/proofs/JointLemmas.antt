@@ -10,8 +10,8 @@ use Rattle.cubes.specs.Cube.{HoldsNumber, IsHalf, Meets}
 use Rattle.cubes.specs.Symbol.{bit, symbol_of}
 use Rattle.cubes.proofs.Ends.{least_held, value_le}
 use Rattle.cubes.proofs.Parts.{half_from_whole, whole_from_half}
-use Rattle.kiss2.specs.declared.kiss_file.KissFile.{KissFile}
-use Rattle.kiss2.specs.Machine.{next}
+use Rattle.kiss_file.specs.declared.file.KissFile.{KissFile}
+use Rattle.kiss_file.specs.Machine.{next}
 use Rattle.machine_table.specs.declared.covering.Piece.{Piece}
 use Rattle.machine_table.specs.Covering.{IsHeldByPiece, IsPiece}
 use Rattle.machine_table.specs.Pairs.{AtEachSymbol, IsFirstWithout}

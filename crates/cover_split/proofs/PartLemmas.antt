@@ -4,8 +4,8 @@ use Rattle.std.proofs.lemmas.Bool.{cases_lt}
 use Rattle.std.proofs.lemmas.List.{get_or-map, length-map}
 use Rattle.std.proofs.lemmas.List.Elements.{All-cons, All-get_or, All-head, All-nil, All-tail}
 use Rattle.std.proofs.lemmas.Option.{get_or_from_slice_get, same_Some, slice_get-get_or, slice_get_within}
-use Rattle.kiss2.specs.declared.kiss_file.KissFile.{KissFile}
-use Rattle.kiss2.specs.Machine.{next}
+use Rattle.kiss_file.specs.declared.file.KissFile.{KissFile}
+use Rattle.kiss_file.specs.Machine.{next}
 use Rattle.pair_operators.specs.Pair.{Closed}
 use Rattle.partition.specs.Partition.{IsNontrivial, IsPartition, Le, Together, blocks_of, zero_of}
 use Rattle.partition.specs.Inside.{IsComplement, IsLargestSize}

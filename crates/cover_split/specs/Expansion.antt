@@ -1,8 +1,8 @@
 -- The machine in which a state has a copy in each block that has it (source: Hartmanis and Stearns, state splitting).
 use Rattle.std.specs.Prelude.{◌≡◌, ⊤, ℕ, suc, ◌<◌, ◌++◌, All, Bool, List, [], ◌∷◌, None, Some, length, map, slice_get}
 use Rattle.cubes.specs.Symbol.{symbol_of}
-use Rattle.kiss2.specs.declared.kiss_file.KissFile.{KissFile}
-use Rattle.kiss2.specs.Machine.{answers, next, out}
+use Rattle.kiss_file.specs.declared.file.KissFile.{KissFile}
+use Rattle.kiss_file.specs.Machine.{answers, next, out}
 use Rattle.machine_table.specs.Pairs.{AtEachSymbol, IsFirstWithout}
 use Rattle.numbered_names.specs.NumberedNames.{numbered_names}
 use Rattle.cover_split.specs.Cover.{Has, places_of}

@@ -1,6 +1,6 @@
 -- The split of the machine of the pairs (source: Hartmanis and Stearns, state splitting).
 use Rattle.std.specs.Prelude.{◌≡◌, ℕ, ◌≤◌, ◌↔◌, All, List, [], ◌∷◌, Some, length, slice_get}
-use Rattle.kiss2.specs.declared.kiss_file.KissFile.{KissFile}
+use Rattle.kiss_file.specs.declared.file.KissFile.{KissFile}
 use Rattle.pair_operators.specs.Pair.{Closed}
 use Rattle.partition.specs.Partition.{IsNontrivial, IsPartition, Together, blocks_of}
 use Rattle.partition.specs.Inside.{IsComplement, IsLargestSize}

@@ -1,8 +1,8 @@
 //! The machine of the pairs of a closed cover.
 ghost use Rattle.std.specs.Prelude.{◌≡◌, ◌≤◌, IfErr, IfNone, IfOk, IfSome, length, min};
 ghost use Rattle.std.specs.Option.{option_map_or};
-ghost use Rattle.kiss2.specs.Lawful.{AreNumbered, IsLawful};
-ghost use Rattle.kiss2.specs.Machine.{Conflicting, Specified};
+ghost use Rattle.kiss_file.specs.Lawful.{AreNumbered, IsLawful};
+ghost use Rattle.kiss_file.specs.Machine.{Conflicting, Specified};
 ghost use Rattle.machine_table.specs.Table.{IsTable};
 ghost use Rattle.cover_split.specs.Cover.{IsCover};
 ghost use Rattle.cover_split.specs.Expansion.{AnswersAlike, AnswersAsStates, Caused, IsClosedCover, IsExpansion};
@@ -13,7 +13,7 @@ use crate::cover::{Block, Cover, states_at};
 use crate::joint::{Joint, Joints, joints};
 use crate::pairs::{first_with, number_of, pairs_of};
 use crate::rows::rows_of_pairs;
-use kiss2::KissFile;
+use kiss_file::KissFile;
 use machine_table::Machine;
 use numbered_names::names;
 use std::alloc::{AllocError, AllocFailed, Global};

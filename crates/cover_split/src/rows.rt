@@ -8,7 +8,7 @@ ghost use Rattle.cover_split.specs.Inner.Rows.{AddsRows, AreRowsBelow, IsPairRow
 use crate::cover::{Block, states_at};
 use crate::joint::{Joint, Joints, joints_at};
 use crate::pairs::{number_of, pair_at};
-use kiss2::{KissRow, Rows};
+use kiss_file::{KissRow, Rows};
 use machine_table::Machine;
 use std::alloc::{AllocError, Global};
 

@@ -7,8 +7,8 @@ use Rattle.list_facts.specs.Laws.Everywhere.{all_at}
 use Rattle.cover_split.specs.Expansion.{IsExpansion, pairs_of}
 use Rattle.cover_texts.specs.Inner.Steps.{AreParts}
 use Rattle.decomposition.specs.Flow.{Flows}
-use Rattle.kiss2.specs.declared.kiss_file.KissFile.{KissFile}
-use Rattle.kiss2.specs.Machine.{next}
+use Rattle.kiss_file.specs.declared.file.KissFile.{KissFile}
+use Rattle.kiss_file.specs.Machine.{next}
 use Rattle.machine_table.specs.Staying.{NeverLeaves}
 use Rattle.numbered_names.proofs.NumberedNames.{length-numbered_names}
 use Rattle.pair_operators.specs.Pair.{Closed}

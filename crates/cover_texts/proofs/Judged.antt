@@ -6,7 +6,7 @@ use Rattle.cover_texts.specs.Inner.Steps.{IsExpanded, IsRead}
 use Rattle.cover_texts.specs.Inner.Whole.{IsWhole}
 use Rattle.cover_texts.specs.Written.{IsCoverText}
 use Rattle.cover_texts.proofs.Judging.{none_called}
-use Rattle.kiss2.specs.declared.kiss_file.KissFile.{KissFile}
+use Rattle.kiss_file.specs.declared.file.KissFile.{KissFile}
 
 pub judged_text : (F M E : KissFile) → M ≡ F → (text : List ℕ) (blocks : List (List ℕ)) → IsRead (length F.states) text blocks → IsExpanded M blocks E → (written : List ℕ) → IsWhole F blocks E written
     → CallsForNone (BadCoverRow F text) × IsCoverText F text written

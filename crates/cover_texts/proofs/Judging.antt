@@ -14,7 +14,7 @@ use Rattle.cover_split.specs.Expansion.{IsClosedCover, IsFirstLeaving}
 use Rattle.cover_split.specs.Refusal.{CoverFault, IsTextOf}
 use Rattle.cover_texts.specs.Flaws.{BadCoverRow, IsFlaw}
 use Rattle.cover_texts.specs.Inner.Steps.{IsRead, IsRefusalOf, LeavesWith}
-use Rattle.kiss2.specs.declared.kiss_file.KissFile.{KissFile}
+use Rattle.kiss_file.specs.declared.file.KissFile.{KissFile}
 
 -- ---- a text that is no cover
 stop_of_fault : (F : KissFile) (text : List ℕ) (fail : CoverFail) (refusal : Refusal) → IsRefusalOf F fail refusal → CoverFault (length F.states) text fail → IsStop (BadCoverRow F text) refusal

@@ -18,9 +18,9 @@ use Rattle.cover_texts.proofs.Sizes.{length_of_code}
 use Rattle.decomposition.specs.Network.{IsNetworkOf}
 use Rattle.decomposition.specs.Within.{IsBitOf}
 use Rattle.decomposition.proofs.Writable.{file_names, plain_fields, writable}
-use Rattle.kiss2.specs.declared.kiss_file.KissFile.{KissFile}
-use Rattle.kiss2.specs.Lawful.{IsLawful}
-use Rattle.kiss2.specs.Machine.{next, out}
+use Rattle.kiss_file.specs.declared.file.KissFile.{KissFile}
+use Rattle.kiss_file.specs.Lawful.{IsLawful}
+use Rattle.kiss_file.specs.Machine.{next, out}
 use Rattle.machine_table.specs.Staying.{NeverLeaves}
 use Rattle.machine_table.specs.Table.{IsTable}
 use Rattle.net_core.specs.declared.Network.{Network}

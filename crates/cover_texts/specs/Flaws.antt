@@ -11,7 +11,7 @@ use Rattle.cover_split.specs.Cover.{IsCover}
 use Rattle.cover_split.specs.Expansion.{IsFirstLeaving}
 use Rattle.cover_split.specs.Refusal.{CoverFault, IsTextOf}
 use Rattle.cubes.specs.Symbol.{symbol_of}
-use Rattle.kiss2.specs.declared.kiss_file.KissFile.{KissFile}
+use Rattle.kiss_file.specs.declared.file.KissFile.{KissFile}
 
 -- the least state that is in no block has this name
 pub record LacksState (F : KissFile) (text name : List ℕ) : Type 0 where

@@ -13,8 +13,8 @@ use Rattle.decomposition.specs.Named.{HasNames}
 use Rattle.decomposition.specs.OwnPairs.{OwnPairs, ReadsLatch}
 use Rattle.decomposition.specs.Within.{IsBitOf, IsWithinParts}
 use Rattle.hs_io.specs.Spelling.{ended, IsComment}
-use Rattle.kiss2.specs.declared.kiss_file.KissFile.{KissFile}
-use Rattle.kiss2.specs.Machine.{next, out}
+use Rattle.kiss_file.specs.declared.file.KissFile.{KissFile}
+use Rattle.kiss_file.specs.Machine.{next, out}
 use Rattle.net_core.specs.declared.Gate.{Gate}
 use Rattle.net_core.specs.declared.Network.{Network}
 use Rattle.net_core.specs.declared.SignalNames.{SignalNames}

@@ -4,13 +4,13 @@ ghost use Rattle.std.specs.Prelude.{◌≡◌};
 ghost use Rattle.answers.specs.Judged.{IsJudged};
 ghost use Rattle.cover_texts.specs.Flaws.{BadCoverRow};
 ghost use Rattle.cover_texts.specs.Written.{IsCoverText};
-ghost use Rattle.kiss2.specs.Lawful.{IsLawful};
+ghost use Rattle.kiss_file.specs.Lawful.{IsLawful};
 
 use crate::flaws::read;
 use crate::pairs::machine_of_pairs;
 use crate::writing::text_of_pairs;
 use answers::Refusal;
-use kiss2::KissFile;
+use kiss_file::KissFile;
 use machine_table::Machine;
 use std::alloc::Global;
 

@@ -9,7 +9,7 @@ ghost use Rattle.cover_texts.specs.Inner.Steps.{IsRead, IsRefusalOf};
 use answers::{CoverFlaw, Refusal};
 use cover_split::{Cover, CoverFail, parse};
 use hs_io::Name;
-use kiss2::KissFile;
+use kiss_file::KissFile;
 use machine_table::Machine;
 use std::alloc::{AllocError, Global};
 

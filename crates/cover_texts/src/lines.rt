@@ -11,7 +11,7 @@ ghost use Rattle.hs_io.specs.Spelling.{ended};
 use crate::blocks::append_blocks;
 use blif_out::{LatchNote, append_code_field, append_field, append_notes, append_number_field};
 use cover_split::{Cover, pairs_of};
-use kiss2::{KissFile, StateNames};
+use kiss_file::{KissFile, StateNames};
 use state_codes::Codes;
 use std::alloc::{AllocError, Global};
 

@@ -9,7 +9,7 @@ ghost use Rattle.partition.specs.Partition.{IsStateCount};
 
 use answers::{CoverFlaw, Refusal, symbol_text};
 use cover_split::{Cover, ExpandFail, expand, split};
-use kiss2::Fill;
+use kiss_file::Fill;
 use machine_table::Machine;
 use state_codes::{CodeFail, Codes, Split, encode};
 use std::alloc::{AllocError, Global};

@@ -4,14 +4,14 @@ ghost use Rattle.std.specs.Prelude.{IfOk, length};
 ghost use Rattle.cover_split.specs.Cover.{IsCover};
 ghost use Rattle.cover_texts.specs.Inner.Steps.{IsExpanded};
 ghost use Rattle.cover_texts.specs.Inner.Whole.{IsWhole};
-ghost use Rattle.kiss2.specs.Lawful.{IsLawful};
+ghost use Rattle.kiss_file.specs.Lawful.{IsLawful};
 
 use crate::lines::append_head;
 use crate::pairs::{codes_of_pairs, split_of_pairs};
 use blif_out::{append, net_text_denotes};
 use cover_split::Cover;
 use decomposition::network_of_split;
-use kiss2::KissFile;
+use kiss_file::KissFile;
 use machine_table::Machine;
 use realise::names;
 use std::alloc::{AllocError, Global};

@@ -12,7 +12,7 @@ use Rattle.dependence.specs.Candidates.{IsBitOfCode, IsCandidate}
 use Rattle.dependence.specs.Permits.{PermitsOutput, PermitsValue, next_value, output_value}
 use Rattle.dependence.specs.ReadRule.{LatchRuleIsIrredundant, OutputRuleIsIrredundant}
 use Rattle.dependence.specs.Reads.{AreReads, IsReadSet}
-use Rattle.kiss2.specs.declared.kiss_file.KissFile.{KissFile}
+use Rattle.kiss_file.specs.declared.file.KissFile.{KissFile}
 use Rattle.realise.specs.Realised.{AreEnough, IsEnough, IsWithin}
 use Rattle.state_codes.specs.declared.Codes.{Codes}
 use Rattle.state_codes.specs.declared.split.Part.{Part}

@@ -4,8 +4,8 @@ use Rattle.list_facts.specs.Laws.Places.{item_at}
 use Rattle.cubes.proofs.Bits.{same_bits}
 use Rattle.dependence.specs.Candidates.{IsCandidate}
 use Rattle.dependence.specs.Permits.{AgreeOn, next_value}
-use Rattle.kiss2.specs.declared.kiss_file.KissFile.{KissFile}
-use Rattle.kiss2.specs.Machine.{next}
+use Rattle.kiss_file.specs.declared.file.KissFile.{KissFile}
+use Rattle.kiss_file.specs.Machine.{next}
 use Rattle.machine_table.specs.Staying.{NeverLeaves}
 use Rattle.partition.specs.Partition.{Together}
 use Rattle.state_codes.specs.declared.Codes.{Codes}

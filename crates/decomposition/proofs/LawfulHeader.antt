@@ -14,8 +14,8 @@ use Rattle.blif_out.specs.declared.header.LatchNote.{LatchNote}
 use Rattle.blif_out.specs.HeadLaw.{IsLawfulHeader, IsLawfulNote, IsLawfulPart, IsLawfulPartition}
 use Rattle.dependence.specs.declared.sets.ReadSet.{ReadSet}
 use Rattle.hs_io.specs.Spelling.{ArePlainFields}
-use Rattle.kiss2.specs.declared.kiss_file.KissFile.{KissFile}
-use Rattle.kiss2.specs.Lawful.{IsLawful}
+use Rattle.kiss_file.specs.declared.file.KissFile.{KissFile}
+use Rattle.kiss_file.specs.Lawful.{IsLawful}
 use Rattle.partition.specs.Partition.{IsPartition}
 use Rattle.state_codes.specs.declared.Codes.{Codes}
 use Rattle.state_codes.specs.declared.split.Part.{Part}

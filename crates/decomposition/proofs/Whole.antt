@@ -9,10 +9,10 @@ use Rattle.blif_out.specs.Head.{Head, net_text_of}
 use Rattle.blif_out.specs.Writable.{IsWritable}
 use Rattle.blif_out.proofs.Whole.{whole_denotes}
 use Rattle.hs_io.specs.Spelling.{ended, ArePlainFields}
-use Rattle.kiss2.specs.declared.kiss_file.KissFile.{KissFile}
-use Rattle.kiss2.specs.Lawful.{IsLawful}
-use Rattle.kiss2.specs.Machine.{Conflicting}
-use Rattle.kiss2.proofs.Machine.{next_is_a_state}
+use Rattle.kiss_file.specs.declared.file.KissFile.{KissFile}
+use Rattle.kiss_file.specs.Lawful.{IsLawful}
+use Rattle.kiss_file.specs.Machine.{Conflicting}
+use Rattle.kiss_file.proofs.Machine.{next_is_a_state}
 use Rattle.machine_table.specs.Staying.{NeverLeaves}
 use Rattle.net_core.specs.declared.Network.{Network}
 use Rattle.net_core.specs.declared.SignalNames.{SignalNames}

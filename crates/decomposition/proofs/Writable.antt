@@ -15,9 +15,9 @@ use Rattle.blif_out.specs.Writable.{IsPlane, IsSignalName, IsWritable, IsWritabl
 use Rattle.blif_out.proofs.Words.{is_name_byte, name_from_bytes}
 use Rattle.dependence.specs.declared.sets.Reads.{Reads}
 use Rattle.hs_io.specs.Spelling.{ArePlainFields, IsFieldByte, IsPlainField}
-use Rattle.kiss2.specs.declared.kiss_file.KissFile.{KissFile}
-use Rattle.kiss2.specs.Lawful.{AreGiven, IsGivenName, IsLawful}
-use Rattle.kiss2.specs.Names.{IsNameByte, IsPlainName}
+use Rattle.kiss_file.specs.declared.file.KissFile.{KissFile}
+use Rattle.kiss_file.specs.Lawful.{AreGiven, IsGivenName, IsLawful}
+use Rattle.kiss_file.specs.Names.{IsNameByte, IsPlainName}
 use Rattle.net_core.specs.declared.Gate.{Gate}
 use Rattle.net_core.specs.declared.Latch.{Latch}
 use Rattle.net_core.specs.declared.Network.{Network}

@@ -1,7 +1,7 @@
 -- The names of states and signals that a network and its header have for a file.
 use Rattle.std.specs.Prelude.{◌≡◌, length, map}
 use Rattle.blif_out.specs.declared.header.Header.{Header}
-use Rattle.kiss2.specs.declared.kiss_file.KissFile.{KissFile}
+use Rattle.kiss_file.specs.declared.file.KissFile.{KissFile}
 use Rattle.net_core.specs.declared.Network.{Network}
 use Rattle.net_core.specs.declared.SignalNames.{SignalNames}
 use Rattle.realise.specs.Names.{AreNames}

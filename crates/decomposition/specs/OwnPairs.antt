@@ -1,7 +1,7 @@
 -- Each gate of a latch reads only what the partition pair of its latch permits.
 use Rattle.std.specs.Prelude.{◌≡◌, ℕ, ◌<◌, ◌↔◌, ◌++◌, All, Contains, List, Some, length, map, slice_get}
 use Rattle.blif_out.specs.declared.header.LatchNote.{LatchNote}
-use Rattle.kiss2.specs.declared.kiss_file.KissFile.{KissFile}
+use Rattle.kiss_file.specs.declared.file.KissFile.{KissFile}
 use Rattle.net_core.specs.declared.Gate.{Gate}
 use Rattle.net_core.specs.declared.Latch.{Latch}
 use Rattle.net_core.specs.declared.Network.{Network}

@@ -2,7 +2,7 @@
 use Rattle.std.specs.Prelude.{◌≡◌, ℕ, ◌<◌, ◌↔◌, ◌⊎◌, All, Contains, List, Some, length, slice_get}
 use Rattle.blif_out.specs.declared.header.LatchNote.{LatchNote}
 use Rattle.dependence.specs.Permits.{AgreeOn}
-use Rattle.kiss2.specs.declared.kiss_file.KissFile.{KissFile}
+use Rattle.kiss_file.specs.declared.file.KissFile.{KissFile}
 use Rattle.net_core.specs.declared.Gate.{Gate}
 use Rattle.net_core.specs.declared.Network.{Network}
 use Rattle.partition.specs.Partition.{Together}

@@ -4,7 +4,7 @@ ghost use Rattle.std.specs.Prelude.{◌≡◌, ◌<◌, ◌^◌, All, IfOk, IfSo
 ghost use Rattle.decomposition.specs.Inner.Headed.{HasSmallReads, IsHeaderOf, words_by};
 
 use blif_out::{Header, LatchNotes};
-use kiss2::StateNames;
+use kiss_file::StateNames;
 use partition::Partition;
 use state_codes::{CodeWords, Codes, Part, Split};
 use std::alloc::{AllocError, Global};

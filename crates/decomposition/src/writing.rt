@@ -1,8 +1,8 @@
 //! From a split and its codes to the text of its network.
 
 ghost use Rattle.std.specs.Prelude.{◌≡◌, ◌≤◌, All, Bool, IfOk, length};
-ghost use Rattle.kiss2.specs.Lawful.{IsLawful};
-ghost use Rattle.kiss2.specs.Machine.{Conflicting};
+ghost use Rattle.kiss_file.specs.Lawful.{IsLawful};
+ghost use Rattle.kiss_file.specs.Machine.{Conflicting};
 ghost use Rattle.state_codes.specs.Agreement.{AreDistinct};
 ghost use Rattle.state_codes.specs.Code.{IsCode};
 ghost use Rattle.state_codes.specs.Split.{IsPart};
@@ -12,7 +12,7 @@ ghost use Rattle.state_reduce.specs.Work.{IsWork};
 
 use crate::header::header_of;
 use crate::network::network_of_split;
-use kiss2::KissFile;
+use kiss_file::KissFile;
 use realise::names;
 use state_codes::{Codes, Split};
 use state_reduce::WorkMachine;

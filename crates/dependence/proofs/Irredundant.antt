@@ -1,7 +1,7 @@
 -- Where the candidates permit a value, the read ones do, and none of them can be left out.
 use Rattle.std.proofs.Common.{◌≡◌, ◌≢◌, ◌⊎◌, ℕ, zero, suc, ◌<◌, ◌≤◌, Bool, true, false, List, inl, inr, sym, subst, refl, arith}
 use Rattle.std.proofs.lemmas.Bool.{cases_eq, cases_order}
-use Rattle.kiss2.specs.declared.kiss_file.KissFile.{KissFile}
+use Rattle.kiss_file.specs.declared.file.KissFile.{KissFile}
 use Rattle.dependence.specs.Permits.{PermitsValue}
 use Rattle.dependence.specs.ReadRule.{Beside, IsIrredundant, IsReadRule, Without}
 use Rattle.dependence.proofs.Judged.{permits_more}

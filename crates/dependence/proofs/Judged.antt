@@ -1,7 +1,7 @@
 -- Candidates that are judged from the highest down.
 use Rattle.std.proofs.Common.{◌≢◌, ℕ, ◌+◌, ◌^◌, ◌<◌, Bool, List, inl, inr, sym, subst, arith}
 use Rattle.std.proofs.lemmas.Bool.{cases_eq, cases_order}
-use Rattle.kiss2.specs.declared.kiss_file.KissFile.{KissFile}
+use Rattle.kiss_file.specs.declared.file.KissFile.{KissFile}
 use Rattle.dependence.specs.Permits.{InWord, PermitsValue}
 use Rattle.dependence.specs.ReadRule.{Beside, IsReadRule, Without}
 use Rattle.dependence.specs.Inner.Judging.{AreJudgedFrom, IsJudged}

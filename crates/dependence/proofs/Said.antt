@@ -4,9 +4,9 @@ use Rattle.std.proofs.lemmas.Bool.{false≢true}
 use Rattle.std.specs.Option.{option_map}
 use Rattle.cubes.specs.Symbol.{bit, symbol_of}
 use Rattle.cubes.specs.Cube.{HoldsNumber}
-use Rattle.kiss2.specs.declared.kiss_file.KissFile.{KissFile}
-use Rattle.kiss2.specs.declared.kiss_file.KissRow.{KissRow}
-use Rattle.kiss2.specs.Machine.{given_bit}
+use Rattle.kiss_file.specs.declared.file.KissFile.{KissFile}
+use Rattle.kiss_file.specs.declared.file.KissRow.{KissRow}
+use Rattle.kiss_file.specs.Machine.{given_bit}
 use Rattle.machine_table.specs.declared.missing.Missing.{Missing}
 use Rattle.machine_table.specs.declared.missing.Missing.TheVariants.{Next, Output as MissingOutput}
 use Rattle.machine_table.specs.Covering.{IsRightRow}

@@ -7,7 +7,7 @@ use Rattle.std.specs.Int.{bit_at}
 use Rattle.std.specs.Int.RustNames.{bit_xor}
 use Rattle.cubes.specs.Inner.Region.{clash_of}
 use Rattle.cubes.proofs.Meeting.{clash_digit, kept_digit}
-use Rattle.kiss2.specs.declared.kiss_file.KissRow.{KissRow}
+use Rattle.kiss_file.specs.declared.file.KissRow.{KissRow}
 use Rattle.dependence.specs.Inner.Effects.{DifferMore, HasBits}
 use Rattle.dependence.proofs.Symbols.{clash_turned}
 

@@ -8,8 +8,8 @@ use Rattle.cubes.specs.Cube.{Holds, HoldsNumber, Meets}
 use Rattle.cubes.proofs.Held.{agrees_from_held, held_from_agrees}
 use Rattle.cubes.proofs.Meeting.{length_of_held, meets_from_clash}
 use Rattle.cubes.proofs.Numbers.{length-symbol_of, number_below, symbol_of-number_of}
-use Rattle.kiss2.specs.declared.kiss_file.KissFile.{KissFile}
-use Rattle.kiss2.specs.declared.kiss_file.KissRow.{KissRow}
+use Rattle.kiss_file.specs.declared.file.KissFile.{KissFile}
+use Rattle.kiss_file.specs.declared.file.KissRow.{KissRow}
 use Rattle.machine_table.specs.declared.missing.Missing.{Missing}
 use Rattle.machine_table.specs.Covering.{IsRightRow, IsSaidBy}
 use Rattle.machine_table.specs.Said.{place_of}

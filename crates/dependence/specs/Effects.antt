@@ -1,7 +1,7 @@
 -- For which gates each input matters, as bits of words.
 use Rattle.std.specs.Prelude.{◌≡◌, ◌≢◌, ◌⊎◌, ◌↔◌, ℕ, ◌<◌, Bool, true, List, length, slice_get, Some}
 use Rattle.cubes.specs.Symbol.{bit}
-use Rattle.kiss2.specs.declared.kiss_file.KissFile.{KissFile}
+use Rattle.kiss_file.specs.declared.file.KissFile.{KissFile}
 use Rattle.dependence.specs.declared.effects.Effect.{Effect}
 use Rattle.dependence.specs.declared.bit.Bit.{Bit}
 use Rattle.dependence.specs.declared.bit.Bit.TheVariants.{Latch, Output}

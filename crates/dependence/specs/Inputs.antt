@@ -1,6 +1,6 @@
 -- Where an input matters for what a gate gives.
 use Rattle.std.specs.Prelude.{◌≡◌, ◌≢◌, ℕ, ◌<◌, Bool, List, length, slice_get}
-use Rattle.kiss2.specs.declared.kiss_file.KissFile.{KissFile}
+use Rattle.kiss_file.specs.declared.file.KissFile.{KissFile}
 
 -- two symbols of equal length differ at input a and nowhere else
 pub record DifferAlone (a : ℕ) (x y : List Bool) : Type 0 where

@@ -1,6 +1,6 @@
 -- Which candidates are read, so that no single one can be left out.
 use Rattle.std.specs.Prelude.{◌≢◌, ◌⊎◌, ℕ, ◌<◌, Bool, Contains, IsTrue, List}
-use Rattle.kiss2.specs.declared.kiss_file.KissFile.{KissFile}
+use Rattle.kiss_file.specs.declared.file.KissFile.{KissFile}
 use Rattle.state_codes.specs.declared.split.Part.{Part}
 use Rattle.state_codes.specs.declared.Codes.{Codes}
 use Rattle.dependence.specs.Candidates.{IsBitOfCode, IsCandidate}

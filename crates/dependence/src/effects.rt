@@ -2,7 +2,7 @@
 
 ghost use Rattle.std.specs.Prelude.{◌≡◌, ◌≢◌, ◌↔◌, ◌+◌, ◌<◌, ◌≤◌, ◌^◌, ℕ, All, IfNone, IfOk, IfSome, IsTrue, OnOk, length};
 ghost use Rattle.cubes.specs.Symbol.{bit};
-ghost use Rattle.kiss2.specs.Machine.{given_bit};
+ghost use Rattle.kiss_file.specs.Machine.{given_bit};
 ghost use Rattle.dependence.specs.Permits.{InWord};
 ghost use Rattle.dependence.specs.Effects.{ActsBy, AddsState, HasPlace, acts_on};
 ghost use Rattle.dependence.specs.Inner.Effects.{Adds, AreApart, AreEffects, DifferMore, HasBits, IsActed, Show, ShowAcross, ShowBeside};
@@ -10,7 +10,8 @@ ghost use Rattle.dependence.specs.Inner.Said.{next_bit};
 
 use crate::bit::Bit;
 use crate::judging::{has, with_bit};
-use kiss2::KissRow;
+use filled_rows::filled_rows;
+use kiss_file::KissRow;
 use machine_table::Machine;
 use std::alloc::{AllocError, Global};
 
@@ -79,7 +80,7 @@ pub fn add_effects(
     requires size { length effects.old ≡ m.now.inputs }
     ensures { OnOk result (AddsState m.now words.now s effects.old effects.new) }
 {
-    let mut rows = m.filled_rows(alloc, s)?;
+    let mut rows = filled_rows(alloc, m, s)?;
     rows.sort_by_key(|row| row.cube.value)?;
     add_within(effects, words, rows.as_slice());
     Ok(())

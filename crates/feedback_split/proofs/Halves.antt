@@ -1,7 +1,7 @@
 -- The two parts of a feedback split.
 use Rattle.std.proofs.Common.{◌≡◌, ℕ, All, List, [], ◌∷◌, length, refl, sym, ◌∙◌, subst, inl, inr, arith}
 use Rattle.std.proofs.lemmas.List.Elements.{All-cons, All-head, All-nil, All-tail}
-use Rattle.kiss2.specs.declared.kiss_file.KissFile.{KissFile}
+use Rattle.kiss_file.specs.declared.file.KissFile.{KissFile}
 use Rattle.partition.specs.Partition.{IsPartition, IsZero, Together}
 use Rattle.partition.specs.Laws.Labels.{IsPartition-of}
 use Rattle.mm_lattice.specs.Top.{IsGreatestRight}

@@ -1,6 +1,6 @@
 -- Feedback splits whose first part and whose carriers cannot be made greater (source: this project).
 use Rattle.std.specs.Prelude.{◌≡◌, ℕ, ◌<◌, List, [], ◌∷◌, length}
-use Rattle.kiss2.specs.declared.kiss_file.KissFile.{KissFile}
+use Rattle.kiss_file.specs.declared.file.KissFile.{KissFile}
 use Rattle.partition.specs.Partition.{Le, Together}
 use Rattle.partition.specs.Merging.{IsMerged}
 use Rattle.mm_lattice.specs.Top.{IsBelowOne, IsRightSide}

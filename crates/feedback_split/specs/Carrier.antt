@@ -1,7 +1,7 @@
 -- What a part of a feedback split has to know of the other part (source: Hartmanis and Stearns; this project).
 use Rattle.std.specs.Prelude.{◌≡◌, ℕ, Bool, List, length}
-use Rattle.kiss2.specs.declared.kiss_file.KissFile.{KissFile}
-use Rattle.kiss2.specs.Machine.{next}
+use Rattle.kiss_file.specs.declared.file.KissFile.{KissFile}
+use Rattle.kiss_file.specs.Machine.{next}
 use Rattle.partition.specs.Partition.{IsHold, IsPartition, Le, Together}
 use Rattle.pair_operators.specs.Growth.{IsGrowth}
 

@@ -1,7 +1,7 @@
 -- Which feedback split is given. It is defined by steps, which choose one of several right splits (source: this
 -- project).
 use Rattle.std.specs.Prelude.{◌≡◌, ℕ, List, [], ◌∷◌, length, map}
-use Rattle.kiss2.specs.declared.kiss_file.KissFile.{KissFile}
+use Rattle.kiss_file.specs.declared.file.KissFile.{KissFile}
 use Rattle.partition.specs.Partition.{zero_of}
 use Rattle.partition.specs.Inside.{IsComplement}
 use Rattle.pair_operators.specs.Growth.{IsGrowth}

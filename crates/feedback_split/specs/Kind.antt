@@ -1,6 +1,6 @@
 -- What a feedback split is (source: Hartmanis and Stearns).
 use Rattle.std.specs.Prelude.{◌≡◌, List, [], ◌∷◌}
-use Rattle.kiss2.specs.declared.kiss_file.KissFile.{KissFile}
+use Rattle.kiss_file.specs.declared.file.KissFile.{KissFile}
 use Rattle.partition.specs.Partition.{IsNontrivial, Le, blocks_of}
 use Rattle.partition.specs.Inside.{IsLargestSize}
 use Rattle.mm_lattice.specs.Top.{IsRightSide}

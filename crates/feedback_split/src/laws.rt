@@ -4,7 +4,7 @@
 ghost use Rattle.std.specs.Prelude.{ℕ, ◌↔◌, List};
 ghost use Rattle.feedback_split.specs.Carrier.{Suffices};
 ghost use Rattle.feedback_split.specs.Laws.{FeedbackChoiceIsOne};
-ghost use Rattle.kiss2.specs.declared.kiss_file.KissFile.{KissFile};
+ghost use Rattle.kiss_file.specs.declared.file.KissFile.{KissFile};
 ghost use Rattle.pair_operators.specs.Pair.{Pair};
 ghost use Rattle.partition.specs.MeetAndJoin.{IsMeet};
 

@@ -10,7 +10,7 @@ use Rattle.state_reduce.specs.Work.{IsWork}
 use Rattle.hs_texts.proofs.Comments.{trial_lines_are_comments}
 use Rattle.hs_texts.specs.declared.reports.TrialFigures.{TrialFigures}
 use Rattle.hs_texts.specs.Reports.{trial_lines, trial_text}
-use Rattle.kiss2.specs.declared.kiss_file.KissFile.{KissFile}
+use Rattle.kiss_file.specs.declared.file.KissFile.{KissFile}
 use Rattle.machine_gen.specs.MachineOf.{AreSizes}
 use Rattle.net_core.specs.declared.Network.{Network}
 use Rattle.net_core.specs.Denotes.{Denotes}

@@ -5,8 +5,8 @@ use Rattle.closed_lattice.specs.Closed.{IsClosedPartition}
 use Rattle.cubes.specs.Symbol.{symbol_of}
 use Rattle.hs_lattice.specs.Listing.{Evidence, Lists}
 use Rattle.hs_texts.specs.declared.reports.TrialFigures.{TrialFigures}
-use Rattle.kiss2.specs.declared.kiss_file.KissFile.{KissFile}
-use Rattle.kiss2.specs.Machine.{answers}
+use Rattle.kiss_file.specs.declared.file.KissFile.{KissFile}
+use Rattle.kiss_file.specs.Machine.{answers}
 use Rattle.partition.specs.Before.{Before}
 use Rattle.partition.specs.Partition.{blocks_of}
 use Rattle.state_codes.specs.declared.split.Part.{Part}

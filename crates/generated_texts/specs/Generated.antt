@@ -1,6 +1,6 @@
 -- The machine of a seed and of the sizes a, b and k: its factors have a and b states, and it has k inputs.
 use Rattle.std.specs.Prelude.{ℕ}
-use Rattle.kiss2.specs.declared.kiss_file.KissFile.{KissFile}
+use Rattle.kiss_file.specs.declared.file.KissFile.{KissFile}
 use Rattle.machine_gen.specs.MachineOf.{IsMachineOf}
 use Rattle.machine_gen.specs.Words.{word}
 

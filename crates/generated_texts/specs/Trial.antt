@@ -4,7 +4,7 @@ use Rattle.answers.specs.Cause.{Cause}
 use Rattle.decomposition.specs.Decomposition.{IsTextOf}
 use Rattle.hs_texts.specs.declared.reports.TrialFigures.{TrialFigures}
 use Rattle.hs_texts.specs.Reports.{trial_text}
-use Rattle.kiss2.specs.declared.kiss_file.KissFile.{KissFile}
+use Rattle.kiss_file.specs.declared.file.KissFile.{KissFile}
 use Rattle.net_core.specs.declared.Network.{Network}
 use Rattle.net_core.specs.Denotes.{Denotes}
 use Rattle.split_plans.specs.Splits.{IsSplitOf}

@@ -3,7 +3,7 @@
 ghost use Rattle.std.specs.Prelude.{◌≡◌, ◌%◌, ◌^◌, ◌<◌, ◌≤◌, IfOk, count_by, map};
 ghost use Rattle.std.specs.List.{flat_map, range_with_len};
 ghost use Rattle.cubes.specs.Symbol as symbols;
-ghost use Rattle.kiss2.specs.Machine.{answers};
+ghost use Rattle.kiss_file.specs.Machine.{answers};
 ghost use Rattle.machine_table.specs.Walk.{outputs_of};
 ghost use Rattle.partition.specs.Partition.{blocks_of};
 ghost use Rattle.state_codes.specs.Code.{IsLength};

@@ -19,7 +19,7 @@ use Rattle.io_pairs.specs.Inputs.{IsInMmPair}
 use Rattle.io_pairs.specs.Outputs.{IsOutMmPair}
 use Rattle.io_pairs.specs.Sides as rights
 use Rattle.job_words.specs.declared.jobs.Job.{Job}
-use Rattle.kiss2.specs.declared.kiss_file.KissFile.{KissFile}
+use Rattle.kiss_file.specs.declared.file.KissFile.{KissFile}
 use Rattle.machine_reports.specs.Laws.Causes.{definite_has_one_answer, input_pairs_have_one_answer, list_has_one_answer, more_than_is_of, not_definite_is_of, output_pairs_have_one_answer, too_many_inputs_is_of, too_many_outputs_is_of}
 use Rattle.mm_lattice.specs.MmPairs.{IsMmPair, RightBefore}
 use Rattle.output_consistent.specs.Outputs.{IsClosedAndConsistent}

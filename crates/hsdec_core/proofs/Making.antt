@@ -31,7 +31,7 @@ use Rattle.hsdec_core.specs.Task.{task_of}
 use Rattle.hsdec_core.proofs.Families.{own_plain}
 use Rattle.kiss2.proofs.Exact.{one_file}
 use Rattle.job_words.specs.declared.jobs.Job.{Job}
-use Rattle.kiss2.specs.declared.kiss_file.KissFile.{KissFile}
+use Rattle.kiss_file.specs.declared.file.KissFile.{KissFile}
 use Rattle.kiss2.specs.Written.{kiss_text}
 use Rattle.net_core.specs.declared.Network.{Network}
 use Rattle.net_core.proofs.Determined.{blif_one}

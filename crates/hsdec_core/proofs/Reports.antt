@@ -20,7 +20,7 @@ use Rattle.hsdec_core.specs.Judgement.{list_cause, own_cause}
 use Rattle.hsdec_core.specs.Promise.{IsListEvidence, IsListing, IsReport, IsShown}
 use Rattle.job_words.specs.declared.jobs.Job.{Job}
 use Rattle.job_words.specs.Job.{HasFewSlashes}
-use Rattle.kiss2.specs.declared.kiss_file.KissFile.{KissFile}
+use Rattle.kiss_file.specs.declared.file.KissFile.{KissFile}
 use Rattle.split_plans.specs.Given.{HasFewParts}
 
 -- what a task makes of the machine of a file, it makes of the file

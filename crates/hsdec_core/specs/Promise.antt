@@ -17,7 +17,7 @@ use Rattle.hsdec_core.specs.Task.{task_of}
 use Rattle.io_pairs.specs.Inputs.{IsInMmPair}
 use Rattle.io_pairs.specs.Sides as rights
 use Rattle.job_words.specs.declared.jobs.Job.{Job}
-use Rattle.kiss2.specs.declared.kiss_file.KissFile.{KissFile}
+use Rattle.kiss_file.specs.declared.file.KissFile.{KissFile}
 use Rattle.kiss2.specs.Written.{kiss_text}
 use Rattle.machine_reports.specs.CheckText.{IsChecked}
 use Rattle.machine_reports.specs.DefiniteText.{IsChainText}

@@ -15,8 +15,8 @@ ghost use Rattle.hsdec_core.specs.Promise.{IsListEvidence, IsListing, IsReport, 
 ghost use Rattle.hsdec_core.specs.Task.{task_of};
 ghost use Rattle.job_words.specs.declared.command.Command.TheVariants as commands;
 ghost use Rattle.job_words.specs.Job.{HasFewSlashes, IsLimit};
-ghost use Rattle.kiss2.specs.Lawful.{IsLawful};
-ghost use Rattle.kiss2.specs.Machine.{Accepted};
+ghost use Rattle.kiss_file.specs.Lawful.{IsLawful};
+ghost use Rattle.kiss_file.specs.Machine.{Accepted};
 ghost use Rattle.state_codes.specs.declared.split.Kind.TheVariants as kinds;
 
 use crate::tasks::{ListTask, MachineTask};

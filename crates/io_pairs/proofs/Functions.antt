@@ -2,7 +2,7 @@
 use Rattle.std.proofs.Common.{◌≡◌, ℕ, ◌+◌, ◌<◌, ◌^◌, List, [], ◌∷◌, ◌++◌, get_or, length, sym, ap, ◌∙◌, subst, inl, inr, arith}
 use Rattle.std.proofs.lemmas.Bool.{cases_eq}
 use Rattle.std.proofs.lemmas.List.{get_or_append_left, get_or_push}
-use Rattle.kiss2.specs.declared.kiss_file.KissFile.{KissFile}
+use Rattle.kiss_file.specs.declared.file.KissFile.{KissFile}
 use Rattle.partition.specs.Partition.{IsStateCount, Together}
 use Rattle.io_pairs.specs.Inner.Families.{AreFunctions, Go, SameGoing, value_at}
 use Rattle.io_pairs.specs.Inner.Lists.{AreAtPlace, AreNextStates, EachList}

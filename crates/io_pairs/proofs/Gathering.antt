@@ -11,7 +11,7 @@ use Rattle.std.proofs.lemmas.List.FromFn.{get_or-map-range_with_len, get_or-rang
 use Rattle.std.proofs.lemmas.List.Sums.{position_or_len_is}
 use Rattle.std.proofs.lemmas.Nat.{pow_pos}
 use Rattle.std.specs.List.{filter, flat_map, position_or_len, range_with_len}
-use Rattle.kiss2.specs.declared.kiss_file.KissFile.{KissFile}
+use Rattle.kiss_file.specs.declared.file.KissFile.{KissFile}
 use Rattle.io_pairs.specs.Inner.Words.{AreNumbersOf, IsPlaceOf, has_word, with_word, with_words}
 use Rattle.io_pairs.specs.Outputs.{all_outputs, first_appearances, occurring, output_number, output_word, outputs_at}
 

@@ -2,7 +2,7 @@
 -- partition that a smaller left side and a greater right side keep. An Mm pair is decided by its right side,
 -- and the join of two right sides is a right side.
 use Rattle.std.proofs.Common.{◌≡◌, ℕ, ◌<◌, ◌⊎◌, inl, inr, List, length, refl, sym, ap, ◌∙◌, subst, arith}
-use Rattle.kiss2.specs.declared.kiss_file.KissFile.{KissFile}
+use Rattle.kiss_file.specs.declared.file.KissFile.{KissFile}
 use Rattle.partition.specs.Partition.{IsPartition, Together, Le, zero_of}
 use Rattle.partition.specs.MeetAndJoin.{IsLeastAbove}
 use Rattle.partition.specs.Laws.Chains.{join_is_least}

@@ -7,8 +7,8 @@ ghost use Rattle.hs_lattice.specs.JoinWorld.{IsGenerated};
 ghost use Rattle.io_pairs.specs.Inputs.{IsInJoin, IsInMmPair, IsLeastInPair};
 ghost use Rattle.io_pairs.specs.Outputs.{IsLeastOutPair, IsOutJoin, IsOutMmPair, output_word};
 ghost use Rattle.io_pairs.specs.Sides.{Sides};
-ghost use Rattle.kiss2.specs.Machine.{out};
-ghost use Rattle.kiss2.specs.declared.kiss_file.KissFile.{KissFile};
+ghost use Rattle.kiss_file.specs.Machine.{out};
+ghost use Rattle.kiss_file.specs.declared.file.KissFile.{KissFile};
 ghost use Rattle.machine_table.specs.Walk.{outputs_of};
 
 /// An Mm pair of either kind is decided by its right side, and joins of Mm pairs are Mm pairs.

@@ -8,7 +8,7 @@ use Rattle.std.proofs.lemmas.Option.{none-some, same_Some}
 use Rattle.hs_io.specs.declared.lines.Line.{Line}
 use Rattle.kiss2.specs.declared.fault.KissFault.{KissFault}
 use Rattle.kiss2.specs.declared.fault.KissKind.TheVariants.{NoRows, ResetUnknown}
-use Rattle.kiss2.specs.declared.kiss_file.KissRow.{KissRow}
+use Rattle.kiss_file.specs.declared.file.KissRow.{KissRow}
 use Rattle.kiss2.specs.declared.line_kind.LineKind.TheVariants.{Reset}
 use Rattle.kiss2.specs.declared.said.ResetLine.{ResetLine}
 use Rattle.kiss2.specs.declared.said.Said.{Said}

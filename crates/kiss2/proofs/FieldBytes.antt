@@ -11,7 +11,7 @@ use Rattle.std.proofs.lemmas.List.Sums.{AllPass-from_list_all, fails_before_firs
 use Rattle.list_facts.specs.Laws.Everywhere.{each_weaker}
 use Rattle.hs_io.specs.declared.lines.Line.{Line}
 use Rattle.hs_io.specs.Lines.{begins_comment, content, ends_line, fields_of, is_allowed, is_blank, is_field, line_of, lines_from, lines_of, lines_of_pieces, physical_lines}
-use Rattle.kiss2.specs.Names.{IsNameByte}
+use Rattle.kiss_file.specs.Names.{IsNameByte}
 
 -- a part of a text that is cut: it is no longer, no byte of it cuts, and its bytes are the text's
 record IsPart (p : ℕ → Bool) (Q : ℕ → Type 0) (most : ℕ) (part : List ℕ) : Type 0 where

@@ -13,7 +13,7 @@ use Rattle.std.specs.Option.{IfNone, IfSome, is_some, option_map}
 use Rattle.kiss2.specs.declared.fault.KissKind.TheVariants.{OverLimit}
 use Rattle.kiss2.specs.declared.fault.KissLimit.TheVariants.{NameBytes}
 use Rattle.kiss2.specs.Faults.{has_twice, long_name}
-use Rattle.kiss2.specs.Names.{AreDistinct}
+use Rattle.kiss_file.specs.Names.{AreDistinct}
 
 module _ {X : Type 0} (p : X → Bool) (xs : List X) (d : X) where
   pub find_first : (i : ℕ) → i < length xs → ((k : ℕ) → k < i → p (get_or xs k d) ≡ false) → p (get_or xs i d) ≡ true → find p xs ≡ Some (get_or xs i d)

@@ -1,4 +1,3 @@
-pub mod Machine
 pub mod Digits
 pub mod Finding
 pub mod Stood

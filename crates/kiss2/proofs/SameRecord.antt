@@ -15,10 +15,10 @@ use Rattle.cubes.specs.Cube.{field_of, text_of}
 use Rattle.cubes.specs.Field.{byte_of, character, characters}
 use Rattle.cubes.specs.Symbol.{bit}
 use Rattle.hs_io.specs.declared.lines.Line.{Line}
-use Rattle.kiss2.specs.declared.kiss_file.KissFile.{KissFile}
-use Rattle.kiss2.specs.declared.kiss_file.KissRow.{KissRow}
+use Rattle.kiss_file.specs.declared.file.KissFile.{KissFile}
+use Rattle.kiss_file.specs.declared.file.KissRow.{KissRow}
 use Rattle.kiss2.specs.Kiss.{IsNextOf, IsRecordOf, IsRowOf}
-use Rattle.kiss2.specs.Names.{AreDistinct}
+use Rattle.kiss_file.specs.Names.{AreDistinct}
 use Rattle.kiss2.specs.Standing.{line_with, reset_name, row_lines, state_names}
 use Rattle.kiss2.specs.Words.{current_field, field_at, next_field}
 use Rattle.kiss2.proofs.Once.{distinct_from_once, once-each_once}

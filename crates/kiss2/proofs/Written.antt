@@ -10,7 +10,7 @@ use Rattle.std.proofs.lemmas.List.{get_or-map, get_or_default}
 use Rattle.std.proofs.lemmas.Nat.Bits.{bit_at_above}
 use Rattle.cubes.specs.Field.{byte_of, character, characters}
 use Rattle.cubes.specs.Symbol.{bit}
-use Rattle.kiss2.specs.declared.kiss_file.KissRow.{KissRow}
+use Rattle.kiss_file.specs.declared.file.KissRow.{KissRow}
 
 -- one character more of a cube
 pub cube_more : (text new : List ℕ) (place care value b : ℕ) → 0 < place → new ≡ text ++ b ∷ [] → b ≡ byte_of (character care value (place - 1))

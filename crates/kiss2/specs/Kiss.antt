@@ -9,11 +9,11 @@ use Rattle.hs_io.specs.Lines.{lines_of}
 use Rattle.kiss2.specs.declared.fault.KissFault.{KissFault}
 use Rattle.kiss2.specs.declared.fault.KissKind.{KissKind}
 use Rattle.kiss2.specs.declared.fault.KissKind.TheVariants.{NoRows, ResetUnknown}
-use Rattle.kiss2.specs.declared.kiss_file.KissFile.{KissFile}
-use Rattle.kiss2.specs.declared.kiss_file.KissRow.{KissRow}
+use Rattle.kiss_file.specs.declared.file.KissFile.{KissFile}
+use Rattle.kiss_file.specs.declared.file.KissRow.{KissRow}
 use Rattle.kiss2.specs.declared.line_kind.LineKind.TheVariants.{InputNames, OutputNames, Reset}
 use Rattle.kiss2.specs.Faults.{fault_in}
-use Rattle.kiss2.specs.Lawful.{IsLawful}
+use Rattle.kiss_file.specs.Lawful.{IsLawful}
 use Rattle.kiss2.specs.Standing.{inputs_said, line_with, names_said, outputs_said, reset_name, row_lines, state_names}
 use Rattle.kiss2.specs.Words.{care_in, current_field, is_ending, field_at, input_field, is_open, next_field, output_field, value_in}
 

@@ -1,6 +1,3 @@
-pub mod Names
-pub mod Lawful
-pub mod Machine
 pub mod Words
 pub mod Standing
 pub mod Faults

@@ -5,11 +5,11 @@ use Rattle.std.specs.List.{list_any, range_with_len}
 use Rattle.cubes.specs.Cube.{text_of}
 use Rattle.cubes.specs.Field.{byte_of, character}
 use Rattle.hs_io.specs.Spelling.{spelled}
-use Rattle.kiss2.specs.declared.kiss_file.KissFile.{KissFile}
-use Rattle.kiss2.specs.declared.kiss_file.KissRow.{KissRow}
+use Rattle.kiss_file.specs.declared.file.KissFile.{KissFile}
+use Rattle.kiss_file.specs.declared.file.KissRow.{KissRow}
 use Rattle.kiss2.specs.Kiss.{Kiss}
-use Rattle.kiss2.specs.Lawful.{IsLawful, appearances}
-use Rattle.kiss2.specs.Names.{name_of}
+use Rattle.kiss_file.specs.Lawful.{IsLawful, appearances}
+use Rattle.kiss_file.specs.Names.{name_of}
 
 -- the name of a next state, or a dash if there is none
 abbrev pub next_name : List (List ℕ) → Option ℕ → List ℕ

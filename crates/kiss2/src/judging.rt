@@ -3,10 +3,10 @@ ghost use Rattle.std.specs.Prelude.{◌≡◌, ◌+◌, ◌<◌, ◌^◌, All, [
 ghost use Rattle.std.specs.List.{list_any};
 ghost use Rattle.kiss2.specs.Faults.{count_fault, has_twice, is_not_one, long_name, names_fault, number_fault, operand_of, reset_fault};
 ghost use Rattle.kiss2.specs.Words.{has_backslash, decimal_value};
-ghost use Rattle.kiss2.specs.Names.{AreDistinct};
+ghost use Rattle.kiss_file.specs.Names.{AreDistinct};
 ghost use Rattle.kiss2.specs.Inner.Judging.{Judges};
 
-use crate::StateNames;
+use kiss_file::StateNames;
 use crate::fault::{KissKind, KissLimit};
 use crate::words::{holds_backslash, number_in};
 use hs_io::{Name, Names, copied_names};

@@ -2,12 +2,12 @@
 ghost use Rattle.std.specs.Prelude.{◌≡◌, ◌<◌, ◌^◌, ◌⊎◌, Err, List, IfOk, MatchResult, Some, length};
 ghost use Rattle.hs_io.specs.declared.lines.Line.{Line};
 ghost use Rattle.kiss2.specs.declared.fault.KissFault.{KissFault};
-ghost use Rattle.kiss2.specs.declared.kiss_file.KissFile.{KissFile};
+ghost use Rattle.kiss_file.specs.declared.file.KissFile.{KissFile};
 ghost use Rattle.kiss2.specs.declared.fault.KissFail.TheVariants.{NoMemory, Refused};
 ghost use Rattle.kiss2.specs.Kiss.{IsKissFault, IsLineFault, Kiss, closing_fault, lines_read};
 ghost use Rattle.kiss2.specs.Inner.Judging.{IsSmall, Keeps, Stands, fail_at};
 
-use crate::KissFile;
+use kiss_file::KissFile;
 use crate::fault::{KissFail, KissFault, KissKind};
 use crate::judging::LineFail;
 use crate::kept::Kept;

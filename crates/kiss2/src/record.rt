@@ -1,6 +1,6 @@
 //! The record of lines without a fault, by the lines of their rows.
 ghost use Rattle.std.specs.Prelude.{ℕ, ◌≡◌, ◌<◌, ◌≤◌, All, Contains, List, IfNone, IfOk, IfSome, None, OnOk, Some, false, true, length, slice_get, slice_index_or};
-ghost use Rattle.kiss2.specs.declared.kiss_file.KissRow.{KissRow};
+ghost use Rattle.kiss_file.specs.declared.file.KissRow.{KissRow};
 ghost use Rattle.std.specs.List.{AllZip};
 ghost use Rattle.cubes.specs.Cube.{text_of};
 ghost use Rattle.hs_io.specs.declared.lines.Line.{Line};
@@ -12,7 +12,7 @@ ghost use Rattle.kiss2.specs.Inner.Judging.{Keeps, names_in_columns, once_after}
 
 use crate::said::{ResetLine, Said, add_name};
 use crate::words::{field_of, is_open_field, outputs_in_field};
-use crate::{KissFile, KissRow, Rows, StateNames};
+use kiss_file::{KissFile, KissRow, Rows, StateNames};
 use cubes::Cube;
 use hs_io::Line;
 use std::alloc::{AllocError, Global};

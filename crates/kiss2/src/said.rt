@@ -6,7 +6,7 @@ ghost use Rattle.kiss2.specs.Faults.{fault_in, first_of, fault_where, row_fault}
 ghost use Rattle.kiss2.specs.Words.{current_field, is_character_field, is_name, line_kind_of, output_field};
 ghost use Rattle.kiss2.specs.Inner.Judging.{IsSmall, Judges, Stands, once_after};
 
-use crate::StateNames;
+use kiss_file::StateNames;
 use crate::fault::{KissKind, KissLimit};
 use crate::judging::{
     LineFail, count_said, given, judge_lengths, judge_number, names_said, reset_said,

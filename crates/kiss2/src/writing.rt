@@ -6,10 +6,10 @@ ghost use Rattle.std.specs.List.{cons_option, filter_map, flat_map, list_any, ra
 ghost use Rattle.cubes.specs.Cube.{text_of};
 ghost use Rattle.cubes.specs.Field.{byte_of, character, characters};
 ghost use Rattle.hs_io.specs.Spelling.{ended, line_text, spaced, spelled};
-ghost use Rattle.kiss2.specs.Names.{name_of};
+ghost use Rattle.kiss_file.specs.Names.{name_of};
 ghost use Rattle.kiss2.specs.Written.{fields_of_row, given_line, kiss_text, next_name, output_characters, states_standing};
 
-use crate::{KissFile, KissRow, StateNames};
+use kiss_file::{KissFile, KissRow, StateNames};
 use cubes::Cube;
 use hs_io::{Name, Names};
 use itoa::Buffer;

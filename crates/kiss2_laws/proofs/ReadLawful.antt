@@ -20,16 +20,16 @@ use Rattle.hs_io.specs.Lines.{lines_of}
 use Rattle.kiss2.specs.declared.fault.KissKind.TheVariants.{BadFields, MissingCounts, OverLimit, Repeated}
 use Rattle.kiss2.specs.declared.fault.KissKind.{KissKind}
 use Rattle.kiss2.specs.declared.fault.KissLimit.TheVariants.{NameBytes}
-use Rattle.kiss2.specs.declared.kiss_file.KissFile.{KissFile}
-use Rattle.kiss2.specs.declared.kiss_file.KissRow.{KissRow}
+use Rattle.kiss_file.specs.declared.file.KissFile.{KissFile}
+use Rattle.kiss_file.specs.declared.file.KissRow.{KissRow}
 use Rattle.kiss2.specs.declared.line_kind.LineKind.{LineKind}
 use Rattle.kiss2.specs.declared.line_kind.LineKind.TheVariants.{InputNames, OutputNames, Row}
 use Rattle.kiss2.specs.Faults.{fault_where, has_twice, long_name, names_fault}
 use Rattle.kiss2.specs.Inner.Good.{IsGoodRow}
 use Rattle.kiss2.specs.Inner.Judging.{once_after}
 use Rattle.kiss2.specs.Kiss.{HaveNoFault, IsNextOf, IsRecordOf, IsRowOf, Kiss, lines_read}
-use Rattle.kiss2.specs.Lawful.{AreGiven, AreNumbered, IsGivenName, IsLawful, IsLawfulRow, appearances}
-use Rattle.kiss2.specs.Names.{AreDistinct, IsNameByte, IsPlainName}
+use Rattle.kiss_file.specs.Lawful.{AreGiven, AreNumbered, IsGivenName, IsLawful, IsLawfulRow, appearances}
+use Rattle.kiss_file.specs.Names.{AreDistinct, IsNameByte, IsPlainName}
 use Rattle.kiss2.specs.Standing.{each_once, inputs_said, line_with, names_in_column, names_said, outputs_said, row_lines, state_names}
 use Rattle.kiss2.specs.Words.{care_in, current_field, field_at, has_backslash, is_ending, is_name, is_of_kind, is_open, line_kind_of, next_field, operands, output_field, same_kind, value_in}
 use Rattle.kiss2.proofs.Building.{field_length}

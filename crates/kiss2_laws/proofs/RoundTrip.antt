@@ -19,14 +19,14 @@ use Rattle.hs_io.specs.Spelling.{spelled, ArePlainFields, IsFieldByte, IsPlainFi
 use Rattle.kiss2.specs.declared.fault.KissFault.{KissFault}
 use Rattle.kiss2.specs.declared.fault.KissKind.TheVariants.{NoRows, ResetUnknown}
 use Rattle.kiss2.specs.declared.fault.KissLimit.TheVariants.{Inputs, Outputs}
-use Rattle.kiss2.specs.declared.kiss_file.KissFile.{KissFile}
-use Rattle.kiss2.specs.declared.kiss_file.KissRow.{KissRow}
+use Rattle.kiss_file.specs.declared.file.KissFile.{KissFile}
+use Rattle.kiss_file.specs.declared.file.KissRow.{KissRow}
 use Rattle.kiss2.specs.declared.line_kind.LineKind.{LineKind}
 use Rattle.kiss2.specs.declared.line_kind.LineKind.TheVariants.{InputCount, InputNames, OutputCount, OutputNames, Reset, Row, RowCount, StateCount}
 use Rattle.kiss2.specs.Faults.{has_twice, names_fault}
 use Rattle.kiss2.specs.Kiss.{HaveNoFault, IsReadAs, IsRowOf, Kiss, before_end, closing_fault, lines_read, reset_unknown}
-use Rattle.kiss2.specs.Lawful.{AreGiven, IsGivenName, IsLawful, IsLawfulRow, appearances, given_names}
-use Rattle.kiss2.specs.Names.{IsNameByte, IsPlainName, name_of}
+use Rattle.kiss_file.specs.Lawful.{AreGiven, IsGivenName, IsLawful, IsLawfulRow, appearances, given_names}
+use Rattle.kiss_file.specs.Names.{IsNameByte, IsPlainName, name_of}
 use Rattle.kiss2.specs.Standing.{each_once, has_stood, inputs_said, line_with, names_in_column, names_said, outputs_said, row_lines, state_names}
 use Rattle.kiss2.specs.Words.{decimal_value, field_at, is_ending, is_of_kind, kind_of_field, operands, same_kind}
 use Rattle.kiss2.specs.Written.{fields_of_row, given_line, kiss_lines, kiss_text, next_name, output_characters, states_standing}

@@ -4,7 +4,7 @@ use Rattle.hs_io.specs.declared.lines.Line.{Line}
 use Rattle.kiss2.specs.declared.fault.KissFault.{KissFault}
 use Rattle.kiss2.specs.declared.fault.KissKind.{KissKind}
 use Rattle.kiss2.specs.Faults.{fault_in}
-use Rattle.kiss2.specs.declared.kiss_file.KissRow.{KissRow}
+use Rattle.kiss_file.specs.declared.file.KissRow.{KissRow}
 use Rattle.kiss2.specs.Kiss.{HaveNoFault, IsFaultOf, IsRowOf, closing_fault}
 use Rattle.kiss2.proofs.Ending.{faultless_push}
 use Rattle.std.specs.Prelude.{slice_get, take}

@@ -1,8 +1,8 @@
 -- What a worked text says.
 use Rattle.std.proofs.Common.{◌≡◌, ℕ, List, [], Some, None, ap, false, sym, ◌∙◌, subst}
 use Rattle.std.specs.Prelude.{Option, slice_get}
-use Rattle.kiss2.specs.Names.{AreDistinct}
-use Rattle.kiss2.specs.declared.kiss_file.KissFile.{KissFile}
+use Rattle.kiss_file.specs.Names.{AreDistinct}
+use Rattle.kiss_file.specs.declared.file.KissFile.{KissFile}
 use Rattle.kiss2.specs.Kiss.{IsNextOf, Kiss, lines_read}
 use Rattle.kiss2.specs.Standing.{reset_name, state_names}
 use Rattle.kiss2.specs.Words.{is_open}

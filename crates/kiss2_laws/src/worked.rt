@@ -4,7 +4,7 @@ ghost use Rattle.kiss2.specs.Faults.{fault_in, row_fault};
 ghost use Rattle.kiss2.specs.Kiss.{Kiss};
 ghost use Rattle.std.specs.Prelude.{◌≡◌, ◌<◌, ◌≤◌, ◌++◌, ℕ, List, [], ◌∷◌, None, Some, codes, length, map, replicate};
 ghost use Rattle.cubes.specs.Cube.{text_of};
-ghost use Rattle.kiss2.specs.declared.kiss_file.KissFile.{KissFile};
+ghost use Rattle.kiss_file.specs.declared.file.KissFile.{KissFile};
 ghost use Rattle.kiss2.specs.declared.fault.KissKind.TheVariants.{AnyState, BadByte, BadCube, BadFields, BadNumber, BadOutput, MissingCounts, NoRows, OverLimit, Repeated, ResetUnknown, UnknownWord};
 ghost use Rattle.kiss2.specs.declared.fault.KissLimit.TheVariants.{Inputs, NameBytes, Outputs, Rows, States};
 ghost use Rattle.kiss2.specs.Standing.{inputs_said, outputs_said, row_lines};

@@ -19,7 +19,7 @@ use Rattle.state_codes.specs.Laws.Need.{need_is}
 use Rattle.state_codes.specs.Laws.Splits.{given_parts-length}
 use Rattle.state_codes.specs.Split.{given_parts, others, own_part}
 use Rattle.least_codes.specs.Inner.Parts.{AreBitLabels, bit_labels}
-use Rattle.kiss2.specs.declared.kiss_file.KissFile.{KissFile}
+use Rattle.kiss_file.specs.declared.file.KissFile.{KissFile}
 use Rattle.least_codes.specs.Kind.{GiveLeastCode, IsLeastSplit}
 use Rattle.least_codes.specs.LeastCode.{AreCodes, IsLeastCode}
 use Rattle.least_codes.proofs.OwnCarriers.{inside_itself, zeros, zeros_need}

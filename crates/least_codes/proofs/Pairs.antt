@@ -3,7 +3,7 @@ use Rattle.std.proofs.Common.{ℕ, ◌+◌, ◌<◌, ◌≤◌, Bool, Contains, 
 use Rattle.std.proofs.lemmas.Bool.{cases_eq}
 use Rattle.std.proofs.lemmas.List.{take_more, take_all}
 use Rattle.std.proofs.lemmas.List.Elements.{All-nil, All-push, All-weaker, Contains-append_left, Contains-push, Contains-push_cases}
-use Rattle.kiss2.specs.declared.kiss_file.KissFile.{KissFile}
+use Rattle.kiss_file.specs.declared.file.KissFile.{KissFile}
 use Rattle.dependence.specs.Bit.{GiveTheSame}
 use Rattle.least_codes.specs.declared.two_states.TwoStates.{TwoStates}
 use Rattle.least_codes.specs.Inner.Apart.{AreApart, AreApartOf, ArePairs, ArePairsUpTo, Differ, IsPair}

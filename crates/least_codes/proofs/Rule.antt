@@ -4,7 +4,7 @@ use Rattle.std.proofs.lemmas.Bool.{cases_lt}
 use Rattle.std.proofs.lemmas.List.Elements.{All-contains, All-from_get_or, Contains-get_or}
 use Rattle.std.specs.List.Sorted.{IsStrictlyIncreasing}
 use Rattle.list_facts.specs.Laws.Members.{among_or_not}
-use Rattle.kiss2.specs.declared.kiss_file.KissFile.{KissFile}
+use Rattle.kiss_file.specs.declared.file.KissFile.{KissFile}
 use Rattle.state_codes.specs.Code.{need}
 use Rattle.state_codes.specs.Laws.Need.{need-least}
 use Rattle.dependence.specs.Permits.{InWord, PermitsValue}

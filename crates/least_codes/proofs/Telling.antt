@@ -2,7 +2,7 @@
 use Rattle.std.proofs.Common.{◌≡◌, ℕ, ◌<◌, Bool, List, length, get_or, inl, inr, ap, sym, arith}
 use Rattle.std.proofs.lemmas.Bool.{cases_order}
 use Rattle.std.proofs.lemmas.List.Elements.{All-contains}
-use Rattle.kiss2.specs.declared.kiss_file.KissFile.{KissFile}
+use Rattle.kiss_file.specs.declared.file.KissFile.{KissFile}
 use Rattle.dependence.specs.Permits.{AgreeOn, PermitsValue}
 use Rattle.least_codes.specs.declared.two_states.TwoStates.{TwoStates}
 use Rattle.least_codes.specs.Inner.Apart.{AreApart, TellsApart}

@@ -6,7 +6,7 @@ use Rattle.std.proofs.lemmas.Nat.Bits.{bit_at-lt, bit_at-zero, bit_at_set_other,
 use Rattle.std.proofs.lemmas.Nat.{pow_pos}
 use Rattle.std.specs.Int.{bit_at}
 use Rattle.std.proofs.lemmas.Nat.{and_mask}
-use Rattle.kiss2.specs.declared.kiss_file.KissFile.{KissFile}
+use Rattle.kiss_file.specs.declared.file.KissFile.{KissFile}
 use Rattle.least_codes.specs.declared.code.Best.{Best}
 use Rattle.least_codes.specs.Cost.{IsCost}
 use Rattle.least_codes.specs.Inner.Lists.{AreBefore, AreSeen, BeginSame, IsDraft, IsKept, IsLessThan, IsUsed, Stays, Takes}

@@ -6,8 +6,8 @@ use Rattle.std.proofs.lemmas.Nat.{xor_lt, pow_pos}
 use Rattle.std.proofs.lemmas.Nat.Bits.{bit_at-lt, bit_at_xor, bit_at-zero, same_from_bits, same_from_bits_below}
 use Rattle.std.specs.Int.{bit_at}
 use Rattle.cubes.specs.Symbol.{bit}
-use Rattle.kiss2.specs.declared.kiss_file.KissFile.{KissFile}
-use Rattle.kiss2.specs.Machine.{next}
+use Rattle.kiss_file.specs.declared.file.KissFile.{KissFile}
+use Rattle.kiss_file.specs.Machine.{next}
 use Rattle.machine_table.specs.Staying.{NeverLeaves}
 use Rattle.state_codes.specs.Agreement.{CodesAgreeAt}
 use Rattle.dependence.specs.Permits.{PermitsValue, next_value}

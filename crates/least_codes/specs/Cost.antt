@@ -1,6 +1,6 @@
 -- The least numbers of bits that the latches of a code can read (source: this project).
 use Rattle.std.specs.Prelude.{◌≡◌, ℕ, ◌<◌, List, length, slice_index, sum}
-use Rattle.kiss2.specs.declared.kiss_file.KissFile.{KissFile}
+use Rattle.kiss_file.specs.declared.file.KissFile.{KissFile}
 use Rattle.dependence.specs.Permits.{next_value}
 use Rattle.least_codes.specs.LeastReads.{AreFewest}
 

@@ -1,6 +1,6 @@
 -- What the split of the least code is (source: this project).
 use Rattle.std.specs.Prelude.{◌≡◌, ℕ, All, List, Some, length, slice_get}
-use Rattle.kiss2.specs.declared.kiss_file.KissFile.{KissFile}
+use Rattle.kiss_file.specs.declared.file.KissFile.{KissFile}
 use Rattle.partition.specs.Partition.{blocks_of}
 use Rattle.state_codes.specs.declared.split.Part.{Part}
 use Rattle.state_codes.specs.declared.Codes.{Codes}

@@ -1,7 +1,7 @@
 -- The code of as few bits as the states need whose latches read the fewest (source: this project).
 use Rattle.std.specs.Prelude.{◌≡◌, ◌⊎◌, ℕ, ◌<◌, ◌≤◌, ◌^◌, List, length, slice_index}
 use Rattle.std.specs.Int.{bit_at}
-use Rattle.kiss2.specs.declared.kiss_file.KissFile.{KissFile}
+use Rattle.kiss_file.specs.declared.file.KissFile.{KissFile}
 use Rattle.state_codes.specs.Agreement.{AreDistinct}
 use Rattle.state_codes.specs.Code.{need}
 use Rattle.least_codes.specs.Cost.{IsCost}

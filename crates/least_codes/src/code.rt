@@ -1,7 +1,7 @@
 //! All codes of few bits, one after another.
 
 ghost use Rattle.std.specs.Prelude.{◌≡◌, ◌↔◌, ◌⊎◌, ◌<◌, ◌≤◌, ◌+◌, ℕ, All, IfOk, IsTrue, List, OnOk, length, slice_index};
-ghost use Rattle.kiss2.specs.declared.kiss_file.KissFile.{KissFile};
+ghost use Rattle.kiss_file.specs.declared.file.KissFile.{KissFile};
 ghost use Rattle.least_codes.specs.Inner.Lists.{AreBefore, AreSeen, IsDraft, IsJudged, IsKept, IsLessThan, IsUsed};
 ghost use Rattle.least_codes.specs.Inner.Table.{IsInside, IsTable};
 ghost use Rattle.least_codes.specs.LeastCode.{AreCodes, IsLeastCode};

@@ -1,7 +1,7 @@
 //! The least numbers of bits that the latches of a code can read.
 
 ghost use Rattle.std.specs.Prelude.{◌≡◌, ◌↔◌, ◌<◌, ◌≤◌, ℕ, All, IfOk, length};
-ghost use Rattle.kiss2.specs.declared.kiss_file.KissFile.{KissFile};
+ghost use Rattle.kiss_file.specs.declared.file.KissFile.{KissFile};
 ghost use Rattle.dependence.specs.Permits.{InWord};
 ghost use Rattle.least_codes.specs.Cost.{IsCost, IsLatchCost};
 ghost use Rattle.least_codes.specs.Inner.Table.{IsInside, IsTable};

@@ -5,7 +5,7 @@ ghost use Rattle.cover_split.specs.Cover.{IsCover};
 
 use crate::words::{add, add_debug, add_number, add_part};
 use cover_split::{Cover, expand, parse, split};
-use kiss2::KissFile;
+use kiss_file::KissFile;
 use machine_table::Machine;
 use state_codes::Part;
 use std::alloc::{AllocError, Global};

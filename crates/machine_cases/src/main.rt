@@ -5,7 +5,7 @@
 #![tactic(auto)]
 
 ghost use Rattle.std.specs.Prelude.{◌≡◌};
-ghost use Rattle.kiss2.specs.Lawful.{IsLawful};
+ghost use Rattle.kiss_file.specs.Lawful.{IsLawful};
 
 mod codes;
 mod covers;
@@ -17,7 +17,8 @@ mod worlds;
 
 use anyhow::{Context, ensure};
 use case_lines::{Calls, agree};
-use kiss2::{Fill, KissFile, read};
+use kiss2::read;
+use kiss_file::{Fill, KissFile};
 use kiss2_laws::read_is_lawful;
 use machine_table::{Machine, lawful_is_a_table};
 use std::alloc::Global;

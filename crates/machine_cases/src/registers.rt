@@ -1,12 +1,12 @@
 //! The calls of `shift_real`.
 
 ghost use Rattle.std.specs.Prelude.{◌≡◌, IfSome};
-ghost use Rattle.kiss2.specs.Lawful.{IsLawful};
+ghost use Rattle.kiss_file.specs.Lawful.{IsLawful};
 ghost use Rattle.shift_real.specs.Register.{HasShortOrder};
 
 use crate::networks::add_network;
 use crate::words::{add, add_between, add_number, add_part};
-use kiss2::KissFile;
+use kiss_file::KissFile;
 use machine_table::Machine;
 use partition::Partition;
 use realise::{names, names_apart};

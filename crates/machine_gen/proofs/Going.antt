@@ -3,10 +3,10 @@ use Rattle.std.proofs.Common.{◌≡◌, ℕ, ◌+◌, ◌*◌, ◌/◌, ◌%◌
 use Rattle.std.specs.List.{range_with_len}
 use Rattle.std.proofs.lemmas.Nat.{div-mul-add, mod-mul-add}
 use Rattle.cubes.specs.Symbol.{bit, number_of}
-use Rattle.kiss2.specs.declared.kiss_file.KissFile.{KissFile}
-use Rattle.kiss2.specs.declared.kiss_file.KissRow.{KissRow}
-use Rattle.kiss2.specs.Machine.{IsRowAt, given_bit, next, out, output_bit}
-use Rattle.kiss2.proofs.Machine.{next_said, output_bit_said}
+use Rattle.kiss_file.specs.declared.file.KissFile.{KissFile}
+use Rattle.kiss_file.specs.declared.file.KissRow.{KissRow}
+use Rattle.kiss_file.specs.Machine.{IsRowAt, given_bit, next, out, output_bit}
+use Rattle.kiss_file.proofs.Machine.{next_said, output_bit_said}
 use Rattle.machine_gen.specs.Going.{GoByParts}
 use Rattle.machine_gen.specs.MachineOf.{AreSizes, IsMachineOf, next_first, next_second}
 use Rattle.machine_gen.proofs.Accepting.{no_conflict}

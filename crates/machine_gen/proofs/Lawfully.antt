@@ -7,9 +7,9 @@ use Rattle.std.proofs.lemmas.List.Elements.{Contains-get_or}
 use Rattle.std.proofs.lemmas.Nat.{div-mul-add, le-div, mul-le}
 use Rattle.std.proofs.lemmas.Option.{get_or_from_slice_get}
 use Rattle.cubes.specs.Symbol.{bit}
-use Rattle.kiss2.specs.declared.kiss_file.KissFile.{KissFile}
-use Rattle.kiss2.specs.declared.kiss_file.KissRow.{KissRow}
-use Rattle.kiss2.specs.Lawful.{IsLawful, IsLawfulRow}
+use Rattle.kiss_file.specs.declared.file.KissFile.{KissFile}
+use Rattle.kiss_file.specs.declared.file.KissRow.{KissRow}
+use Rattle.kiss_file.specs.Lawful.{IsLawful, IsLawfulRow}
 use Rattle.numbered_names.proofs.ByState.{IsByState, lawful_by_state}
 use Rattle.machine_gen.specs.Inner.Drawing.{next_of, place_of}
 use Rattle.machine_gen.specs.MachineOf.{AreSizes, IsMachineOf}

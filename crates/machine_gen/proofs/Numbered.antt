@@ -4,7 +4,7 @@ use Rattle.std.proofs.Math.Nat.{mul-le-mul_right}
 use Rattle.std.proofs.Math.Pow.{pow_pos}
 use Rattle.std.proofs.lemmas.Nat.{div-mul-add, div_below, mod-mul-add, mod_below}
 use Rattle.std.proofs.lemmas.Bool.{cases_lt}
-use Rattle.kiss2.specs.declared.kiss_file.KissRow.{KissRow}
+use Rattle.kiss_file.specs.declared.file.KissRow.{KissRow}
 use Rattle.machine_gen.specs.declared.rows.Place.{Place}
 use Rattle.machine_gen.specs.Inner.Drawing.{IsRowAt, next_of, place_of}
 use Rattle.machine_gen.specs.MachineOf.{AreRows, AreSizes, next_first, next_second}

@@ -4,8 +4,8 @@ use Rattle.std.proofs.lemmas.List.{same_lists}
 use Rattle.std.proofs.lemmas.Option.{get_or_from_slice_get}
 use Rattle.cubes.specs.declared.cube.Cube.{Cube}
 use Rattle.cubes.specs.Field.{byte_of}
-use Rattle.kiss2.specs.declared.kiss_file.KissFile.{KissFile}
-use Rattle.kiss2.specs.declared.kiss_file.KissRow.{KissRow}
+use Rattle.kiss_file.specs.declared.file.KissFile.{KissFile}
+use Rattle.kiss_file.specs.declared.file.KissRow.{KissRow}
 use Rattle.kiss2.proofs.SameRecord.{same_cube}
 use Rattle.machine_gen.specs.MachineOf.{AreRows, AreSizes, HaveOneMachine, IsDrawnRow}
 use Rattle.machine_gen.proofs.Standing.{row_at_number}

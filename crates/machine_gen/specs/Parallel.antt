@@ -1,7 +1,7 @@
 -- That the machine has a parallel decomposition (source: Hartmanis and Stearns).
 use Rattle.std.specs.Prelude.{◌≡◌, ℕ, ◌*◌, ◌/◌, ◌%◌, List, length, map}
 use Rattle.std.specs.List.{range_with_len}
-use Rattle.kiss2.specs.declared.kiss_file.KissFile.{KissFile}
+use Rattle.kiss_file.specs.declared.file.KissFile.{KissFile}
 use Rattle.partition.specs.Partition.{IsOne, IsPartition, IsZero, Together}
 use Rattle.pair_operators.specs.Pair.{Closed}
 use Rattle.machine_gen.specs.MachineOf.{AreSizes, IsMachineOf}

@@ -1,13 +1,13 @@
 //! The file.
 
 ghost use Rattle.std.specs.Prelude.{IfOk};
-ghost use Rattle.kiss2.specs.Lawful.{IsLawful};
-ghost use Rattle.kiss2.specs.Machine.{Accepted};
+ghost use Rattle.kiss_file.specs.Lawful.{IsLawful};
+ghost use Rattle.kiss_file.specs.Machine.{Accepted};
 ghost use Rattle.machine_gen.specs.MachineOf.{AreSizes, IsMachineOf};
 ghost use Rattle.machine_gen.specs.Words.{word};
 
 use crate::rows::rows;
-use kiss2::{Fill, KissFile};
+use kiss_file::{Fill, KissFile};
 use numbered_names::names;
 use std::alloc::{AllocError, Global};
 

@@ -7,7 +7,7 @@ ghost use Rattle.machine_gen.specs.Words.{word};
 
 use crate::drawing::{Draw, draws};
 use cubes::Cube;
-use kiss2::{KissRow, Rows};
+use kiss_file::{KissRow, Rows};
 use std::alloc::{AllocError, Global};
 
 /// The place of a row: the parts of its state, and the number of its symbol.

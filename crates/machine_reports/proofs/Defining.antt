@@ -7,7 +7,7 @@ use Rattle.answers.specs.declared.refusals.Refusal.{Refusal}
 use Rattle.state_reduce.specs.declared.work.WorkMachine.{WorkMachine}
 use Rattle.state_reduce.specs.Laws.Works.{one_work}
 use Rattle.state_reduce.specs.Work.{IsWork, IsWorkOf}
-use Rattle.kiss2.specs.declared.kiss_file.KissFile.{KissFile}
+use Rattle.kiss_file.specs.declared.file.KissFile.{KissFile}
 use Rattle.machine_table.specs.Staying.{NeverLeaves}
 use Rattle.partition.specs.Partition.{IsOne, IsPartition}
 use Rattle.shift_real.specs.Chain.{AreTogetherAfter, IsChain}

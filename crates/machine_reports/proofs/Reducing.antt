@@ -1,12 +1,12 @@
 -- What `reduce` makes of a machine is right, and it is never refused.
 use Rattle.std.proofs.Common.{◌≡◌, ◌≢◌, ℕ, List, sym, ap, ◌∙◌, subst}
-use Rattle.kiss2.specs.declared.fill.Fill.{Fill}
-use Rattle.kiss2.specs.declared.kiss_file.KissFile.{KissFile}
+use Rattle.kiss_file.specs.declared.fill.Fill.{Fill}
+use Rattle.kiss_file.specs.declared.file.KissFile.{KissFile}
 use Rattle.kiss2.specs.Kiss.{Kiss}
-use Rattle.kiss2.specs.Lawful.{IsLawful}
-use Rattle.kiss2.specs.Machine.{Accepted, answers}
+use Rattle.kiss_file.specs.Lawful.{IsLawful}
+use Rattle.kiss_file.specs.Machine.{Accepted, answers}
 use Rattle.kiss2.specs.Written.{kiss_text}
-use Rattle.kiss2.proofs.Machine.{next_is_a_state}
+use Rattle.kiss_file.proofs.Machine.{next_is_a_state}
 use Rattle.kiss2_laws.proofs.RoundTrip.{says_again}
 use Rattle.state_reduce.specs.declared.judging.QuotientFail.{QuotientFail}
 use Rattle.state_reduce.specs.declared.judging.QuotientFail.TheVariants.{NoMemory}

@@ -7,7 +7,7 @@ use Rattle.hs_lattice.specs.Listing.{Evidence}
 use Rattle.io_pairs.specs.Inputs.{IsInMmPair}
 use Rattle.io_pairs.specs.Outputs.{IsOutMmPair, occurring}
 use Rattle.io_pairs.specs.Sides.{RightBefore}
-use Rattle.kiss2.specs.declared.kiss_file.KissFile.{KissFile}
+use Rattle.kiss_file.specs.declared.file.KissFile.{KissFile}
 use Rattle.shift_real.specs.Definite.{AreFirstApart}
 
 -- there are more values with the property than the limit, as limit + 1 of them in order show

@@ -1,7 +1,7 @@
 -- What `check` prints: the counts of a file, and the name of its reset state.
 use Rattle.std.specs.Prelude.{◌≡◌, ℕ, List, Some, length, slice_get}
 use Rattle.hs_texts.specs.Reports.{counts_text}
-use Rattle.kiss2.specs.declared.kiss_file.KissFile.{KissFile}
+use Rattle.kiss_file.specs.declared.file.KissFile.{KissFile}
 
 -- the counts of the file, and the name of its reset state
 abbrev pub IsChecked : KissFile → List ℕ → Type 0

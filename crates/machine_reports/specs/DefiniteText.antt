@@ -1,7 +1,7 @@
 -- What `definite` prints of the machine that it works on.
 use Rattle.std.specs.Prelude.{◌≡◌, ℕ, ◌-◌, Bool, List, Some, length, slice_get}
 use Rattle.state_reduce.specs.Work.{OnWork}
-use Rattle.kiss2.specs.declared.kiss_file.KissFile.{KissFile}
+use Rattle.kiss_file.specs.declared.file.KissFile.{KissFile}
 use Rattle.partition.specs.Partition.{IsOne}
 use Rattle.shift_real.specs.Chain.{AreTogetherAfter, IsChain}
 use Rattle.machine_reports.specs.ListTexts.{lines_of, partition_line}

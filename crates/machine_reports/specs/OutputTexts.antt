@@ -6,7 +6,7 @@ use Rattle.answers.specs.Digits.{digit}
 use Rattle.hs_texts.specs.ErrLines.{as_line}
 use Rattle.io_pairs.specs.Outputs.{IsOutMmPair, occurring}
 use Rattle.io_pairs.specs.Sides.{RightBefore}
-use Rattle.kiss2.specs.declared.kiss_file.KissFile.{KissFile}
+use Rattle.kiss_file.specs.declared.file.KissFile.{KissFile}
 use Rattle.machine_table.specs.Walk.{outputs_of}
 use Rattle.machine_reports.specs.ListTexts.{IsEvidenceText, IsListText, pair_line}
 

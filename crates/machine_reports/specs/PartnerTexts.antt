@@ -1,6 +1,6 @@
 -- What `low` and `high` print: the line of m(PART) or of M(PART), for the partition of a text.
 use Rattle.std.specs.Prelude.{◌≡◌, ℕ, List, length}
-use Rattle.kiss2.specs.declared.kiss_file.KissFile.{KissFile}
+use Rattle.kiss_file.specs.declared.file.KissFile.{KissFile}
 use Rattle.pair_operators.specs.Extremes.{IsHigh, IsLow}
 use Rattle.part_texts.specs.Texts.{IsTextOfPartition}
 use Rattle.machine_reports.specs.ListTexts.{partition_line}

@@ -1,10 +1,10 @@
 -- What `reduce` prints: the machine of the classes of alike states.
 use Rattle.std.specs.Prelude.{◌≡◌, ℕ, Bool, List}
-use Rattle.kiss2.specs.declared.fill.Fill.{Fill}
-use Rattle.kiss2.specs.declared.kiss_file.KissFile.{KissFile}
+use Rattle.kiss_file.specs.declared.fill.Fill.{Fill}
+use Rattle.kiss_file.specs.declared.file.KissFile.{KissFile}
 use Rattle.kiss2.specs.Kiss.{Kiss}
-use Rattle.kiss2.specs.Lawful.{IsLawful}
-use Rattle.kiss2.specs.Machine.{Accepted, answers}
+use Rattle.kiss_file.specs.Lawful.{IsLawful}
+use Rattle.kiss_file.specs.Machine.{Accepted, answers}
 use Rattle.kiss2.specs.Written.{kiss_text}
 use Rattle.state_reduce.specs.Alike.{AreUnlike, IsEquivalence, IsWord}
 use Rattle.state_reduce.specs.Quotient.{AnswersAsMembers, AreBlocksInOrder, IsQuotient}

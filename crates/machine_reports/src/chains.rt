@@ -2,15 +2,15 @@
 
 ghost use Rattle.std.specs.Prelude.{◌≡◌};
 ghost use Rattle.answers.specs.Judged.{IsJudged};
-ghost use Rattle.kiss2.specs.Lawful.{IsLawful};
-ghost use Rattle.kiss2.specs.Machine.{Accepted};
+ghost use Rattle.kiss_file.specs.Lawful.{IsLawful};
+ghost use Rattle.kiss_file.specs.Machine.{Accepted};
 ghost use Rattle.machine_reports.specs.Causes.{NotDefiniteRow};
 ghost use Rattle.machine_reports.specs.DefiniteText.{IsChainText};
 
 use crate::lines::lines_of_parts;
 use crate::orders::order_of;
 use answers::Refusal;
-use kiss2::{Fill, KissFile};
+use kiss_file::{Fill, KissFile};
 use machine_table::Machine;
 use shift_real::chain;
 use state_reduce::work_machine;

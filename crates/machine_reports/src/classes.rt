@@ -1,11 +1,12 @@
 //! The report of `reduce`.
 
 ghost use Rattle.std.specs.Prelude.{◌≡◌, IfOk};
-ghost use Rattle.kiss2.specs.Lawful.{IsLawful};
-ghost use Rattle.kiss2.specs.Machine.{Accepted};
+ghost use Rattle.kiss_file.specs.Lawful.{IsLawful};
+ghost use Rattle.kiss_file.specs.Machine.{Accepted};
 ghost use Rattle.machine_reports.specs.ReducedText.{IsReducedText};
 
-use kiss2::{Fill, KissFile, write};
+use kiss2::write;
+use kiss_file::{Fill, KissFile};
 use machine_table::Machine;
 use state_reduce::{QuotientFail, equivalence, quotient};
 use std::alloc::{AllocError, Global};

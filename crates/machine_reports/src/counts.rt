@@ -4,7 +4,7 @@ ghost use Rattle.std.specs.Prelude.{◌<◌, IfOk, length};
 ghost use Rattle.machine_reports.specs.CheckText.{IsChecked};
 
 use hs_texts::reports;
-use kiss2::KissFile;
+use kiss_file::KissFile;
 use std::alloc::{AllocError, Global};
 
 /// The counts of a file, and the name of its reset state.

@@ -8,7 +8,7 @@ ghost use Rattle.machine_reports.specs.Causes.{KeepsApart};
 
 use answers::Refusal;
 use hs_io::Name;
-use kiss2::KissFile;
+use kiss_file::KissFile;
 use shift_real::{OrderFail, order};
 use state_reduce::{WorkMachine, state_name};
 use std::alloc::{AllocError, Global};

@@ -6,8 +6,8 @@ use Rattle.std.proofs.lemmas.List.Elements.{Contains-get_or}
 use Rattle.cubes.specs.Cube.{HoldsNumber}
 use Rattle.cubes.proofs.Ends.{least_held}
 use Rattle.cubes.proofs.Held.{held_from_mask, mask_from_held}
-use Rattle.kiss2.specs.declared.kiss_file.KissFile.{KissFile}
-use Rattle.kiss2.specs.declared.kiss_file.KissRow.{KissRow}
+use Rattle.kiss_file.specs.declared.file.KissFile.{KissFile}
+use Rattle.kiss_file.specs.declared.file.KissRow.{KissRow}
 use Rattle.machine_table.specs.Inner.Asked.{AllSay, ApartBelow, AreApartAt, HaveOneLabel, MeetsApart, SayApart, SayTwo}
 use Rattle.state_rows.specs.Least.{IsMetBy}
 use Rattle.machine_table.specs.Inner.Aligned.{AreAligned, Represents}

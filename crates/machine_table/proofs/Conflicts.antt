@@ -2,9 +2,9 @@
 use Rattle.std.proofs.Common.{◌≡◌, ℕ, ◌+◌, ◌<◌, ◌^◌, ◌⊎◌, true, false, Contains, List, length, Some, slice_get, inl, inr, sym, ◌∙◌, subst, arith, ap}
 use Rattle.std.proofs.lemmas.Bool.{cases_lt, true≢false}
 use Rattle.std.proofs.lemmas.Option.{get_or_from_slice_get, slice_get_within}
-use Rattle.kiss2.specs.declared.kiss_file.KissFile.{KissFile}
-use Rattle.kiss2.specs.declared.kiss_file.KissRow.{KissRow}
-use Rattle.kiss2.specs.Machine.{Conflicting, GiveBoth, NameTwo}
+use Rattle.kiss_file.specs.declared.file.KissFile.{KissFile}
+use Rattle.kiss_file.specs.declared.file.KissRow.{KissRow}
+use Rattle.kiss_file.specs.Machine.{Conflicting, GiveBoth, NameTwo}
 use Rattle.state_rows.specs.Conflict.{AreFirstTwo, ContradictAt}
 use Rattle.machine_table.proofs.Asking.{number_of_row}
 

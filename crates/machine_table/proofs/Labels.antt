@@ -4,8 +4,8 @@ use Rattle.std.proofs.lemmas.Bool.{cases_Bool, cases_eq, true≢false}
 use Rattle.std.proofs.lemmas.List.Elements.{Contains-append_cases, Contains-append_right}
 use Rattle.cubes.specs.Cube.{HoldsNumber}
 use Rattle.cubes.proofs.Held.{held_from_mask, mask_from_held}
-use Rattle.kiss2.specs.declared.kiss_file.KissFile.{KissFile}
-use Rattle.kiss2.specs.declared.kiss_file.KissRow.{KissRow}
+use Rattle.kiss_file.specs.declared.file.KissFile.{KissFile}
+use Rattle.kiss_file.specs.declared.file.KissRow.{KissRow}
 use Rattle.machine_table.specs.Inner.Asked.{DifferAt, DifferOpen, NoneIsOpen, IsLabelAt, IsOpenAt}
 use Rattle.state_rows.specs.Least.{IsMetBy}
 use Rattle.machine_table.specs.Pairs.{AtEachSymbol, IsFirstWithout}

@@ -1,8 +1,8 @@
 -- A lawful file is a table, and what the rows of a table have.
 use Rattle.std.proofs.Common.{ℕ, ◌<◌, ◌≤◌, ◌^◌, All, IfSome, Option, None, Some, arith, get_or, length}
-use Rattle.kiss2.specs.declared.kiss_file.KissFile.{KissFile}
-use Rattle.kiss2.specs.declared.kiss_file.KissRow.{KissRow}
-use Rattle.kiss2.specs.Lawful.{IsLawful, IsLawfulRow}
+use Rattle.kiss_file.specs.declared.file.KissFile.{KissFile}
+use Rattle.kiss_file.specs.declared.file.KissRow.{KissRow}
+use Rattle.kiss_file.specs.Lawful.{IsLawful, IsLawfulRow}
 use Rattle.machine_table.specs.Table.{IsTable}
 use Rattle.state_rows.specs.Bundles.{IsFit}
 

@@ -3,8 +3,6 @@ pub mod AlignedRows
 pub mod AlikeRows
 pub mod Asking
 pub mod Conflicts
-pub mod Copies
-pub mod FilledRows
 pub mod GatheredOutputs
 pub mod Labels
 pub mod Lawful

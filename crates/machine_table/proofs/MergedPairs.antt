@@ -4,8 +4,8 @@ use Rattle.std.proofs.lemmas.List.{drop_at, get_or_default}
 use Rattle.std.proofs.lemmas.List.Elements.{Contains-append_cases, Contains-append_right}
 use Rattle.cubes.specs.Symbol.{symbol_of}
 use Rattle.cubes.proofs.Numbers.{length-symbol_of}
-use Rattle.kiss2.specs.declared.kiss_file.KissFile.{KissFile}
-use Rattle.kiss2.specs.Machine.{Conflicting}
+use Rattle.kiss_file.specs.declared.file.KissFile.{KissFile}
+use Rattle.kiss_file.specs.Machine.{Conflicting}
 use Rattle.machine_table.specs.Covering.{IsImage}
 use Rattle.machine_table.specs.Inner.AddedPairs.{AddsPairs, AreNamed, BelowCount, IsFound, IsListedPair, IsOpenImage, IsPairAt}
 use Rattle.machine_table.specs.Inner.SeenPairs.{AreStates}

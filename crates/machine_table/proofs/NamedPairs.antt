@@ -6,10 +6,10 @@ use Rattle.cubes.specs.Symbol.{symbol_of}
 use Rattle.cubes.specs.Cube.{HoldsNumber}
 use Rattle.cubes.proofs.Ends.{least_held}
 use Rattle.cubes.proofs.Numbers.{length-symbol_of}
-use Rattle.kiss2.specs.declared.kiss_file.KissFile.{KissFile}
-use Rattle.kiss2.specs.declared.kiss_file.KissRow.{KissRow}
-use Rattle.kiss2.specs.Machine.{Conflicting, Specified}
-use Rattle.kiss2.proofs.Machine.{next_not_said, next_said}
+use Rattle.kiss_file.specs.declared.file.KissFile.{KissFile}
+use Rattle.kiss_file.specs.declared.file.KissRow.{KissRow}
+use Rattle.kiss_file.specs.Machine.{Conflicting, Specified}
+use Rattle.kiss_file.proofs.Machine.{next_not_said, next_said}
 use Rattle.machine_table.specs.Covering.{IsImage}
 use Rattle.machine_table.specs.Inner.AddedPairs.{AreNamed, AreNamedAtPlaces, AreNamedBy, IsNamedBeside, IsOpenImage, OfSomeRow, to_of}
 use Rattle.machine_table.specs.Inner.Asked.{AllSay, HaveOneLabel, IsOpenAt, IsOfState}

@@ -4,10 +4,10 @@ use Rattle.std.proofs.lemmas.Bool.{true≢false}
 use Rattle.std.specs.Option.{option_map}
 use Rattle.cubes.specs.Symbol.{symbol_of}
 use Rattle.cubes.proofs.Numbers.{length-symbol_of}
-use Rattle.kiss2.specs.declared.kiss_file.KissFile.{KissFile}
-use Rattle.kiss2.specs.declared.kiss_file.KissRow.{KissRow}
-use Rattle.kiss2.specs.Machine.{Conflicting, Specified, next}
-use Rattle.kiss2.proofs.Machine.{next_not_said, next_said}
+use Rattle.kiss_file.specs.declared.file.KissFile.{KissFile}
+use Rattle.kiss_file.specs.declared.file.KissRow.{KissRow}
+use Rattle.kiss_file.specs.Machine.{Conflicting, Specified, next}
+use Rattle.kiss_file.proofs.Machine.{next_not_said, next_said}
 use Rattle.partition.specs.Partition.{Together}
 use Rattle.machine_table.specs.Inner.Asked.{HaveOneLabel, NoneIsOpen, IsLabelAt, IsOpenAt}
 use Rattle.machine_table.specs.Pairs.{GoInto}

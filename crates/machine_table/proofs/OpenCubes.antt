@@ -6,8 +6,8 @@ use Rattle.cubes.specs.declared.cube.Cube.{Cube}
 use Rattle.cubes.specs.Cube.{Holds, HoldsNumber}
 use Rattle.cubes.specs.Gap.{HoldsEach, IsFirstGap, IsHeld}
 use Rattle.cubes.specs.Symbol.{symbol_of}
-use Rattle.kiss2.specs.declared.kiss_file.KissFile.{KissFile}
-use Rattle.kiss2.specs.declared.kiss_file.KissRow.{KissRow}
+use Rattle.kiss_file.specs.declared.file.KissFile.{KissFile}
+use Rattle.kiss_file.specs.declared.file.KissRow.{KissRow}
 use Rattle.machine_table.specs.declared.missing.Missing.{Missing}
 use Rattle.machine_table.specs.Said.{IsSaid, Says, place_of}
 use Rattle.machine_table.specs.Table.{IsTable}

@@ -4,10 +4,10 @@ use Rattle.std.proofs.lemmas.Bool.{cases_lt, false≢true, true≢false}
 use Rattle.std.specs.Option.{option_map}
 use Rattle.cubes.specs.Symbol.{symbol_of}
 use Rattle.cubes.proofs.Numbers.{length-symbol_of}
-use Rattle.kiss2.specs.declared.kiss_file.KissFile.{KissFile}
-use Rattle.kiss2.specs.declared.kiss_file.KissRow.{KissRow}
-use Rattle.kiss2.specs.Machine.{Conflicting, Specified, given_bit, output_bit}
-use Rattle.kiss2.proofs.Machine.{output_bit_not_said, output_bit_said}
+use Rattle.kiss_file.specs.declared.file.KissFile.{KissFile}
+use Rattle.kiss_file.specs.declared.file.KissRow.{KissRow}
+use Rattle.kiss_file.specs.Machine.{Conflicting, Specified, given_bit, output_bit}
+use Rattle.kiss_file.proofs.Machine.{output_bit_not_said, output_bit_said}
 use Rattle.machine_table.specs.Inner.Asked.{HaveOneLabel, NoneIsOpen, IsLabelAt, IsOpenAt, digit}
 use Rattle.state_rows.specs.Least.{IsMetBy, lesser_of}
 use Rattle.machine_table.specs.Pairs.{AgreeAt, AgreeInBit, AtEachSymbol, IsFirstWithout}

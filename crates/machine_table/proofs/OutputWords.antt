@@ -10,8 +10,8 @@ use Rattle.std.specs.List.{range_with_len}
 use Rattle.cubes.specs.Symbol.{bit, symbol_of}
 use Rattle.cubes.proofs.Bits.{same_bits}
 use Rattle.cubes.proofs.Numbers.{bit-above, bit-top}
-use Rattle.kiss2.specs.declared.kiss_file.KissFile.{KissFile}
-use Rattle.kiss2.specs.Machine.{answers, next, out}
+use Rattle.kiss_file.specs.declared.file.KissFile.{KissFile}
+use Rattle.kiss_file.specs.Machine.{answers, next, out}
 use Rattle.machine_table.specs.Walk.{outputs_of}
 
 -- one more bit of a number is known

@@ -8,10 +8,10 @@ use Rattle.cubes.specs.declared.cube.Cube.{Cube}
 use Rattle.cubes.specs.Cube.{HoldsNumber}
 use Rattle.cubes.specs.Symbol.{bit, symbol_of}
 use Rattle.cubes.proofs.Bits.{zero_from_bit}
-use Rattle.kiss2.specs.declared.kiss_file.KissFile.{KissFile}
-use Rattle.kiss2.specs.declared.kiss_file.KissRow.{KissRow}
-use Rattle.kiss2.specs.Machine.{Conflicting, IsRowAt, output_bit}
-use Rattle.kiss2.proofs.Machine.{next_said, output_bit_said}
+use Rattle.kiss_file.specs.declared.file.KissFile.{KissFile}
+use Rattle.kiss_file.specs.declared.file.KissRow.{KissRow}
+use Rattle.kiss_file.specs.Machine.{Conflicting, IsRowAt, output_bit}
+use Rattle.kiss_file.proofs.Machine.{next_said, output_bit_said}
 use Rattle.machine_table.specs.declared.covering.Piece.{Piece}
 use Rattle.machine_table.specs.Covering.{IsPiece}
 use Rattle.machine_table.specs.Inner.Asked.{IsOfState}

@@ -3,9 +3,9 @@ use Rattle.std.proofs.Common.{◌≡◌, ℕ, ◌+◌, ◌<◌, ◌≤◌, ◌^�
 use Rattle.std.proofs.lemmas.Option.{slice_get_within, get_or_from_slice_get}
 use Rattle.cubes.specs.Cube.{Holds, HoldsNumber}
 use Rattle.cubes.specs.Symbol.{symbol_of}
-use Rattle.kiss2.specs.declared.kiss_file.KissFile.{KissFile}
-use Rattle.kiss2.specs.declared.kiss_file.KissRow.{KissRow}
-use Rattle.kiss2.specs.Machine.{IsRowAt}
+use Rattle.kiss_file.specs.declared.file.KissFile.{KissFile}
+use Rattle.kiss_file.specs.declared.file.KissRow.{KissRow}
+use Rattle.kiss_file.specs.Machine.{IsRowAt}
 use Rattle.machine_table.specs.Inner.Asked.{IsAloneAt, IsApartAt, IsOfState, IsSearched, MeetsWanted, SayTwo, SaysAlone}
 use Rattle.state_rows.specs.Least.{IsMetBy, lesser_of}
 use Rattle.state_rows.specs.Places.{IsNumberOf}

@@ -6,10 +6,10 @@ use Rattle.std.proofs.lemmas.Nat.Bits.{bit_at_above, bit_at_ones, same_from_bits
 use Rattle.cubes.specs.Symbol.{bit, symbol_of}
 use Rattle.cubes.proofs.Bits.{bit-zero, one_from_bit, same_digits, zero_from_bit}
 use Rattle.cubes.proofs.Numbers.{length-symbol_of}
-use Rattle.kiss2.specs.declared.kiss_file.KissFile.{KissFile}
-use Rattle.kiss2.specs.declared.kiss_file.KissRow.{KissRow}
-use Rattle.kiss2.specs.Machine.{Conflicting, IsRowAt, Specified, given_bit, out, output_bit}
-use Rattle.kiss2.proofs.Machine.{output_bit_not_said, output_bit_said}
+use Rattle.kiss_file.specs.declared.file.KissFile.{KissFile}
+use Rattle.kiss_file.specs.declared.file.KissRow.{KissRow}
+use Rattle.kiss_file.specs.Machine.{Conflicting, IsRowAt, Specified, given_bit, out, output_bit}
+use Rattle.kiss_file.proofs.Machine.{output_bit_not_said, output_bit_said}
 use Rattle.machine_table.specs.Inner.Asked.{HaveOneLabel, IsLabelAt, IsOpenAt}
 use Rattle.machine_table.specs.Inner.OpenSymbol.{SaysAll}
 use Rattle.machine_table.specs.Pairs.{AgreeAt}

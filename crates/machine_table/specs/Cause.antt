@@ -1,9 +1,9 @@
 -- The reasons why a file has no machine.
 use Rattle.std.specs.Prelude.{◌≡◌, ⊤}
-use Rattle.kiss2.specs.declared.fill.Fill.{Fill}
-use Rattle.kiss2.specs.declared.fill.Fill.TheVariants.{Refuse}
-use Rattle.kiss2.specs.declared.kiss_file.KissFile.{KissFile}
-use Rattle.kiss2.specs.Machine.{Conflicting}
+use Rattle.kiss_file.specs.declared.fill.Fill.{Fill}
+use Rattle.kiss_file.specs.declared.fill.Fill.TheVariants.{Refuse}
+use Rattle.kiss_file.specs.declared.file.KissFile.{KissFile}
+use Rattle.kiss_file.specs.Machine.{Conflicting}
 use Rattle.machine_table.specs.declared.building.BuildFail.{BuildFail}
 use Rattle.machine_table.specs.declared.building.BuildFail.TheVariants.{Conflict, Unspecified, NoMemory}
 use Rattle.machine_table.specs.Conflict.{IsFirstConflict}

@@ -1,6 +1,6 @@
 -- The two rows that a refusal names.
 use Rattle.std.specs.Prelude.{ℕ, ◌+◌, ◌≡◌}
-use Rattle.kiss2.specs.declared.kiss_file.KissFile.{KissFile}
+use Rattle.kiss_file.specs.declared.file.KissFile.{KissFile}
 use Rattle.state_rows.specs.Conflict.{AreFirstTwo}
 
 -- the first two rows that contradict one another, counted from 1

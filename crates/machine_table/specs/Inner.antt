@@ -3,7 +3,6 @@ pub mod OpenSymbol
 pub mod Asked
 pub mod Settled
 pub mod Step
-pub mod Filled
 pub mod AddedPairs
 pub mod Aligned
 pub mod MarkedRows

@@ -1,6 +1,6 @@
 -- The next states of two states, merged in a partition of the states.
 use Rattle.std.specs.Prelude.{ℕ, List, length}
-use Rattle.kiss2.specs.declared.kiss_file.KissFile.{KissFile}
+use Rattle.kiss_file.specs.declared.file.KissFile.{KissFile}
 use Rattle.machine_table.specs.Covering.{IsImage}
 use Rattle.partition.specs.Partition.{IsPartition, Le, Together}
 

@@ -1,8 +1,8 @@
 -- Two states at all symbols, each symbol given by its number.
 use Rattle.std.specs.Prelude.{ℕ, ◌≡◌, ◌<◌, ◌^◌, List, slice_index}
 use Rattle.cubes.specs.Symbol.{bit, symbol_of}
-use Rattle.kiss2.specs.declared.kiss_file.KissFile.{KissFile}
-use Rattle.kiss2.specs.Machine.{next, out, output_bit}
+use Rattle.kiss_file.specs.declared.file.KissFile.{KissFile}
+use Rattle.kiss_file.specs.Machine.{next, out, output_bit}
 
 -- the relation holds between the next states at the symbol with that number
 abbrev pub GoInto : (ℕ → ℕ → Type 0) → KissFile → (s t x : ℕ) → Type 0

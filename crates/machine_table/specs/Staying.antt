@@ -1,7 +1,7 @@
 -- A machine never leaves its states.
 use Rattle.std.specs.Prelude.{◌≡◌, ℕ, ◌<◌, Bool, List, length}
-use Rattle.kiss2.specs.declared.kiss_file.KissFile.{KissFile}
-use Rattle.kiss2.specs.Machine.{next}
+use Rattle.kiss_file.specs.declared.file.KissFile.{KissFile}
+use Rattle.kiss_file.specs.Machine.{next}
 
 -- at each symbol the next state of a state is one of the states
 abbrev pub NeverLeaves : KissFile → Type 0

@@ -1,6 +1,6 @@
 //! The rows of two states, paired place by place.
 ghost use Rattle.std.specs.Prelude.{ℕ, ◌≡◌, ◌<◌, All, IfSome, length};
-ghost use Rattle.kiss2.specs.Machine.{Conflicting};
+ghost use Rattle.kiss_file.specs.Machine.{Conflicting};
 ghost use Rattle.machine_table.specs.Inner.Aligned.{AreAligned};
 ghost use Rattle.state_rows.specs.Places.{places_of};
 ghost use Rattle.machine_table.specs.Table.{IsTable};

@@ -1,12 +1,11 @@
 //! Building a machine, and the reasons why a file has none.
 ghost use Rattle.std.specs.Prelude.{◌≡◌, ◌^◌, ◌<◌, IfOk, IfErr, length};
-ghost use Rattle.kiss2.specs.Machine.{Accepted, Conflicting};
+ghost use Rattle.kiss_file.specs.Machine.{Accepted, Conflicting};
 ghost use Rattle.machine_table.specs.Cause.{Caused, IsConflictOf};
 ghost use Rattle.machine_table.specs.Table.{IsTable};
 
-use crate::copying::copied_file;
 use crate::{Machine, Missing};
-use kiss2::{Fill, KissFile};
+use kiss_file::{Fill, KissFile, copied_file};
 use state_rows::{
     bundles_of_states, columns_of_states, first_conflict, leaders_of_states, places_by_cubes,
     places_of_states,

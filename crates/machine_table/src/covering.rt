@@ -5,7 +5,7 @@
 ghost use Rattle.std.specs.Prelude.{ℕ, ◌≡◌, ◌<◌, ◌^◌, All, IfNone, IfOk, IfSome, IsSome, OnOk, Some, false, length};
 ghost use Rattle.cubes.specs.Symbol.{bit, symbol_of};
 ghost use Rattle.cubes.specs.Cube.{HoldsNumber};
-ghost use Rattle.kiss2.specs.Machine.{Specified, next, out};
+ghost use Rattle.kiss_file.specs.Machine.{Specified, next, out};
 ghost use Rattle.machine_table.specs.Walk.{outputs_of};
 ghost use Rattle.machine_table.specs.declared.covering.Piece.{Piece};
 ghost use Rattle.machine_table.specs.Covering.{IsPiece, IsHeldByPiece};
@@ -14,7 +14,7 @@ ghost use Rattle.machine_table.specs.Inner.Settled.{AddsPieces, IsAllOrNone, IsS
 
 use crate::Machine;
 use cubes::Cube;
-use kiss2::KissRow;
+use kiss_file::KissRow;
 use std::alloc::{AllocError, Global};
 
 /// Symbols at which a state has the same next state and the same outputs.

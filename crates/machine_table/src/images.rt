@@ -3,7 +3,7 @@
 //! Rows of both states that share a symbol name a pair. If rows may leave a next state open, the pairs at such
 //! symbols are added.
 ghost use Rattle.std.specs.Prelude.{ℕ, ◌≡◌, ◌≢◌, ◌<◌, ◌↔◌, ◌^◌, All, AllPairs, Contains, IfOk, IfSome, OnOk, length};
-ghost use Rattle.kiss2.specs.Lawful.{IsLawfulRow};
+ghost use Rattle.kiss_file.specs.Lawful.{IsLawfulRow};
 ghost use Rattle.machine_table.specs.Covering.{IsImage};
 ghost use Rattle.machine_table.specs.Inner.AddedPairs.{AddsPairs, AreBothOpen, AreNamed, AreNamedAtPlaces, AreNamedBy, AreNamedIn, IsAddedAt, IsFound, IsNamedBeside, IsOpenImage, NamesAlone, OfSomeRow, pair_of};
 ghost use Rattle.state_rows.specs.Bundles.{IsBundle, IsFit};
@@ -14,7 +14,7 @@ use crate::pair_list::PairList;
 use crate::question::NextState;
 use crate::searching::least_of_both;
 use cubes::Cube;
-use kiss2::KissRow;
+use kiss_file::KissRow;
 use pattern_bundles::take_first;
 use state_rows::RowBundle;
 use std::alloc::{AllocError, Global};

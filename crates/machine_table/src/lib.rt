@@ -2,7 +2,7 @@
 //!
 //! A [`Machine`] is built from a file whose rows do not contradict one another and, with `Fill::Refuse`,
 //! leave nothing open. Contracts see it as that file, so every question it answers is about the next states
-//! and outputs that `kiss2/specs/Machine` defines. There is no table indexed by symbols: answers come from
+//! and outputs that `kiss_file/specs/Machine` defines. There is no table indexed by symbols: answers come from
 //! the rows of the states in question. `state_rows` arranges the rows of each state: in the order of their cubes, and
 //! in bundles of 64, which find all rows that share a symbol with a cube at once, so that only those rows are asked.
 //!
@@ -15,9 +15,7 @@
 
 mod aligned;
 mod building;
-mod copying;
 mod covering;
-mod filling;
 mod images;
 mod laws;
 mod machine;
@@ -31,8 +29,8 @@ mod searching;
 mod walking;
 
 pub use building::BuildFail;
-pub use copying::copied_given;
 pub use covering::Piece;
 pub use laws::lawful_is_a_table;
 pub use machine::Machine;
 pub use missing::Missing;
+pub use open_entry::{all_outputs, says};

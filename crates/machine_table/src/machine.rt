@@ -1,10 +1,10 @@
 //! The data of a machine, and the questions about one state and one symbol.
 ghost use Rattle.std.specs.Prelude.{ℕ, ◌≡◌, ◌<◌, ◌≤◌, ◌^◌, All, Contains, IsTrue, Some, length, slice_get};
 ghost use Rattle.cubes.specs.Symbol.{symbol_of};
-ghost use Rattle.kiss2.specs.Lawful.{IsLawfulRow};
-ghost use Rattle.kiss2.specs.Machine.{Conflicting, Specified, given_bit, next, output_bit};
-ghost use Rattle.kiss2.specs.Names.{AreDistinct};
-ghost use Rattle.kiss2.specs.declared.kiss_file.KissRow.{KissRow};
+ghost use Rattle.kiss_file.specs.Lawful.{IsLawfulRow};
+ghost use Rattle.kiss_file.specs.Machine.{Conflicting, Specified, given_bit, next, output_bit};
+ghost use Rattle.kiss_file.specs.Names.{AreDistinct};
+ghost use Rattle.kiss_file.specs.declared.file.KissRow.{KissRow};
 ghost use Rattle.state_rows.specs.declared.bundles.RowBundle.{RowBundle};
 ghost use Rattle.state_rows.specs.Bundles.{IsBundle, IsFit, IsInBundles};
 ghost use Rattle.state_rows.specs.Places.{IsNumberOf};
@@ -12,7 +12,7 @@ ghost use Rattle.machine_table.specs.Staying.{NeverLeaves};
 ghost use Rattle.machine_table.specs.Table.{IsTable};
 
 use hs_list::Items;
-use kiss2::{KissFile, KissRow};
+use kiss_file::{KissFile, KissRow};
 use state_rows::RowBundle;
 use std::marker::Model;
 
@@ -36,8 +36,8 @@ pub struct Machine {
 
 impl Model for Machine {
     ghost use Rattle.std.specs.Prelude.{IsTrue, length};
-    ghost use Rattle.kiss2.specs.declared.kiss_file.KissFile.{KissFile};
-    ghost use Rattle.kiss2.specs.Machine.{Conflicting, Specified};
+    ghost use Rattle.kiss_file.specs.declared.file.KissFile.{KissFile};
+    ghost use Rattle.kiss_file.specs.Machine.{Conflicting, Specified};
     ghost use Rattle.machine_table.specs.Table.{IsTable};
     ghost use Rattle.state_rows.specs.Bundles.{ListBundles};
     ghost use Rattle.state_rows.specs.Columns.{AreColumns};
@@ -155,7 +155,7 @@ impl Machine {
     }
 
     /// Whether the rows are known to leave nothing open.
-    pub(crate) fn is_complete(&self) -> bool
+    pub fn is_complete(&self) -> bool
         ensures specified { IsTrue result → Specified self.now }
         ensures table { IsTable self.now }
         ensures no_conflict { Conflicting self.now → ⊥ }
@@ -164,7 +164,7 @@ impl Machine {
     }
 
     /// The numbers of the rows of a state, in the order of their cubes.
-    pub(crate) fn numbers_of(&self, s: usize) -> &[usize]
+    pub fn numbers_of(&self, s: usize) -> &[usize]
         requires { s < length self.now.states }
         ensures inside { All (λ i. i < length self.now.rows) result.now }
         ensures own { (i : ℕ) → Contains result.now i → IsNumberOf self.now s i }
@@ -187,7 +187,7 @@ impl Machine {
     }
 
     /// The row with that number.
-    pub(crate) fn row(&self, number: usize) -> &KissRow
+    pub fn row(&self, number: usize) -> &KissRow
         requires { number < length self.now.rows }
         ensures row { slice_get self.now.rows number ≡ Some result.now }
         ensures lawful { IsLawfulRow self.now.inputs self.now.outputs (length self.now.states) result.now }

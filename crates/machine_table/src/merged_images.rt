@@ -2,7 +2,7 @@
 //!
 //! Pairs are merged row by row, and no more rows are asked once all states are one block.
 ghost use Rattle.std.specs.Prelude.{ℕ, ◌≡◌, ◌<◌, All, Contains, OnOk, Some, length};
-ghost use Rattle.kiss2.specs.Lawful.{IsLawfulRow};
+ghost use Rattle.kiss_file.specs.Lawful.{IsLawfulRow};
 ghost use Rattle.machine_table.specs.Inner.AddedPairs.{AreNamed, AreNamedAtPlaces, IsFound, IsListedPair, IsNamedBeside, IsOpenImage};
 ghost use Rattle.machine_table.specs.Inner.SeenPairs.{AreStates};
 ghost use Rattle.machine_table.specs.Merging.{MergesImages, MergesPairs};
@@ -12,7 +12,7 @@ use crate::Machine;
 use crate::images::named_pair;
 use crate::pair_list::PairList;
 use crate::question::NextState;
-use kiss2::KissRow;
+use kiss_file::KissRow;
 use partition::Partition;
 use std::alloc::{AllocError, Global};
 

@@ -1,7 +1,7 @@
 //! What rows leave open.
 ghost use Rattle.std.specs.Prelude.{ℕ, ◌+◌, ◌-◌, ◌≡◌, ◌<◌, ◌≤◌, ◌^◌, ◌↔◌, All, IfNone, IfOk, IfSome, IsTrue, length};
 ghost use Rattle.cubes.specs.Gap.{IsHeld};
-ghost use Rattle.kiss2.specs.declared.kiss_file.KissFile.{KissFile};
+ghost use Rattle.kiss_file.specs.declared.file.KissFile.{KissFile};
 ghost use Rattle.machine_table.specs.declared.missing.Missing.{Missing};
 ghost use Rattle.machine_table.specs.Inner.OpenSymbol.{AreFullCubes, IsFirstAmong, IsFirstOf, IsFull, IsSaidEverywhere, SaysAll};
 ghost use Rattle.machine_table.specs.Table.{IsTable};
@@ -10,7 +10,7 @@ ghost use Rattle.machine_table.specs.Said.{IsEntry, IsFirstOpen, IsSaid, Says, p
 use crate::machine::given;
 use crate::{Machine, Missing};
 use cubes::{Cube, first_gap};
-use kiss2::KissRow;
+use kiss_file::KissRow;
 use std::alloc::{AllocError, Global};
 
 /// A part at a state and a symbol.
@@ -22,7 +22,7 @@ pub struct Entry {
 }
 
 /// Whether the row says the part.
-pub(crate) fn says(row: &KissRow, part: Missing) -> bool
+pub fn says(row: &KissRow, part: Missing) -> bool
     requires { place_of part < 65 }
     ensures { IsTrue result ↔ Says part row.now }
 {
@@ -33,7 +33,7 @@ pub(crate) fn says(row: &KissRow, part: Missing) -> bool
 }
 
 /// The care of a row that gives each of so many outputs.
-pub(crate) fn all_outputs(outputs: u8) -> u64
+pub fn all_outputs(outputs: u8) -> u64
     requires { outputs ≤ 64 }
     ensures { result ≡ 2 ^ outputs - 1 }
 {

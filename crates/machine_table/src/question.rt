@@ -1,10 +1,10 @@
 //! What can be asked about two states: one part of what rows give, and which of its values count as equal.
 ghost use Rattle.std.specs.Prelude.{ℕ, ◌≡◌, ◌<◌, ◌≤◌, IfSome, IsTrue, Option, length, slice_index};
 ghost use Rattle.std.specs.Int.{bit_at};
-ghost use Rattle.kiss2.specs.declared.kiss_file.KissRow.{KissRow};
+ghost use Rattle.kiss_file.specs.declared.file.KissRow.{KissRow};
 
 use crate::machine::given;
-use kiss2::KissRow;
+use kiss_file::KissRow;
 use partition::Partition;
 
 /// A question about one part of what rows give. Each value of the part has a label, and values count as
@@ -132,7 +132,7 @@ impl OutputBit {
 /// Bits count as equal if they are equal.
 impl Question for OutputBit {
     ghost use Rattle.std.specs.Prelude.{option_map};
-    ghost use Rattle.kiss2.specs.Machine.{given_bit};
+    ghost use Rattle.kiss_file.specs.Machine.{given_bit};
     ghost use Rattle.machine_table.specs.Inner.Asked.{digit};
 
     ghost states = { λ _. 65536 };

@@ -5,8 +5,8 @@
 ghost use Rattle.std.specs.Prelude.{ℕ, ◌≡◌, ◌<◌, ◌≤◌, ◌^◌, ◌↔◌, All, IfNone, IfSome, IsSome, IsTrue, length, false, true};
 ghost use Rattle.cubes.specs.Cube.{HoldsNumber, IsHalf, Meets};
 ghost use Rattle.cubes.specs.Symbol.{bit};
-ghost use Rattle.kiss2.specs.Lawful.{IsLawfulRow};
-ghost use Rattle.kiss2.specs.Machine.{Specified};
+ghost use Rattle.kiss_file.specs.Lawful.{IsLawfulRow};
+ghost use Rattle.kiss_file.specs.Machine.{Specified};
 ghost use Rattle.machine_table.specs.Inner.Asked.{AllSay, ApartBelow, HaveOneLabel, MeetsApart, NoneIsOpen, AreApartAt, IsAloneAt, IsApartAt, AreOpenAt, SayApart, DifferAt, DifferBothOpen, DifferOpen, IsOpenAt, SayTwo, SaysAlone};
 ghost use Rattle.state_rows.specs.Least.{IsMetBy, lesser_of};
 ghost use Rattle.state_rows.specs.Bundles.{IsBundle, IsFit};
@@ -15,7 +15,7 @@ ghost use Rattle.machine_table.specs.Inner.MarkedRows.{IsSearchedIn};
 use crate::Machine;
 use crate::question::Question;
 use cubes::Cube;
-use kiss2::KissRow;
+use kiss_file::KissRow;
 use pattern_bundles::take_first;
 use state_rows::RowBundle;
 

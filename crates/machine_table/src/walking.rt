@@ -1,7 +1,7 @@
 //! The outputs along a word.
 ghost use Rattle.std.specs.Prelude.{◌≡◌, ◌<◌, ◌^◌, All, IfOk, IfSome, length, map};
 ghost use Rattle.cubes.specs.Symbol.{symbol_of};
-ghost use Rattle.kiss2.specs.Machine.{answers, out};
+ghost use Rattle.kiss_file.specs.Machine.{answers, out};
 ghost use Rattle.machine_table.specs.Inner.Step.{IsStep};
 ghost use Rattle.machine_table.specs.Walk.{outputs_of};
 

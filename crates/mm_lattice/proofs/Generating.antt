@@ -5,8 +5,8 @@ use Rattle.std.proofs.lemmas.Bool.{cases_eq, cases_lt, eqb-true}
 use Rattle.std.proofs.lemmas.List.Sums.{passes_at_first}
 use Rattle.hs_lattice.specs.JoinWorld.{IsJoinOf, IsGenerated, HaveJoins}
 use Rattle.hs_lattice.specs.Laws.{IsGenerated-has}
-use Rattle.kiss2.specs.declared.kiss_file.KissFile.{KissFile}
-use Rattle.kiss2.specs.Machine.{next}
+use Rattle.kiss_file.specs.declared.file.KissFile.{KissFile}
+use Rattle.kiss_file.specs.Machine.{next}
 use Rattle.partition.specs.Partition.{IsHold, IsPartition, Together, Le, zero_of}
 use Rattle.partition.specs.Inside.{least_of}
 use Rattle.partition.specs.Laws.Chains.{together_turned, join_is_least}

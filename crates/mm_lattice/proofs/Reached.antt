@@ -1,6 +1,6 @@
 -- Joins of right sides of two states, which are right sides as soon as M of them is there.
 use Rattle.std.proofs.Common.{ℕ, List, length, sym, ◌∙◌}
-use Rattle.kiss2.specs.declared.kiss_file.KissFile.{KissFile}
+use Rattle.kiss_file.specs.declared.file.KissFile.{KissFile}
 use Rattle.partition.specs.Partition.{IsStateCount, Le, zero_of}
 use Rattle.partition.specs.MeetAndJoin.{IsJoin, IsLeastAbove}
 use Rattle.partition.specs.Laws.Chains.{join_is_least}

@@ -2,8 +2,8 @@
 use Rattle.std.proofs.Common.{◌≡◌, ℕ, ◌+◌, ◌<◌, ◌≤◌, ◌↔◌, inl, inr, List, length, refl, subst, arith}
 use Rattle.std.proofs.lemmas.Bool.{cases_eq, cases_lt}
 use Rattle.std.proofs.lemmas.List.Recursion.{max_least}
-use Rattle.kiss2.specs.declared.kiss_file.KissFile.{KissFile}
-use Rattle.kiss2.specs.Machine.{next}
+use Rattle.kiss_file.specs.declared.file.KissFile.{KissFile}
+use Rattle.kiss_file.specs.Machine.{next}
 use Rattle.partition.specs.Partition.{blocks_of, IsOne, IsPartition, IsStateCount, IsZero, Together, Le, zero_of}
 use Rattle.partition.specs.Laws.Chains.{together_turned}
 use Rattle.partition.specs.Laws.Extremes.{zero_of_is_partition, zero_of_is_zero}

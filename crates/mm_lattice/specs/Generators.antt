@@ -1,6 +1,6 @@
 -- The right sides of pairs of states. All right sides are joins of these.
 use Rattle.std.specs.Prelude.{ℕ, List, length}
-use Rattle.kiss2.specs.declared.kiss_file.KissFile.{KissFile}
+use Rattle.kiss_file.specs.declared.file.KissFile.{KissFile}
 use Rattle.partition.specs.Partition.{IsHold}
 use Rattle.pair_operators.specs.Extremes.{IsLow}
 

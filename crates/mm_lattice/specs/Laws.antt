@@ -1,7 +1,7 @@
 -- The laws of the Mm pairs of a machine as a world of values that can be joined. An Mm pair is decided by its
 -- right side, and the join of two right sides is a right side.
 use Rattle.std.proofs.Common.{◌≡◌, ℕ, ◌⊎◌, inl, inr, List, length, sym, ap, ◌∙◌, subst}
-use Rattle.kiss2.specs.declared.kiss_file.KissFile.{KissFile}
+use Rattle.kiss_file.specs.declared.file.KissFile.{KissFile}
 use Rattle.partition.specs.Partition.{IsPartition, Le}
 use Rattle.partition.specs.MeetAndJoin.{IsLeastAbove}
 use Rattle.partition.specs.Laws.Chains.{join_is_least}

@@ -1,6 +1,6 @@
 -- Mm pairs, ordered by their right sides, and their least one and joins (source: Hartmanis and Stearns).
 use Rattle.std.specs.Prelude.{◌≡◌, length}
-use Rattle.kiss2.specs.declared.kiss_file.KissFile.{KissFile}
+use Rattle.kiss_file.specs.declared.file.KissFile.{KissFile}
 use Rattle.partition.specs.Partition.{zero_of}
 use Rattle.partition.specs.MeetAndJoin.{IsJoin}
 use Rattle.partition.specs.Before.{Before}

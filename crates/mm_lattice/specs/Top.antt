@@ -1,6 +1,6 @@
 -- The right sides of Mm pairs that are greatest strictly below one (source: Hartmanis and Stearns).
 use Rattle.std.specs.Prelude.{◌⊎◌, List, ℕ}
-use Rattle.kiss2.specs.declared.kiss_file.KissFile.{KissFile}
+use Rattle.kiss_file.specs.declared.file.KissFile.{KissFile}
 use Rattle.partition.specs.Partition.{IsNontrivial, IsOne, IsZero, Le}
 use Rattle.pair_operators.specs.Extremes.{MmPair}
 

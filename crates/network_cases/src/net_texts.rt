@@ -5,7 +5,7 @@ use blif_in::{BlifFail, BlifFault, BlifKind, read};
 use blif_out::{Header, append};
 use case_lines::number;
 use hs_list::Items;
-use kiss2::StateNames;
+use kiss_file::StateNames;
 use net_core::{Gate, Latch, Network};
 use state_codes::Kind;
 use std::alloc::{AllocError, Global};

@@ -5,10 +5,10 @@ use Rattle.std.proofs.lemmas.Bool.{cases_lt}
 use Rattle.std.proofs.lemmas.List.{get_or-map, get_or-take, get_or_append_left, length-append, length-map, length-take-le}
 use Rattle.std.proofs.lemmas.List.Elements.{All-append, All-get_or, All-map, All-weaker}
 use Rattle.list_facts.specs.Laws.Everywhere.{all_given}
-use Rattle.kiss2.specs.declared.kiss_file.KissFile.{KissFile}
-use Rattle.kiss2.specs.declared.kiss_file.KissRow.{KissRow}
-use Rattle.kiss2.specs.Lawful.{AreGiven, AreNumbered, IsLawful, IsLawfulRow, appearances, given_names}
-use Rattle.kiss2.specs.Names.{AreDistinct, IsPlainName}
+use Rattle.kiss_file.specs.declared.file.KissFile.{KissFile}
+use Rattle.kiss_file.specs.declared.file.KissRow.{KissRow}
+use Rattle.kiss_file.specs.Lawful.{AreGiven, AreNumbered, IsLawful, IsLawfulRow, appearances, given_names}
+use Rattle.kiss_file.specs.Names.{AreDistinct, IsPlainName}
 use Rattle.numbered_names.specs.NumberedNames.{numbered_names}
 use Rattle.numbered_names.proofs.NumberedNames.{length-numbered_names, numbered_names-distinct, numbered_names-plain}
 

@@ -4,7 +4,7 @@ use Rattle.std.specs.Fmt.{decimal}
 use Rattle.std.proofs.lemmas.Fmt.{decimal_by_steps, decimal_injective, length-decimal-le}
 use Rattle.std.proofs.lemmas.List.FromFn.{get_or-map-range_with_len, length-map-range_with_len, map-range_with_len_more}
 use Rattle.std.proofs.lemmas.List.Elements.{All-cons, All-from_get_or, All-nil, All-push}
-use Rattle.kiss2.specs.Names.{AreDistinct, IsNameByte, IsPlainName}
+use Rattle.kiss_file.specs.Names.{AreDistinct, IsNameByte, IsPlainName}
 use Rattle.numbered_names.specs.NumberedNames.{numbered_name, numbered_names}
 
 tail : List ℕ → List ℕ

@@ -1,11 +1,11 @@
 //! The names.
 
 ghost use Rattle.std.specs.Prelude.{◌≡◌, All, IfOk};
-ghost use Rattle.kiss2.specs.Names.{AreDistinct, IsPlainName};
+ghost use Rattle.kiss_file.specs.Names.{AreDistinct, IsPlainName};
 ghost use Rattle.numbered_names.specs.NumberedNames.{numbered_name, numbered_names};
 
 use itoa::Buffer;
-use kiss2::StateNames;
+use kiss_file::StateNames;
 use std::alloc::{AllocError, Global};
 
 /// The names with the numbers below `count`, in the order of their numbers.

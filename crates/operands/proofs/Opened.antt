@@ -11,11 +11,11 @@ use Rattle.operands.specs.Opened.{IsNetOpened, IsOpened}
 use Rattle.operands.specs.Loading.{IsShortText, IsText}
 use Rattle.operands.specs.Laws.Causes.{no_conflict, no_fault, not_long}
 use Rattle.job_words.specs.declared.jobs.Job.{Job}
-use Rattle.kiss2.specs.declared.fill.Fill.{Fill}
-use Rattle.kiss2.specs.declared.kiss_file.KissFile.{KissFile}
+use Rattle.kiss_file.specs.declared.fill.Fill.{Fill}
+use Rattle.kiss_file.specs.declared.file.KissFile.{KissFile}
 use Rattle.kiss2.specs.Kiss.{Kiss}
-use Rattle.kiss2.specs.Lawful.{IsLawful}
-use Rattle.kiss2.specs.Machine.{Accepted}
+use Rattle.kiss_file.specs.Lawful.{IsLawful}
+use Rattle.kiss_file.specs.Machine.{Accepted}
 use Rattle.machine_table.specs.declared.missing.Missing.{Missing}
 use Rattle.machine_table.specs.Cause.{IsRefusedAt}
 use Rattle.machine_table.specs.Conflict.{IsFirstConflict}

@@ -9,11 +9,11 @@ use Rattle.blif_in.specs.Text.{IsBlifFault}
 use Rattle.cubes.specs.Symbol.{symbol_of}
 use Rattle.operands.specs.Loading.{Lengthy}
 use Rattle.kiss2.specs.declared.fault.KissFault.{KissFault}
-use Rattle.kiss2.specs.declared.fill.Fill.{Fill}
-use Rattle.kiss2.specs.declared.fill.Fill.TheVariants.{Refuse}
-use Rattle.kiss2.specs.declared.kiss_file.KissFile.{KissFile}
+use Rattle.kiss_file.specs.declared.fill.Fill.{Fill}
+use Rattle.kiss_file.specs.declared.fill.Fill.TheVariants.{Refuse}
+use Rattle.kiss_file.specs.declared.file.KissFile.{KissFile}
 use Rattle.kiss2.specs.Kiss.{IsKissFault, Kiss}
-use Rattle.kiss2.specs.Machine.{Accepted, Conflicting}
+use Rattle.kiss_file.specs.Machine.{Accepted, Conflicting}
 use Rattle.machine_table.specs.declared.missing.Missing.{Missing}
 use Rattle.machine_table.specs.Conflict.{IsFirstConflict}
 use Rattle.machine_table.specs.Said.{IsFirstOpen}

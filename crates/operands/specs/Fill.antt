@@ -1,7 +1,7 @@
 -- The fill of a job.
 use Rattle.std.specs.Prelude.{if◌then◌else◌}
-use Rattle.kiss2.specs.declared.fill.Fill.{Fill}
-use Rattle.kiss2.specs.declared.fill.Fill.TheVariants.{Refuse, Hold}
+use Rattle.kiss_file.specs.declared.fill.Fill.{Fill}
+use Rattle.kiss_file.specs.declared.fill.Fill.TheVariants.{Refuse, Hold}
 use Rattle.job_words.specs.declared.jobs.Job.{Job}
 
 -- open entries are filled where the words ask for it, and are refused otherwise

@@ -3,11 +3,11 @@ use Rattle.std.specs.Prelude.{◌≡◌, ℕ, List, Option, Result, Ok, Err}
 use Rattle.answers.specs.declared.refusals.Refusal.{Refusal}
 use Rattle.blif_in.specs.declared.reading.OrderedNetwork.{OrderedNetwork}
 use Rattle.job_words.specs.declared.jobs.Job.{Job}
-use Rattle.kiss2.specs.declared.fill.Fill.{Fill}
-use Rattle.kiss2.specs.declared.kiss_file.KissFile.{KissFile}
+use Rattle.kiss_file.specs.declared.fill.Fill.{Fill}
+use Rattle.kiss_file.specs.declared.file.KissFile.{KissFile}
 use Rattle.kiss2.specs.Kiss.{Kiss}
-use Rattle.kiss2.specs.Lawful.{IsLawful}
-use Rattle.kiss2.specs.Machine.{Accepted}
+use Rattle.kiss_file.specs.Lawful.{IsLawful}
+use Rattle.kiss_file.specs.Machine.{Accepted}
 use Rattle.net_core.specs.declared.Network.{Network}
 use Rattle.net_core.specs.Blif.{Blif}
 use Rattle.net_core.specs.Order.{IsOrderOf}

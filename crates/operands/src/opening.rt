@@ -6,14 +6,15 @@ ghost use Rattle.operands.specs.Fill.{fill_of};
 ghost use Rattle.operands.specs.Inner.Reading.{IsBuiltOf, IsEntryRefusal, IsReadAs, IsReadOf};
 ghost use Rattle.operands.specs.Opened.{IsNetOpened, IsOpened};
 ghost use Rattle.operands.specs.Loading.{IsShortText};
-ghost use Rattle.kiss2.specs.Lawful.{IsLawful};
+ghost use Rattle.kiss_file.specs.Lawful.{IsLawful};
 
 use crate::text::load_operand;
 use answers::{Refusal, symbol_text};
 use blif_in::{BlifFail, OrderedNetwork, read_ordered};
 use hs_io::{Name, Shelf};
 use job_words::Job;
-use kiss2::{Fill, KissFail, KissFile, read};
+use kiss2::{KissFail, read};
+use kiss_file::{Fill, KissFile};
 use machine_table::{BuildFail, Machine, Missing};
 use std::alloc::{AllocError, Global};
 

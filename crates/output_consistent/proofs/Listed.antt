@@ -3,8 +3,8 @@ use Rattle.std.proofs.Common.{◌≡◌, ◌∙◌, ℕ, ◌<◌, inl, inr, All,
 use Rattle.std.proofs.lemmas.List.Elements.{All-head, All-tail}
 use Rattle.hs_lattice.specs.JoinWorld.{HaveJoins}
 use Rattle.hs_lattice.specs.Laws.{IsGenerated-has}
-use Rattle.kiss2.specs.declared.kiss_file.KissFile.{KissFile}
-use Rattle.kiss2.specs.Machine.{answers, next, out}
+use Rattle.kiss_file.specs.declared.file.KissFile.{KissFile}
+use Rattle.kiss_file.specs.Machine.{answers, next, out}
 use Rattle.machine_table.specs.Staying.{NeverLeaves}
 use Rattle.pair_operators.specs.Consistent.{Consistent}
 use Rattle.partition.specs.Partition.{IsStateCount, Le, Together}

@@ -2,8 +2,8 @@
 use Rattle.std.proofs.Common.{◌≡◌, ℕ, ◌∙◌, List, length, sym, ap, refl, inl, inr}
 use Rattle.cubes.specs.Symbol.{symbol_of}
 use Rattle.cubes.proofs.Numbers.{length-symbol_of}
-use Rattle.kiss2.specs.declared.kiss_file.KissFile.{KissFile}
-use Rattle.kiss2.specs.Machine.{output_bit}
+use Rattle.kiss_file.specs.declared.file.KissFile.{KissFile}
+use Rattle.kiss_file.specs.Machine.{output_bit}
 use Rattle.partition.specs.Inner.Splitting.{IsSplitBy}
 use Rattle.output_consistent.specs.Outputs.{IsOutputPartition}
 use Rattle.output_consistent.specs.Inner.Agreeing.{AgreeInEach}

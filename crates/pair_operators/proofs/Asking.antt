@@ -1,7 +1,7 @@
 -- Numbers of states after the labels of one more column.
 use Rattle.std.proofs.Common.{ℕ, ◌≡◌, ◌<◌, All, List, length, get_or, ap, sym, ◌∙◌, subst}
 use Rattle.cubes.specs.Symbol.{symbol_of}
-use Rattle.kiss2.specs.declared.kiss_file.KissFile.{KissFile}
+use Rattle.kiss_file.specs.declared.file.KissFile.{KissFile}
 use Rattle.pair_operators.specs.Asked.{IsNextColumn}
 use Rattle.pair_operators.specs.declared.asked.Keys.{Keys}
 use Rattle.pair_operators.specs.declared.asked.NextColumn.{NextColumn}

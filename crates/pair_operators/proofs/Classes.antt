@@ -1,6 +1,6 @@
 -- States that go together are put together, state by state.
 use Rattle.std.proofs.Common.{◌≡◌, ℕ, List, length, subst, inl, inr, arith}
-use Rattle.kiss2.specs.declared.kiss_file.KissFile.{KissFile}
+use Rattle.kiss_file.specs.declared.file.KissFile.{KissFile}
 use Rattle.machine_table.specs.Staying.{NeverLeaves}
 use Rattle.partition.specs.Inner.Splitting.{IsSplitBy}
 use Rattle.pair_operators.specs.Extremes.{IsHigh}

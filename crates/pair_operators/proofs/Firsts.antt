@@ -2,7 +2,7 @@
 use Rattle.std.proofs.Common.{ℕ, ◌+◌, ◌<◌, List, length, get_or, eqb, sym, subst, refl, inl, inr, arith}
 use Rattle.std.proofs.lemmas.Bool.{cases_eq, eqb-true}
 use Rattle.std.proofs.lemmas.List.Sums.{passes_at_first}
-use Rattle.kiss2.specs.declared.kiss_file.KissFile.{KissFile}
+use Rattle.kiss_file.specs.declared.file.KissFile.{KissFile}
 use Rattle.partition.specs.Partition.{Together}
 use Rattle.partition.specs.Inside.{least_of}
 use Rattle.partition.proofs.Nesting.{least_of-le, least_of-same}

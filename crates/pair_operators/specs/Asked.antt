@@ -1,8 +1,8 @@
 -- Next states at symbols that are asked first.
 use Rattle.std.specs.Prelude.{ℕ, ◌≡◌, ◌<◌, ◌^◌, All, length, slice_index}
 use Rattle.cubes.specs.Symbol.{symbol_of}
-use Rattle.kiss2.specs.declared.kiss_file.KissFile.{KissFile}
-use Rattle.kiss2.specs.Machine.{next}
+use Rattle.kiss_file.specs.declared.file.KissFile.{KissFile}
+use Rattle.kiss_file.specs.Machine.{next}
 use Rattle.pair_operators.specs.declared.asked.AskedSymbols.{AskedSymbols}
 use Rattle.pair_operators.specs.declared.asked.NextColumn.{NextColumn}
 

@@ -1,7 +1,7 @@
 -- Partitions that the outputs respect (source: Hartmanis and Stearns).
 use Rattle.std.specs.Prelude.{◌≡◌, ℕ, Bool, List, length}
-use Rattle.kiss2.specs.declared.kiss_file.KissFile.{KissFile}
-use Rattle.kiss2.specs.Machine.{out}
+use Rattle.kiss_file.specs.declared.file.KissFile.{KissFile}
+use Rattle.kiss_file.specs.Machine.{out}
 use Rattle.partition.specs.Partition.{Together}
 
 -- states that are together have equal outputs for each symbol

@@ -1,7 +1,7 @@
 -- The least and the greatest partition of a pair, among all partitions of the states (source: Hartmanis and Stearns, the
 -- operators m and M).
 use Rattle.std.specs.Prelude.{ℕ, List, length}
-use Rattle.kiss2.specs.declared.kiss_file.KissFile.{KissFile}
+use Rattle.kiss_file.specs.declared.file.KissFile.{KissFile}
 use Rattle.partition.specs.Partition.{IsPartition, Le}
 use Rattle.pair_operators.specs.Pair.{Pair}
 

@@ -1,7 +1,7 @@
 -- Partition pairs and closed partitions (source: Hartmanis and Stearns; a closed partition has the substitution property).
 use Rattle.std.specs.Prelude.{◌≡◌, ℕ, Bool, List, length}
-use Rattle.kiss2.specs.declared.kiss_file.KissFile.{KissFile}
-use Rattle.kiss2.specs.Machine.{next}
+use Rattle.kiss_file.specs.declared.file.KissFile.{KissFile}
+use Rattle.kiss_file.specs.Machine.{next}
 use Rattle.partition.specs.Partition.{Together}
 
 -- states that are together in p go, for each symbol, to states that are together in q

@@ -1,6 +1,6 @@
 //! Next states at a few symbols, which tell most states apart.
 ghost use Rattle.std.specs.Prelude.{ℕ, ◌≡◌, ◌<◌, ◌^◌, All, IfOk, IfSome, List, OnOk, length};
-ghost use Rattle.kiss2.specs.declared.kiss_file.KissFile.{KissFile};
+ghost use Rattle.kiss_file.specs.declared.file.KissFile.{KissFile};
 ghost use Rattle.pair_operators.specs.Asked.{AreAsked, IsNextColumn};
 ghost use Rattle.pair_operators.specs.Inner.Keys.{AreKeys, AreMixed, mixed};
 

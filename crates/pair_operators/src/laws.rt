@@ -1,7 +1,7 @@
 //! What follows from the definitions, for the crates above. Each law is the contract of a function that does
 //! nothing.
 ghost use Rattle.std.specs.Prelude.{ℕ, ◌≡◌, ◌↔◌, List, length};
-ghost use Rattle.kiss2.specs.declared.kiss_file.KissFile.{KissFile};
+ghost use Rattle.kiss_file.specs.declared.file.KissFile.{KissFile};
 ghost use Rattle.machine_table.specs.Staying.{NeverLeaves};
 ghost use Rattle.partition.specs.MeetAndJoin.{IsJoin, IsMeet};
 ghost use Rattle.partition.specs.Partition.{IsOne, IsPartition, IsZero, Le};

@@ -3,7 +3,7 @@ use Rattle.std.proofs.Common.{◌≡◌, ℕ, ◌<◌, inl, inr, All, Contains, 
 use Rattle.std.proofs.lemmas.Bool.{cases_order}
 use Rattle.std.proofs.lemmas.List.Elements.{All-head, All-tail}
 use Rattle.std.proofs.lemmas.List.Sorted.{Contains-permutation, IsPermutation-sym}
-use Rattle.kiss2.specs.declared.kiss_file.KissFile.{KissFile}
+use Rattle.kiss_file.specs.declared.file.KissFile.{KissFile}
 use Rattle.partition.specs.Partition.{IsZero, Together, zero_of}
 use Rattle.partition.specs.Before.{Before, IsSmaller}
 use Rattle.partition.specs.MeetAndJoin.{IsMeet}

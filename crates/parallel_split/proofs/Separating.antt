@@ -1,6 +1,6 @@
 -- What is known of a greatest closed partition that holds two states apart.
 use Rattle.std.proofs.Common.{ℕ, ◌<◌, List, length, subst, arith}
-use Rattle.kiss2.specs.declared.kiss_file.KissFile.{KissFile}
+use Rattle.kiss_file.specs.declared.file.KissFile.{KissFile}
 use Rattle.partition.specs.Partition.{IsNontrivial, IsPartition, IsZero, Le, Lt, Together, zero_of}
 use Rattle.partition.specs.Laws.Chains.{together_itself}
 use Rattle.closed_lattice.specs.Closed.{IsClosedPartition}

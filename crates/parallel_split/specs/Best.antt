@@ -2,7 +2,7 @@
 -- Hartmanis and Stearns; this project).
 use Rattle.std.specs.Prelude.{ℕ, ◌<◌, All, List, length}
 use Rattle.std.specs.List.{remove}
-use Rattle.kiss2.specs.declared.kiss_file.KissFile.{KissFile}
+use Rattle.kiss_file.specs.declared.file.KissFile.{KissFile}
 use Rattle.partition.specs.Partition.{Lt}
 use Rattle.partition.specs.MeetAndJoin.{IsMeet}
 use Rattle.closed_lattice.specs.Closed.{IsClosedPartition}

@@ -1,6 +1,6 @@
 -- What follows from the definitions alone.
 use Rattle.std.specs.Prelude.{◌≡◌, List}
-use Rattle.kiss2.specs.declared.kiss_file.KissFile.{KissFile}
+use Rattle.kiss_file.specs.declared.file.KissFile.{KissFile}
 use Rattle.state_codes.specs.declared.split.Part.{Part}
 use Rattle.parallel_split.specs.Choice.{IsParallelChoice}
 use Rattle.parallel_split.specs.Kind.{IsParallel}

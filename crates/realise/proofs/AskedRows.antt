@@ -19,8 +19,8 @@ use Rattle.gate_rows.specs.Columns.{IsReadIn}
 use Rattle.gate_rows.specs.Covers.{IsGoodCover}
 use Rattle.gate_rows.specs.Demands.{AreApart, CanBeRead, IsAsked, demand_at}
 use Rattle.gate_rows.proofs.TermCovers.{same_cover}
-use Rattle.kiss2.specs.declared.kiss_file.KissFile.{KissFile}
-use Rattle.kiss2.specs.declared.kiss_file.KissRow.{KissRow}
+use Rattle.kiss_file.specs.declared.file.KissFile.{KissFile}
+use Rattle.kiss_file.specs.declared.file.KissRow.{KissRow}
 use Rattle.realise.specs.Realised.{IsEnough, IsWithin}
 use Rattle.realise.specs.Rows.{GivesAt, read_values}
 use Rattle.realise.specs.Inner.Lists.{asked_by, width_of}

@@ -8,7 +8,7 @@ use Rattle.cubes.specs.Symbol.{bit}
 use Rattle.cubes.proofs.Bits.{same_digits}
 use Rattle.dependence.specs.declared.sets.ReadSet.{ReadSet}
 use Rattle.gate_rows.specs.Columns.{input_of}
-use Rattle.kiss2.specs.declared.kiss_file.KissFile.{KissFile}
+use Rattle.kiss_file.specs.declared.file.KissFile.{KissFile}
 use Rattle.net_core.proofs.Valuations.{parts_of_append}
 use Rattle.realise.specs.Laws.{EqualReads}
 use Rattle.realise.specs.Realised.{IsEnough}

@@ -3,7 +3,7 @@ use Rattle.std.proofs.Common.{◌≡◌, ℕ, ◌<◌, ◌≤◌, List, [], ◌+
 use Rattle.std.proofs.lemmas.List.Elements.{All-append, All-contains_itself, All-map, All-same, All-weaker, Contains-append_left, Contains-append_right, Contains-get_or}
 use Rattle.list_facts.specs.Laws.Everywhere.{all_from_map}
 use Rattle.dependence.specs.declared.sets.Reads.{Reads}
-use Rattle.kiss2.specs.declared.kiss_file.KissFile.{KissFile}
+use Rattle.kiss_file.specs.declared.file.KissFile.{KissFile}
 use Rattle.net_core.specs.declared.Gate.{Gate}
 use Rattle.net_core.specs.declared.Latch.{Latch}
 use Rattle.net_core.specs.declared.Network.{Network}

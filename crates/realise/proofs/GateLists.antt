@@ -13,7 +13,7 @@ use Rattle.dependence.specs.Permits.{next_value, output_value}
 use Rattle.gate_rows.specs.Covers.{IsGoodCover}
 use Rattle.gate_rows.specs.Latches.{AreLatches}
 use Rattle.gate_rows.proofs.LatchNames.{listed_count}
-use Rattle.kiss2.specs.declared.kiss_file.KissFile.{KissFile}
+use Rattle.kiss_file.specs.declared.file.KissFile.{KissFile}
 use Rattle.net_core.specs.declared.Gate.{Gate}
 use Rattle.net_core.specs.declared.Network.{Network}
 use Rattle.net_core.specs.declared.SignalNames.{SignalNames}

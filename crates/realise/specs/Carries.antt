@@ -1,7 +1,7 @@
 -- A network carries a machine: step by step, its latch values are the codes of the machine's states.
 use Rattle.std.specs.Prelude.{◌≡◌, ℕ, ◌<◌, Bool, All, List, length}
-use Rattle.kiss2.specs.declared.kiss_file.KissFile.{KissFile}
-use Rattle.kiss2.specs.Machine.{answers, next, out}
+use Rattle.kiss_file.specs.declared.file.KissFile.{KissFile}
+use Rattle.kiss_file.specs.Machine.{answers, next, out}
 use Rattle.machine_table.specs.Staying.{NeverLeaves}
 use Rattle.net_core.specs.declared.Network.{Network}
 use Rattle.net_core.specs.Step.{AreStarts, NetAnswers, Step}

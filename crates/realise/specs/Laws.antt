@@ -3,8 +3,8 @@ use Rattle.std.specs.Prelude.{◌≡◌, ℕ, ◌<◌, ◌≤◌, Bool, List, le
 use Rattle.std.specs.Str.{bytes_eq}
 use Rattle.dependence.specs.declared.sets.ReadSet.{ReadSet}
 use Rattle.dependence.specs.declared.sets.Reads.{Reads}
-use Rattle.kiss2.specs.declared.kiss_file.KissFile.{KissFile}
-use Rattle.kiss2.specs.Lawful.{IsLawful}
+use Rattle.kiss_file.specs.declared.file.KissFile.{KissFile}
+use Rattle.kiss_file.specs.Lawful.{IsLawful}
 use Rattle.machine_table.specs.Staying.{NeverLeaves}
 use Rattle.net_core.specs.declared.Network.{Network}
 use Rattle.net_core.specs.declared.SignalNames.{SignalNames}

@@ -9,7 +9,7 @@ use Rattle.dependence.specs.Permits.{PermitsValue, next_value, output_value}
 use Rattle.dependence.specs.Inputs.{Matters}
 use Rattle.gate_rows.specs.Covers.{IsGoodCover}
 pub use Rattle.gate_rows.specs.Names.{name_at}
-use Rattle.kiss2.specs.declared.kiss_file.KissFile.{KissFile}
+use Rattle.kiss_file.specs.declared.file.KissFile.{KissFile}
 use Rattle.net_core.specs.declared.Gate.{Gate}
 use Rattle.net_core.specs.declared.Network.{Network}
 use Rattle.net_core.specs.declared.SignalNames.{SignalNames}

@@ -12,7 +12,7 @@ use crate::lists::gate_rows_of;
 use dependence::{Bit, ReadSet, Reads};
 use gate_rows::{latches, listed_names, name_from};
 use hs_io::{Name, copied_names};
-use kiss2::KissRow;
+use kiss_file::KissRow;
 use machine_table::Machine;
 use net_core::{Gate, Gates, Network, SignalNames};
 use state_codes::Codes;

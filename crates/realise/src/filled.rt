@@ -3,7 +3,8 @@
 ghost use Rattle.std.specs.Prelude.{◌+◌, ◌<◌, IfOk, OnOk, length};
 ghost use Rattle.realise.specs.Inner.Filled.{AreFilled, AreFilledBelow};
 
-use kiss2::KissRow;
+use filled_rows::filled_rows;
+use kiss_file::KissRow;
 use machine_table::Machine;
 use std::alloc::{AllocError, Global};
 
@@ -29,7 +30,7 @@ fn add_rows(
     requires before { AreFilledBelow m.now state filled.old.items }
     ensures { OnOk result (AreFilledBelow m.now (state + 1) filled.new.items) }
 {
-    let own = m.filled_rows(alloc, state)?;
+    let own = filled_rows(alloc, m, state)?;
     for row in &own {
         filled.push(*row)?;
     }

@@ -17,7 +17,7 @@ use crate::said::said_bit;
 use dependence::{Bit, ReadSet};
 use gate_rows::{Demand, demanded_rows};
 use hs_io::Names;
-use kiss2::KissRow;
+use kiss_file::KissRow;
 use machine_table::Machine;
 use std::alloc::{AllocError, Global};
 

@@ -1,14 +1,14 @@
 //! What a row says of a bit.
 
 ghost use Rattle.std.specs.Prelude.{◌≡◌, ◌<◌, IfSome, length};
-ghost use Rattle.kiss2.specs.Machine.{given_bit};
+ghost use Rattle.kiss_file.specs.Machine.{given_bit};
 ghost use Rattle.dependence.specs.Inner.Said as said;
 ghost use Rattle.dependence.specs.Effects.{HasPlace};
 ghost use Rattle.dependence.specs.Inner.Said.{row_value};
 
 use dependence::Bit;
 use gate_rows::bit;
-use kiss2::KissRow;
+use kiss_file::KissRow;
 
 /// What the gate of a bit gives at the symbols of a row, if the row says it. The words are the codes of the
 /// states.

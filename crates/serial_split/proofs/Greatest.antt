@@ -1,7 +1,7 @@
 -- The greatest closed partition below one, and whether any is nontrivial.
 use Rattle.std.proofs.Common.{◌≡◌, ℕ, ◌⊎◌, inl, inr, List, length, sym, ◌∙◌, subst, arith}
 use Rattle.std.proofs.lemmas.Bool.{cases_eq}
-use Rattle.kiss2.specs.declared.kiss_file.KissFile.{KissFile}
+use Rattle.kiss_file.specs.declared.file.KissFile.{KissFile}
 use Rattle.partition.specs.Partition.{IsNontrivial, IsOne, IsPartition, IsZero, Le, Lt, Together, zero_of}
 use Rattle.partition.specs.Laws.Labels.{same_labels}
 use Rattle.partition.specs.Laws.Chains.{together_itself}

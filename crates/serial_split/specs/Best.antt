@@ -1,6 +1,6 @@
 -- Splits whose steps cannot be made smaller (source: this project).
 use Rattle.std.specs.Prelude.{◌≡◌, ℕ, List, [], ◌∷◌, Some, length, slice_get}
-use Rattle.kiss2.specs.declared.kiss_file.KissFile.{KissFile}
+use Rattle.kiss_file.specs.declared.file.KissFile.{KissFile}
 use Rattle.partition.specs.Partition.{IsOne, IsPartition, Lt}
 use Rattle.partition.specs.MeetAndJoin.{IsMeet}
 use Rattle.closed_lattice.specs.Closed.{IsClosedPartition}

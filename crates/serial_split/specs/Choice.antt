@@ -1,7 +1,7 @@
 -- Which serial split and which cascade, as steps, since these decide which of several right ones is given (source:
 -- this project).
 use Rattle.std.specs.Prelude.{◌≡◌, ℕ, List, [], ◌∷◌, length, map}
-use Rattle.kiss2.specs.declared.kiss_file.KissFile.{KissFile}
+use Rattle.kiss_file.specs.declared.file.KissFile.{KissFile}
 use Rattle.partition.specs.Partition.{IsOne, IsPartition, IsZero, Lt, zero_of}
 use Rattle.partition.specs.Inside.{IsComplement, IsInside}
 use Rattle.closed_lattice.specs.Closed.{IsPrincipal}

@@ -1,7 +1,7 @@
 -- What a serial split and a cascade are (source: Hartmanis and Stearns).
 use Rattle.std.specs.Prelude.{◌≡◌, ℕ, ◌≤◌, All, List, [], ◌∷◌, Some, length, slice_get}
 use Rattle.std.specs.List.{range_with_len}
-use Rattle.kiss2.specs.declared.kiss_file.KissFile.{KissFile}
+use Rattle.kiss_file.specs.declared.file.KissFile.{KissFile}
 use Rattle.partition.specs.Partition.{IsNontrivial, IsOne, IsPartition, IsZero, Lt, blocks_of}
 use Rattle.partition.specs.MeetAndJoin.{IsMeet}
 use Rattle.partition.specs.Inside.{IsLargestSize}

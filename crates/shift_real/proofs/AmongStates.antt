@@ -6,7 +6,7 @@ use Rattle.dependence.specs.declared.bit.Bit.TheVariants.{Output}
 use Rattle.dependence.specs.declared.effects.Effect.{Effect}
 use Rattle.dependence.specs.Effects.{ActsBy, AddsState, MattersAt}
 use Rattle.dependence.specs.Permits.{output_value}
-use Rattle.kiss2.specs.declared.kiss_file.KissFile.{KissFile}
+use Rattle.kiss_file.specs.declared.file.KissFile.{KissFile}
 use Rattle.shift_real.specs.Inner.Reading.{AreEffectsAfter, MattersAmong}
 
 pub effects_none : (F : KissFile) (states : List ℕ) (effects : List Effect) → length effects ≡ F.inputs → ((a : ℕ) (gate : Bit) → ActsBy effects a gate → ⊥) → AreEffectsAfter F states 0 effects

@@ -10,9 +10,9 @@ use Rattle.dependence.specs.declared.bit.Bit.TheVariants.{Output}
 use Rattle.dependence.proofs.Said.{mapped, says_value}
 use Rattle.gate_rows.specs.declared.demands.Demand.{Demand}
 use Rattle.gate_rows.specs.Demands.{demand_at}
-use Rattle.kiss2.specs.declared.kiss_file.KissFile.{KissFile}
-use Rattle.kiss2.specs.declared.kiss_file.KissRow.{KissRow}
-use Rattle.kiss2.specs.Machine.{given_bit, output_bit}
+use Rattle.kiss_file.specs.declared.file.KissFile.{KissFile}
+use Rattle.kiss_file.specs.declared.file.KissRow.{KissRow}
+use Rattle.kiss_file.specs.Machine.{given_bit, output_bit}
 use Rattle.machine_table.specs.declared.missing.Missing.{Missing}
 use Rattle.machine_table.specs.declared.missing.Missing.TheVariants.{Output as OutputPart}
 use Rattle.machine_table.specs.Covering.{IsRightRow, IsSaidBy}

@@ -13,8 +13,8 @@ use Rattle.cubes.specs.Symbol.{bit, number_of, symbol_of}
 use Rattle.cubes.proofs.Bits.{one_from_bit, same_bits, zero_from_bit}
 use Rattle.cubes.proofs.Numbers.{length-symbol_of, number_below, number_of-symbol_of, symbol_of-number_of}
 use Rattle.gate_rows.specs.Bits.{code_bits}
-use Rattle.kiss2.specs.declared.kiss_file.KissFile.{KissFile}
-use Rattle.kiss2.specs.Machine.{next}
+use Rattle.kiss_file.specs.declared.file.KissFile.{KissFile}
+use Rattle.kiss_file.specs.Machine.{next}
 use Rattle.machine_table.specs.Staying.{NeverLeaves}
 use Rattle.shift_real.specs.declared.contents.Content.{Content}
 use Rattle.shift_real.specs.Inner.Contents.{AreContents, IsAtItsNumber, IsContentOf, IsOfSomeWord, content_after, contents_after, turned_bits}

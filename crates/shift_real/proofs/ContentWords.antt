@@ -10,7 +10,7 @@ use Rattle.cubes.proofs.Bits.{same_digits}
 use Rattle.gate_rows.specs.Bits.{code_bits}
 use Rattle.gate_rows.proofs.ReadNumbers.{code_at}
 use Rattle.gate_rows.proofs.RowTexts.{number_for}
-use Rattle.kiss2.specs.declared.kiss_file.KissFile.{KissFile}
+use Rattle.kiss_file.specs.declared.file.KissFile.{KissFile}
 use Rattle.shift_real.specs.Inner.Tables.{content_of, state_at, word_of}
 use Rattle.shift_real.specs.Register.{latch_values, state_after}
 use Rattle.shift_real.specs.Words.{IsWord}

@@ -3,7 +3,7 @@ use Rattle.std.proofs.Common.{◌≡◌, ℕ, ◌+◌, inl, inr, List, [], ◌�
 use Rattle.std.proofs.lemmas.Bool.{cases_lt}
 use Rattle.list_facts.specs.Laws.Places.{get_behind, get_first}
 use Rattle.dependence.specs.declared.sets.ReadSet.{ReadSet}
-use Rattle.kiss2.specs.declared.kiss_file.KissFile.{KissFile}
+use Rattle.kiss_file.specs.declared.file.KissFile.{KissFile}
 use Rattle.net_core.specs.declared.Gate.{Gate}
 use Rattle.net_core.specs.declared.SignalNames.{SignalNames}
 use Rattle.shift_real.specs.Gates.{IsOutputGate}

@@ -27,7 +27,7 @@ use Rattle.gate_rows.specs.Names.{name_at}
 use Rattle.gate_rows.proofs.LatchNames.{listed_count}
 use Rattle.gate_rows.proofs.ReadNumbers.{code_at}
 use Rattle.gate_rows.proofs.TermCovers.{same_cover}
-use Rattle.kiss2.specs.declared.kiss_file.KissFile.{KissFile}
+use Rattle.kiss_file.specs.declared.file.KissFile.{KissFile}
 use Rattle.net_core.specs.declared.Gate.{Gate}
 use Rattle.net_core.specs.declared.SignalNames.{SignalNames}
 use Rattle.net_core.proofs.Valuations.{parts_of_append}

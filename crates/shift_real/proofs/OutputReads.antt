@@ -13,8 +13,8 @@ use Rattle.cubes.proofs.Numbers.{length-symbol_of, number_below, symbol_of-numbe
 use Rattle.dependence.specs.Inputs.{DifferAlone}
 use Rattle.gate_rows.specs.Bits.{code_bits}
 use Rattle.gate_rows.proofs.ReadNumbers.{code_at}
-use Rattle.kiss2.specs.declared.kiss_file.KissFile.{KissFile}
-use Rattle.kiss2.specs.Machine.{output_bit}
+use Rattle.kiss_file.specs.declared.file.KissFile.{KissFile}
+use Rattle.kiss_file.specs.Machine.{output_bit}
 use Rattle.shift_real.specs.Gates.{InputMatters, LatchMatters}
 use Rattle.shift_real.specs.Inner.Reading.{FlipMatters, MattersAmong}
 use Rattle.shift_real.specs.Inner.Tables.{AreFirsts, IsFirstAlike, IsTable, content_of, state_at}

@@ -3,7 +3,7 @@ use Rattle.std.proofs.Common.{◌≡◌, ℕ, zero, suc, ◌+◌, ◌-◌, ◌<�
 use Rattle.std.proofs.lemmas.Option.{slice_get_within}
 use Rattle.list_facts.specs.Laws.Places.{get_behind, get_cases, get_first}
 use Rattle.closed_lattice.proofs.ZeroBlocks.{strictly_fewer}
-use Rattle.kiss2.specs.declared.kiss_file.KissFile.{KissFile}
+use Rattle.kiss_file.specs.declared.file.KissFile.{KissFile}
 use Rattle.machine_table.specs.Staying.{NeverLeaves}
 use Rattle.pair_operators.specs.Extremes.{IsHigh}
 use Rattle.partition.specs.Laws.Labels.{blocks_of-le, label-lt-blocks_of, same_labels}

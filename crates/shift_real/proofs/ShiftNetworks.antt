@@ -14,8 +14,8 @@ use Rattle.gate_rows.specs.Bits.{code_bits}
 use Rattle.gate_rows.specs.Columns.{input_of}
 use Rattle.gate_rows.specs.Latches.{AreLatches}
 use Rattle.gate_rows.specs.Names.{name_at}
-use Rattle.kiss2.specs.declared.kiss_file.KissFile.{KissFile}
-use Rattle.kiss2.specs.Machine.{answers, out, output_bit}
+use Rattle.kiss_file.specs.declared.file.KissFile.{KissFile}
+use Rattle.kiss_file.specs.Machine.{answers, out, output_bit}
 use Rattle.machine_table.specs.Staying.{NeverLeaves}
 use Rattle.net_core.specs.declared.Gate.{Gate}
 use Rattle.net_core.specs.declared.Latch.{Latch}

@@ -4,7 +4,7 @@ use Rattle.std.proofs.lemmas.Bool.{cases_eq}
 use Rattle.std.proofs.lemmas.List.{get_or-set_other, get_or-set_same, get_or_default}
 use Rattle.std.proofs.lemmas.Option.{slice_get_within}
 use Rattle.gate_rows.specs.Bits.{code_bits}
-use Rattle.kiss2.specs.declared.kiss_file.KissFile.{KissFile}
+use Rattle.kiss_file.specs.declared.file.KissFile.{KissFile}
 use Rattle.shift_real.specs.declared.contents.Content.{Content}
 use Rattle.shift_real.specs.Inner.Contents.{AreContents}
 use Rattle.shift_real.specs.Inner.Tables.{IsTable, content_of, state_at}

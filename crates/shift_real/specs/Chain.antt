@@ -1,6 +1,6 @@
 -- The chain of a machine: zero, M(zero), M(M(zero)) and so on (source: Hartmanis and Stearns, the operator M).
 use Rattle.std.specs.Prelude.{◌≡◌, ℕ, ◌+◌, ◌-◌, ◌<◌, ◌↔◌, List, Some, length, slice_get}
-use Rattle.kiss2.specs.declared.kiss_file.KissFile.{KissFile}
+use Rattle.kiss_file.specs.declared.file.KissFile.{KissFile}
 use Rattle.pair_operators.specs.Extremes.{IsHigh}
 use Rattle.partition.specs.Partition.{IsPartition, IsZero, Lt, Together}
 use Rattle.shift_real.specs.Words.{MeetAfter}

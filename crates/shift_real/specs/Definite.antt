@@ -1,6 +1,6 @@
 -- Definite machines (source: Perles, Rabin and Shamir, the theory of definite automata).
 use Rattle.std.specs.Prelude.{◌≡◌, ℕ, ◌<◌, ◌≤◌, ◌⊎◌, ⊤, length}
-use Rattle.kiss2.specs.declared.kiss_file.KissFile.{KissFile}
+use Rattle.kiss_file.specs.declared.file.KissFile.{KissFile}
 use Rattle.shift_real.specs.declared.orders.OrderFail.{OrderFail}
 use Rattle.shift_real.specs.declared.orders.OrderFail.TheVariants.{NotDefinite, NoMemory}
 use Rattle.shift_real.specs.Words.{MeetAfter}

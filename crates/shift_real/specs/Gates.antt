@@ -8,8 +8,8 @@ use Rattle.dependence.specs.Inputs.{DifferAlone}
 use Rattle.gate_rows.specs.Columns.{input_of}
 use Rattle.gate_rows.specs.Covers.{IsGoodCover}
 use Rattle.gate_rows.specs.Names.{name_at}
-use Rattle.kiss2.specs.declared.kiss_file.KissFile.{KissFile}
-use Rattle.kiss2.specs.Machine.{output_bit}
+use Rattle.kiss_file.specs.declared.file.KissFile.{KissFile}
+use Rattle.kiss_file.specs.Machine.{output_bit}
 use Rattle.net_core.specs.declared.Gate.{Gate}
 use Rattle.net_core.specs.declared.SignalNames.{SignalNames}
 use Rattle.shift_real.specs.Register.{latch_values, state_after}

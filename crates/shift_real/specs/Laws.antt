@@ -1,7 +1,7 @@
 -- What a definite machine and its register do at a symbol.
 use Rattle.std.specs.Prelude.{◌≡◌, ℕ, ◌*◌, ◌<◌, ◌++◌, Bool, List, length, take}
-use Rattle.kiss2.specs.declared.kiss_file.KissFile.{KissFile}
-use Rattle.kiss2.specs.Machine.{next}
+use Rattle.kiss_file.specs.declared.file.KissFile.{KissFile}
+use Rattle.kiss_file.specs.Machine.{next}
 use Rattle.machine_table.specs.Staying.{NeverLeaves}
 use Rattle.shift_real.specs.Definite.{Definite}
 use Rattle.shift_real.specs.Register.{latch_values, shifted, state_after}

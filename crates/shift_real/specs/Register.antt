@@ -2,7 +2,7 @@
 -- definite automata). A content is a word of as many symbols as the order, oldest first.
 use Rattle.std.specs.Prelude.{◌≡◌, ◌≢◌, ℕ, ◌*◌, ◌≤◌, ◌++◌, Bool, List, [], ◌∷◌}
 use Rattle.cubes.specs.Symbol.{number_of}
-use Rattle.kiss2.specs.declared.kiss_file.KissFile.{KissFile}
+use Rattle.kiss_file.specs.declared.file.KissFile.{KissFile}
 use Rattle.shift_real.specs.Definite.{IsOrder}
 use Rattle.shift_real.specs.Words.{IsWord, next_along}
 

@@ -1,7 +1,7 @@
 -- What the latches of the register start at.
 use Rattle.std.specs.Prelude.{◌≡◌, ℕ, ◌*◌, ◌^◌, ◌<◌, ⊤, Bool, List}
 use Rattle.gate_rows.specs.Bits.{code_bits}
-use Rattle.kiss2.specs.declared.kiss_file.KissFile.{KissFile}
+use Rattle.kiss_file.specs.declared.file.KissFile.{KissFile}
 use Rattle.shift_real.specs.declared.starts.RegisterFail.{RegisterFail}
 use Rattle.shift_real.specs.declared.starts.RegisterFail.TheVariants.{NotReached, NoMemory}
 use Rattle.shift_real.specs.Definite.{IsOrder}

@@ -1,7 +1,7 @@
 -- Words of symbols, and the states after them (source: Hartmanis and Stearns, the machine of Mealy).
 use Rattle.std.specs.Prelude.{◌≡◌, ℕ, All, Bool, List, [], ◌∷◌, length}
-use Rattle.kiss2.specs.declared.kiss_file.KissFile.{KissFile}
-use Rattle.kiss2.specs.Machine.{next}
+use Rattle.kiss_file.specs.declared.file.KissFile.{KissFile}
+use Rattle.kiss_file.specs.Machine.{next}
 
 -- k symbols of the machine
 pub record IsWord (F : KissFile) (k : ℕ) (word : List (List Bool)) : Type 0 where

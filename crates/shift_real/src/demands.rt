@@ -5,8 +5,9 @@ ghost use Rattle.std.specs.List.{filter_map};
 ghost use Rattle.shift_real.specs.Inner.ContentDemands.{AreClassDemands, IsOfClassBelow, IsWithinMask, asked_by};
 
 use crate::tables::is_among;
+use filled_rows::filled_rows;
 use gate_rows::{Demand, bit};
-use kiss2::KissRow;
+use kiss_file::KissRow;
 use machine_table::Machine;
 use std::alloc::{AllocError, Global};
 
@@ -48,7 +49,7 @@ fn add_class(
     ensures { OnOk result (AreClassDemands m.now b classes.now (IsOfClassBelow classes.now mask (class + 1)) demands.new.items) }
 {
     let _outputs = m.outputs();
-    let rows = m.filled_rows(alloc, class)?;
+    let rows = filled_rows(alloc, m, class)?;
     for (number, at) in classes.iter().enumerate() {
         if usize::from(*at) == class && number as u64 & mask == number as u64 {
             add_rows(&rows, b, number as u64, demands)?;

@@ -7,7 +7,7 @@ use Rattle.answers.specs.declared.refusals.Refusal.{Refusal}
 use Rattle.state_reduce.specs.declared.work.WorkMachine.{WorkMachine}
 use Rattle.state_reduce.specs.Laws.Works.{one_work}
 use Rattle.state_reduce.specs.Work.{IsWork, IsWorkOf}
-use Rattle.kiss2.specs.declared.kiss_file.KissFile.{KissFile}
+use Rattle.kiss_file.specs.declared.file.KissFile.{KissFile}
 use Rattle.machine_reports.specs.Causes.{KeepsApart}
 use Rattle.machine_reports.proofs.Defining.{none_apart}
 use Rattle.shift_real.specs.Definite.{IsOrder}

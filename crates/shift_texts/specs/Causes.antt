@@ -3,7 +3,7 @@ use Rattle.std.specs.Prelude.{◌≡◌, ◌*◌, ◌<◌, ℕ, Bool, List, [], 
 use Rattle.answers.specs.Cause.{Cause, FirstOf}
 use Rattle.answers.specs.declared.refusals.Refusal.TheVariants.{CodeTooLong, NotReached}
 use Rattle.state_reduce.specs.Work.{OnWork}
-use Rattle.kiss2.specs.declared.kiss_file.KissFile.{KissFile}
+use Rattle.kiss_file.specs.declared.file.KissFile.{KissFile}
 use Rattle.machine_reports.specs.Causes.{KeepsApart}
 use Rattle.shift_real.specs.Definite.{IsOrder}
 use Rattle.shift_real.specs.Register.{IsNotReached}

@@ -8,7 +8,7 @@ use Rattle.blif_out.specs.NetText.{net_text}
 use Rattle.blif_out.specs.Order.{HasKnownStarts}
 use Rattle.state_reduce.specs.Work.{IsWorkOf}
 use Rattle.hs_io.specs.Spelling.{ended}
-use Rattle.kiss2.specs.declared.kiss_file.KissFile.{KissFile}
+use Rattle.kiss_file.specs.declared.file.KissFile.{KissFile}
 use Rattle.net_core.specs.declared.Network.{Network}
 use Rattle.net_core.specs.declared.SignalNames.{SignalNames}
 use Rattle.net_core.specs.Denotes.{Denotes}

@@ -2,7 +2,7 @@
 
 ghost use Rattle.std.specs.Prelude.{Bool};
 ghost use Rattle.answers.specs.Laws.Causes.{HasOneAnswer};
-ghost use Rattle.kiss2.specs.declared.kiss_file.KissFile.{KissFile};
+ghost use Rattle.kiss_file.specs.declared.file.KissFile.{KissFile};
 ghost use Rattle.shift_texts.specs.Causes.{RefusesShift};
 
 /// All refusals that `shift` calls for have one answer.

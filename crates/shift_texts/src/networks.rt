@@ -3,8 +3,8 @@
 ghost use Rattle.std.specs.Prelude.{ℕ, Bool, IfOk};
 ghost use Rattle.answers.specs.Judged.{IsJudged};
 ghost use Rattle.state_reduce.specs.Work.{IsWork};
-ghost use Rattle.kiss2.specs.Lawful.{IsLawful};
-ghost use Rattle.kiss2.specs.Machine.{Conflicting};
+ghost use Rattle.kiss_file.specs.Lawful.{IsLawful};
+ghost use Rattle.kiss_file.specs.Machine.{Conflicting};
 ghost use Rattle.shift_real.specs.Definite.{IsOrder};
 ghost use Rattle.shift_real.specs.Register.{HasShortOrder, IsNotReached};
 ghost use Rattle.shift_texts.specs.Causes.{NeverInReset};
@@ -12,7 +12,7 @@ ghost use Rattle.shift_texts.specs.Inner.Registers.{IsRegisterOf};
 
 use answers::Refusal;
 use hs_io::Name;
-use kiss2::KissFile;
+use kiss_file::KissFile;
 use net_core::Network;
 use realise::names;
 use shift_real::{RegisterFail, register};

@@ -7,7 +7,7 @@ ghost use Rattle.shift_real.specs.Register.{HasShortOrder};
 ghost use Rattle.shift_texts.specs.Causes.{HasNoShortOrder};
 
 use answers::Refusal;
-use kiss2::KissFile;
+use kiss_file::KissFile;
 use machine_reports::order_of;
 use state_reduce::WorkMachine;
 use std::alloc::Global;

@@ -2,8 +2,8 @@
 
 ghost use Rattle.std.specs.Prelude.{◌≡◌};
 ghost use Rattle.answers.specs.Judged.{IsJudged};
-ghost use Rattle.kiss2.specs.Lawful.{IsLawful};
-ghost use Rattle.kiss2.specs.Machine.{Accepted};
+ghost use Rattle.kiss_file.specs.Lawful.{IsLawful};
+ghost use Rattle.kiss_file.specs.Machine.{Accepted};
 ghost use Rattle.shift_texts.specs.Causes.{RefusesShift};
 ghost use Rattle.shift_texts.specs.ShiftText.{IsShiftText};
 
@@ -11,7 +11,7 @@ use crate::comments::text_of;
 use crate::networks::register_of;
 use crate::orders::short_order;
 use answers::Refusal;
-use kiss2::{Fill, KissFile};
+use kiss_file::{Fill, KissFile};
 use machine_table::Machine;
 use state_reduce::work_machine;
 use std::alloc::Global;

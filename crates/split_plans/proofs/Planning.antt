@@ -3,7 +3,7 @@ use Rattle.std.proofs.Common.{◌≡◌, ℕ, ◌<◌, ◌≤◌, ◌↔◌, All
 use Rattle.std.specs.Vec.{vec_len}
 use Rattle.answers.specs.Cause.{CallsForNone}
 use Rattle.answers.specs.Judged.{IsJudged}
-use Rattle.kiss2.specs.declared.kiss_file.KissFile.{KissFile}
+use Rattle.kiss_file.specs.declared.file.KissFile.{KissFile}
 use Rattle.part_texts.specs.Faults.{BadParts}
 use Rattle.part_texts.specs.Texts.{ArePartTexts}
 use Rattle.part_texts.specs.Laws.Parts.{parts_are_lawful}

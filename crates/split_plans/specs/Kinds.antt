@@ -5,7 +5,7 @@ use Rattle.answers.specs.Cause.{Cause}
 use Rattle.feedback_split.specs.Best.{IsBestFeedback}
 use Rattle.feedback_split.specs.Choice.{IsFeedbackChoice}
 use Rattle.feedback_split.specs.Kind.{IsFeedback}
-use Rattle.kiss2.specs.declared.kiss_file.KissFile.{KissFile}
+use Rattle.kiss_file.specs.declared.file.KissFile.{KissFile}
 use Rattle.least_codes.specs.Kind.{GiveLeastCode, IsLeastSplit}
 use Rattle.mm_lattice.specs.Top.{RightsAreTrivial}
 use Rattle.net_core.specs.declared.Network.{Network}

@@ -5,7 +5,7 @@ use Rattle.answers.specs.Cause.{Cause}
 use Rattle.decomposition.specs.OwnPairs.{ReadsLatch}
 use Rattle.dependence.specs.Candidates.{IsBitOfCode}
 use Rattle.dependence.specs.Permits.{next_value, output_value}
-use Rattle.kiss2.specs.declared.kiss_file.KissFile.{KissFile}
+use Rattle.kiss_file.specs.declared.file.KissFile.{KissFile}
 use Rattle.least_codes.specs.LeastCode.{IsLeastCode}
 use Rattle.least_codes.specs.LeastReads.{AreLeastReads}
 use Rattle.net_core.specs.declared.Gate.{Gate}

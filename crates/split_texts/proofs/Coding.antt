@@ -9,7 +9,7 @@ use Rattle.answers.specs.Laws.Causes.{none_first}
 use Rattle.state_reduce.specs.declared.work.WorkMachine.{WorkMachine}
 use Rattle.decomposition.specs.Decomposition.{IsTextOf}
 use Rattle.state_reduce.specs.Work.{IsWork}
-use Rattle.kiss2.specs.declared.kiss_file.KissFile.{KissFile}
+use Rattle.kiss_file.specs.declared.file.KissFile.{KissFile}
 use Rattle.state_codes.specs.declared.CodeFail.{CodeFail}
 use Rattle.state_codes.specs.declared.CodeFail.TheVariants.{CodeTooLong, NotApart, NoMemory}
 use Rattle.state_codes.specs.declared.Codes.{Codes}

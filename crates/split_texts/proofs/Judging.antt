@@ -9,9 +9,9 @@ use Rattle.answers.specs.Laws.Causes.{none_first}
 use Rattle.state_reduce.specs.declared.work.WorkMachine.{WorkMachine}
 use Rattle.decomposition.specs.Decomposition.{HasGates, IsTextOf}
 use Rattle.state_reduce.specs.Work.{IsWork, IsWorkOf}
-use Rattle.kiss2.specs.declared.kiss_file.KissFile.{KissFile}
-use Rattle.kiss2.specs.Lawful.{IsLawful}
-use Rattle.kiss2.specs.Machine.{Conflicting}
+use Rattle.kiss_file.specs.declared.file.KissFile.{KissFile}
+use Rattle.kiss_file.specs.Lawful.{IsLawful}
+use Rattle.kiss_file.specs.Machine.{Conflicting}
 use Rattle.split_plans.specs.Splits.{AreParts, HasNoPlan, IsPlanned, LacksSplit, Refuses}
 use Rattle.split_plans.specs.Laws.Causes.{lacking_is_apart}
 use Rattle.split_plans.specs.Laws.Kinds.{promises_kept}

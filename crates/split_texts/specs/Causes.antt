@@ -3,7 +3,7 @@ use Rattle.std.specs.Prelude.{◌≡◌, ◌<◌, ℕ, Bool, List, [], ◌∷◌
 use Rattle.answers.specs.declared.refusals.Refusal.TheVariants.{CodeTooLong, NotApart}
 use Rattle.answers.specs.Cause.{Cause, FirstOf}
 use Rattle.state_reduce.specs.Work.{OnWork}
-use Rattle.kiss2.specs.declared.kiss_file.KissFile.{KissFile}
+use Rattle.kiss_file.specs.declared.file.KissFile.{KissFile}
 use Rattle.split_plans.specs.Splits.{AreParts, LacksSplit, Refuses}
 use Rattle.state_codes.specs.declared.split.Kind.{Kind}
 use Rattle.state_codes.specs.declared.split.Part.{Part}

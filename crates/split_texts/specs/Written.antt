@@ -4,7 +4,7 @@ use Rattle.blif_out.specs.declared.header.Header.{Header}
 use Rattle.state_reduce.specs.declared.work.WorkMachine.{WorkMachine}
 use Rattle.decomposition.specs.Decomposition.{IsDecomposition, IsTextOf}
 use Rattle.state_reduce.specs.Work.{IsWork}
-use Rattle.kiss2.specs.declared.kiss_file.KissFile.{KissFile}
+use Rattle.kiss_file.specs.declared.file.KissFile.{KissFile}
 use Rattle.net_core.specs.declared.Network.{Network}
 use Rattle.split_plans.specs.Kinds.{row_of}
 use Rattle.split_plans.specs.Splits.{IsSplitOf}

@@ -2,8 +2,8 @@
 
 ghost use Rattle.std.specs.Prelude.{◌≡◌};
 ghost use Rattle.answers.specs.Judged.{IsJudged};
-ghost use Rattle.kiss2.specs.Lawful.{IsLawful};
-ghost use Rattle.kiss2.specs.Machine.{Accepted};
+ghost use Rattle.kiss_file.specs.Lawful.{IsLawful};
+ghost use Rattle.kiss_file.specs.Machine.{Accepted};
 ghost use Rattle.split_plans.specs.Given.{HasFewParts};
 ghost use Rattle.split_texts.specs.Causes.{IsNotWritten};
 ghost use Rattle.split_texts.specs.Written.{IsWritten};
@@ -11,7 +11,7 @@ ghost use Rattle.state_codes.specs.declared.split.Kind.TheVariants as kinds;
 
 use crate::writing::write;
 use answers::Refusal;
-use kiss2::{Fill, KissFile};
+use kiss_file::{Fill, KissFile};
 use machine_table::Machine;
 use split_plans::plan;
 use state_codes::Kind;

@@ -8,12 +8,12 @@ use Rattle.std.proofs.lemmas.List.Elements.{All-contains, Contains-append_cases,
 use Rattle.std.proofs.lemmas.Option.{slice_get-get_or}
 use Rattle.list_facts.specs.Laws.Members.{Contains-filter, Contains-from_filter, Contains-from_filter_map, Contains-from_map, Contains-map}
 use Rattle.cubes.specs.Cube.{Meets}
-use Rattle.kiss2.specs.declared.fill.Fill.{Fill}
-use Rattle.kiss2.specs.declared.kiss_file.KissFile.{KissFile}
-use Rattle.kiss2.specs.declared.kiss_file.KissRow.{KissRow}
-use Rattle.kiss2.specs.Lawful.{IsLawfulRow}
-use Rattle.kiss2.specs.Machine.{Accepted, Conflicting, GiveBoth, IsRowAt, NameTwo, Specified, answers}
-use Rattle.kiss2.specs.Names.{AreDistinct}
+use Rattle.kiss_file.specs.declared.fill.Fill.{Fill}
+use Rattle.kiss_file.specs.declared.file.KissFile.{KissFile}
+use Rattle.kiss_file.specs.declared.file.KissRow.{KissRow}
+use Rattle.kiss_file.specs.Lawful.{IsLawfulRow}
+use Rattle.kiss_file.specs.Machine.{Accepted, Conflicting, GiveBoth, IsRowAt, NameTwo, Specified, answers}
+use Rattle.kiss_file.specs.Names.{AreDistinct}
 use Rattle.machine_table.specs.Table.{IsTable}
 use Rattle.partition.proofs.Nesting.{least_of-same}
 use Rattle.partition.specs.Inside.{least_of}

@@ -10,12 +10,12 @@ use Rattle.cubes.specs.Cube.{Holds}
 use Rattle.cubes.specs.Symbol.{symbol_of}
 use Rattle.cubes.proofs.Ends.{least_held}
 use Rattle.cubes.proofs.Numbers.{length-symbol_of}
-use Rattle.kiss2.specs.declared.kiss_file.KissFile.{KissFile}
-use Rattle.kiss2.specs.declared.kiss_file.KissRow.{KissRow}
-use Rattle.kiss2.specs.Lawful.{AreNumbered, IsLawfulRow}
-use Rattle.kiss2.specs.Machine.{Conflicting, IsRowAt, next, rows_at}
-use Rattle.kiss2.specs.Names.{name_of}
-use Rattle.kiss2.proofs.Machine.{next_said}
+use Rattle.kiss_file.specs.declared.file.KissFile.{KissFile}
+use Rattle.kiss_file.specs.declared.file.KissRow.{KissRow}
+use Rattle.kiss_file.specs.Lawful.{AreNumbered, IsLawfulRow}
+use Rattle.kiss_file.specs.Machine.{Conflicting, IsRowAt, next, rows_at}
+use Rattle.kiss_file.specs.Names.{name_of}
+use Rattle.kiss_file.proofs.Machine.{next_said}
 use Rattle.machine_table.specs.Table.{IsTable}
 use Rattle.pair_operators.specs.Pair.{Closed}
 use Rattle.partition.proofs.Nesting.{least_of-same}

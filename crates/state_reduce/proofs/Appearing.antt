@@ -8,7 +8,7 @@ use Rattle.std.proofs.lemmas.List.Elements.{Contains-get_or}
 use Rattle.std.proofs.lemmas.Option.{slice_get-get_or}
 use Rattle.list_facts.specs.Laws.Members.{Contains-map}
 use Rattle.kiss2.specs.Inner.Judging.{once_after}
-use Rattle.kiss2.specs.Names.{AreDistinct}
+use Rattle.kiss_file.specs.Names.{AreDistinct}
 use Rattle.kiss2.specs.Standing.{each_once}
 use Rattle.kiss2.proofs.Finding.{contained_from_test}
 use Rattle.kiss2.proofs.Once.{among, distinct_from_once, each_once-append, once-each_once}

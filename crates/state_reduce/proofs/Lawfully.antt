@@ -6,10 +6,10 @@ use Rattle.std.proofs.lemmas.Bool.{cases_Bool}
 use Rattle.std.proofs.lemmas.List.{length-map, map-append}
 use Rattle.std.proofs.lemmas.List.Elements.{All-append, All-contains, All-filter, All-from_get_or, All-map, All-weaker, Contains-get_or}
 use Rattle.list_facts.specs.Laws.Members.{Contains-none}
-use Rattle.kiss2.specs.declared.kiss_file.KissFile.{KissFile}
-use Rattle.kiss2.specs.declared.kiss_file.KissRow.{KissRow}
-use Rattle.kiss2.specs.Lawful.{AreGiven, AreNumbered, IsLawful, IsLawfulRow, appearances}
-use Rattle.kiss2.specs.Names.{AreDistinct, IsPlainName}
+use Rattle.kiss_file.specs.declared.file.KissFile.{KissFile}
+use Rattle.kiss_file.specs.declared.file.KissRow.{KissRow}
+use Rattle.kiss_file.specs.Lawful.{AreGiven, AreNumbered, IsLawful, IsLawfulRow, appearances}
+use Rattle.kiss_file.specs.Names.{AreDistinct, IsPlainName}
 use Rattle.machine_table.specs.Table.{IsTable}
 use Rattle.partition.specs.Inside.{least_of}
 use Rattle.state_reduce.specs.Inner.Named.{AreAllNamed, currents_of, kept_of, nexts_of}

@@ -1,7 +1,7 @@
 -- What the least state of each block meets with the others, all states of the block meet.
 use Rattle.std.proofs.Common.{◌≡◌, ℕ, ◌+◌, ◌<◌, ◌≤◌, inl, inr, List, length, sym, ◌∙◌, subst, arith}
 use Rattle.std.proofs.lemmas.Bool.{cases_eq}
-use Rattle.kiss2.specs.declared.kiss_file.KissFile.{KissFile}
+use Rattle.kiss_file.specs.declared.file.KissFile.{KissFile}
 use Rattle.partition.specs.Inside.{least_of}
 use Rattle.partition.specs.Partition.{Together}
 use Rattle.state_reduce.specs.declared.judging.Demand.{Demand}

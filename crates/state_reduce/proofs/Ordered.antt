@@ -7,11 +7,11 @@ use Rattle.std.proofs.lemmas.List.{get_or-map, get_or_append_left, length-map, l
 use Rattle.std.proofs.lemmas.List.Elements.{All-contains, All-tail, Contains-get_or}
 use Rattle.std.proofs.lemmas.Option.{get_or_from_slice_get, same_Some}
 use Rattle.list_facts.specs.Laws.Members.{Contains-cons, Contains-filter, Contains-from_filter, Contains-from_map, Contains-here, Contains-map, Contains-none, Contains-there}
-use Rattle.kiss2.specs.declared.kiss_file.KissFile.{KissFile}
-use Rattle.kiss2.specs.declared.kiss_file.KissRow.{KissRow}
-use Rattle.kiss2.specs.Lawful.{AreNumbered, IsLawfulRow}
-use Rattle.kiss2.specs.Machine.{answers, given_bit, next, out, rows_at}
-use Rattle.kiss2.specs.Names.{AreDistinct, name_of}
+use Rattle.kiss_file.specs.declared.file.KissFile.{KissFile}
+use Rattle.kiss_file.specs.declared.file.KissRow.{KissRow}
+use Rattle.kiss_file.specs.Lawful.{AreNumbered, IsLawfulRow}
+use Rattle.kiss_file.specs.Machine.{answers, given_bit, next, out, rows_at}
+use Rattle.kiss_file.specs.Names.{AreDistinct, name_of}
 use Rattle.kiss2.specs.Standing.{each_once}
 use Rattle.kiss2.proofs.Finding.{contained_test}
 use Rattle.kiss2.proofs.Once.{among, each_once-append}

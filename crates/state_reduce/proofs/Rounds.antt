@@ -3,8 +3,8 @@ use Rattle.std.proofs.Common.{◌≡◌, ℕ, ◌<◌, ◌^◌, ◌⊎◌, Bool,
 use Rattle.std.proofs.lemmas.List.Elements.{All-cons, All-head, All-nil, All-tail}
 use Rattle.cubes.specs.Symbol.{number_of, symbol_of}
 use Rattle.cubes.proofs.Numbers.{length-symbol_of, number_below, symbol_of-number_of}
-use Rattle.kiss2.specs.declared.kiss_file.KissFile.{KissFile}
-use Rattle.kiss2.specs.Machine.{answers, next, out}
+use Rattle.kiss_file.specs.declared.file.KissFile.{KissFile}
+use Rattle.kiss_file.specs.Machine.{answers, next, out}
 use Rattle.partition.specs.Partition.{Le, Together}
 use Rattle.state_reduce.specs.Alike.{Alike, IsEquivalence, IsWord}
 use Rattle.machine_table.specs.Staying.{NeverLeaves}

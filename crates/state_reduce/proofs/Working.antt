@@ -1,9 +1,9 @@
 -- The machine that a job works on answers as that of its file.
 use Rattle.std.proofs.Common.{◌≡◌, ℕ, ◌<◌, Bool, true, false, List, length, ap, ◌∙◌}
-use Rattle.kiss2.specs.declared.kiss_file.KissFile.{KissFile}
-use Rattle.kiss2.specs.Lawful.{IsLawful}
-use Rattle.kiss2.specs.Machine.{Conflicting, answers}
-use Rattle.kiss2.proofs.Machine.{next_is_a_state}
+use Rattle.kiss_file.specs.declared.file.KissFile.{KissFile}
+use Rattle.kiss_file.specs.Lawful.{IsLawful}
+use Rattle.kiss_file.specs.Machine.{Conflicting, answers}
+use Rattle.kiss_file.proofs.Machine.{next_is_a_state}
 use Rattle.machine_table.specs.Staying.{NeverLeaves}
 use Rattle.machine_table.specs.Table.{IsTable}
 use Rattle.machine_table.proofs.Lawful.{table_of_lawful}

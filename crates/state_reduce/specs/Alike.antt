@@ -1,7 +1,7 @@
 -- States that no word distinguishes (source: Hartmanis and Stearns, equivalent states of a machine of Mealy).
 use Rattle.std.specs.Prelude.{◌≡◌, ◌<◌, ◌↔◌, ℕ, Bool, All, List, length}
-use Rattle.kiss2.specs.declared.kiss_file.KissFile.{KissFile}
-use Rattle.kiss2.specs.Machine.{answers}
+use Rattle.kiss_file.specs.declared.file.KissFile.{KissFile}
+use Rattle.kiss_file.specs.Machine.{answers}
 use Rattle.partition.specs.Partition.{IsPartition, Together}
 
 -- a word whose symbols have the given number of inputs

@@ -1,6 +1,6 @@
 -- Why a partition has no quotient.
 use Rattle.std.specs.Prelude.{◌≡◌, ◌<◌, ◌⊎◌, ℕ, List}
-use Rattle.kiss2.specs.declared.kiss_file.KissFile.{KissFile}
+use Rattle.kiss_file.specs.declared.file.KissFile.{KissFile}
 use Rattle.machine_table.specs.Staying.{NeverLeaves}
 use Rattle.machine_table.specs.Pairs.{AgreeAt, AtEachSymbol, GoInto, IsFirstWithout}
 use Rattle.pair_operators.specs.Consistent.{Consistent}

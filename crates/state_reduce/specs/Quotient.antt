@@ -2,10 +2,10 @@
 use Rattle.std.specs.Prelude.{◌≡◌, ◌<◌, ◌==◌, ◌++◌, ℕ, Bool, Contains, List, Some, filter, length, map, option_map, slice_get, slice_index}
 use Rattle.std.specs.List.{filter_map, position_or_len}
 use Rattle.std.specs.Str.{bytes_eq}
-use Rattle.kiss2.specs.declared.kiss_file.KissFile.{KissFile}
-use Rattle.kiss2.specs.declared.kiss_file.KissRow.{KissRow}
-use Rattle.kiss2.specs.Machine.{answers}
-use Rattle.kiss2.specs.Names.{name_of}
+use Rattle.kiss_file.specs.declared.file.KissFile.{KissFile}
+use Rattle.kiss_file.specs.declared.file.KissRow.{KissRow}
+use Rattle.kiss_file.specs.Machine.{answers}
+use Rattle.kiss_file.specs.Names.{name_of}
 use Rattle.kiss2.specs.Standing.{each_once}
 use Rattle.partition.specs.Inside.{least_of}
 use Rattle.partition.specs.Partition.{blocks_of}

@@ -1,7 +1,7 @@
 -- The machine that a command works on, with the classes that its header shows.
 use Rattle.std.specs.Prelude.{◌≡◌, Bool, true, false, ℕ, IsNone, List, Option, None, Some}
 use Rattle.state_reduce.specs.declared.work.WorkMachine.{WorkMachine}
-use Rattle.kiss2.specs.declared.kiss_file.KissFile.{KissFile}
+use Rattle.kiss_file.specs.declared.file.KissFile.{KissFile}
 use Rattle.state_reduce.specs.Alike.{IsEquivalence}
 use Rattle.state_reduce.specs.WorkMachine.{IsWorkMachine}
 

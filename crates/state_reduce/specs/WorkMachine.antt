@@ -1,9 +1,9 @@
 -- The machine that a job works on: the machine of its file, or of the classes of alike states (source:
 -- Hartmanis and Stearns, the reduced machine).
 use Rattle.std.specs.Prelude.{◌≡◌, ◌<◌, ℕ, Bool, true, false, List, length}
-use Rattle.kiss2.specs.declared.kiss_file.KissFile.{KissFile}
-use Rattle.kiss2.specs.Lawful.{IsLawful}
-use Rattle.kiss2.specs.Machine.{Conflicting, answers}
+use Rattle.kiss_file.specs.declared.file.KissFile.{KissFile}
+use Rattle.kiss_file.specs.Lawful.{IsLawful}
+use Rattle.kiss_file.specs.Machine.{Conflicting, answers}
 use Rattle.state_reduce.specs.Alike.{IsEquivalence, IsWord}
 use Rattle.state_reduce.specs.Quotient.{AreBlocksInOrder, IsQuotient, block_number}
 

@@ -1,10 +1,10 @@
 //! The machine of the blocks of a partition.
 ghost use Rattle.std.specs.Prelude.{◌≡◌, ◌<◌, ◌≤◌, ◌==◌, ◌++◌, ◌∷◌, [], Contains, IfErr, IfOk, IfSome, OnOk, Some, length, map, slice_get};
-ghost use Rattle.kiss2.specs.Lawful.{AreNumbered, IsLawful};
-ghost use Rattle.kiss2.specs.Machine.{Accepted};
-ghost use Rattle.kiss2.specs.Names.{AreDistinct};
+ghost use Rattle.kiss_file.specs.Lawful.{AreNumbered, IsLawful};
+ghost use Rattle.kiss_file.specs.Machine.{Accepted};
+ghost use Rattle.kiss_file.specs.Names.{AreDistinct};
 ghost use Rattle.kiss2.specs.Standing.{each_once};
-ghost use Rattle.kiss2.specs.declared.fill.Fill.{Fill};
+ghost use Rattle.kiss_file.specs.declared.fill.Fill.{Fill};
 ghost use Rattle.machine_table.specs.Table.{IsTable};
 ghost use Rattle.pair_operators.specs.Consistent.{Consistent};
 ghost use Rattle.pair_operators.specs.Pair.{Closed};
@@ -15,8 +15,8 @@ ghost use Rattle.state_reduce.specs.Inner.Named.{AreAllNamed, currents_of};
 ghost use Rattle.state_reduce.specs.Quotient.{AnswersAsMembers, AreBlocksInOrder, AreNamed, HaveRowsInOrder, IsQuotient, block_name, block_names, block_number, kept_rows, row_of_blocks};
 
 use crate::judging::{Demand, QuotientFail, first_against};
-use kiss2::{KissFile, KissRow, Rows, StateNames};
-use machine_table::{Machine, copied_given};
+use kiss_file::{KissFile, KissRow, Rows, StateNames, copied_given};
+use machine_table::Machine;
 use partition::Partition;
 use std::alloc::{AllocError, Global};
 

@@ -1,15 +1,15 @@
 //! The machine that a command works on.
 
 ghost use Rattle.std.specs.Prelude.{◌≡◌, ◌<◌, Bool, IfOk, Some, length, slice_get, true};
-ghost use Rattle.kiss2.specs.Lawful.{IsLawful};
-ghost use Rattle.kiss2.specs.Machine.{Accepted};
+ghost use Rattle.kiss_file.specs.Lawful.{IsLawful};
+ghost use Rattle.kiss_file.specs.Machine.{Accepted};
 ghost use Rattle.machine_table.specs.Table.{IsTable};
 ghost use Rattle.state_reduce.specs.Alike.{IsEquivalence};
 ghost use Rattle.state_reduce.specs.Quotient.{AreBlocksInOrder, IsQuotient};
 ghost use Rattle.state_reduce.specs.Work.{IsWork};
 
 use crate::{QuotientFail, equivalence, quotient};
-use kiss2::{Fill, KissFile, StateNames};
+use kiss_file::{Fill, KissFile, StateNames};
 use machine_table::Machine;
 use partition::Partition;
 use std::alloc::{AllocError, Global};

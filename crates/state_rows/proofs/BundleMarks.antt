@@ -4,8 +4,8 @@ use Rattle.std.proofs.lemmas.List.Elements.{Contains-get_or}
 use Rattle.std.specs.Int.{bit_at, bit_not, w64}
 use Rattle.cubes.specs.declared.cube.Cube.{Cube}
 use Rattle.cubes.specs.Cube.{Meets}
-use Rattle.kiss2.specs.declared.kiss_file.KissRow.{KissRow}
-use Rattle.kiss2.specs.Machine.{GiveBoth, NameTwo}
+use Rattle.kiss_file.specs.declared.file.KissRow.{KissRow}
+use Rattle.kiss_file.specs.Machine.{GiveBoth, NameTwo}
 use Rattle.pattern_bundles.specs.Pattern.{Agree, Marks}
 use Rattle.state_rows.specs.declared.bundles.Aspect.TheVariants.{Symbols, Next, Outputs}
 use Rattle.state_rows.specs.declared.bundles.RowBundle.{RowBundle}

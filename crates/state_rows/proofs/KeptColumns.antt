@@ -5,7 +5,7 @@ use Rattle.std.specs.Option.{option_eq}
 use Rattle.std.proofs.lemmas.Bool.{cases_lt, eqb-true, false≢true, not-false}
 use Rattle.std.proofs.lemmas.List.{get_or_append_left, get_or_default, get_or_push}
 use Rattle.std.proofs.lemmas.List.Elements.{Contains-append_left, Contains-get_or, Contains-push, Contains-push_cases}
-use Rattle.kiss2.specs.declared.kiss_file.KissRow.{KissRow}
+use Rattle.kiss_file.specs.declared.file.KissRow.{KissRow}
 use Rattle.state_rows.specs.Columns.{AreColumns, AreKept, ArePicked, HaveSameCubes, IsAtPlace, IsKept, IsLedBy, NameOne, RepresentBoth, RepresentColumns}
 use Rattle.state_rows.specs.Places.{ListRows, places_of}
 

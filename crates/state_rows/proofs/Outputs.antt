@@ -6,8 +6,8 @@ use Rattle.std.specs.Int.{bit_at}
 use Rattle.std.specs.Int.RustNames.{bit_xor}
 use Rattle.cubes.specs.Symbol.{bit}
 use Rattle.cubes.proofs.Bits.{one_from_bit, zero_from_bit, bit_from_one, bit_from_zero}
-use Rattle.kiss2.specs.declared.kiss_file.KissRow.{KissRow}
-use Rattle.kiss2.specs.Machine.{GiveBoth, given_bit}
+use Rattle.kiss_file.specs.declared.file.KissRow.{KissRow}
+use Rattle.kiss_file.specs.Machine.{GiveBoth, given_bit}
 
 -- the outputs that both rows give, and at which they differ
 abbrev pub clash_of : KissRow → KissRow → ℕ

@@ -7,8 +7,8 @@ use Rattle.cubes.specs.declared.cube.Cube.{Cube}
 use Rattle.cubes.specs.Cube.{Meets}
 use Rattle.cubes.specs.Inner.Region.{clash_of}
 use Rattle.cubes.proofs.Meeting.{clash_digit, clash_from_meets, meets_from_clash}
-use Rattle.kiss2.specs.declared.kiss_file.KissRow.{KissRow}
-use Rattle.kiss2.specs.Machine.{GiveBoth, NameTwo}
+use Rattle.kiss_file.specs.declared.file.KissRow.{KissRow}
+use Rattle.kiss_file.specs.Machine.{GiveBoth, NameTwo}
 use Rattle.pattern_bundles.specs.Pattern.{Agree}
 use Rattle.state_rows.specs.Bundles.{cube_pattern, next_pattern, output_pattern}
 use Rattle.state_rows.proofs.Outputs as outputs

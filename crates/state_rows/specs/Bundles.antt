@@ -2,7 +2,7 @@
 use Rattle.std.specs.Prelude.{ℕ, ◌≡◌, ◌<◌, ◌≤◌, ◌^◌, ◌↔◌, All, AllPairs, Contains, IfSome, List, None, Option, true, Some, [], length, slice_get, slice_index, slice_index_or}
 use Rattle.std.specs.Int.{bit_at}
 use Rattle.cubes.specs.declared.cube.Cube.{Cube}
-use Rattle.kiss2.specs.declared.kiss_file.KissRow.{KissRow}
+use Rattle.kiss_file.specs.declared.file.KissRow.{KissRow}
 use Rattle.pattern_bundles.specs.declared.pattern.Pattern.{Pattern}
 use Rattle.state_rows.specs.declared.bundles.Aspect.{Aspect}
 use Rattle.state_rows.specs.declared.bundles.Aspect.TheVariants.{Symbols, Next, Outputs}

@@ -1,6 +1,6 @@
 -- States with the same cubes, and the places kept for each column of their next states.
 use Rattle.std.specs.Prelude.{ℕ, ◌≡◌, ◌<◌, Contains, List, Some, length, slice_get, slice_index}
-use Rattle.kiss2.specs.declared.kiss_file.KissRow.{KissRow}
+use Rattle.kiss_file.specs.declared.file.KissRow.{KissRow}
 use Rattle.state_rows.specs.Places.{places_of}
 
 -- the row at a place of a list of numbers

@@ -1,8 +1,8 @@
 -- The first two rows that contradict one another.
 use Rattle.std.specs.Prelude.{ℕ, ◌≡◌, ◌<◌, ◌≤◌, ◌⊎◌, List, Some, slice_get}
 use Rattle.cubes.specs.Cube.{Meets}
-use Rattle.kiss2.specs.declared.kiss_file.KissRow.{KissRow}
-use Rattle.kiss2.specs.Machine.{GiveBoth, NameTwo}
+use Rattle.kiss_file.specs.declared.file.KissRow.{KissRow}
+use Rattle.kiss_file.specs.Machine.{GiveBoth, NameTwo}
 
 -- the rows belong to one state and share a symbol, and name different next states or give 0 and 1 at one output
 pub record Contradicts (row other : KissRow) : Type 0 where

@@ -1,7 +1,7 @@
 -- The numbers of the rows of each state.
 use Rattle.std.specs.Prelude.{ℕ, ◌≡◌, ◌<◌, AllPairs, List, Contains, Some, [], length, slice_get, slice_index_or}
-use Rattle.kiss2.specs.declared.kiss_file.KissFile.{KissFile}
-use Rattle.kiss2.specs.declared.kiss_file.KissRow.{KissRow}
+use Rattle.kiss_file.specs.declared.file.KissFile.{KissFile}
+use Rattle.kiss_file.specs.declared.file.KissRow.{KissRow}
 use Rattle.state_rows.specs.Conflict.{Contradicts}
 
 -- the numbers of the rows of a state

@@ -5,7 +5,7 @@
 ghost use Rattle.std.specs.Prelude.{ℕ, ◌≡◌, ◌<◌, ◌≤◌, All, AllPairs, IfOk, List, length};
 ghost use Rattle.std.specs.Int.{bit_at};
 ghost use Rattle.cubes.specs.Cube.{Meets};
-ghost use Rattle.kiss2.specs.declared.kiss_file.KissRow.{KissRow};
+ghost use Rattle.kiss_file.specs.declared.file.KissRow.{KissRow};
 ghost use Rattle.state_rows.specs.Conflict.{Contradicts};
 ghost use Rattle.state_rows.specs.Bundles.{NamesNoOther, AreBundles, AreFit, ArePatterns, IsBundle, IsComparable, IsFit, ListBundles, MarksRows, cube_pattern, next_pattern, output_pattern, pattern_of};
 ghost use Rattle.state_rows.specs.Columns.{IsAtPlace};
@@ -13,7 +13,7 @@ ghost use Rattle.state_rows.specs.Places.{ArePlaces};
 
 use cubes::Cube;
 use hs_list::Items;
-use kiss2::KissRow;
+use kiss_file::KissRow;
 use pattern_bundles::{Bundle, Pattern};
 use std::alloc::{AllocError, Global};
 

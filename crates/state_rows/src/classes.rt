@@ -1,12 +1,12 @@
 //! Classes of states whose rows have the same cubes.
 ghost use Rattle.std.specs.Prelude.{ℕ, ◌≡◌, ◌<◌, All, IfOk, IsTrue, Some, length, slice_get, slice_index};
 ghost use Rattle.state_rows.specs.Columns.{HaveOneCube, HaveSameCubes};
-ghost use Rattle.kiss2.specs.declared.kiss_file.KissRow.{KissRow};
+ghost use Rattle.kiss_file.specs.declared.file.KissRow.{KissRow};
 ghost use Rattle.state_rows.specs.Places.{places_of};
 
 use crate::places::list_of;
 use hs_list::Items;
-use kiss2::KissRow;
+use kiss_file::KissRow;
 use std::alloc::{AllocError, Global};
 
 /// Whether the rows with these numbers have the same cube.

@@ -8,7 +8,7 @@ ghost use Rattle.state_rows.specs.Places.{ListRows, places_of};
 
 use crate::places::list_of;
 use hs_list::Items;
-use kiss2::KissRow;
+use kiss_file::KissRow;
 use std::alloc::{AllocError, Global};
 
 /// The next state that the row at a place of the list names, if it names one.

@@ -1,6 +1,6 @@
 //! Rows that contradict one another.
 ghost use Rattle.std.specs.Prelude.{ℕ, ◌≡◌, ◌<◌, ◌≤◌, All, Contains, IfNone, IfSome, List, length};
-ghost use Rattle.kiss2.specs.declared.kiss_file.KissRow.{KissRow};
+ghost use Rattle.kiss_file.specs.declared.file.KissRow.{KissRow};
 ghost use Rattle.state_rows.specs.Conflict.{AreFirstTwo, ContradictAt};
 ghost use Rattle.state_rows.specs.declared.bundles.RowBundle.{RowBundle};
 ghost use Rattle.state_rows.specs.Least.{lesser_of};
@@ -8,7 +8,7 @@ ghost use Rattle.state_rows.specs.Bundles.{AreFit, IsComparable, IsFirstAgainst,
 
 use crate::bundles::RowBundle;
 use hs_list::Items;
-use kiss2::KissRow;
+use kiss_file::KissRow;
 use pattern_bundles::take_first;
 
 /// The lesser of two numbers, if any was found.

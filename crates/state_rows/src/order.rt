@@ -5,7 +5,7 @@ ghost use Rattle.std.specs.Prelude.{ℕ, ◌↔◌, Contains, IfOk, length};
 ghost use Rattle.state_rows.specs.Places.{ArePlaces, ListRows};
 
 use hs_list::Items;
-use kiss2::KissRow;
+use kiss_file::KissRow;
 use std::alloc::{AllocError, Global};
 
 /// The value and the care of the cube of the row with that number.

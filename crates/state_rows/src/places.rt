@@ -3,7 +3,7 @@ ghost use Rattle.std.specs.Prelude.{◌<◌, All, IfOk, [], length, replicate, �
 ghost use Rattle.state_rows.specs.Places.{ArePlaces, places_of};
 
 use hs_list::Items;
-use kiss2::KissRow;
+use kiss_file::KissRow;
 use std::alloc::{AllocError, Global};
 
 /// The list of a state.

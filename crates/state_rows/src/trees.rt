@@ -3,7 +3,7 @@
 //! A tree is only a hint: a row found in it is checked, and if none is found all rows of the state are tried.
 
 use cubes::Cube;
-use kiss2::KissRow;
+use kiss_file::KissRow;
 use std::alloc::{AllocError, Global};
 
 /// Up to this many rows form a leaf.

@@ -2,8 +2,8 @@
 use Rattle.std.proofs.Common.{◌≡◌, ℕ, List, map, ap, ◌∙◌, subst}
 use Rattle.answers.specs.Cause.{CallsForNone}
 use Rattle.cubes.specs.Symbol.{symbol_of}
-use Rattle.kiss2.specs.declared.kiss_file.KissFile.{KissFile}
-use Rattle.kiss2.specs.Machine.{answers}
+use Rattle.kiss_file.specs.declared.file.KissFile.{KissFile}
+use Rattle.kiss_file.specs.Machine.{answers}
 use Rattle.machine_table.specs.Walk.{outputs_of}
 use Rattle.net_sim.specs.Run.{answers_text}
 use Rattle.net_sim.specs.Symbols.{IsSymbolFile}

@@ -1,7 +1,7 @@
 -- The text of what a machine answers to symbols.
 use Rattle.std.specs.Prelude.{◌≡◌, ℕ, Bool, List}
-use Rattle.kiss2.specs.declared.kiss_file.KissFile.{KissFile}
-use Rattle.kiss2.specs.Machine.{answers}
+use Rattle.kiss_file.specs.declared.file.KissFile.{KissFile}
+use Rattle.kiss_file.specs.Machine.{answers}
 use Rattle.net_sim.specs.Run.{answers_text}
 use Rattle.net_sim.specs.Symbols.{IsSymbolFile}
 

@@ -9,7 +9,7 @@ use Rattle.decomposition.specs.Decomposition.{PrintsCodes}
 use Rattle.decomposition.specs.OwnPairs.{HasOwnPair, OwnPairs, ReadsLatch}
 use Rattle.state_reduce.specs.Work.{AreClasses}
 use Rattle.dependence.specs.Permits.{AgreeOn}
-use Rattle.kiss2.specs.declared.kiss_file.KissFile.{KissFile}
+use Rattle.kiss_file.specs.declared.file.KissFile.{KissFile}
 use Rattle.net_core.specs.declared.Gate.{Gate}
 use Rattle.net_core.specs.declared.Latch.{Latch}
 use Rattle.net_core.specs.declared.Network.{Network}

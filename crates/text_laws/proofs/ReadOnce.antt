@@ -9,7 +9,7 @@ use Rattle.dependence.specs.Permits.{next_value, output_value}
 use Rattle.dependence.specs.ReadRule.{Beside, IsReadRule}
 use Rattle.dependence.specs.Reads.{AreReads, IsReadSet}
 use Rattle.dependence.proofs.Judged.{permits_more}
-use Rattle.kiss2.specs.declared.kiss_file.KissFile.{KissFile}
+use Rattle.kiss_file.specs.declared.file.KissFile.{KissFile}
 use Rattle.state_codes.specs.declared.Codes.{Codes}
 use Rattle.state_codes.specs.declared.split.Part.{Part}
 use Rattle.text_laws.proofs.Lists.{same_ascending, same_items}

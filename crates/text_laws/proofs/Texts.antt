@@ -7,7 +7,7 @@ use Rattle.decomposition.specs.OwnPairs.{OwnPairs}
 use Rattle.state_reduce.specs.Work.{IsWorkOf}
 use Rattle.state_reduce.specs.Laws.Works.{one_work}
 use Rattle.dependence.specs.declared.sets.Reads.{Reads}
-use Rattle.kiss2.specs.declared.kiss_file.KissFile.{KissFile}
+use Rattle.kiss_file.specs.declared.file.KissFile.{KissFile}
 use Rattle.net_core.specs.declared.Network.{Network}
 use Rattle.net_core.specs.declared.SignalNames.{SignalNames}
 use Rattle.realise.specs.Realised.{IsRealised}

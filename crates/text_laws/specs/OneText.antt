@@ -1,6 +1,6 @@
 -- What `sim` prints of a network and what `walk` prints of the machine that the network was made from.
 use Rattle.std.specs.Prelude.{◌≡◌, ℕ, Bool, List, None}
-use Rattle.kiss2.specs.declared.kiss_file.KissFile.{KissFile}
+use Rattle.kiss_file.specs.declared.file.KissFile.{KissFile}
 use Rattle.net_core.specs.declared.Network.{Network}
 use Rattle.net_core.specs.Denotes.{Denotes}
 use Rattle.net_sim.specs.Run.{IsRun}

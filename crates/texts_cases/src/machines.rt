@@ -3,7 +3,7 @@
 use crate::answers::{put, put_all};
 use crate::kiss_texts::put_written;
 use crate::words::{cut, number};
-use kiss2::KissFile;
+use kiss_file::KissFile;
 use machine_gen::make;
 use rand_pcg::Lcg64Xsh32;
 use rand_pcg::rand_core::Rng;

@@ -1,6 +1,6 @@
 -- Lists of least closed partitions.
 use Rattle.std.specs.Prelude.{ℕ, ◌<◌, All, AllPairs, List, length}
-use Rattle.kiss2.specs.declared.kiss_file.KissFile.{KissFile}
+use Rattle.kiss_file.specs.declared.file.KissFile.{KissFile}
 use Rattle.partition.specs.Partition.{Le, Together}
 use Rattle.partition.specs.Before.{Before}
 use Rattle.closed_lattice.specs.Closed.{HasPrincipal, HoldsSome, IsClosedPartition}

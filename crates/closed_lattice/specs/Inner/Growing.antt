@@ -1,6 +1,6 @@
 -- Growth that passes over pairs.
 use Rattle.std.specs.Prelude.{ℕ, ◌⊎◌, List, length}
-use Rattle.kiss2.specs.declared.kiss_file.KissFile.{KissFile}
+use Rattle.kiss_file.specs.declared.file.KissFile.{KissFile}
 use Rattle.partition.specs.Partition.{IsPartition, Le, Together}
 use Rattle.closed_lattice.specs.Closed.{IsClosedPartition}
 

@@ -1,6 +1,6 @@
 -- Joins with known least closed partitions.
 use Rattle.std.specs.Prelude.{ℕ, List, length}
-use Rattle.kiss2.specs.declared.kiss_file.KissFile.{KissFile}
+use Rattle.kiss_file.specs.declared.file.KissFile.{KissFile}
 use Rattle.partition.specs.Partition.{IsPartition, Le}
 use Rattle.pair_operators.specs.Pair.{Pair}
 use Rattle.closed_lattice.specs.Closed.{IsClosedPartition}

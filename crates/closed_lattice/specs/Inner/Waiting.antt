@@ -1,6 +1,6 @@
 -- Pairs of states that wait to be put together.
 use Rattle.std.specs.Prelude.{◌≡◌, ℕ, ◌<◌, ◌⊎◌, Contains, List}
-use Rattle.kiss2.specs.declared.kiss_file.KissFile.{KissFile}
+use Rattle.kiss_file.specs.declared.file.KissFile.{KissFile}
 use Rattle.machine_table.specs.Covering.{IsImage}
 use Rattle.partition.specs.Partition.{Together}
 

@@ -11,7 +11,7 @@ use Rattle.cover_split.specs.Expansion.{AnswersAlike, IsClosedCover, IsExpansion
 use Rattle.cover_split.specs.Parts.{IsClosedFront, IsSplitByBlock}
 use Rattle.cover_split.specs.Refusal.{CoverFault, IsTextOf}
 use Rattle.cubes.specs.Symbol.{symbol_of}
-use Rattle.kiss2.specs.declared.kiss_file.KissFile.{KissFile}
+use Rattle.kiss_file.specs.declared.file.KissFile.{KissFile}
 use Rattle.state_codes.specs.declared.Codes.{Codes}
 use Rattle.state_codes.specs.declared.split.Part.{Part}
 use Rattle.state_codes.specs.Agreement.{AreDistinct}

@@ -3,7 +3,7 @@ use Rattle.std.proofs.Common.{ℕ, List, ap}
 use Rattle.answers.specs.declared.numbers.Answer.TheVariants as answers
 use Rattle.answers.specs.Laws.Causes.{HasOneAnswer, IsOf, one_of}
 use Rattle.answers.specs.Refusal.{answer_of}
-use Rattle.kiss2.specs.declared.kiss_file.KissFile.{KissFile}
+use Rattle.kiss_file.specs.declared.file.KissFile.{KissFile}
 use Rattle.cover_texts.specs.Flaws.{BadCoverRow}
 
 pub bad_cover_is_of : (F : KissFile) (text : List ℕ) → IsOf answers.CoverRefused (BadCoverRow F text)

@@ -1,7 +1,7 @@
 -- Sets of bits, and the judgement of one bit.
 use Rattle.std.specs.Prelude.{◌≢◌, ◌↔◌, ℕ, ◌≤◌, ◌<◌, Bool, Contains, List}
 use Rattle.std.specs.List.Sorted.{IsStrictlyIncreasing}
-use Rattle.kiss2.specs.declared.kiss_file.KissFile.{KissFile}
+use Rattle.kiss_file.specs.declared.file.KissFile.{KissFile}
 use Rattle.dependence.specs.Permits.{InWord, PermitsValue}
 use Rattle.dependence.specs.ReadRule.{Beside, Without}
 

@@ -2,8 +2,8 @@
 use Rattle.std.specs.Prelude.{ℕ, ◌<◌, Bool, List, Option, slice_index}
 use Rattle.std.specs.Option.{option_map}
 use Rattle.cubes.specs.Symbol.{bit}
-use Rattle.kiss2.specs.Machine.{given_bit}
-use Rattle.kiss2.specs.declared.kiss_file.KissRow.{KissRow}
+use Rattle.kiss_file.specs.Machine.{given_bit}
+use Rattle.kiss_file.specs.declared.file.KissRow.{KissRow}
 use Rattle.dependence.specs.declared.bit.Bit.{Bit}
 use Rattle.dependence.specs.declared.bit.Bit.TheVariants.{Latch, Output}
 

@@ -1,6 +1,6 @@
 -- The two parts of a feedback split, as they are made.
 use Rattle.std.specs.Prelude.{◌≡◌, ℕ, List, [], ◌∷◌}
-use Rattle.kiss2.specs.declared.kiss_file.KissFile.{KissFile}
+use Rattle.kiss_file.specs.declared.file.KissFile.{KissFile}
 use Rattle.partition.specs.Partition.{blocks_of}
 use Rattle.partition.specs.Inside.{IsComplement, IsLargestSize}
 use Rattle.state_codes.specs.declared.split.Part.{Part}

@@ -1,6 +1,6 @@
 -- Parallel splits and their codes.
 use Rattle.std.specs.Prelude.{[], length}
-use Rattle.kiss2.specs.declared.kiss_file.KissFile.{KissFile}
+use Rattle.kiss_file.specs.declared.file.KissFile.{KissFile}
 use Rattle.split_plans.specs.Splits.{IsPlanned}
 use Rattle.split_texts.specs.Written.{AreCodes}
 use Rattle.state_codes.specs.declared.split.Kind.TheVariants.{Parallel}

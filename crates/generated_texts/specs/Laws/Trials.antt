@@ -6,7 +6,7 @@ use Rattle.answers.specs.declared.numbers.Answer.TheVariants as answers
 use Rattle.answers.specs.declared.refusals.Refusal.{Refusal}
 use Rattle.answers.specs.declared.refusals.Refusal.TheVariants.{CodeTooLong}
 use Rattle.answers.specs.Laws.Causes.{HasOneAnswer, IsOf, one_of}
-use Rattle.kiss2.specs.declared.kiss_file.KissFile.{KissFile}
+use Rattle.kiss_file.specs.declared.file.KissFile.{KissFile}
 use Rattle.machine_gen.specs.MachineOf.{AreSizes}
 use Rattle.machine_gen.specs.Parallel.{AreParallel, by_first, by_second}
 use Rattle.machine_gen.specs.Words.{word}

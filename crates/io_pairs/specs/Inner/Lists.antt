@@ -1,8 +1,8 @@
 -- Lists with a value for each place.
 use Rattle.std.specs.Prelude.{◌≡◌, ◌<◌, ◌^◌, ℕ, List, [], length, slice_index, slice_index_or}
 use Rattle.cubes.specs.Symbol.{symbol_of}
-use Rattle.kiss2.specs.declared.kiss_file.KissFile.{KissFile}
-use Rattle.kiss2.specs.Machine.{next}
+use Rattle.kiss_file.specs.declared.file.KissFile.{KissFile}
+use Rattle.kiss_file.specs.Machine.{next}
 
 -- where each symbol leads from a state
 pub record AreNextStates (F : KissFile) (s : ℕ) (states : List ℕ) : Type 0 where

@@ -1,6 +1,6 @@
 -- Lists of outputs as they are gathered, and the numbers of the outputs of a state.
 use Rattle.std.specs.Prelude.{◌≡◌, ◌≢◌, ℕ, ◌<◌, ◌≤◌, ◌^◌, ◌==◌, ◌++◌, List, [], ◌∷◌, Bool, false, ◌||◌, if◌then◌else◌, length, slice_index}
-use Rattle.kiss2.specs.declared.kiss_file.KissFile.{KissFile}
+use Rattle.kiss_file.specs.declared.file.KissFile.{KissFile}
 use Rattle.io_pairs.specs.Outputs.{occurring, output_number}
 
 -- place is where the word comes first, or the length of the list if the word is not in it

@@ -1,6 +1,6 @@
 -- Pairs of states, and those that a set of bits has to distinguish.
 use Rattle.std.specs.Prelude.{◌⊎◌, ℕ, ◌+◌, ◌<◌, All, Bool, Contains, List, length}
-use Rattle.kiss2.specs.declared.kiss_file.KissFile.{KissFile}
+use Rattle.kiss_file.specs.declared.file.KissFile.{KissFile}
 use Rattle.dependence.specs.Bit.{GiveTheSame}
 use Rattle.dependence.specs.Permits.{AgreeOn}
 use Rattle.least_codes.specs.declared.two_states.TwoStates.{TwoStates}

@@ -1,6 +1,6 @@
 -- The costs of the first latches.
 use Rattle.std.specs.Prelude.{◌≡◌, ℕ, ◌<◌, List, length, slice_index, sum}
-use Rattle.kiss2.specs.declared.kiss_file.KissFile.{KissFile}
+use Rattle.kiss_file.specs.declared.file.KissFile.{KissFile}
 use Rattle.least_codes.specs.Cost.{IsLatchCost}
 
 -- the costs of the latches before i, and their sum

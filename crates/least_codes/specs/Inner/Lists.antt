@@ -1,7 +1,7 @@
 -- Codes that are tried one after another, in the order of their texts.
 use Rattle.std.specs.Prelude.{◌≡◌, ◌⊎◌, ℕ, ◌^◌, ◌<◌, ◌≤◌, ⊤, List, Option, Some, None, length, slice_index}
 use Rattle.std.specs.Int.{bit_at}
-use Rattle.kiss2.specs.declared.kiss_file.KissFile.{KissFile}
+use Rattle.kiss_file.specs.declared.file.KissFile.{KissFile}
 use Rattle.least_codes.specs.declared.code.Best.{Best}
 use Rattle.least_codes.specs.Cost.{IsCost}
 use Rattle.least_codes.specs.Inner.Table.{IsTable}

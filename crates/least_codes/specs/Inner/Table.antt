@@ -1,6 +1,6 @@
 -- Where symbols lead two states.
 use Rattle.std.specs.Prelude.{◌≡◌, ◌↔◌, ◌⊎◌, ℕ, ◌<◌, All, Contains, List, length}
-use Rattle.kiss2.specs.declared.kiss_file.KissFile.{KissFile}
+use Rattle.kiss_file.specs.declared.file.KissFile.{KissFile}
 use Rattle.machine_table.specs.Covering.{IsImage}
 use Rattle.machine_table.specs.Pairs.{HaveOneBit}
 use Rattle.least_codes.specs.declared.two_states.TwoStates.{TwoStates}

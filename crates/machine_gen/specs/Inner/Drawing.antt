@@ -1,7 +1,7 @@
 -- What words say about parts, and what is at the number of a row.
 use Rattle.std.specs.Prelude.{ℕ, ◌+◌, ◌*◌, ◌/◌, ◌%◌, ◌^◌, List, map}
 use Rattle.std.specs.List.{range_with_len}
-use Rattle.kiss2.specs.declared.kiss_file.KissRow.{KissRow}
+use Rattle.kiss_file.specs.declared.file.KissRow.{KissRow}
 use Rattle.machine_gen.specs.declared.drawing.Draw.{Draw}
 use Rattle.machine_gen.specs.declared.rows.Place.{Place}
 use Rattle.machine_gen.specs.MachineOf.{IsDrawnRow, next_first, next_second}

@@ -6,7 +6,7 @@ use Rattle.answers.specs.declared.numbers.Answer.TheVariants as answers
 use Rattle.io_pairs.specs.Inputs.{IsInMmPair}
 use Rattle.io_pairs.specs.Outputs.{IsOutMmPair}
 use Rattle.io_pairs.specs.Sides.{RightBefore}
-use Rattle.kiss2.specs.declared.kiss_file.KissFile.{KissFile}
+use Rattle.kiss_file.specs.declared.file.KissFile.{KissFile}
 use Rattle.machine_reports.specs.Causes.{MoreThan, NotDefiniteRow, RefusesInputPairs, RefusesOutputPairs, TooManyInputsRow, TooManyOutputsRow}
 
 pub more_than_is_of : {M : Type 0} (precedes : M → M → Type 0) (P : M → Type 0) (limit : ℕ) → IsOf answers.More (MoreThan precedes P limit)

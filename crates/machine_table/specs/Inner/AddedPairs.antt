@@ -3,8 +3,8 @@ use Rattle.std.specs.Prelude.{ℕ, ◌≡◌, ◌<◌, ◌^◌, ◌↔◌, ◌�
 use Rattle.std.specs.Int.{bit_at}
 use Rattle.cubes.specs.declared.cube.Cube.{Cube}
 use Rattle.cubes.specs.Cube.{HoldsNumber, Meets}
-use Rattle.kiss2.specs.declared.kiss_file.KissFile.{KissFile}
-use Rattle.kiss2.specs.declared.kiss_file.KissRow.{KissRow}
+use Rattle.kiss_file.specs.declared.file.KissFile.{KissFile}
+use Rattle.kiss_file.specs.declared.file.KissRow.{KissRow}
 use Rattle.state_rows.specs.declared.bundles.RowBundle.{RowBundle}
 use Rattle.machine_table.specs.Inner.Asked.{AreOpenAt, IsLabelAt, IsOpenAt, IsOfState}
 use Rattle.machine_table.specs.Inner.MarkedRows.{AreLeft}

@@ -1,7 +1,7 @@
 -- Rows of two states paired place by place. Private functions need it; no public contract cites it.
 use Rattle.std.specs.Prelude.{ℕ, ◌≡◌, Bool, Contains, IsTrue, List, Option, length}
-use Rattle.kiss2.specs.declared.kiss_file.KissFile.{KissFile}
-use Rattle.kiss2.specs.declared.kiss_file.KissRow.{KissRow}
+use Rattle.kiss_file.specs.declared.file.KissFile.{KissFile}
+use Rattle.kiss_file.specs.declared.file.KissRow.{KissRow}
 use Rattle.state_rows.specs.Columns.{HaveOneCube, IsAtPlace}
 use Rattle.state_rows.specs.Places.{IsNumberOf}
 use Rattle.machine_table.specs.Inner.Asked.{IsOfState}

@@ -2,8 +2,8 @@
 use Rattle.std.specs.Prelude.{ℕ, ◌≡◌, ◌<◌, ◌^◌, ◌⊎◌, Bool, IfSome, List, Option, length}
 use Rattle.std.specs.Int.{bit_at}
 use Rattle.cubes.specs.Cube.{Meets}
-use Rattle.kiss2.specs.declared.kiss_file.KissFile.{KissFile}
-use Rattle.kiss2.specs.declared.kiss_file.KissRow.{KissRow}
+use Rattle.kiss_file.specs.declared.file.KissFile.{KissFile}
+use Rattle.kiss_file.specs.declared.file.KissRow.{KissRow}
 use Rattle.state_rows.specs.Columns.{IsAtPlace}
 use Rattle.state_rows.specs.Least.{IsMetBy}
 use Rattle.machine_table.specs.Inner.Asked.{AreApartAt}

@@ -1,8 +1,8 @@
 -- One step of a machine. Private functions need it; no public contract cites it.
 use Rattle.std.specs.Prelude.{ℕ, ◌≡◌, ◌<◌, ◌^◌, length}
 use Rattle.cubes.specs.Symbol.{symbol_of}
-use Rattle.kiss2.specs.declared.kiss_file.KissFile.{KissFile}
-use Rattle.kiss2.specs.Machine.{next, out}
+use Rattle.kiss_file.specs.declared.file.KissFile.{KissFile}
+use Rattle.kiss_file.specs.Machine.{next, out}
 use Rattle.machine_table.specs.Walk.{outputs_of}
 
 -- the next state at the symbol with that number, and the number that encodes the outputs there

@@ -1,6 +1,6 @@
 -- Right sides of two states and their joins, and lists of right sides without and with their left sides.
 use Rattle.std.specs.Prelude.{◌≡◌, ℕ, ◌<◌, All, AllPairs, Contains, List, length, map}
-use Rattle.kiss2.specs.declared.kiss_file.KissFile.{KissFile}
+use Rattle.kiss_file.specs.declared.file.KissFile.{KissFile}
 use Rattle.partition.specs.Before.{Before}
 use Rattle.partition.specs.Partition.{IsPartition, Le}
 use Rattle.pair_operators.specs.Extremes.{IsHigh}

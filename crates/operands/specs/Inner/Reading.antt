@@ -6,11 +6,11 @@ use Rattle.answers.specs.Digits.{digit}
 use Rattle.answers.specs.Judged.{IsStop}
 use Rattle.blif_in.specs.declared.reading.OrderedNetwork.{OrderedNetwork}
 use Rattle.cubes.specs.Symbol.{symbol_of}
-use Rattle.kiss2.specs.declared.fill.Fill.{Fill}
-use Rattle.kiss2.specs.declared.kiss_file.KissFile.{KissFile}
+use Rattle.kiss_file.specs.declared.fill.Fill.{Fill}
+use Rattle.kiss_file.specs.declared.file.KissFile.{KissFile}
 use Rattle.kiss2.specs.Kiss.{Kiss}
-use Rattle.kiss2.specs.Lawful.{IsLawful}
-use Rattle.kiss2.specs.Machine.{Accepted}
+use Rattle.kiss_file.specs.Lawful.{IsLawful}
+use Rattle.kiss_file.specs.Machine.{Accepted}
 use Rattle.machine_table.specs.declared.missing.Missing.{Missing}
 use Rattle.net_core.specs.Blif.{Blif}
 use Rattle.net_core.specs.Order.{IsOrderOf}

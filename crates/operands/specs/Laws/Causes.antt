@@ -6,11 +6,11 @@ use Rattle.answers.specs.Cause.{CallsForNone, Cause}
 use Rattle.answers.specs.Laws.Causes.{HasOneAnswer, IsOf, first_has_one, none_first, one_of}
 use Rattle.answers.specs.Refusal.{answer_of}
 use Rattle.blif_in.proofs.Texts.{never_both}
-use Rattle.kiss2.specs.declared.fill.Fill.{Fill}
-use Rattle.kiss2.specs.declared.fill.Fill.TheVariants.{Hold, Refuse}
-use Rattle.kiss2.specs.declared.kiss_file.KissFile.{KissFile}
+use Rattle.kiss_file.specs.declared.fill.Fill.{Fill}
+use Rattle.kiss_file.specs.declared.fill.Fill.TheVariants.{Hold, Refuse}
+use Rattle.kiss_file.specs.declared.file.KissFile.{KissFile}
 use Rattle.kiss2.specs.Kiss.{Kiss}
-use Rattle.kiss2.specs.Machine.{Accepted, Conflicting}
+use Rattle.kiss_file.specs.Machine.{Accepted, Conflicting}
 use Rattle.machine_table.specs.Conflict.{IsFirstConflict}
 use Rattle.machine_table.proofs.Conflicts.{conflicting_at}
 use Rattle.machine_table.proofs.Unrefused.{none_open}

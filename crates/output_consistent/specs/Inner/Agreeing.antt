@@ -1,6 +1,6 @@
 -- For private functions and proofs alone: states that agree in an output, by the numbers of the symbols.
 use Rattle.std.specs.Prelude.{ℕ}
-use Rattle.kiss2.specs.declared.kiss_file.KissFile.{KissFile}
+use Rattle.kiss_file.specs.declared.file.KissFile.{KissFile}
 use Rattle.machine_table.specs.Pairs.{AgreeInBit, AtEachSymbol}
 
 -- the output with the given number is equal at each symbol

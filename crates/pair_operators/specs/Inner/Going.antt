@@ -1,6 +1,6 @@
 -- For private functions and proofs alone: two states whose next states are together.
 use Rattle.std.specs.Prelude.{ℕ, List}
-use Rattle.kiss2.specs.declared.kiss_file.KissFile.{KissFile}
+use Rattle.kiss_file.specs.declared.file.KissFile.{KissFile}
 use Rattle.machine_table.specs.Pairs.{AtEachSymbol, GoInto}
 use Rattle.partition.specs.Partition.{Together}
 

@@ -1,6 +1,6 @@
 -- For private functions and proofs alone: numbers that tell states apart.
 use Rattle.std.specs.Prelude.{ℕ, ◌≡◌, ◌+◌, ◌*◌, ◌%◌, ◌<◌, ◌^◌, List, length, slice_index}
-use Rattle.kiss2.specs.declared.kiss_file.KissFile.{KissFile}
+use Rattle.kiss_file.specs.declared.file.KissFile.{KissFile}
 use Rattle.pair_operators.specs.declared.asked.Keys.{Keys}
 use Rattle.pair_operators.specs.Inner.Going.{Goes}
 

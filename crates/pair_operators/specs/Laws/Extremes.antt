@@ -1,6 +1,6 @@
 -- There is one least and one greatest partition of a pair; both are monotone, and each decides the other.
 use Rattle.std.proofs.Common.{◌≡◌, ℕ, ◌↔◌, List, length, sym, ◌∙◌}
-use Rattle.kiss2.specs.declared.kiss_file.KissFile.{KissFile}
+use Rattle.kiss_file.specs.declared.file.KissFile.{KissFile}
 use Rattle.partition.specs.Partition.{IsPartition, Le}
 use Rattle.partition.specs.MeetAndJoin.{IsMeet, IsJoin, IsGreatestBelow, IsLeastAbove}
 use Rattle.partition.specs.Laws.Labels.{same_labels, IsPartition-of}

@@ -1,7 +1,7 @@
 -- Pairs are kept by smaller left sides and greater right sides, and by joins and meets on both sides.
 use Rattle.std.proofs.Common.{◌≡◌, ℕ, ◌<◌, Bool, List, [], ◌∷◌, length, refl, subst, inl, inr, arith}
-use Rattle.kiss2.specs.declared.kiss_file.KissFile.{KissFile}
-use Rattle.kiss2.specs.Machine.{next}
+use Rattle.kiss_file.specs.declared.file.KissFile.{KissFile}
+use Rattle.kiss_file.specs.Machine.{next}
 use Rattle.machine_table.specs.Staying.{NeverLeaves}
 use Rattle.partition.specs.Partition.{IsPartition, Together, Le, IsZero, IsOne}
 use Rattle.partition.specs.MeetAndJoin.{IsMeet, IsJoin, Leads, Chain}

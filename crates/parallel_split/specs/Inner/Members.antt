@@ -1,7 +1,7 @@
 -- Members of a parallel split in the making.
 use Rattle.std.specs.Prelude.{ℕ, ◌+◌, ◌<◌, ◌≤◌, ◌↔◌, All, AllPairs, List, [], ◌∷◌, ◌++◌, length}
 use Rattle.std.specs.List.Sorted.{IsPermutation}
-use Rattle.kiss2.specs.declared.kiss_file.KissFile.{KissFile}
+use Rattle.kiss_file.specs.declared.file.KissFile.{KissFile}
 use Rattle.partition.specs.Partition.{IsOne, IsPartition, IsZero, Together, blocks_of, zero_of}
 use Rattle.partition.specs.Before.{Before}
 use Rattle.closed_lattice.specs.Limits.{HoldsApart, IsGreatestGrown}

@@ -1,7 +1,7 @@
 -- Gates that are added after others.
 use Rattle.std.specs.Prelude.{◌≡◌, ℕ, ◌+◌, Bool, List, Some, length, slice_get}
 use Rattle.dependence.specs.declared.sets.ReadSet.{ReadSet}
-use Rattle.kiss2.specs.declared.kiss_file.KissFile.{KissFile}
+use Rattle.kiss_file.specs.declared.file.KissFile.{KissFile}
 use Rattle.net_core.specs.declared.Gate.{Gate}
 use Rattle.net_core.specs.declared.SignalNames.{SignalNames}
 use Rattle.realise.specs.Realised.{IsGateFor, name_at}

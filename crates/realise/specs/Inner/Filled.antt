@@ -1,8 +1,8 @@
 -- The rows of all states, with what they leave open filled in.
 use Rattle.std.specs.Prelude.{◌≡◌, ℕ, ◌+◌, ◌<◌, ◌^◌, All, Contains, List, length}
 use Rattle.cubes.specs.Cube.{HoldsNumber}
-use Rattle.kiss2.specs.declared.kiss_file.KissFile.{KissFile}
-use Rattle.kiss2.specs.declared.kiss_file.KissRow.{KissRow}
+use Rattle.kiss_file.specs.declared.file.KissFile.{KissFile}
+use Rattle.kiss_file.specs.declared.file.KissRow.{KissRow}
 use Rattle.machine_table.specs.declared.missing.Missing.{Missing}
 use Rattle.machine_table.specs.Covering.{IsRightRow}
 use Rattle.machine_table.specs.Said.{Says, place_of}

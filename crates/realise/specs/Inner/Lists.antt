@@ -7,7 +7,7 @@ use Rattle.dependence.specs.Inner.Said.{row_value}
 use Rattle.gate_rows.specs.declared.demands.Demand.{Demand}
 use Rattle.gate_rows.specs.Demands.{demand_at}
 use Rattle.gate_rows.specs.Columns.{column_count}
-use Rattle.kiss2.specs.declared.kiss_file.KissRow.{KissRow}
+use Rattle.kiss_file.specs.declared.file.KissRow.{KissRow}
 
 -- the number of columns of a gate
 abbrev pub width_of : ReadSet → ℕ

@@ -1,7 +1,7 @@
 -- Chains of partitions in the making.
 use Rattle.std.specs.Prelude.{◌≡◌, ℕ, ◌+◌, ◌≤◌, List, [], ◌∷◌, Some, length, slice_get}
 use Rattle.std.specs.List.{range_with_len}
-use Rattle.kiss2.specs.declared.kiss_file.KissFile.{KissFile}
+use Rattle.kiss_file.specs.declared.file.KissFile.{KissFile}
 use Rattle.partition.specs.Partition.{IsOne, IsPartition, IsZero, Lt, blocks_of, zero_of}
 use Rattle.partition.specs.Inside.{IsInside}
 use Rattle.closed_lattice.specs.Limits.{IsGreatestGrown}

@@ -5,9 +5,9 @@ use Rattle.cubes.specs.Cube.{HoldsNumber}
 use Rattle.cubes.specs.Symbol.{symbol_of}
 use Rattle.gate_rows.specs.declared.demands.Demand.{Demand}
 use Rattle.gate_rows.specs.Demands.{demand_at}
-use Rattle.kiss2.specs.declared.kiss_file.KissFile.{KissFile}
-use Rattle.kiss2.specs.declared.kiss_file.KissRow.{KissRow}
-use Rattle.kiss2.specs.Machine.{given_bit, output_bit}
+use Rattle.kiss_file.specs.declared.file.KissFile.{KissFile}
+use Rattle.kiss_file.specs.declared.file.KissRow.{KissRow}
+use Rattle.kiss_file.specs.Machine.{given_bit, output_bit}
 
 -- what the row gives of output b, for the content with this number
 abbrev pub asked_by : ℕ → ℕ → KissRow → Option Demand

@@ -1,7 +1,7 @@
 -- The gates of the latches of the register and those of the outputs, one by one.
 use Rattle.std.specs.Prelude.{◌≡◌, ℕ, ◌+◌, ◌<◌, ◌++◌, List, Some, length, slice_get}
 use Rattle.dependence.specs.declared.sets.ReadSet.{ReadSet}
-use Rattle.kiss2.specs.declared.kiss_file.KissFile.{KissFile}
+use Rattle.kiss_file.specs.declared.file.KissFile.{KissFile}
 use Rattle.net_core.specs.declared.Gate.{Gate}
 use Rattle.net_core.specs.declared.SignalNames.{SignalNames}
 use Rattle.gate_rows.specs.Names.{name_at}

@@ -2,7 +2,7 @@
 use Rattle.std.specs.Prelude.{◌≡◌, ℕ, ◌*◌, ◌<◌, ◌↔◌, All, List, length, map, slice_index}
 use Rattle.dependence.specs.Listed.{AreListed}
 use Rattle.dependence.specs.Permits.{InWord}
-use Rattle.kiss2.specs.declared.kiss_file.KissFile.{KissFile}
+use Rattle.kiss_file.specs.declared.file.KissFile.{KissFile}
 use Rattle.shift_real.specs.declared.reading.OutputReading.{OutputReading}
 use Rattle.shift_real.specs.Inner.Reading.{FlipMatters, MattersAmong}
 use Rattle.shift_real.specs.Inner.Tables.{AreFirsts}

@@ -4,7 +4,7 @@ use Rattle.dependence.specs.declared.bit.Bit.TheVariants.{Output}
 use Rattle.dependence.specs.declared.effects.Effect.{Effect}
 use Rattle.dependence.specs.Effects.{ActsBy, MattersAt}
 use Rattle.dependence.specs.Permits.{output_value}
-use Rattle.kiss2.specs.declared.kiss_file.KissFile.{KissFile}
+use Rattle.kiss_file.specs.declared.file.KissFile.{KissFile}
 
 -- some two numbers that differ at the latch alone have different classes
 pub record FlipMatters (classes : List ℕ) (latch : ℕ) : Type 0 where

@@ -1,6 +1,6 @@
 -- What the register of a machine can hold.
 use Rattle.std.specs.Prelude.{◌*◌, ◌≤◌}
-use Rattle.kiss2.specs.declared.kiss_file.KissFile.{KissFile}
+use Rattle.kiss_file.specs.declared.file.KissFile.{KissFile}
 use Rattle.shift_real.specs.declared.starts.RegisterContents.{RegisterContents}
 use Rattle.shift_real.specs.Definite.{IsOrder}
 use Rattle.shift_real.specs.Inner.Contents.{AreContents}

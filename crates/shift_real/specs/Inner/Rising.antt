@@ -1,6 +1,6 @@
 -- The chain so far: the members, and after them the last one.
 use Rattle.std.specs.Prelude.{◌≡◌, ◌≤◌, ℕ, ◌+◌, List, [], ◌∷◌, ◌++◌, Some, length, slice_get}
-use Rattle.kiss2.specs.declared.kiss_file.KissFile.{KissFile}
+use Rattle.kiss_file.specs.declared.file.KissFile.{KissFile}
 use Rattle.pair_operators.specs.Extremes.{IsHigh}
 use Rattle.partition.specs.Partition.{IsPartition, IsZero, Lt, blocks_of}
 use Rattle.shift_real.specs.Chain.{AreTogetherAfter}

@@ -1,7 +1,7 @@
 -- The states after all contents of the register, each at the number of its latches, and the classes of these states.
 use Rattle.std.specs.Prelude.{◌≡◌, ℕ, zero, suc, ◌*◌, ◌^◌, ◌<◌, ◌≤◌, All, Bool, List, [], ◌∷◌, length, slice_index, take, drop}
 use Rattle.gate_rows.specs.Bits.{code_bits}
-use Rattle.kiss2.specs.declared.kiss_file.KissFile.{KissFile}
+use Rattle.kiss_file.specs.declared.file.KissFile.{KissFile}
 use Rattle.machine_table.specs.Pairs.{AgreeInBit, AtEachSymbol}
 use Rattle.shift_real.specs.Register.{state_after}
 

@@ -1,6 +1,6 @@
 -- The network of the register of a work machine, before it is written.
 use Rattle.std.specs.Prelude.{◌*◌, ℕ}
-use Rattle.kiss2.specs.declared.kiss_file.KissFile.{KissFile}
+use Rattle.kiss_file.specs.declared.file.KissFile.{KissFile}
 use Rattle.net_core.specs.declared.Network.{Network}
 use Rattle.net_core.specs.declared.SignalNames.{SignalNames}
 use Rattle.net_core.specs.Sound.{Sound}

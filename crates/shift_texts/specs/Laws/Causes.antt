@@ -4,7 +4,7 @@ use Rattle.answers.specs.Laws.Causes.{HasOneAnswer, IsOf, first_has_one, one_of}
 use Rattle.answers.specs.Refusal.{answer_of}
 use Rattle.answers.specs.declared.numbers.Answer.TheVariants as answers
 use Rattle.state_reduce.specs.Laws.Works.{one_work}
-use Rattle.kiss2.specs.declared.kiss_file.KissFile.{KissFile}
+use Rattle.kiss_file.specs.declared.file.KissFile.{KissFile}
 use Rattle.machine_reports.specs.Causes.{KeepsApart}
 use Rattle.shift_texts.specs.Causes.{HasLongRegister, HasNoRegister, NeverInReset, RefusesShift}
 

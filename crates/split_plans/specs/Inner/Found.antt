@@ -1,6 +1,6 @@
 -- The result of the search for a split of a kind.
 use Rattle.std.specs.Prelude.{◌↔◌, ℕ, IfSome, IsNone, List, Option}
-use Rattle.kiss2.specs.declared.kiss_file.KissFile.{KissFile}
+use Rattle.kiss_file.specs.declared.file.KissFile.{KissFile}
 use Rattle.state_codes.specs.declared.split.Kind.{Kind}
 use Rattle.state_codes.specs.declared.split.Split.{Split}
 use Rattle.split_plans.specs.Kinds.{row_of}

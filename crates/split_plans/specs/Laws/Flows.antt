@@ -11,8 +11,8 @@ use Rattle.closed_lattice.specs.Closed.{IsClosedPartition}
 use Rattle.decomposition.specs.Flow.{Flows, TogetherInReads}
 use Rattle.feedback_split.specs.Carrier.{Suffices}
 use Rattle.feedback_split.specs.Kind.{IsFeedback}
-use Rattle.kiss2.specs.declared.kiss_file.KissFile.{KissFile}
-use Rattle.kiss2.specs.Machine.{next}
+use Rattle.kiss_file.specs.declared.file.KissFile.{KissFile}
+use Rattle.kiss_file.specs.Machine.{next}
 use Rattle.least_codes.proofs.Reading.{parts_tell_all}
 use Rattle.least_codes.specs.Kind.{IsLeastSplit}
 use Rattle.machine_table.specs.Staying.{NeverLeaves}

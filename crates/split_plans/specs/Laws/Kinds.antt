@@ -6,7 +6,7 @@ use Rattle.answers.specs.Cause.{CallsForNone}
 use Rattle.answers.specs.Laws.Causes.{HasOneAnswer, one_of}
 use Rattle.decomposition.specs.Flow.{Flows}
 use Rattle.feedback_split.proofs.Chosen as feedbacks
-use Rattle.kiss2.specs.declared.kiss_file.KissFile.{KissFile}
+use Rattle.kiss_file.specs.declared.file.KissFile.{KissFile}
 use Rattle.least_codes.proofs.Chosen.{least_split_is_one}
 use Rattle.machine_table.specs.Staying.{NeverLeaves}
 use Rattle.net_core.specs.declared.Network.{Network}

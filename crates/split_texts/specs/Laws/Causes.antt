@@ -7,7 +7,7 @@ use Rattle.answers.specs.Laws.Causes.{HasOneAnswer, IsOf, first_has_one, one_of}
 use Rattle.answers.specs.Refusal.{answer_of}
 use Rattle.state_reduce.specs.Laws.Works.{one_work}
 use Rattle.state_reduce.specs.Work.{IsWorkOf}
-use Rattle.kiss2.specs.declared.kiss_file.KissFile.{KissFile}
+use Rattle.kiss_file.specs.declared.file.KissFile.{KissFile}
 use Rattle.split_plans.specs.Splits.{AreParts, LacksSplit, Refuses}
 use Rattle.split_plans.specs.Laws.Causes.{lacks_split_is_of, refuses_one}
 use Rattle.split_plans.specs.Laws.Kinds.{parts_once}

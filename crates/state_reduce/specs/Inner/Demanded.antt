@@ -1,7 +1,7 @@
 -- What is demanded of states that are together, and where it is not met. Private functions need these
 -- definitions; no public contract cites them.
 use Rattle.std.specs.Prelude.{◌<◌, ℕ, List}
-use Rattle.kiss2.specs.declared.kiss_file.KissFile.{KissFile}
+use Rattle.kiss_file.specs.declared.file.KissFile.{KissFile}
 use Rattle.machine_table.specs.Pairs.{AgreeAt, AtEachSymbol, GoInto, IsFirstWithout}
 use Rattle.partition.specs.Partition.{Together}
 use Rattle.state_reduce.specs.Cause.{IsFirstAgainst}

@@ -2,8 +2,8 @@
 -- them.
 use Rattle.std.specs.Prelude.{◌<◌, ◌==◌, ℕ, Contains, List, filter, length, map}
 use Rattle.std.specs.List.{filter_map}
-use Rattle.kiss2.specs.declared.kiss_file.KissFile.{KissFile}
-use Rattle.kiss2.specs.declared.kiss_file.KissRow.{KissRow}
+use Rattle.kiss_file.specs.declared.file.KissFile.{KissFile}
+use Rattle.kiss_file.specs.declared.file.KissRow.{KissRow}
 use Rattle.partition.specs.Inside.{least_of}
 use Rattle.state_reduce.specs.Quotient.{block_name, block_names}
 

@@ -1,6 +1,6 @@
 -- The rounds that separate states. Private functions need these definitions; no public contract cites them.
 use Rattle.std.specs.Prelude.{◌<◌, ℕ, List, length}
-use Rattle.kiss2.specs.declared.kiss_file.KissFile.{KissFile}
+use Rattle.kiss_file.specs.declared.file.KissFile.{KissFile}
 use Rattle.machine_table.specs.Pairs.{AgreeAt, AtEachSymbol, GoInto}
 use Rattle.partition.specs.Partition.{IsPartition, Together}
 use Rattle.state_reduce.specs.Alike.{Alike}

@@ -1,7 +1,7 @@
 -- A command works on only one machine.
 use Rattle.std.proofs.Common.{◌≡◌, ℕ, ◌<◌, Bool, true, false, List, Option, length, sym, ◌∙◌, subst, arith}
-use Rattle.kiss2.specs.declared.kiss_file.KissFile.{KissFile}
-use Rattle.kiss2.specs.declared.kiss_file.KissRow.{KissRow}
+use Rattle.kiss_file.specs.declared.file.KissFile.{KissFile}
+use Rattle.kiss_file.specs.declared.file.KissRow.{KissRow}
 use Rattle.partition.specs.Partition.{Together}
 use Rattle.partition.specs.Laws.Labels.{same_labels}
 use Rattle.state_reduce.specs.Alike.{IsEquivalence}

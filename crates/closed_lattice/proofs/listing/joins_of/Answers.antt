@@ -1,7 +1,7 @@
 use Rattle.std.proofs.Common.{All, ℕ, List, ◌≡◌, ◌<◌, ◌≤◌, length, sym, ◌∙◌, subst}
 use Rattle.hs_lattice.proofs.Outcomes.{whole-from_three, more-from}
 use Rattle.hs_lattice.specs.JoinWorld.{HaveJoins}
-use Rattle.kiss2.specs.declared.kiss_file.KissFile.{KissFile}
+use Rattle.kiss_file.specs.declared.file.KissFile.{KissFile}
 use Rattle.machine_table.specs.Staying.{NeverLeaves}
 use Rattle.partition.specs.MeetAndJoin.{IsJoin}
 use Rattle.partition.specs.Partition.{IsPartition}

@@ -1,5 +1,5 @@
 use Rattle.std.proofs.Common.{inr, refl, sym, subst}
-use Rattle.kiss2.specs.declared.kiss_file.KissFile.{KissFile}
+use Rattle.kiss_file.specs.declared.file.KissFile.{KissFile}
 use Rattle.cover_texts.specs.Inner.Steps.{IsExpanded}
 use Rattle.cover_texts.proofs.pairs.machine_of_pairs.Goals as goal
 

@@ -1,5 +1,5 @@
 use Rattle.std.proofs.Common.{ℕ, List, length, subst, take}
-use Rattle.kiss2.specs.declared.kiss_file.KissRow.{KissRow}
+use Rattle.kiss_file.specs.declared.file.KissRow.{KissRow}
 use Rattle.dependence.specs.Inner.Effects.{Adds, Show, ShowBeside}
 use Rattle.dependence.proofs.Across.{adds_beside, adds_beside_none, one_more}
 use Rattle.dependence.proofs.effects.add_of_row.Goals as goal

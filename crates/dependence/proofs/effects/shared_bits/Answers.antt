@@ -2,7 +2,7 @@ use Rattle.std.proofs.Common.{ℕ, All, List, subst, take, arith, bit_and}
 use Rattle.std.proofs.lemmas.List.{take_all}
 use Rattle.std.proofs.lemmas.List.Elements.{All-push, All-weaker}
 use Rattle.std.specs.Int.RustNames.{bit_xor}
-use Rattle.kiss2.specs.declared.kiss_file.KissRow.{KissRow}
+use Rattle.kiss_file.specs.declared.file.KissRow.{KissRow}
 use Rattle.dependence.specs.Inner.Effects.{HasBits}
 use Rattle.dependence.proofs.Across.{one_more}
 use Rattle.dependence.proofs.Shared.{fewer_bits, own_bits}

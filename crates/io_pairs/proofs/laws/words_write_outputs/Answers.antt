@@ -1,5 +1,5 @@
 use Rattle.cubes.specs.Symbol.{bit, symbol_of}
-use Rattle.kiss2.specs.Machine.{output_bit}
+use Rattle.kiss_file.specs.Machine.{output_bit}
 use Rattle.machine_table.proofs.OutputWords.{same_map}
 use Rattle.io_pairs.specs.Outputs.{output_word}
 use Rattle.io_pairs.proofs.Words.{word_below, word_bits}

@@ -1,6 +1,6 @@
 use Rattle.std.proofs.Common.{◌≡◌, ◌<◌, ℕ, length, slice_index, vec_len}
 use Rattle.cubes.specs.Symbol.{symbol_of}
-use Rattle.kiss2.specs.Machine.{next}
+use Rattle.kiss_file.specs.Machine.{next}
 use Rattle.io_pairs.proofs.symbols.next_states.Given as goal
 
 abbrev pub invariant-loop-x : goal.invariant-loop-x

@@ -1,5 +1,5 @@
 use Rattle.std.proofs.Common.{◌≡◌, ◌++◌, take, Contains, sym, ◌∙◌, subst, ap, arith}
-use Rattle.kiss2.specs.Names.{AreDistinct}
+use Rattle.kiss_file.specs.Names.{AreDistinct}
 use Rattle.std.proofs.lemmas.List.{take_all}
 use Rattle.kiss2.proofs.Finding.{contained_at, once_from_distinct, twice_at}
 use Rattle.kiss2.proofs.judging.add_new.Goals as goal

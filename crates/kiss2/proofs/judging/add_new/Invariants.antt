@@ -1,5 +1,5 @@
 use Rattle.std.proofs.Common.{◌≡◌, ◌++◌, take}
-use Rattle.kiss2.specs.Names.{AreDistinct}
+use Rattle.kiss_file.specs.Names.{AreDistinct}
 use Rattle.kiss2.proofs.judging.add_new.Given as goal
 
 abbrev pub invariant-loop-name : goal.invariant-loop-name

@@ -3,7 +3,7 @@ use Rattle.std.specs.List.{AllZip}
 use Rattle.std.specs.Option.{IfNone, IfSome}
 use Rattle.std.proofs.lemmas.List.Elements.{All-weaker}
 use Rattle.std.proofs.lemmas.Option.{none-some}
-use Rattle.kiss2.specs.declared.kiss_file.KissRow.{KissRow}
+use Rattle.kiss_file.specs.declared.file.KissRow.{KissRow}
 use Rattle.kiss2.specs.Inner.Good.{IsGoodRow, IsKnownRow}
 use Rattle.kiss2.specs.Kiss.{IsRowOf}
 use Rattle.kiss2.specs.Standing.{inputs_said, outputs_said, row_lines, state_names}

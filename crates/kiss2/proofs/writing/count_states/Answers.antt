@@ -1,6 +1,6 @@
 use Rattle.std.proofs.Common.{ℕ, eqb, false, List, ◌++◌, length, map, sym, ◌∙◌, ap}
 use Rattle.std.specs.List.{filter_map, list_any, range_with_len}
-use Rattle.kiss2.specs.declared.kiss_file.KissRow.{KissRow}
+use Rattle.kiss_file.specs.declared.file.KissRow.{KissRow}
 use Rattle.std.specs.Prelude.{count_by, replicate}
 use Rattle.kiss2.proofs.writing.count_states.Goals as goal
 

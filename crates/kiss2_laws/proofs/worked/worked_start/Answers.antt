@@ -1,7 +1,7 @@
 use Rattle.std.proofs.Common.{◌≡◌, refl, ℕ, [], ◌∷◌, Some}
 use Rattle.std.specs.Prelude.{Option, codes}
-use Rattle.kiss2.specs.declared.kiss_file.KissFile.{KissFile}
-use Rattle.kiss2.specs.declared.kiss_file.KissRow.{KissRow}
+use Rattle.kiss_file.specs.declared.file.KissFile.{KissFile}
+use Rattle.kiss_file.specs.declared.file.KissRow.{KissRow}
 use Rattle.kiss2.specs.Faults.{fault_in}
 use Rattle.kiss2.specs.Kiss.{Kiss, lines_read}
 use Rattle.kiss2.specs.Standing.{each_once, state_names}

@@ -2,9 +2,9 @@ use Rattle.std.proofs.Common.{◌≡◌, refl, ℕ, List, [], ◌∷◌, Some, N
 use Rattle.std.specs.Prelude.{Option, codes, slice_get}
 use Rattle.std.proofs.lemmas.Option.{same_Some}
 use Rattle.cubes.specs.Cube.{text_of}
-use Rattle.kiss2.specs.Names.{AreDistinct}
-use Rattle.kiss2.specs.declared.kiss_file.KissFile.{KissFile}
-use Rattle.kiss2.specs.declared.kiss_file.KissRow.{KissRow}
+use Rattle.kiss_file.specs.Names.{AreDistinct}
+use Rattle.kiss_file.specs.declared.file.KissFile.{KissFile}
+use Rattle.kiss_file.specs.declared.file.KissRow.{KissRow}
 use Rattle.kiss2.specs.Faults.{fault_in}
 use Rattle.kiss2.specs.Kiss.{HaveNoFault, Kiss, closing_fault, lines_read}
 use Rattle.kiss2.specs.Standing.{each_once, state_names}

@@ -1,7 +1,7 @@
 use Rattle.std.proofs.Common.{◌≡◌, ◌∙◌, ℕ, ◌+◌, ◌*◌, ◌%◌, ◌^◌, ◌<◌, All, List, Result, Ok, Err, OnOk, bit_or, get_or, length, set, ap, subst, sym, arith}
 use Rattle.std.proofs.lemmas.Bool.{true≢false}
 use Rattle.std.proofs.lemmas.List.{set-get_or, set-set}
-use Rattle.kiss2.specs.declared.kiss_file.KissFile.{KissFile}
+use Rattle.kiss_file.specs.declared.file.KissFile.{KissFile}
 use Rattle.least_codes.specs.Inner.Lists.{AreBefore, AreSeen, IsDraft, IsJudged, IsKept}
 use Rattle.least_codes.specs.Inner.Table.{IsInside, IsTable}
 use Rattle.least_codes.proofs.Trying.{draft_next, draft_one, draft_whole, draft_zero, is_with_one, judged_kept, kept_back, kept_both, kept_next, kept_one, kept_zero, used_kept, whole_before, whole_seen, with_one, with_one_length}

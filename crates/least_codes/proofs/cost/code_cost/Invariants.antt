@@ -1,5 +1,5 @@
 use Rattle.std.proofs.Common.{◌≡◌, ◌*◌, ◌≤◌, length}
-use Rattle.kiss2.specs.declared.kiss_file.KissFile.{KissFile}
+use Rattle.kiss_file.specs.declared.file.KissFile.{KissFile}
 use Rattle.least_codes.specs.Inner.Costs.{AreCosts}
 use Rattle.least_codes.specs.Inner.Table.{IsTable}
 use Rattle.least_codes.proofs.cost.code_cost.Given as goal

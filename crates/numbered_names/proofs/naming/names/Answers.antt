@@ -1,5 +1,5 @@
 use Rattle.std.proofs.Common.{◌≡◌, ◌<◌, ◌^◌, All, length, sym, ap, ◌∙◌, subst, arith}
-use Rattle.kiss2.specs.Names.{AreDistinct, IsPlainName}
+use Rattle.kiss_file.specs.Names.{AreDistinct, IsPlainName}
 use Rattle.numbered_names.proofs.NumberedNames.{length-numbered_names, name_added, numbered_names-distinct, numbered_names-plain}
 use Rattle.numbered_names.proofs.naming.names.Goals as goal
 

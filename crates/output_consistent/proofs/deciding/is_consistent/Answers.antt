@@ -1,6 +1,6 @@
 use Rattle.std.proofs.Common.{ℕ, List, length, refl, sym, subst, ◌∙◌, arith}
 use Rattle.std.proofs.lemmas.Bool.{true≢false}
-use Rattle.kiss2.specs.declared.kiss_file.KissFile.{KissFile}
+use Rattle.kiss_file.specs.declared.file.KissFile.{KissFile}
 use Rattle.machine_table.specs.Pairs.{AgreeAt, AtEachSymbol}
 use Rattle.output_consistent.proofs.Agreeing.{FirstsAgree, consistent_from_firsts, firsts_from_consistent, firsts_more}
 use Rattle.output_consistent.proofs.deciding.is_consistent.Goals as goal

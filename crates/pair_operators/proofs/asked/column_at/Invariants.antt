@@ -1,6 +1,6 @@
 use Rattle.std.proofs.Common.{ℕ, ◌≡◌, ◌<◌, All, length, slice_index, vec_len}
 use Rattle.cubes.specs.Symbol.{symbol_of}
-use Rattle.kiss2.specs.Machine.{next}
+use Rattle.kiss_file.specs.Machine.{next}
 use Rattle.pair_operators.proofs.asked.column_at.Given as goal
 
 abbrev pub invariant-loop-s : goal.invariant-loop-s

@@ -1,5 +1,5 @@
 use Rattle.std.proofs.Common.{◌<◌, ◌+◌, ℕ, List, length, sym, subst, arith}
-use Rattle.kiss2.specs.declared.kiss_file.KissFile.{KissFile}
+use Rattle.kiss_file.specs.declared.file.KissFile.{KissFile}
 use Rattle.pair_operators.proofs.LowSoFar.{IsLowSoFar, low_held, low_alone, low_all}
 use Rattle.pair_operators.proofs.least.low.Goals as goal
 use Rattle.pair_operators.proofs.least.low.Goals.{then-first-s+in_ok-merge_images, else-first-s}

@@ -3,7 +3,7 @@ use Rattle.std.specs.List.{cons_option}
 use Rattle.std.specs.Option.{option_map}
 use Rattle.std.proofs.lemmas.List.{take_more}
 use Rattle.gate_rows.specs.Demands.{demand_at}
-use Rattle.kiss2.specs.declared.kiss_file.KissRow.{KissRow}
+use Rattle.kiss_file.specs.declared.file.KissRow.{KissRow}
 use Rattle.realise.proofs.AskedRows.{asked_more}
 use Rattle.realise.proofs.lists.demands_of.Goals as goal
 use Rattle.realise.proofs.lists.demands_of.Goals.{in-Some+in_ok-push, in_default}

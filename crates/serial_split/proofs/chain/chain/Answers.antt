@@ -1,6 +1,6 @@
 use Rattle.std.proofs.Common.{◌≡◌, ℕ, ◌<◌, List, length, sym, ap, ◌∙◌, subst, arith, refl}
 use Rattle.std.specs.List.{range_with_len}
-use Rattle.kiss2.specs.declared.kiss_file.KissFile.{KissFile}
+use Rattle.kiss_file.specs.declared.file.KissFile.{KissFile}
 use Rattle.partition.specs.Partition.{IsPartition, IsZero, blocks_of}
 use Rattle.closed_lattice.proofs.ZeroBlocks.{strictly_fewer, zero_blocks, zero_by_blocks}
 use Rattle.partition.specs.Laws.Labels.{blocks_of-le}

@@ -2,7 +2,7 @@ use Rattle.std.proofs.Common.{◌≡◌, ◌+◌, Bool, [], ◌∷◌, ◌++◌,
 use Rattle.std.proofs.lemmas.List.{take_more}
 use Rattle.cubes.specs.Symbol.{bit}
 use Rattle.gate_rows.specs.Demands.{demand_at}
-use Rattle.kiss2.specs.declared.kiss_file.KissRow.{KissRow}
+use Rattle.kiss_file.specs.declared.file.KissRow.{KissRow}
 use Rattle.shift_real.proofs.ClassDemands.{asked_more, asked_none, asked_one}
 use Rattle.shift_real.proofs.demands.add_rows.Goals as goal
 use Rattle.shift_real.proofs.demands.add_rows.Goals.{then-bit+in_ok-push, else-bit}

@@ -1,9 +1,9 @@
 use Rattle.std.proofs.Common.{◌≡◌, ◌∙◌, List, ℕ, Some, ap, length, slice_get, subst, sym}
 use Rattle.std.proofs.lemmas.Result.{err_from_is_err_and}
-use Rattle.kiss2.specs.declared.kiss_file.KissFile.{KissFile}
-use Rattle.kiss2.specs.Lawful.{AreNumbered}
-use Rattle.kiss2.specs.Machine.{Conflicting}
-use Rattle.kiss2.specs.Names.{AreDistinct}
+use Rattle.kiss_file.specs.declared.file.KissFile.{KissFile}
+use Rattle.kiss_file.specs.Lawful.{AreNumbered}
+use Rattle.kiss_file.specs.Machine.{Conflicting}
+use Rattle.kiss_file.specs.Names.{AreDistinct}
 use Rattle.machine_table.specs.Pairs.{AgreeAt}
 use Rattle.machine_table.specs.Table.{IsTable}
 use Rattle.pair_operators.specs.Consistent.{Consistent}

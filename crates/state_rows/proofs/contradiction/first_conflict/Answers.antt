@@ -1,7 +1,7 @@
 use Rattle.std.proofs.Common.{ℕ, ◌≡◌, ◌<◌, List, All, Contains, Some, length, get_or, sym, subst, inl, inr, arith}
 use Rattle.std.proofs.lemmas.Bool.{cases_lt}
 use Rattle.std.proofs.lemmas.Option.{slice_get_within}
-use Rattle.kiss2.specs.declared.kiss_file.KissRow.{KissRow}
+use Rattle.kiss_file.specs.declared.file.KissRow.{KissRow}
 use Rattle.state_rows.specs.declared.bundles.RowBundle.{RowBundle}
 use Rattle.state_rows.specs.Conflict.{ContradictAt}
 use Rattle.state_rows.specs.Bundles.{IsComparable, IsFirstAgainst, IsInBundles}

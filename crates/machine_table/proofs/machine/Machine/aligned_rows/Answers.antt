@@ -1,6 +1,6 @@
 use Rattle.std.proofs.Common.{ℕ, List, ◌∙◌, ap, subst}
-use Rattle.kiss2.specs.declared.kiss_file.KissFile.{KissFile}
-use Rattle.kiss2.specs.Machine.{Conflicting}
+use Rattle.kiss_file.specs.declared.file.KissFile.{KissFile}
+use Rattle.kiss_file.specs.Machine.{Conflicting}
 use Rattle.state_rows.specs.Places.{places_of}
 use Rattle.machine_table.proofs.AlignedRows.{all_of_two, columns_of_two, inside_of_own}
 use Rattle.machine_table.proofs.machine.Machine.aligned_rows.Goals as goal

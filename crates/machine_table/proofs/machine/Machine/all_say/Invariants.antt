@@ -1,5 +1,5 @@
 use Rattle.std.proofs.Common.{ℕ, ◌≡◌, ◌<◌, IsSome, Some, slice_get, slice_index_or}
-use Rattle.kiss2.specs.declared.kiss_file.KissRow.{KissRow}
+use Rattle.kiss_file.specs.declared.file.KissRow.{KissRow}
 use Rattle.machine_table.proofs.machine.Machine.all_say.Given as goal
 
 abbrev pub invariant-loop-number : goal.invariant-loop-number

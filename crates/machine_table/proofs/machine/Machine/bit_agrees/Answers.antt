@@ -1,6 +1,6 @@
 use Rattle.std.proofs.Common.{ℕ, ◌↔◌, ◌∙◌, IsTrue, ap, false, not, subst, sym, ◌<◌}
-use Rattle.kiss2.specs.declared.kiss_file.KissFile.{KissFile}
-use Rattle.kiss2.specs.Machine.{Conflicting}
+use Rattle.kiss_file.specs.declared.file.KissFile.{KissFile}
+use Rattle.kiss_file.specs.Machine.{Conflicting}
 use Rattle.machine_table.specs.Pairs.{AgreeInBit, AtEachSymbol}
 use Rattle.machine_table.specs.Table.{IsTable}
 use Rattle.machine_table.proofs.Labels.{each_from_none, none_from_each, true_from_not}

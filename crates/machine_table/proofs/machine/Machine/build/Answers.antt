@@ -1,5 +1,5 @@
 use Rattle.std.proofs.Common.{ℕ, IfNone, IfSome, Option, subst, inl}
-use Rattle.kiss2.specs.declared.kiss_file.KissFile.{KissFile}
+use Rattle.kiss_file.specs.declared.file.KissFile.{KissFile}
 use Rattle.machine_table.specs.declared.open_entry.Entry.{Entry}
 use Rattle.machine_table.specs.declared.missing.Missing.{Missing}
 use Rattle.machine_table.specs.Said.{IsEntry, IsFirstOpen, IsSaid}

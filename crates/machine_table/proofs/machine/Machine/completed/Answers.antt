@@ -1,5 +1,5 @@
 use Rattle.std.proofs.Common.{subst, sym}
-use Rattle.kiss2.specs.Machine.{Specified}
+use Rattle.kiss_file.specs.Machine.{Specified}
 use Rattle.machine_table.proofs.machine.Machine.completed.Goals as goal
 
 pub invariant_of-result : goal.invariant_of-result

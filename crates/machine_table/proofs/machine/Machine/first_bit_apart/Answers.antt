@@ -1,6 +1,6 @@
 use Rattle.std.proofs.Common.{ℕ, IfSome, IfNone, true, subst, ◌<◌, sym}
-use Rattle.kiss2.specs.declared.kiss_file.KissFile.{KissFile}
-use Rattle.kiss2.specs.Machine.{Conflicting}
+use Rattle.kiss_file.specs.declared.file.KissFile.{KissFile}
+use Rattle.kiss_file.specs.Machine.{Conflicting}
 use Rattle.machine_table.specs.Pairs.{AgreeInBit, AtEachSymbol, IsFirstWithout}
 use Rattle.machine_table.specs.Table.{IsTable}
 use Rattle.machine_table.proofs.Labels.{each_from_none, first_not_so, if_none_given}

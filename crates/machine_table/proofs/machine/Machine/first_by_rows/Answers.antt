@@ -1,5 +1,5 @@
 use Rattle.std.proofs.Common.{ℕ, ◌<◌, ◌+◌, ◌^◌, IfSome, Option, length, subst, sym, arith}
-use Rattle.kiss2.specs.declared.kiss_file.KissRow.{KissRow}
+use Rattle.kiss_file.specs.declared.file.KissRow.{KissRow}
 use Rattle.machine_table.specs.Inner.Asked.{ApartBelow, AreApartAt, MeetsApart}
 use Rattle.state_rows.specs.Least.{IsMetBy, lesser_of}
 use Rattle.machine_table.proofs.AlikeRows.{pair_more}

@@ -1,6 +1,6 @@
 use Rattle.std.proofs.Common.{ℕ, ◌≡◌, ◌-◌, ◌^◌, ◌∙◌, ap, subst}
-use Rattle.kiss2.specs.declared.kiss_file.KissFile.{KissFile}
-use Rattle.kiss2.specs.Machine.{Conflicting}
+use Rattle.kiss_file.specs.declared.file.KissFile.{KissFile}
+use Rattle.kiss_file.specs.Machine.{Conflicting}
 use Rattle.state_rows.specs.Least.{IsMetBy}
 use Rattle.machine_table.specs.Pairs.{AgreeAt}
 use Rattle.machine_table.specs.Table.{IsTable}

@@ -1,6 +1,6 @@
 use Rattle.std.proofs.Common.{subst}
-use Rattle.kiss2.specs.declared.kiss_file.KissFile.{KissFile}
-use Rattle.kiss2.specs.Machine.{Conflicting, Specified}
+use Rattle.kiss_file.specs.declared.file.KissFile.{KissFile}
+use Rattle.kiss_file.specs.Machine.{Conflicting, Specified}
 use Rattle.machine_table.specs.Table.{IsTable}
 use Rattle.machine_table.proofs.machine.Machine.is_complete.Goals as goal
 

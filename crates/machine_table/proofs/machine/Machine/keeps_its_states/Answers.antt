@@ -1,5 +1,5 @@
-use Rattle.kiss2.specs.declared.kiss_file.KissFile.{KissFile}
-use Rattle.kiss2.specs.Machine.{Conflicting}
+use Rattle.kiss_file.specs.declared.file.KissFile.{KissFile}
+use Rattle.kiss_file.specs.Machine.{Conflicting}
 use Rattle.std.proofs.Common.{subst}
 use Rattle.machine_table.specs.Table.{IsTable}
 use Rattle.machine_table.specs.Staying.{NeverLeaves}

@@ -1,6 +1,6 @@
 use Rattle.std.proofs.Common.{ℕ, ◌<◌, ◌≡◌, None, Some, get_or, slice_get}
 use Rattle.cubes.specs.Cube.{HoldsNumber}
-use Rattle.kiss2.specs.declared.kiss_file.KissRow.{KissRow}
+use Rattle.kiss_file.specs.declared.file.KissRow.{KissRow}
 use Rattle.machine_table.proofs.machine.Machine.next.Given as goal
 
 abbrev pub invariant-loop-number : goal.invariant-loop-number

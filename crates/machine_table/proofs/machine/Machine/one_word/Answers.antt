@@ -1,6 +1,6 @@
 use Rattle.std.proofs.Common.{◌∙◌, subst, sym}
-use Rattle.kiss2.specs.declared.kiss_file.KissFile.{KissFile}
-use Rattle.kiss2.specs.Machine.{Conflicting}
+use Rattle.kiss_file.specs.declared.file.KissFile.{KissFile}
+use Rattle.kiss_file.specs.Machine.{Conflicting}
 use Rattle.machine_table.specs.Table.{IsTable}
 use Rattle.machine_table.proofs.SettledCubes.{settled_out}
 use Rattle.machine_table.proofs.machine.Machine.one_word.Goals as goal

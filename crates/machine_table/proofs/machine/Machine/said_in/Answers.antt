@@ -2,7 +2,7 @@ use Rattle.std.proofs.Common.{ℕ, IsNone, get_or, is_some, sym, ◌∙◌, inl,
 use Rattle.std.proofs.lemmas.Bool.{cases_Bool, true≢false}
 use Rattle.std.proofs.lemmas.List.Elements.{Contains-get_or}
 use Rattle.cubes.specs.Cube.{HoldsNumber}
-use Rattle.kiss2.specs.declared.kiss_file.KissRow.{KissRow}
+use Rattle.kiss_file.specs.declared.file.KissRow.{KissRow}
 use Rattle.machine_table.proofs.Asking.{looked_at, of_each_row}
 use Rattle.cubes.proofs.SharedCubes.{meets_from_held}
 use Rattle.machine_table.proofs.Sought.{at_from_held, row_of}

@@ -1,5 +1,5 @@
 use Rattle.std.proofs.Common.{ℕ, ◌<◌, ◌≡◌, Some, get_or, slice_get}
-use Rattle.kiss2.specs.declared.kiss_file.KissRow.{KissRow}
+use Rattle.kiss_file.specs.declared.file.KissRow.{KissRow}
 use Rattle.machine_table.specs.Inner.OpenSymbol.{IsFull}
 use Rattle.machine_table.proofs.machine.Machine.says_all.Given as goal
 

@@ -1,7 +1,7 @@
 use Rattle.std.proofs.Common.{ℕ, ◌≡◌, ◌<◌, ◌+◌, ◌^◌, ◌++◌, [], ◌∷◌, List, All, drop, map, sym, subst}
 use Rattle.std.proofs.lemmas.List.Elements.{All-push}
 use Rattle.cubes.specs.Symbol.{symbol_of}
-use Rattle.kiss2.specs.Machine.{answers}
+use Rattle.kiss_file.specs.Machine.{answers}
 use Rattle.machine_table.specs.Walk.{outputs_of}
 use Rattle.machine_table.proofs.OutputWords.{walked, walked_more}
 use Rattle.machine_table.proofs.machine.Machine.walk.Goals as goal

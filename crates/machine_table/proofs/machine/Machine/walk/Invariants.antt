@@ -1,6 +1,6 @@
 use Rattle.std.proofs.Common.{◌≡◌, ◌<◌, ◌^◌, ◌++◌, All, drop, length, map}
 use Rattle.cubes.specs.Symbol.{symbol_of}
-use Rattle.kiss2.specs.Machine.{answers}
+use Rattle.kiss_file.specs.Machine.{answers}
 use Rattle.machine_table.specs.Walk.{outputs_of}
 use Rattle.machine_table.proofs.machine.Machine.walk.Given as goal
 

@@ -1,7 +1,7 @@
 use Rattle.std.proofs.Common.{ℕ, ◌<◌, ◌^◌, bit_and, subst, arith}
 use Rattle.cubes.specs.Cube.{Meets}
 use Rattle.std.proofs.lemmas.Nat.{and_le_l}
-use Rattle.kiss2.specs.declared.kiss_file.KissRow.{KissRow}
+use Rattle.kiss_file.specs.declared.file.KissRow.{KissRow}
 use Rattle.pattern_bundles.specs.declared.pattern.Pattern.{Pattern}
 use Rattle.pattern_bundles.specs.Pattern.{Agree, Marks}
 use Rattle.state_rows.specs.Bundles.{MarksRows}

@@ -1,0 +1,5 @@
+use Rattle.kiss_file.proofs.Machine.{next_is_a_state}
+use Rattle.kiss_file.proofs.laws.next_is_a_state.Goals as goal
+
+pub returns : goal.returns
+returns c = next_is_a_state

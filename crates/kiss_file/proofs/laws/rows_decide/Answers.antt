@@ -1,0 +1,5 @@
+use Rattle.kiss_file.proofs.Machine.{rows_decide}
+use Rattle.kiss_file.proofs.laws.rows_decide.Goals as goal
+
+pub returns : goal.returns
+returns c = rows_decide

@@ -1,0 +1,21 @@
+//! What a KISS2 text says: the record of a machine, and the machine of such a record.
+//!
+//! A [`KissFile`] has the numbers of inputs and outputs, the names of the states, the rows, the reset state, and the
+//! names of inputs and outputs if the text gives them. `kiss2` reads it from a text and writes its text.
+//!
+//! `specs/Names` says which names a state may have, and `specs/Lawful` which records a text can have. `specs/Machine`
+//! is the machine of a file: its next states and outputs, its answers to words, and which files have one. The
+//! functions of `laws` state what follows from these definitions.
+#![tactic(auto)]
+
+mod copies;
+mod file;
+mod fill;
+mod laws;
+mod state_names;
+
+pub use copies::{copied_file, copied_given};
+pub use file::{KissFile, KissRow, Rows};
+pub use fill::Fill;
+pub use laws::{next_is_a_state, rows_decide};
+pub use state_names::StateNames;
