@@ -8,13 +8,17 @@ use Rattle.answers.specs.Laws.Causes.{HasOneAnswer, IsOf, one_of}
 use Rattle.answers.specs.Refusal.{answer_of}
 use Rattle.closed_lattice.specs.Closed.{IsClosedPartition}
 use Rattle.cover_texts.specs.Laws.Causes.{bad_cover_is_of, bad_cover_one}
+use Rattle.hsdec_core.specs.declared.tasks.FileTask.{FileTask}
+use Rattle.hsdec_core.specs.declared.tasks.FileTask.TheVariants.{Check, Cover, High, Low, Reduce}
 use Rattle.hsdec_core.specs.declared.tasks.ListTask.{ListTask}
 use Rattle.hsdec_core.specs.declared.tasks.ListTask.TheVariants.{Closed, InputPairs, Output, OutputPairs, Pairs}
 use Rattle.hsdec_core.specs.declared.tasks.MachineTask.{MachineTask}
-use Rattle.hsdec_core.specs.declared.tasks.MachineTask.TheVariants.{Check, Cover, Decompose, Definite, High, Listing, Low, Reduce, Shift}
+use Rattle.hsdec_core.specs.declared.tasks.MachineTask.TheVariants.{Listing, OfFile, OfWork}
+use Rattle.hsdec_core.specs.declared.tasks.WorkTask.{WorkTask}
+use Rattle.hsdec_core.specs.declared.tasks.WorkTask.TheVariants.{Decompose, Definite, Shift}
 use Rattle.operands.specs.Laws.Causes.{never_has_one}
 use Rattle.hsdec_core.specs.Inner.Made.{IsPlain}
-use Rattle.hsdec_core.specs.Judgement.{list_cause, own_cause}
+use Rattle.hsdec_core.specs.Judgement.{file_cause, list_cause, own_cause, work_cause}
 use Rattle.io_pairs.specs.Inputs.{IsInMmPair}
 use Rattle.io_pairs.specs.Outputs.{IsOutMmPair}
 use Rattle.io_pairs.specs.Sides as rights
@@ -43,17 +47,23 @@ list_have_one Pairs limit F = list_has_one_answer RightBefore (IsMmPair F) limit
 list_have_one InputPairs limit F = input_pairs_have_one_answer F limit
 list_have_one OutputPairs limit F = output_pairs_have_one_answer F limit
 
+file_have_one : (task : FileTask) (job : Job) (F : KissFile) → HasOneAnswer (file_cause task job F)
+file_have_one Check job F = never_has_one
+file_have_one Reduce job F = never_has_one
+file_have_one Low job F = one_of answers.PartRefused (BadPart (length F.states) job.second) (bad_part_is_of (length F.states) job.second)
+file_have_one High job F = one_of answers.PartRefused (BadPart (length F.states) job.second) (bad_part_is_of (length F.states) job.second)
+file_have_one Cover job F = bad_cover_one F job.second
+
+work_have_one : (task : WorkTask) (job : Job) (F : KissFile) → HasOneAnswer (work_cause task job F)
+work_have_one Definite job F = definite_has_one_answer job.reduce F
+work_have_one Shift job F = shift_has_one_answer job.reduce F
+work_have_one (Decompose kind) job F = not_written_one kind job.second job.reduce F
+
 -- each command's own cause has one answer
 pub own_have_one : (task : MachineTask) (job : Job) (F : KissFile) → HasOneAnswer (own_cause task job F)
-own_have_one Check job F = never_has_one
-own_have_one Reduce job F = never_has_one
 own_have_one (Listing listed) job F = list_have_one listed job.limit F
-own_have_one Low job F = one_of answers.PartRefused (BadPart (length F.states) job.second) (bad_part_is_of (length F.states) job.second)
-own_have_one High job F = one_of answers.PartRefused (BadPart (length F.states) job.second) (bad_part_is_of (length F.states) job.second)
-own_have_one Definite job F = definite_has_one_answer job.reduce F
-own_have_one Cover job F = bad_cover_one F job.second
-own_have_one Shift job F = shift_has_one_answer job.reduce F
-own_have_one (Decompose kind) job F = not_written_one kind job.second job.reduce F
+own_have_one (OfFile task) job F = file_have_one task job F
+own_have_one (OfWork task) job F = work_have_one task job F
 
 -- ---- answers without a text
 plain_as : (answer : Answer) (cause : Cause) (refusal : Refusal) → IsPlain answer → IsOf answer cause → cause refusal → IsPlain (answer_of refusal)
@@ -97,13 +107,19 @@ list_plain OutputPairs limit F refusal (inr (_, inl h)) few = subst IsPlain (sym
 list_plain OutputPairs limit F refusal (inr (_, inr (_, inl h))) few = absurd (few (more_than_is_of rights.RightBefore (IsOutMmPair F) limit refusal h))
 list_plain OutputPairs limit F refusal (inr (_, inr (_, inr h))) few = absurd h.1
 
+file_plain : (task : FileTask) (job : Job) (F : KissFile) (refusal : Refusal) → file_cause task job F refusal → IsPlain (answer_of refusal)
+file_plain Check job F refusal h = absurd h
+file_plain Reduce job F refusal h = absurd h
+file_plain Low job F refusal h = subst IsPlain (sym (bad_part_is_of (length F.states) job.second refusal h)) tt
+file_plain High job F refusal h = subst IsPlain (sym (bad_part_is_of (length F.states) job.second refusal h)) tt
+file_plain Cover job F refusal h = subst IsPlain (sym (bad_cover_is_of F job.second refusal h)) tt
+
+work_plain : (task : WorkTask) (job : Job) (F : KissFile) (refusal : Refusal) → work_cause task job F refusal → IsPlain (answer_of refusal)
+work_plain Definite job F refusal h = subst IsPlain (sym (not_definite_is_of job.reduce F refusal h)) tt
+work_plain Shift job F refusal h = shift_plain job.reduce F refusal h
+work_plain (Decompose kind) job F refusal h = not_written_plain kind job.second job.reduce F refusal h
+
 pub own_plain : (task : MachineTask) (job : Job) (F : KissFile) (refusal : Refusal) → own_cause task job F refusal → answer_of refusal ≢ answers.More → IsPlain (answer_of refusal)
-own_plain Check job F refusal h few = absurd h
-own_plain Reduce job F refusal h few = absurd h
 own_plain (Listing listed) job F refusal h few = list_plain listed job.limit F refusal h few
-own_plain Low job F refusal h few = subst IsPlain (sym (bad_part_is_of (length F.states) job.second refusal h)) tt
-own_plain High job F refusal h few = subst IsPlain (sym (bad_part_is_of (length F.states) job.second refusal h)) tt
-own_plain Definite job F refusal h few = subst IsPlain (sym (not_definite_is_of job.reduce F refusal h)) tt
-own_plain Cover job F refusal h few = subst IsPlain (sym (bad_cover_is_of F job.second refusal h)) tt
-own_plain Shift job F refusal h few = shift_plain job.reduce F refusal h
-own_plain (Decompose kind) job F refusal h few = not_written_plain kind job.second job.reduce F refusal h
+own_plain (OfFile task) job F refusal h few = file_plain task job F refusal h
+own_plain (OfWork task) job F refusal h few = work_plain task job F refusal h

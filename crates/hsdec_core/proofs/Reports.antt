@@ -12,28 +12,18 @@ use Rattle.answers.specs.Cause.{Cause}
 use Rattle.answers.specs.Judged.{IsJudged, IsReported}
 use Rattle.answers.specs.Laws.Causes.{IsOf}
 use Rattle.answers.specs.Refusal.{answer_of}
-use Rattle.hsdec_core.specs.declared.tasks.ListTask.{ListTask}
-use Rattle.hsdec_core.specs.declared.tasks.MachineTask.{MachineTask}
 use Rattle.operands.specs.Causes.{Never}
 use Rattle.hsdec_core.specs.Inner.Made.{IsPlain}
-use Rattle.hsdec_core.specs.Judgement.{list_cause, own_cause}
-use Rattle.hsdec_core.specs.Promise.{IsListEvidence, IsListing, IsReport, IsShown}
-use Rattle.job_words.specs.declared.jobs.Job.{Job}
 use Rattle.job_words.specs.Job.{HasFewSlashes}
 use Rattle.kiss_file.specs.declared.file.KissFile.{KissFile}
 use Rattle.split_plans.specs.Given.{HasFewParts}
 
--- what a task makes of the machine of a file, it makes of the file
-pub reported_as : (task done : MachineTask) (job : Job) (F M : KissFile) (result : Result Report Refusal) → task ≡ done → M ≡ F → IsReported (own_cause done job M) (IsReport done job M) (IsShown done job M) result
-    → IsReported (own_cause task job F) (IsReport task job F) (IsShown task job F) result
-reported_as task done job F M result is same reported =
-    subst (λ (t : MachineTask). IsReported (own_cause t job F) (IsReport t job F) (IsShown t job F) result) (sym is)
-    (subst (λ (G : KissFile). IsReported (own_cause done job G) (IsReport done job G) (IsShown done job G) result) same reported)
-
-pub listed_as : (listed done : ListTask) (limit : ℕ) (F : KissFile) (result : Result Report Refusal) → listed ≡ done → IsReported (list_cause done limit F) (IsListing done limit F) (IsListEvidence done limit F) result
-    → IsReported (list_cause listed limit F) (IsListing listed limit F) (IsListEvidence listed limit F) result
-listed_as listed done limit F result is reported =
-    subst (λ (l : ListTask). IsReported (list_cause l limit F) (IsListing l limit F) (IsListEvidence l limit F) result) (sym is) reported
+-- what is reported for one task of a machine, where the task is that one and the machine that of the file
+pub reported_as : {T : Type 0} (cause : T → KissFile → Cause) (IsWhole IsEvidence : T → KissFile → List ℕ → Type 0) (task done : T) (F M : KissFile) (result : Result Report Refusal) → task ≡ done → M ≡ F
+    → IsReported (cause done M) (IsWhole done M) (IsEvidence done M) result → IsReported (cause task F) (IsWhole task F) (IsEvidence task F) result
+reported_as {T} cause IsWhole IsEvidence task done F M result is same reported =
+    subst (λ (t : T). IsReported (cause t F) (IsWhole t F) (IsEvidence t F) result) (sym is)
+    (subst (λ (G : KissFile). IsReported (cause done G) (IsWhole done G) (IsEvidence done G) result) same reported)
 
 -- a text that nothing but want of memory stands against
 pub whole_reported : {V : Type 0} (items : V → List ℕ) (P Q : List ℕ → Type 0) (text : Result V AllocError) (result : Result Report Refusal) → MatchResult text (λ v. result ≡ Ok (Whole (items v))) (λ _. result ≡ Err NoMemory) → IfOk text (λ v. P (items v)) → IsReported Never P Q result

@@ -5,12 +5,16 @@ use Rattle.answers.specs.Cause.{Cause, FirstOf}
 use Rattle.closed_lattice.specs.Closed.{IsClosedPartition}
 use Rattle.cover_texts.specs.Flaws.{BadCoverRow}
 use Rattle.generated_texts.specs.Trial.{LongCodeRow}
+use Rattle.hsdec_core.specs.declared.tasks.FileTask.{FileTask}
+use Rattle.hsdec_core.specs.declared.tasks.FileTask.TheVariants.{Check, Cover, High, Low, Reduce}
 use Rattle.hsdec_core.specs.declared.tasks.ListTask.{ListTask}
 use Rattle.hsdec_core.specs.declared.tasks.ListTask.TheVariants.{Closed, InputPairs, Output, OutputPairs, Pairs}
 use Rattle.hsdec_core.specs.declared.tasks.MachineTask.{MachineTask}
-use Rattle.hsdec_core.specs.declared.tasks.MachineTask.TheVariants.{Check, Cover, Decompose, Definite, High, Listing, Low, Reduce, Shift}
+use Rattle.hsdec_core.specs.declared.tasks.MachineTask.TheVariants.{Listing, OfFile, OfWork}
 use Rattle.hsdec_core.specs.declared.tasks.Task.{Task}
 use Rattle.hsdec_core.specs.declared.tasks.Task.TheVariants.{Gen, OnMachine, Sim, Trial, Walk}
+use Rattle.hsdec_core.specs.declared.tasks.WorkTask.{WorkTask}
+use Rattle.hsdec_core.specs.declared.tasks.WorkTask.TheVariants.{Decompose, Definite, Shift}
 use Rattle.operands.specs.Causes.{Never, NoMachineOf, NoNetworkOf, OfMachine, OfNetwork}
 use Rattle.operands.specs.Fill.{fill_of}
 use Rattle.operands.specs.Loading.{Lengthy}
@@ -34,18 +38,25 @@ list_cause Pairs limit F = MoreThan RightBefore (IsMmPair F) limit
 list_cause InputPairs limit F = RefusesInputPairs F limit
 list_cause OutputPairs limit F = RefusesOutputPairs F limit
 
--- a command's own causes, by what it does with the machine of FILE; a command that prints a result for every
--- machine has none
+-- the causes of a text on the machine of FILE itself; a command that prints a result for every machine has none
+abbrev pub file_cause : FileTask → Job → KissFile → Cause
+file_cause Check job F = Never
+file_cause Reduce job F = Never
+file_cause Low job F = BadPart (length F.states) job.second
+file_cause High job F = BadPart (length F.states) job.second
+file_cause Cover job F = BadCoverRow F job.second
+
+-- the causes of a text on the machine that the job works on
+abbrev pub work_cause : WorkTask → Job → KissFile → Cause
+work_cause Definite job F = NotDefiniteRow job.reduce F
+work_cause Shift job F = RefusesShift job.reduce F
+work_cause (Decompose kind) job F = IsNotWritten kind job.second job.reduce F
+
+-- a command's own causes, by what it does with the machine of FILE
 abbrev pub own_cause : MachineTask → Job → KissFile → Cause
-own_cause Check job F = Never
-own_cause Reduce job F = Never
 own_cause (Listing listed) job F = list_cause listed job.limit F
-own_cause Low job F = BadPart (length F.states) job.second
-own_cause High job F = BadPart (length F.states) job.second
-own_cause Definite job F = NotDefiniteRow job.reduce F
-own_cause Cover job F = BadCoverRow F job.second
-own_cause Shift job F = RefusesShift job.reduce F
-own_cause (Decompose kind) job F = IsNotWritten kind job.second job.reduce F
+own_cause (OfFile task) job F = file_cause task job F
+own_cause (OfWork task) job F = work_cause task job F
 
 -- ---- before any symbol is loaded
 abbrev pub first_cause_of : Task → Job → List ℕ → Cause

@@ -4,12 +4,16 @@ use Rattle.closed_lattice.specs.Closed.{IsClosedPartition}
 use Rattle.cover_texts.specs.Written.{IsCoverText}
 use Rattle.generated_texts.specs.Generated.{OfGenerated}
 use Rattle.generated_texts.specs.Trial.{IsTrialText}
+use Rattle.hsdec_core.specs.declared.tasks.FileTask.{FileTask}
+use Rattle.hsdec_core.specs.declared.tasks.FileTask.TheVariants.{Check, Cover, High, Low, Reduce}
 use Rattle.hsdec_core.specs.declared.tasks.ListTask.{ListTask}
 use Rattle.hsdec_core.specs.declared.tasks.ListTask.TheVariants.{Closed, InputPairs, Output, OutputPairs, Pairs}
 use Rattle.hsdec_core.specs.declared.tasks.MachineTask.{MachineTask}
-use Rattle.hsdec_core.specs.declared.tasks.MachineTask.TheVariants.{Check, Cover, Decompose, Definite, High, Listing, Low, Reduce, Shift}
+use Rattle.hsdec_core.specs.declared.tasks.MachineTask.TheVariants.{Listing, OfFile, OfWork}
 use Rattle.hsdec_core.specs.declared.tasks.Task.{Task}
 use Rattle.hsdec_core.specs.declared.tasks.Task.TheVariants.{Gen, OnMachine, Sim, Trial, Walk}
+use Rattle.hsdec_core.specs.declared.tasks.WorkTask.{WorkTask}
+use Rattle.hsdec_core.specs.declared.tasks.WorkTask.TheVariants.{Decompose, Definite, Shift}
 use Rattle.operands.specs.Fill.{fill_of}
 use Rattle.operands.specs.Loading.{IsText}
 use Rattle.operands.specs.Opened.{HoldsMachine, HoldsNetwork}
@@ -52,17 +56,25 @@ IsListEvidence Pairs limit F text = IsEvidenceText pair_line RightBefore (IsMmPa
 IsListEvidence InputPairs limit F text = IsEvidenceText pair_line rights.RightBefore (IsInMmPair F) limit text
 IsListEvidence OutputPairs limit F text = IsOutputEvidence F limit text
 
+-- the text is the one on the machine of FILE itself
+abbrev pub IsFileText : FileTask → Job → KissFile → List ℕ → Type 0
+IsFileText Check job F text = IsChecked F text
+IsFileText Reduce job F text = IsReducedText F (fill_of job) text
+IsFileText Low job F text = IsLowText F job.second text
+IsFileText High job F text = IsHighText F job.second text
+IsFileText Cover job F text = IsCoverText F job.second text
+
+-- the text is the one on the machine that the job works on
+abbrev pub IsWorkText : WorkTask → Job → KissFile → List ℕ → Type 0
+IsWorkText Definite job F text = IsChainText job.reduce F text
+IsWorkText Shift job F text = IsShiftText job.reduce F text
+IsWorkText (Decompose kind) job F text = IsWritten kind job.second job.reduce F text
+
 -- the text is the whole text of the task
 abbrev pub IsReport : MachineTask → Job → KissFile → List ℕ → Type 0
-IsReport Check job F text = IsChecked F text
-IsReport Reduce job F text = IsReducedText F (fill_of job) text
 IsReport (Listing listed) job F text = IsListing listed job.limit F text
-IsReport Low job F text = IsLowText F job.second text
-IsReport High job F text = IsHighText F job.second text
-IsReport Definite job F text = IsChainText job.reduce F text
-IsReport Cover job F text = IsCoverText F job.second text
-IsReport Shift job F text = IsShiftText job.reduce F text
-IsReport (Decompose kind) job F text = IsWritten kind job.second job.reduce F text
+IsReport (OfFile task) job F text = IsFileText task job F text
+IsReport (OfWork task) job F text = IsWorkText task job F text
 
 -- the text is evidence that there are more than the limit
 abbrev pub IsShown : MachineTask → Job → KissFile → List ℕ → Type 0

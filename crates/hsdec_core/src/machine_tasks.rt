@@ -5,13 +5,14 @@ ghost use Rattle.hs_io.specs.Counts.{Rose};
 ghost use Rattle.answers.specs.declared.refusals.Refusal.TheVariants.{NoMemory};
 ghost use Rattle.answers.specs.declared.reports.Report.TheVariants.{Whole};
 ghost use Rattle.answers.specs.Judged.{IsReported};
-ghost use Rattle.hsdec_core.specs.declared.tasks.MachineTask.TheVariants as tasks;
+ghost use Rattle.hsdec_core.specs.declared.tasks.MachineTask.TheVariants.{OfWork};
 ghost use Rattle.hsdec_core.specs.declared.tasks.Task.TheVariants.{OnMachine};
+ghost use Rattle.hsdec_core.specs.declared.tasks.WorkTask.TheVariants as works;
 ghost use Rattle.operands.specs.Fill.{fill_of};
 ghost use Rattle.hsdec_core.specs.Inner.Made.{IsMadeOf};
-ghost use Rattle.hsdec_core.specs.Judgement.{list_cause, own_cause};
+ghost use Rattle.hsdec_core.specs.Judgement.{file_cause, list_cause, own_cause, work_cause};
 ghost use Rattle.hsdec_core.specs.Operands.{AreGranted};
-ghost use Rattle.hsdec_core.specs.Promise.{IsListEvidence, IsListing, IsReport, IsShown};
+ghost use Rattle.hsdec_core.specs.Promise.{IsFileText, IsListEvidence, IsListing, IsReport, IsShown, IsWorkText};
 ghost use Rattle.hsdec_core.specs.Task.{task_of};
 ghost use Rattle.job_words.specs.declared.command.Command.TheVariants as commands;
 ghost use Rattle.job_words.specs.Job.{HasFewSlashes, IsLimit};
@@ -19,11 +20,12 @@ ghost use Rattle.kiss_file.specs.Lawful.{IsLawful};
 ghost use Rattle.kiss_file.specs.Machine.{Accepted};
 ghost use Rattle.state_codes.specs.declared.split.Kind.TheVariants as kinds;
 
-use crate::tasks::{ListTask, MachineTask};
+use crate::tasks::{FileTask, ListTask, MachineTask, WorkTask};
 use answers::{Bytes, Refusal, Report};
 use cover_texts::cover;
 use hs_io::Shelf;
 use job_words::Job;
+use kiss_file::KissFile;
 use machine_reports::{
     check, closed, definite, high, ispairs, low, output, pairs, reduce, sopairs,
 };
@@ -61,24 +63,60 @@ fn report(
     task: MachineTask,
     opened: OpenedMachine,
 ) -> Result<Report, Refusal>
-    requires few { task ≡ tasks.Decompose kinds.Assign → HasFewSlashes job.now.second }
+    requires few { task ≡ OfWork (works.Decompose kinds.Assign) → HasFewSlashes job.now.second }
     requires limited { IsLimit job.now.limit }
     requires lawful { IsLawful opened.file }
     requires accepted { Accepted opened.file (fill_of job.now) }
     requires machine { opened.machine ≡ opened.file }
     ensures { IsReported (own_cause task job.now opened.file) (IsReport task job.now opened.file) (IsShown task job.now opened.file) result }
 {
+    match task {
+        MachineTask::Listing(listed) => listing(alloc, listed, &opened.machine, job.limit),
+        MachineTask::OfFile(task) => on_file(alloc, job, task, &opened.file, &opened.machine),
+        MachineTask::OfWork(task) => on_work(alloc, job, task, opened),
+    }
+}
+
+/// Makes a text on the machine of a file itself.
+fn on_file(
+    alloc: Global,
+    job: &Job,
+    task: FileTask,
+    file: &KissFile,
+    machine: &Machine,
+) -> Result<Report, Refusal>
+    requires lawful { IsLawful file.now }
+    requires accepted { Accepted file.now (fill_of job.now) }
+    requires machine { machine.now ≡ file.now }
+    ensures { IsReported (file_cause task job.now file.now) (IsFileText task job.now file.now) (λ _. ⊥) result }
+{
+    match task {
+        FileTask::Check => whole(check(alloc, file)),
+        FileTask::Reduce => whole(reduce(alloc, file, machine, fill(job))),
+        FileTask::Low => judged(low(alloc, machine, job.second.bytes())),
+        FileTask::High => judged(high(alloc, machine, job.second.bytes())),
+        FileTask::Cover => judged(cover(alloc, file, machine, job.second.bytes())),
+    }
+}
+
+/// Makes a text on the machine that a job works on.
+fn on_work(
+    alloc: Global,
+    job: &Job,
+    task: WorkTask,
+    opened: OpenedMachine,
+) -> Result<Report, Refusal>
+    requires few { task ≡ works.Decompose kinds.Assign → HasFewSlashes job.now.second }
+    requires lawful { IsLawful opened.file }
+    requires accepted { Accepted opened.file (fill_of job.now) }
+    requires machine { opened.machine ≡ opened.file }
+    ensures { IsReported (work_cause task job.now opened.file) (IsWorkText task job.now opened.file) (λ _. ⊥) result }
+{
     let OpenedMachine { file, machine } = opened;
     match task {
-        MachineTask::Listing(listed) => listing(alloc, listed, &machine, job.limit),
-        MachineTask::Check => whole(check(alloc, &file)),
-        MachineTask::Reduce => whole(reduce(alloc, &file, &machine, fill(job))),
-        MachineTask::Low => judged(low(alloc, &machine, job.second.bytes())),
-        MachineTask::High => judged(high(alloc, &machine, job.second.bytes())),
-        MachineTask::Definite => judged(definite(alloc, &file, machine, fill(job), job.reduce)),
-        MachineTask::Cover => judged(cover(alloc, &file, &machine, job.second.bytes())),
-        MachineTask::Shift => judged(shift(alloc, &file, machine, fill(job), job.reduce)),
-        MachineTask::Decompose(kind) => judged(decompose(
+        WorkTask::Definite => judged(definite(alloc, &file, machine, fill(job), job.reduce)),
+        WorkTask::Shift => judged(shift(alloc, &file, machine, fill(job), job.reduce)),
+        WorkTask::Decompose(kind) => judged(decompose(
             alloc,
             kind,
             job.second.bytes(),

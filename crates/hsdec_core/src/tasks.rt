@@ -24,19 +24,12 @@ pub enum Task {
 /// What a command does with the machine of FILE.
 #[derive(Clone, Copy, Debug, PartialEq, Eq)]
 pub enum MachineTask {
-    Check,
-    Reduce,
     /// A list of partitions or of pairs of them, up to a limit.
     Listing(ListTask),
-    Low,
-    High,
-    Definite,
-    /// The network of a closed cover.
-    Cover,
-    /// The shift register of a definite machine.
-    Shift,
-    /// A decomposition of that kind.
-    Decompose(Kind),
+    /// A text on the machine of FILE itself.
+    OfFile(FileTask),
+    /// A text on the machine that the job works on: that of FILE, or with `--reduce` that of its classes.
+    OfWork(WorkTask),
 }
 
 /// What a command lists.
@@ -54,6 +47,27 @@ pub enum ListTask {
     OutputPairs,
 }
 
+/// What a command tells of the machine of FILE itself.
+#[derive(Clone, Copy, Debug, PartialEq, Eq)]
+pub enum FileTask {
+    Check,
+    Reduce,
+    Low,
+    High,
+    /// The network of a closed cover.
+    Cover,
+}
+
+/// What a command tells of the machine that the job works on.
+#[derive(Clone, Copy, Debug, PartialEq, Eq)]
+pub enum WorkTask {
+    Definite,
+    /// The shift register of a definite machine.
+    Shift,
+    /// A decomposition of that kind.
+    Decompose(Kind),
+}
+
 /// The task of a command.
 pub fn task_of_command(command: Command) -> Task
     ensures { result ≡ task_of command }
@@ -63,23 +77,23 @@ pub fn task_of_command(command: Command) -> Task
         Command::Sim => return Task::Sim,
         Command::Gen => return Task::Gen,
         Command::Trial => return Task::Trial,
-        Command::Check => MachineTask::Check,
-        Command::Reduce => MachineTask::Reduce,
+        Command::Check => MachineTask::OfFile(FileTask::Check),
+        Command::Reduce => MachineTask::OfFile(FileTask::Reduce),
         Command::Closed => MachineTask::Listing(ListTask::Closed),
         Command::Output => MachineTask::Listing(ListTask::Output),
         Command::Pairs => MachineTask::Listing(ListTask::Pairs),
-        Command::Low => MachineTask::Low,
-        Command::High => MachineTask::High,
-        Command::Code => MachineTask::Decompose(Kind::Code),
-        Command::Assign => MachineTask::Decompose(Kind::Assign),
-        Command::Parallel => MachineTask::Decompose(Kind::Parallel),
-        Command::Serial => MachineTask::Decompose(Kind::Serial),
-        Command::Cascade => MachineTask::Decompose(Kind::Cascade),
-        Command::Feedback => MachineTask::Decompose(Kind::Feedback),
-        Command::Least => MachineTask::Decompose(Kind::Least),
-        Command::Cover => MachineTask::Cover,
-        Command::Definite => MachineTask::Definite,
-        Command::Shift => MachineTask::Shift,
+        Command::Low => MachineTask::OfFile(FileTask::Low),
+        Command::High => MachineTask::OfFile(FileTask::High),
+        Command::Code => MachineTask::OfWork(WorkTask::Decompose(Kind::Code)),
+        Command::Assign => MachineTask::OfWork(WorkTask::Decompose(Kind::Assign)),
+        Command::Parallel => MachineTask::OfWork(WorkTask::Decompose(Kind::Parallel)),
+        Command::Serial => MachineTask::OfWork(WorkTask::Decompose(Kind::Serial)),
+        Command::Cascade => MachineTask::OfWork(WorkTask::Decompose(Kind::Cascade)),
+        Command::Feedback => MachineTask::OfWork(WorkTask::Decompose(Kind::Feedback)),
+        Command::Least => MachineTask::OfWork(WorkTask::Decompose(Kind::Least)),
+        Command::Cover => MachineTask::OfFile(FileTask::Cover),
+        Command::Definite => MachineTask::OfWork(WorkTask::Definite),
+        Command::Shift => MachineTask::OfWork(WorkTask::Shift),
         Command::Ispairs => MachineTask::Listing(ListTask::InputPairs),
         Command::Sopairs => MachineTask::Listing(ListTask::OutputPairs),
     };

@@ -1,9 +1,16 @@
+use Rattle.std.proofs.Common.{refl}
 use Rattle.hsdec_core.specs.declared.tasks.ListTask.TheVariants.{InputPairs, OutputPairs}
-use Rattle.hsdec_core.proofs.Reports.{listed_as}
+use Rattle.hsdec_core.specs.Judgement.{list_cause}
+use Rattle.hsdec_core.specs.Promise.{IsListEvidence, IsListing}
+use Rattle.hsdec_core.proofs.Reports.{reported_as}
 use Rattle.hsdec_core.proofs.machine_tasks.listing.Goals as goal
 
 pub returns-in-InputPairs : goal.returns-in-InputPairs
-returns-in-InputPairs c = listed_as _ InputPairs c.args.limit c.args.machine.now c.ispairs.result c.in-InputPairs.is c.ispairs.ensures
+returns-in-InputPairs c =
+    reported_as (λ listed. list_cause listed c.args.limit) (λ listed. IsListing listed c.args.limit) (λ listed. IsListEvidence listed c.args.limit)
+    _ InputPairs c.args.machine.now c.args.machine.now c.ispairs.result c.in-InputPairs.is refl c.ispairs.ensures
 
 pub returns-in-OutputPairs : goal.returns-in-OutputPairs
-returns-in-OutputPairs c = listed_as _ OutputPairs c.args.limit c.args.machine.now c.sopairs.result c.in-OutputPairs.is c.sopairs.ensures
+returns-in-OutputPairs c =
+    reported_as (λ listed. list_cause listed c.args.limit) (λ listed. IsListing listed c.args.limit) (λ listed. IsListEvidence listed c.args.limit)
+    _ OutputPairs c.args.machine.now c.args.machine.now c.sopairs.result c.in-OutputPairs.is refl c.sopairs.ensures
