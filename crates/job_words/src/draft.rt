@@ -69,7 +69,7 @@ impl Stood {
 }
 
 /// A job after some of its items: the number of operands among them, and the options.
-#[derive(Debug, Drop)]
+#[derive(Drop)]
 pub struct Draft {
     pub operands: usize,
     pub stood: Stood,

@@ -13,7 +13,7 @@ use machine_table::Machine;
 use std::alloc::{AllocError, Global};
 
 /// Codes, with bit i of a code at 2^i in the word of its state, and what they cost.
-#[derive(Debug, Drop)]
+#[derive(Drop)]
 pub(crate) struct Best {
     pub(crate) words: Vec<u64>,
     pub(crate) cost: u32,

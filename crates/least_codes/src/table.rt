@@ -9,7 +9,7 @@ use machine_table::Machine;
 use std::alloc::{AllocError, Global};
 
 /// Two states, and the pairs of states that symbols lead them to.
-#[derive(Debug, Drop)]
+#[derive(Drop)]
 pub(crate) struct Images {
     pub(crate) pair: TwoStates,
     pub(crate) images: Vec<(u16, u16)>,

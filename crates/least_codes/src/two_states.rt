@@ -9,7 +9,7 @@ use machine_table::Machine;
 use std::alloc::{AllocError, Global};
 
 /// Two states, s below t.
-#[derive(Clone, Copy, Debug, PartialEq, Eq)]
+#[derive(Clone, Copy, PartialEq, Eq)]
 pub(crate) struct TwoStates {
     pub(crate) s: usize,
     pub(crate) t: usize,

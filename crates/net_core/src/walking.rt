@@ -9,7 +9,7 @@ use crate::ordering::NumberedGate;
 use std::alloc::{AllocError, Global};
 
 /// Why a walk stops.
-#[derive(Debug, Drop)]
+#[derive(Drop)]
 pub(crate) enum Stop {
     /// A cycle: each gate needs the next one, and the last gate needs the first.
     Cycle(Vec<usize>),
@@ -28,7 +28,7 @@ impl From<AllocError> for Stop {
 }
 
 /// What the walk finds at the last gate of its path.
-#[derive(Clone, Copy, Debug)]
+#[derive(Clone, Copy)]
 enum Look {
     /// It has looked at all inputs.
     Whole,

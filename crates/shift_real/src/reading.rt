@@ -12,7 +12,7 @@ use machine_table::Machine;
 use std::alloc::{AllocError, Global};
 
 /// What the gate of an output reads.
-#[derive(Debug, Drop)]
+#[derive(Drop)]
 pub struct OutputReading {
     /// The class of each content: the first state that gives what the state after the content gives.
     pub classes: Vec<u16>,

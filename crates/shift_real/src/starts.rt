@@ -32,7 +32,7 @@ impl From<AllocError> for RegisterFail {
 }
 
 /// The contents of as many symbols as the order of a machine.
-#[derive(Debug, Drop)]
+#[derive(Drop)]
 pub struct RegisterContents {
     pub order: usize,
     pub contents: Vec<Content>,

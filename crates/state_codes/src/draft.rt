@@ -13,7 +13,7 @@ use partition::Partition;
 use std::alloc::{AllocError, Global};
 
 /// The bits so far: the word of each state, and the part and the mark of each bit.
-#[derive(Debug, Drop)]
+#[derive(Drop)]
 struct Draft {
     bits: usize,
     words: Vec<u64>,
