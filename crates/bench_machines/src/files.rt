@@ -6,8 +6,8 @@ ghost use Rattle.kiss_file.specs.Lawful.{IsLawful};
 use crate::Case;
 use crate::texts::{shape_of, text_of};
 use anyhow::{Error, bail};
-use kiss2::read;
 use kiss_file::{Fill, KissFile};
+use kiss2::read;
 use machine_table::Machine;
 use std::alloc::Global;
 

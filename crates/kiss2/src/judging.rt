@@ -6,10 +6,10 @@ ghost use Rattle.kiss2.specs.Words.{has_backslash, decimal_value};
 ghost use Rattle.kiss_file.specs.Names.{AreDistinct};
 ghost use Rattle.kiss2.specs.Inner.Judging.{Judges};
 
-use kiss_file::StateNames;
 use crate::fault::{KissKind, KissLimit};
 use crate::words::{holds_backslash, number_in};
 use hs_io::{Name, Names, copied_names};
+use kiss_file::StateNames;
 use std::alloc::{AllocError, Global};
 
 /// Why a line was not taken.

@@ -7,7 +7,6 @@ ghost use Rattle.kiss2.specs.declared.fault.KissFail.TheVariants.{NoMemory, Refu
 ghost use Rattle.kiss2.specs.Kiss.{IsKissFault, IsLineFault, Kiss, closing_fault, lines_read};
 ghost use Rattle.kiss2.specs.Inner.Judging.{IsSmall, Keeps, Stands, fail_at};
 
-use kiss_file::KissFile;
 use crate::fault::{KissFail, KissFault, KissKind};
 use crate::judging::LineFail;
 use crate::kept::Kept;
@@ -15,6 +14,7 @@ use crate::line_kind::ends;
 use crate::record::record_of;
 use crate::said::Said;
 use hs_io::LineReader;
+use kiss_file::KissFile;
 use std::alloc::Global;
 
 /// The machine that a KISS2 text says, or its first fault.

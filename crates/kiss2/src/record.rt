@@ -12,9 +12,9 @@ ghost use Rattle.kiss2.specs.Inner.Judging.{Keeps, names_in_columns, once_after}
 
 use crate::said::{ResetLine, Said, add_name};
 use crate::words::{field_of, is_open_field, outputs_in_field};
-use kiss_file::{KissFile, KissRow, Rows, StateNames};
 use cubes::Cube;
 use hs_io::Line;
+use kiss_file::{KissFile, KissRow, Rows, StateNames};
 use std::alloc::{AllocError, Global};
 
 /// The record that lines without a fault give, by what is kept of them.

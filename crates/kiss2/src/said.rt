@@ -6,7 +6,6 @@ ghost use Rattle.kiss2.specs.Faults.{fault_in, first_of, fault_where, row_fault}
 ghost use Rattle.kiss2.specs.Words.{current_field, is_character_field, is_name, line_kind_of, output_field};
 ghost use Rattle.kiss2.specs.Inner.Judging.{IsSmall, Judges, Stands, once_after};
 
-use kiss_file::StateNames;
 use crate::fault::{KissKind, KissLimit};
 use crate::judging::{
     LineFail, count_said, given, judge_lengths, judge_number, names_said, reset_said,
@@ -14,6 +13,7 @@ use crate::judging::{
 use crate::line_kind::{LineKind, line_kind};
 use crate::words::{field_of, has_characters, is_open_field, operands_of};
 use hs_io::{Line, Name, Names};
+use kiss_file::StateNames;
 use std::alloc::{AllocError, Global};
 
 /// The line of `.r`.

@@ -9,10 +9,10 @@ ghost use Rattle.hs_io.specs.Spelling.{ended, line_text, spaced, spelled};
 ghost use Rattle.kiss_file.specs.Names.{name_of};
 ghost use Rattle.kiss2.specs.Written.{fields_of_row, given_line, kiss_text, next_name, output_characters, states_standing};
 
-use kiss_file::{KissFile, KissRow, StateNames};
 use cubes::Cube;
 use hs_io::{Name, Names};
 use itoa::Buffer;
+use kiss_file::{KissFile, KissRow, StateNames};
 use std::alloc::{AllocError, Global};
 
 /// The text of the record.

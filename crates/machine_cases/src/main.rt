@@ -17,8 +17,8 @@ mod worlds;
 
 use anyhow::{Context, ensure};
 use case_lines::{Calls, agree};
-use kiss2::read;
 use kiss_file::{Fill, KissFile};
+use kiss2::read;
 use kiss2_laws::read_is_lawful;
 use machine_table::{Machine, lawful_is_a_table};
 use std::alloc::Global;

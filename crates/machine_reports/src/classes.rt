@@ -5,8 +5,8 @@ ghost use Rattle.kiss_file.specs.Lawful.{IsLawful};
 ghost use Rattle.kiss_file.specs.Machine.{Accepted};
 ghost use Rattle.machine_reports.specs.ReducedText.{IsReducedText};
 
-use kiss2::write;
 use kiss_file::{Fill, KissFile};
+use kiss2::write;
 use machine_table::Machine;
 use state_reduce::{QuotientFail, equivalence, quotient};
 use std::alloc::{AllocError, Global};

@@ -13,8 +13,8 @@ use answers::{Refusal, symbol_text};
 use blif_in::{BlifFail, OrderedNetwork, read_ordered};
 use hs_io::{Name, Shelf};
 use job_words::Job;
-use kiss2::{KissFail, read};
 use kiss_file::{Fill, KissFile};
+use kiss2::{KissFail, read};
 use machine_table::{BuildFail, Machine, Missing};
 use std::alloc::{AllocError, Global};
 

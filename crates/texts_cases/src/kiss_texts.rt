@@ -3,8 +3,8 @@
 use crate::answers::{put, put_bits, put_debugged};
 use crate::cubes_and_gaps::put_cube;
 use crate::words::{cut, number, pieces, readable};
-use kiss2::{KissFail, KissFault, read, write};
 use kiss_file::{KissFile, KissRow, StateNames};
+use kiss2::{KissFail, KissFault, read, write};
 use std::alloc::{AllocError, Global};
 
 /// Puts what a call answers.
