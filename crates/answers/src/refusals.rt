@@ -9,7 +9,7 @@ use state_codes::Kind;
 use std::alloc::AllocError;
 
 /// Why a job is not done, with the values that its line shows.
-#[derive(Debug, Drop)]
+#[derive(Drop)]
 pub enum Refusal {
     /// The words are not a job: the number of the first refused word, counted from 1.
     Usage {
@@ -105,7 +105,7 @@ pub enum Refusal {
 }
 
 /// What is wrong with a cover. Blocks, and the places within one, are counted from 0.
-#[derive(Debug, Drop)]
+#[derive(Drop)]
 pub enum CoverFlaw {
     /// The piece at a place of a block is not a number of a state, or not greater than the number before it.
     Place { block: usize, place: usize },

@@ -321,10 +321,17 @@ fn append_names(text: &mut Vec<u8>, names: &[Name]) -> Result<(), AllocError>
     ensures { OnOk result (text.new.items ≡ text.old.items ++ flat_map spaced names.now) }
 {
     for name in names {
-        text.push(b' ')?;
-        text.extend_from_slice(name.bytes())?;
+        append_name(text, name.bytes())?;
     }
     Ok(())
+}
+
+/// Appends a name after a space.
+fn append_name(text: &mut Vec<u8>, name: &[u8]) -> Result<(), AllocError>
+    ensures { OnOk result (text.new.items ≡ text.old.items ++ spaced name.now) }
+{
+    text.push(b' ')?;
+    text.extend_from_slice(name)
 }
 
 /// Appends words and a number.
@@ -336,10 +343,8 @@ fn append_number(
 ) -> Result<(), AllocError>
     ensures { OnOk result (line.new.items ≡ line.old.items ++ words.now ++ decimal number) }
 {
-    let digits = number.to_string(alloc)?;
     line.extend_from_slice(words)?;
-    line.extend_from_slice(digits.as_bytes())?;
-    Ok(())
+    line.extend_from_slice(number.to_string(alloc)?.as_bytes())
 }
 
 /// A line of words and a name or a number.

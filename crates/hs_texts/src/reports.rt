@@ -43,10 +43,10 @@ pub fn counts(
     ensures { IfOk result (λ text. text.items ≡ counts_text states inputs outputs rows reset.now) }
 {
     let mut text = Vec::new(alloc);
-    append_line(&mut text, b"states ", states.to_string(alloc)?.as_bytes())?;
-    append_line(&mut text, b"inputs ", inputs.to_string(alloc)?.as_bytes())?;
-    append_line(&mut text, b"outputs ", outputs.to_string(alloc)?.as_bytes())?;
-    append_line(&mut text, b"rows ", rows.to_string(alloc)?.as_bytes())?;
+    append_count(alloc, &mut text, b"states ", states)?;
+    append_count(alloc, &mut text, b"inputs ", usize::from(inputs))?;
+    append_count(alloc, &mut text, b"outputs ", usize::from(outputs))?;
+    append_count(alloc, &mut text, b"rows ", rows)?;
     append_line(&mut text, b"reset ", reset)?;
     Ok(text)
 }

@@ -1,6 +1,7 @@
 //! The fields of a job from its words.
 
 ghost use Rattle.std.specs.Prelude.{◌≡◌, ◌≢◌, true, false, ◌==◌, OnOk, count_by};
+ghost use Rattle.job_words.specs.Inner.Put.{IsPut};
 ghost use Rattle.job_words.specs.Job.{fits_kind, fits_option, with_operand, with_option};
 
 use crate::draft::Refusal;
@@ -28,17 +29,58 @@ pub fn put_operand(
         )?,
         OperandKind::Parts if slashes(word) > 255 => return Err(Refusal::Word),
         OperandKind::Parts => job.second = Name::new(alloc, word)?,
-        OperandKind::Seed => job.seed = u64::from(number(word).ok_or(Refusal::Word)?),
-        OperandKind::A => job.a = number_within(word, 2, 128).ok_or(Refusal::Word)? as u16,
-        OperandKind::B => {
-            let b = number_within(word, 2, 128).ok_or(Refusal::Word)?;
-            if u32::from(job.a) * b > 256 {
-                return Err(Refusal::Word);
-            }
-            job.b = b as u16;
-        }
-        OperandKind::K => job.k = number_within(word, 1, 8).ok_or(Refusal::Word)? as u8,
+        OperandKind::Seed => return put_seed(word, job),
+        OperandKind::A => return put_a(word, job),
+        OperandKind::B => return put_b(word, job),
+        OperandKind::K => return put_k(word, job),
     }
+    Ok(())
+}
+
+/// Puts the operand SEED into a job.
+fn put_seed(word: &[u8], job: &mut Job) -> Result<(), Refusal>
+    ensures { IsPut OperandKind.Seed word.now job.old job.new result }
+{
+    let Some(seed) = number(word) else {
+        return Err(Refusal::Word);
+    };
+    job.seed = u64::from(seed);
+    Ok(())
+}
+
+/// Puts the operand A into a job.
+fn put_a(word: &[u8], job: &mut Job) -> Result<(), Refusal>
+    ensures { IsPut OperandKind.A word.now job.old job.new result }
+{
+    let Some(a) = number_within(word, 2, 128) else {
+        return Err(Refusal::Word);
+    };
+    job.a = a as u16;
+    Ok(())
+}
+
+/// Puts the operand B into a job that has its operand A.
+fn put_b(word: &[u8], job: &mut Job) -> Result<(), Refusal>
+    ensures { IsPut OperandKind.B word.now job.old job.new result }
+{
+    let Some(b) = number_within(word, 2, 128) else {
+        return Err(Refusal::Word);
+    };
+    if u32::from(job.a) * b > 256 {
+        return Err(Refusal::Word);
+    }
+    job.b = b as u16;
+    Ok(())
+}
+
+/// Puts the operand K into a job.
+fn put_k(word: &[u8], job: &mut Job) -> Result<(), Refusal>
+    ensures { IsPut OperandKind.K word.now job.old job.new result }
+{
+    let Some(k) = number_within(word, 1, 8) else {
+        return Err(Refusal::Word);
+    };
+    job.k = k as u8;
     Ok(())
 }
 

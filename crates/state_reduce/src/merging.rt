@@ -67,15 +67,18 @@ fn file_of_blocks(alloc: Global, file: &KissFile, p: &Partition) -> Result<KissF
     add_nexts(&mut states, file, p)?;
     let reset = number_of(&mut states, file, p, file.reset)?;
     let rows = rows_of_blocks(alloc, &mut states, file, p)?;
-    Ok(KissFile {
+    let mut blocks = KissFile {
         inputs: file.inputs,
         outputs: file.outputs,
         reset,
         states,
         rows,
-        input_names: copied_given(alloc, &file.input_names)?,
-        output_names: copied_given(alloc, &file.output_names)?,
-    })
+        input_names: None,
+        output_names: None,
+    };
+    blocks.input_names = copied_given(alloc, &file.input_names)?;
+    blocks.output_names = copied_given(alloc, &file.output_names)?;
+    Ok(blocks)
 }
 
 /// Adds the names of the blocks of current states.

@@ -87,6 +87,7 @@ fn least_dashed(rows: &[KissRow], numbers: &[usize], free: u32) -> Option<u32> {
 
 impl RowTree {
     /// The tree of the rows with these numbers, at most `depth` deep, split at places with a 1 in `free`.
+    #[cycle(branches)]
     pub fn of_rows(
         alloc: Global,
         rows: &[KissRow],
@@ -101,17 +102,30 @@ impl RowTree {
             return Ok(RowTree::Leaf(Vec::from_slice(alloc, numbers)?));
         };
         let rest = free & !at;
-        let zeros = on_side(alloc, rows, numbers, at, Side::Zero)?;
-        let zero = RowTree::of_rows(alloc, rows, &zeros, rest, depth - 1)?;
-        let ones = on_side(alloc, rows, numbers, at, Side::One)?;
-        let one = RowTree::of_rows(alloc, rows, &ones, rest, depth - 1)?;
-        let dashes = on_side(alloc, rows, numbers, at, Side::Dash)?;
-        let dash = RowTree::of_rows(alloc, rows, &dashes, rest, depth - 1)?;
+        let zero = RowTree::of_side(alloc, rows, numbers, at, Side::Zero, rest, depth - 1)?;
+        let one = RowTree::of_side(alloc, rows, numbers, at, Side::One, rest, depth - 1)?;
+        let dash = RowTree::of_side(alloc, rows, numbers, at, Side::Dash, rest, depth - 1)?;
         Ok(RowTree::Fork {
             at,
-            zero: Box::new(alloc, zero)?,
-            one: Box::new(alloc, one)?,
-            dash: Box::new(alloc, dash)?,
+            zero,
+            one,
+            dash,
         })
+    }
+
+    /// The tree of those of the rows that are on a side of the place with a 1 in `at`.
+    #[cycle(branches)]
+    fn of_side(
+        alloc: Global,
+        rows: &[KissRow],
+        numbers: &[usize],
+        at: u32,
+        side: Side,
+        free: u32,
+        depth: u8,
+    ) -> Result<Box<RowTree>, AllocError> {
+        let own = on_side(alloc, rows, numbers, at, side)?;
+        let tree = RowTree::of_rows(alloc, rows, &own, free, depth)?;
+        Ok(Box::new(alloc, tree)?)
     }
 }

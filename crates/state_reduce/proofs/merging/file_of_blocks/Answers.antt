@@ -19,8 +19,8 @@ returns c =
       inputs = refl;
       outputs = refl;
       reset = number_found F p F.reset _ _ c.in_ok-add_nexts.ensures there c.in_ok-reset.ensures.known _ c.in_ok-reset.ensures.distinct c.in_ok-reset.ensures.number;
-      states = c.states-4.view_is ∙ c.in_ok-rows.ensures.names ∙ names_stay F p F.reset _ _ c.in_ok-add_nexts.ensures there c.in_ok-reset.ensures.known;
+      states = c.in_ok-rows.ensures.names ∙ names_stay F p F.reset _ _ c.in_ok-add_nexts.ensures there c.in_ok-reset.ensures.known;
       rows = c.in_ok-rows.ensures.rows;
-      input_names = c.in_ok-copied_given.ensures;
-      output_names = c.in_ok-copied_given-2.ensures;
+      input_names = c.in_ok-blocks.ensures;
+      output_names = c.in_ok-blocks-2.ensures;
     }
