@@ -6,7 +6,8 @@ use Rattle.std.proofs.lemmas.List.Elements.{All-contains, All-nil, All-push, Con
 use Rattle.list_facts.specs.Laws.Members.{Contains-cons, Contains-here, Contains-none, Contains-there}
 use Rattle.cover_logic.specs.declared.bundles.Entry.{Entry}
 use Rattle.cover_logic.specs.declared.term.Term.{Term}
-use Rattle.cover_logic.specs.Inner.Entries.{terms_in, HasNumber, IsNumbered}
+use Rattle.cover_logic.specs.Inner.Entries.{terms_in, EntryFits, HasNumber, IsNumbered}
+use Rattle.cover_logic.specs.Term.{FitsWidth}
 use Rattle.cover_logic.specs.Inner.Rows.{HasSameTerms}
 
 -- the term of an entry is among the terms, and each of the terms is that of an entry
@@ -66,3 +67,9 @@ first_more terms count entries t below is a = record {
 
 pub first_all : (terms : List Term) (count : ℕ) (entries : List Entry) → length terms ≤ count → AreFirst terms count entries → IsNumbered terms entries
 first_all terms count entries all a = record { among = a.among; all = λ i d below. a.all i d (omega arith) below }
+
+-- what is true of the widths of the terms is true of those of their entries
+pub numbered_fit : (width : ℕ) (terms : List Term) (entries : List Entry) → IsNumbered terms entries → All (FitsWidth width) terms → All (EntryFits width) entries
+numbered_fit width terms entries n fits k d below =
+    let e = n.among k d below in
+    subst (λ (t : Term). FitsWidth width t) (e.1 d.term) (fits (get_or entries k d).number d.term e.0)

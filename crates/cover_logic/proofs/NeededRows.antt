@@ -26,16 +26,21 @@ shared_more row terms others t h one x p held = ⊎_elim (λ k. h x p k) (λ q. 
 abbrev pub IsSharedAt : Term → List Term → Entry → Type 0
 IsSharedAt row others e = (x : ℕ) → Holds row x → Holds e.term x → IsCovered others x
 
--- then they hold what the row has in common with all terms, since it meets none but those
-pub shared_all : (row : Term) (entries near : List Entry) (others : List Term) → IsMet row entries near → All (IsSharedAt row others) near → (x : ℕ) → Holds row x → IsCovered (terms_in entries) x → IsCovered others x
-shared_all row entries near others met shared x p h =
+-- where they do so for each entry, they hold all that the row has in common with the terms of the entries
+pub shared_all : (row : Term) (entries : List Entry) (others : List Term) → All (IsSharedAt row others) entries → IsShared row (terms_in entries) others
+shared_all row entries others shared x p h =
+    let e = entry_of_term entries h.0 h.1 in
+    All-contains (IsSharedAt row others) entries e.0 shared e.1 x p (subst (λ (t : Term). Holds t x) (sym e.2) h.2)
+
+-- a value of the row that the entries hold those hold that the row meets, and the other way round
+pub sole_met : (row : Term) (entries near : List Entry) (others : List Term) (sole : Option ℕ) → IsMet row entries near → IsSole row (terms_in near) others sole → IsSole row (terms_in entries) others sole
+sole_met row entries near others None met s = λ x p h.
     let e = entry_of_term entries h.0 h.1 in
     let q : Holds e.0.term x = subst (λ (t : Term). Holds t x) (sym e.2) h.2 in
-    All-contains (IsSharedAt row others) near e.0 shared ((met e.0).1 (e.1, agree_from_shared row e.0.term x p q)) x p q
-
--- the term of an entry that the row meets is one of the terms
-pub met_is_held : (row : Term) (entries near : List Entry) (e : Entry) (x : ℕ) → IsMet row entries near → Contains near e → Holds e.term x → IsCovered (terms_in entries) x
-met_is_held row entries near e x met in' h = (e.term, term_of_entry entries e ((met e).0 in').0, h)
+    s x p (e.0.term, term_of_entry near e.0 ((met e.0).1 (e.1, agree_from_shared row e.0.term x p q)), q)
+sole_met row entries near others (Some x) met s =
+    let e = entry_of_term near s.1.0 s.1.1 in
+    (s.0, (s.1.0, subst (λ (t : Term). Contains (terms_in entries) t) e.2 (term_of_entry entries e.0 ((met e.0).0 e.1).0), s.1.2), s.2)
 
 -- the others are of the terms, and hold all that they have in common with the row
 pub record HoldAlike (row : Term) (terms others : List Term) : Type 0 where

@@ -160,7 +160,7 @@ impl Bundles {
     ghost use Rattle.std.specs.Prelude.{◌≡◌, ◌≤◌, All, IfOk};
     ghost use Rattle.cover_logic.specs.Term.{FitsWidth};
     ghost use Rattle.cover_logic.specs.Inner.Bundles.{entries_of, terms_in_bundles};
-    ghost use Rattle.cover_logic.specs.Inner.Entries.{IsMet, IsNumbered};
+    ghost use Rattle.cover_logic.specs.Inner.Entries.{EntryFits, IsMet, IsNumbered};
     ghost use Rattle.cover_logic.specs.Inner.Rows.{HasSameTerms};
 
     /// The bundles of the terms, in the order of the list.
@@ -172,6 +172,16 @@ impl Bundles {
         ensures numbers { IfOk result (λ all. IsNumbered terms.now (entries_of all)) }
     {
         let entries = numbered(alloc, terms)?;
+        Bundles::of(alloc, &entries, width)
+    }
+
+    /// The bundles of the entries, in the order of the list.
+    fn of(alloc: Global, entries: &[Entry], width: u8) -> Result<Bundles, AllocError>
+        requires width { width ≤ 128 }
+        requires fits { All (EntryFits width) entries.now }
+        ensures width { IfOk result (λ all. all.width ≡ width) }
+        ensures entries { IfOk result (λ all. entries_of all ≡ entries.now) }
+    {
         let mut bundles = Vec::new(alloc);
         let mut start = 0;
         while start < entries.len() {

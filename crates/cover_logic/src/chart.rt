@@ -1,9 +1,10 @@
 //! A number for each value of at most 16 columns.
-ghost use Rattle.std.specs.Prelude.{◌≡◌, ◌≤◌, ◌-◌, ◌^◌, length};
+ghost use Rattle.std.specs.Prelude.{◌≡◌, ◌≤◌, ◌-◌, ◌^◌, IfOk, length, replicate};
 ghost use Rattle.cover_logic.specs.Term.{FitsWidth};
 ghost use Rattle.cover_logic.specs.Inner.Charts.{IsCleared, IsFilled, IsFound};
 
 use crate::term::Term;
+use std::alloc::{AllocError, Global};
 
 /// The columns below the width, as a number that has a bit for each.
 fn columns(width: u8) -> u128
@@ -11,6 +12,14 @@ fn columns(width: u8) -> u128
     ensures { result ≡ 2 ^ width - 1 }
 {
     (1u128 << width) - 1
+}
+
+/// A chart with 0 at each value.
+pub fn blank(alloc: Global, width: u8) -> Result<Vec<usize>, AllocError>
+    requires { width ≤ 16 }
+    ensures { IfOk result (λ chart. chart.items ≡ replicate (2 ^ width) 0) }
+{
+    Ok(vec![in alloc; 0; 1usize << width]?)
 }
 
 /// Puts the number at each value that the row holds.

@@ -97,8 +97,8 @@ impl Index {
     }
 }
 
-/// Adds nodes for the terms: for those with a 0 at a column, those with a 1 and those with a dash, down to `depth`
-/// such splits.
+/// Adds nodes for the terms, down to `depth` splits of them by columns, and then a node that holds them all.
+#[cycle(add)]
 fn add(
     alloc: Global,
     nodes: &mut Vec<Node>,
@@ -114,17 +114,7 @@ fn add(
         return Ok(());
     };
     let from = nodes.len();
-    let column = best_column(terms, width);
-    if depth == 0 || column == 0 || terms.len() <= 4 {
-        add_each(nodes, terms)?;
-    } else {
-        let zeros = part(alloc, terms, column, Side::Zero)?;
-        let ones = part(alloc, terms, column, Side::One)?;
-        let dashes = part(alloc, terms, column, Side::Dash)?;
-        add(alloc, nodes, &zeros, width, depth - 1)?;
-        add(alloc, nodes, &ones, width, depth - 1)?;
-        add(alloc, nodes, &dashes, width, depth - 1)?;
-    }
+    add_parts(alloc, nodes, terms, width, depth)?;
     let term = hull(*first, terms);
     nodes.push(Node {
         term,
@@ -132,6 +122,48 @@ fn add(
         is_listed: false,
     })?;
     Ok(())
+}
+
+/// Adds nodes for the terms with a 0 at a column, for those with a 1 and for those with a dash, or one for each term
+/// where no split pays.
+#[cycle(add)]
+fn add_parts(
+    alloc: Global,
+    nodes: &mut Vec<Node>,
+    terms: &[Term],
+    width: u8,
+    depth: u8,
+) -> Result<(), AllocError>
+    requires width { width ≤ 128 }
+    requires nested { IsNested nodes.old.items }
+    ensures { OnOk result (IsAdded nodes.old.items terms.now nodes.new.items) }
+{
+    let column = best_column(terms, width);
+    if depth == 0 || column == 0 || terms.len() <= 4 {
+        return add_each(nodes, terms);
+    }
+    add_part(alloc, nodes, terms, column, Side::Zero, width, depth - 1)?;
+    add_part(alloc, nodes, terms, column, Side::One, width, depth - 1)?;
+    add_part(alloc, nodes, terms, column, Side::Dash, width, depth - 1)
+}
+
+/// Adds nodes for the terms that have this at the column.
+#[cycle(add)]
+fn add_part(
+    alloc: Global,
+    nodes: &mut Vec<Node>,
+    terms: &[Term],
+    column: u128,
+    side: Side,
+    width: u8,
+    depth: u8,
+) -> Result<(), AllocError>
+    requires width { width ≤ 128 }
+    requires nested { IsNested nodes.old.items }
+    ensures { OnOk result (IsAdded nodes.old.items (filter (is_on_side side column) terms.now) nodes.new.items) }
+{
+    let part = part(alloc, terms, column, side)?;
+    add(alloc, nodes, &part, width, depth)
 }
 
 /// Adds a node for each term.
@@ -184,11 +216,13 @@ fn is_on_side(term: Term, column: u128, side: Side) -> bool
 fn part(alloc: Global, terms: &[Term], column: u128, side: Side) -> Result<Vec<Term>, AllocError>
     ensures { IfOk result (λ part. part.items ≡ filter (is_on_side side column) terms.now) }
 {
-    terms
-        .iter()
-        .copied()
-        .filter(|term| is_on_side(*term, column, side))
-        .collect(alloc)
+    let mut part = Vec::new(alloc);
+    for term in terms {
+        if is_on_side(*term, column, side) {
+            part.push(*term)?;
+        }
+    }
+    Ok(part)
 }
 
 /// The column that splits the terms best, as a number with that bit alone; 0 where none does.

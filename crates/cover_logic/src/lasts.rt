@@ -4,7 +4,7 @@ ghost use Rattle.cover_logic.specs.Term.{FitsWidth};
 ghost use Rattle.cover_logic.specs.Inner.Lasts.{AreLasts, AreLastsOn};
 ghost use Rattle.cover_logic.specs.Inner.Rows.{AreNeededRows, Covers};
 
-use crate::chart::{clear, fill, find};
+use crate::chart::{blank, clear, fill, find};
 use crate::table::Table;
 use crate::term::Term;
 use std::alloc::{AllocError, Global};
@@ -15,7 +15,7 @@ fn lasts(alloc: Global, rows: &[Term], width: u8) -> Result<Vec<usize>, AllocErr
     requires fits { All (FitsWidth width) rows.now }
     ensures { IfOk result (λ chart. AreLasts width rows.now (length rows.now) chart.items) }
 {
-    let mut chart = vec![in alloc; 0; 1usize << width]?;
+    let mut chart = blank(alloc, width)?;
     for (i, row) in rows.iter().enumerate() {
         fill(&mut chart, *row, width, i + 1);
     }

@@ -1,24 +1,13 @@
 //! Which rows can be left out of a cover.
-ghost use Rattle.std.specs.Prelude.{◌≡◌, ◌≤◌, ◌++◌, All, IfOk, filter};
+ghost use Rattle.std.specs.Prelude.{◌≡◌, ◌≤◌, ◌++◌, [], All, IfOk, OnOk, filter};
 ghost use Rattle.cover_logic.specs.Term.{FitsWidth};
 ghost use Rattle.cover_logic.specs.Inner.Pair.{agree};
 ghost use Rattle.cover_logic.specs.Inner.Rows.{AreNeededRows, Covers, IsSole};
 
-use crate::bundles::Bundles;
-use crate::gap::{find_gap, overlapping};
-use crate::rivals::needed_by_bundles;
+use crate::gap::{add_overlapping, find_shared_gap};
+use crate::rivals::add_needed_by_bundles;
 use crate::term::Term;
 use std::alloc::{AllocError, Global};
-
-/// The terms of both lists that share a value with the row.
-fn rivals(alloc: Global, row: Term, kept: &[Term], rest: &[Term]) -> Result<Vec<Term>, AllocError>
-    ensures { IfOk result (λ others. others.items ≡ filter (agree row) (kept.now ++ rest.now)) }
-{
-    let mut others = overlapping(alloc, row, kept)?;
-    let later = overlapping(alloc, row, rest)?;
-    others.extend_from_slice(&later)?;
-    Ok(others)
-}
 
 /// A value of on in the row that the others do not hold.
 fn sole_value(
@@ -30,10 +19,8 @@ fn sole_value(
     ensures { IfOk result (IsSole row on.now others.now) }
 {
     for term in on {
-        if let Some(part) = row.meet(*term) {
-            if let Some(gap) = find_gap(alloc, part, others)? {
-                return Ok(Some(gap));
-            }
+        if let Some(gap) = find_shared_gap(alloc, row, *term, others)? {
+            return Ok(Some(gap));
         }
     }
     Ok(None)
@@ -49,23 +36,30 @@ fn sole_beside(
 ) -> Result<Option<u128>, AllocError>
     ensures { IfOk result (IsSole row on.now (filter (agree row) (kept.now ++ rest.now))) }
 {
-    let others = rivals(alloc, row, kept, rest)?;
+    let mut others = Vec::new(alloc);
+    add_overlapping(&mut others, row, kept)?;
+    add_overlapping(&mut others, row, rest)?;
     sole_value(alloc, row, on, &others)
 }
 
-/// The rows that are left when each row goes whose values of on the others hold, by passes over the lists.
-fn needed_by_passes(alloc: Global, rows: &[Term], on: &[Term]) -> Result<Vec<Term>, AllocError>
-    requires { Covers rows.now on.now }
-    ensures { IfOk result (λ kept. AreNeededRows on.now rows.now kept.items) }
+/// Adds the rows that are left when each row goes whose values of on the others hold, by passes over the lists.
+fn add_needed(
+    alloc: Global,
+    rows: &[Term],
+    on: &[Term],
+    kept: &mut Vec<Term>,
+) -> Result<(), AllocError>
+    requires none { kept.old.items ≡ [] }
+    requires covers { Covers rows.now on.now }
+    ensures { OnOk result (AreNeededRows on.now rows.now kept.new.items) }
 {
-    let mut kept = Vec::new(alloc);
     for (i, row) in rows.iter().enumerate() {
-        let sole = sole_beside(alloc, *row, on, &kept, &rows[i + 1..])?;
+        let sole = sole_beside(alloc, *row, on, kept, &rows[i + 1..])?;
         if sole.is_some() {
             kept.push(*row)?;
         }
     }
-    Ok(kept)
+    Ok(())
 }
 
 /// The least numbers of terms of on and of rows for which bundles pay.
@@ -86,9 +80,11 @@ pub fn needed_rows(
     requires covers { Covers rows.now on.now }
     ensures { IfOk result (λ kept. AreNeededRows on.now rows.now kept.items) }
 {
+    let mut kept = Vec::new(alloc);
     if on.len() < BUNDLED_TERMS || rows.len() < BUNDLED_ROWS {
-        return needed_by_passes(alloc, rows, on);
+        add_needed(alloc, rows, on, &mut kept)?;
+    } else {
+        add_needed_by_bundles(alloc, rows, on, width, &mut kept)?;
     }
-    let held = Bundles::new(alloc, on, width)?;
-    needed_by_bundles(alloc, rows, &held, width)
+    Ok(kept)
 }

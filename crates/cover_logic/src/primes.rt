@@ -1,5 +1,5 @@
 //! Rows that hold every value of on and none of off, and that need each of their literals.
-ghost use Rattle.std.specs.Prelude.{◌≡◌, ◌≤◌, All, IfOk, filter, not, vec_len};
+ghost use Rattle.std.specs.Prelude.{◌≡◌, ◌≤◌, [], All, IfOk, OnOk, filter, not, vec_len};
 ghost use Rattle.cover_logic.specs.Term.{FitsWidth};
 ghost use Rattle.cover_logic.specs.Inner.Index.{terms_of};
 ghost use Rattle.cover_logic.specs.Inner.Pair.{refines};
@@ -34,45 +34,32 @@ const GUIDED_WIDTH: u8 = 13;
 
 const GUIDED_TERMS: usize = 256;
 
-/// A guide, where the lists are long enough for one.
-fn guide_for(
-    alloc: Global,
-    on: &[Term],
-    off: &Index,
-    width: u8,
-) -> Result<Option<Guide>, AllocError>
-    requires { width ≤ 128 }
-{
-    if width < GUIDED_WIDTH || on.len() < GUIDED_TERMS {
-        return Ok(None);
+impl Guide {
+    fn new(alloc: Global, on: &[Term], off: &Index, width: u8) -> Result<Guide, AllocError>
+        requires { width ≤ 128 }
+    {
+        Ok(Guide {
+            on: slices_of(alloc, on, width)?,
+            off: slices_of_index(alloc, off, width)?,
+            places: off.places(alloc)?,
+        })
     }
-    let places = off.places(alloc)?;
-    if places.len() < GUIDED_TERMS {
-        return Ok(None);
-    }
-    let ones = patterns(alloc, on)?;
-    let zeros = off.patterns(alloc)?;
-    Ok(Some(Guide {
-        on: Slices::new(alloc, &ones, width)?,
-        off: Slices::new(alloc, &zeros, width)?,
-        places,
-    }))
 }
 
-/// The places of the terms of those numbers.
-fn places_of(
-    alloc: Global,
-    numbers: &[Option<usize>],
-    places: &[usize],
-) -> Result<Vec<Option<usize>>, AllocError> {
-    let mut found = Vec::new(alloc);
-    for number in numbers {
-        match *number {
-            Some(number) => found.push(places.get(number).copied())?,
-            None => found.push(None)?,
-        }
-    }
-    Ok(found)
+/// The terms by their columns.
+fn slices_of(alloc: Global, terms: &[Term], width: u8) -> Result<Slices, AllocError>
+    requires { width ≤ 128 }
+{
+    let patterns = patterns(alloc, terms)?;
+    Slices::new(alloc, &patterns, width)
+}
+
+/// The terms of the index by their columns.
+fn slices_of_index(alloc: Global, index: &Index, width: u8) -> Result<Slices, AllocError>
+    requires { width ≤ 128 }
+{
+    let patterns = index.patterns(alloc)?;
+    Slices::new(alloc, &patterns, width)
 }
 
 /// A row that holds the seed and no value of off, and that needs each of its literals.
@@ -88,8 +75,9 @@ fn plain_row(
     requires clear { IsClear (terms_of off.now) seed }
     ensures { IfOk result (IsPrimeRow seed (terms_of off.now) width) }
 {
-    let grown = grow(seed, left, Limits::new(alloc, 0), off)?;
-    Ok(raise(grown, off, width, &[]))
+    let mut limits = Limits::new(alloc, 0);
+    let grown = grow(seed, left, &mut limits, off)?;
+    Ok(raise(grown, off, width, &[], &[]))
 }
 
 /// The seed grown by the terms of on that the guide finds.
@@ -97,14 +85,27 @@ fn guided_growth(alloc: Global, seed: Term, guide: &Guide, off: &Index) -> Resul
     requires { IsClear (terms_of off.now) seed }
     ensures { IfOk result (IsGrown seed (terms_of off.now)) }
 {
-    let Prospects { others, limits } = Prospects::new(
-        alloc,
-        seed.pattern(),
-        &guide.on,
-        &guide.off,
-    )?;
-    let others = terms_of_patterns(alloc, &others)?;
-    grow(seed, &others, limits, off)
+    let mut prospects = Prospects::new(alloc, seed.pattern(), &guide.on, &guide.off)?;
+    let others = terms_of_patterns(alloc, &prospects.others)?;
+    grow(seed, &others, &mut prospects.limits, off)
+}
+
+/// The grown row widened further, by the advice of the guide, until it needs each of its literals.
+fn advised_row(
+    alloc: Global,
+    grown: Term,
+    guide: &Guide,
+    off: &Index,
+    width: u8,
+) -> Result<Term, AllocError>
+    requires width { width ≤ 128 }
+    requires fits { FitsWidth width grown }
+    requires clear { IsClear (terms_of off.now) grown }
+    ensures { IfOk result (IsPrimeRow grown (terms_of off.now) width) }
+{
+    let advice = guide.off.advice(alloc, grown.pattern())?;
+    let wide = widened(grown, Term::of(advice.wide), off);
+    Ok(raise(wide, off, width, &advice.reasons, &guide.places))
 }
 
 /// The same as `plain_row`, with the guide.
@@ -121,70 +122,83 @@ fn guided_row(
     ensures { IfOk result (IsPrimeRow seed (terms_of off.now) width) }
 {
     let grown = guided_growth(alloc, seed, guide, off)?;
-    let advice = guide.off.advice(alloc, grown.pattern())?;
-    let wide = widened(grown, Term::of(advice.wide), off);
-    let reasons = places_of(alloc, &advice.reasons, &guide.places)?;
-    let row = raise(wide, off, width, &reasons);
+    let row = advised_row(alloc, grown, guide, off, width)?;
     guide.on.drop_included(alloc, row.pattern())?;
     Ok(row)
 }
 
-/// Rows for `primes`, by passes over the list of the terms that lie in no row yet.
-fn plain_rows(alloc: Global, on: &[Term], off: &Index, width: u8) -> Result<Vec<Term>, AllocError>
+/// Adds rows for `primes`, by passes over the list of the terms that lie in no row yet.
+fn add_plain_rows(
+    alloc: Global,
+    on: &[Term],
+    off: &Index,
+    width: u8,
+    rows: &mut Vec<Term>,
+) -> Result<(), AllocError>
+    requires none { rows.old.items ≡ [] }
     requires width { width ≤ 128 }
     requires fits { All (FitsWidth width) on.now }
     requires clear { All (IsClear (terms_of off.now)) on.now }
-    ensures { IfOk result (λ rows. ArePrimeRows on.now (terms_of off.now) width rows.items) }
+    ensures { OnOk result (ArePrimeRows on.now (terms_of off.now) width rows.new.items) }
 {
     let mut left = Vec::from_slice(alloc, on)?;
-    let mut rows = Vec::new(alloc);
     while let Some(seed) = left.pop() {
         let row = plain_row(alloc, seed, &left, off, width)?;
         drop_included(&mut left, row);
         rows.push(row)?;
     }
-    Ok(rows)
+    Ok(())
 }
 
 /// The same, with the guide and with bundles of those terms.
-fn guided_rows(
+fn add_guided_rows(
     alloc: Global,
     on: &[Term],
     guide: &mut Guide,
     off: &Index,
     width: u8,
-) -> Result<Vec<Term>, AllocError>
+    rows: &mut Vec<Term>,
+) -> Result<(), AllocError>
+    requires none { rows.old.items ≡ [] }
     requires width { width ≤ 128 }
     requires fits { All (FitsWidth width) on.now }
     requires clear { All (IsClear (terms_of off.now)) on.now }
-    ensures { IfOk result (λ rows. ArePrimeRows on.now (terms_of off.now) width rows.items) }
+    ensures { OnOk result (ArePrimeRows on.now (terms_of off.now) width rows.new.items) }
 {
     let mut waiting = Waiting::new(alloc, on, width)?;
-    let mut rows = Vec::new(alloc);
     while let Some(seed) = waiting.pop() {
         let row = guided_row(alloc, seed, guide, off, width)?;
         waiting.drop_included(alloc, row, width)?;
         rows.push(row)?;
     }
-    Ok(rows)
+    Ok(())
 }
 
-/// The same, with an index of off, and with a guide where the lists are long.
-fn searched_rows(
+/// The same, with a guide where the lists are long.
+fn add_rows(
     alloc: Global,
     on: &[Term],
     off: &Index,
+    are_long: bool,
     width: u8,
-) -> Result<Vec<Term>, AllocError>
+    rows: &mut Vec<Term>,
+) -> Result<(), AllocError>
+    requires none { rows.old.items ≡ [] }
     requires width { width ≤ 128 }
     requires fits { All (FitsWidth width) on.now }
     requires clear { All (IsClear (terms_of off.now)) on.now }
-    ensures { IfOk result (λ rows. ArePrimeRows on.now (terms_of off.now) width rows.items) }
+    ensures { OnOk result (ArePrimeRows on.now (terms_of off.now) width rows.new.items) }
 {
-    match guide_for(alloc, on, off, width)? {
-        Some(mut guide) => guided_rows(alloc, on, &mut guide, off, width),
-        None => plain_rows(alloc, on, off, width),
+    if !are_long {
+        return add_plain_rows(alloc, on, off, width, rows);
     }
+    let mut guide = Guide::new(alloc, on, off, width)?;
+    add_guided_rows(alloc, on, &mut guide, off, width, rows)
+}
+
+/// Whether the lists are long enough for a guide.
+fn are_long(on: &[Term], off: &[Term], width: u8) -> bool {
+    width >= GUIDED_WIDTH && on.len() >= GUIDED_TERMS && off.len() >= GUIDED_TERMS
 }
 
 /// Rows that hold every value of on and none of off, and that need each of their literals.
@@ -196,5 +210,8 @@ pub fn primes(alloc: Global, on: &[Term], off: &[Term], width: u8) -> Result<Vec
     ensures { IfOk result (λ rows. ArePrimeRows on.now off.now width rows.items) }
 {
     let index = Index::new(alloc, off, width)?;
-    searched_rows(alloc, on, &index, width)
+    let mut rows = Vec::new(alloc);
+    let are_long = are_long(on, off, width);
+    add_rows(alloc, on, &index, are_long, width, &mut rows)?;
+    Ok(rows)
 }

@@ -20,12 +20,16 @@ pub fn is_clear(row: Term, terms: &[Term]) -> bool
 /// Widens the seed so that it holds more of the other terms, each whole, and no value of off. The limits say what a row
 /// has to keep so as to share no value with the terms of off that were met before: they are asked first, since rows
 /// often share values with the same terms.
-pub fn grow(seed: Term, others: &[Term], known: Limits, off: &Index) -> Result<Term, AllocError>
+pub fn grow(
+    seed: Term,
+    others: &[Term],
+    limits: &mut Limits,
+    off: &Index,
+) -> Result<Term, AllocError>
     requires { IsClear (terms_of off.now) seed }
     ensures { IfOk result (IsGrown seed (terms_of off.now)) }
 {
     let mut row = seed;
-    let mut limits = known;
     for other in others {
         if row.includes(*other) {
             continue;
@@ -82,9 +86,17 @@ fn dashed(row: Term, column: u32, reason: Option<usize>, off: &Index) -> Term
     }
 }
 
-/// Replaces literals by dashes as long as no value of off is held. For each column `reasons` may have the place in
-/// the index of a term that is asked first.
-pub fn raise(row: Term, off: &Index, width: u8, reasons: &[Option<usize>]) -> Term
+/// The place of the term of that number for the column, if there is one.
+fn place_for(column: u32, numbers: &[Option<usize>], places: &[usize]) -> Option<usize> {
+    match numbers.get(column as usize).copied().flatten() {
+        Some(number) => places.get(number).copied(),
+        None => None,
+    }
+}
+
+/// Replaces literals by dashes as long as no value of off is held. For each column `reasons` may have the number of a
+/// term that is asked first, and `places` has the places in the index of the terms with those numbers.
+pub fn raise(row: Term, off: &Index, width: u8, reasons: &[Option<usize>], places: &[usize]) -> Term
     requires width { width ≤ 128 }
     requires fits { FitsWidth width row }
     requires clear { IsClear (terms_of off.now) row }
@@ -95,7 +107,7 @@ pub fn raise(row: Term, off: &Index, width: u8, reasons: &[Option<usize>]) -> Te
 {
     let mut raised = row;
     for column in 0..u32::from(width) {
-        let reason = reasons.get(column as usize).copied().flatten();
+        let reason = place_for(column, reasons, places);
         raised = dashed(raised, column, reason, off);
     }
     raised

@@ -1,20 +1,20 @@
 //! Which rows can be left out, in long lists: bundles tell which rows and which terms of on share a value with a row.
-ghost use Rattle.std.specs.Prelude.{◌≡◌, ◌≤◌, All, IfOk, false, slice_index_or};
+ghost use Rattle.std.specs.Prelude.{◌≡◌, ◌≤◌, ◌↔◌, [], All, IfOk, IsTrue, OnOk, length, replicate, true};
 ghost use Rattle.cover_logic.specs.Term.{FitsWidth};
-ghost use Rattle.cover_logic.specs.Inner.Entries.{HoldsRivals};
-ghost use Rattle.cover_logic.specs.Inner.Bundles.{IsSoleLeft, terms_in_bundles};
+ghost use Rattle.cover_logic.specs.Inner.Entries.{HoldsRivals, IsRival, terms_in};
+ghost use Rattle.cover_logic.specs.Inner.Bundles.{AreRowsIn, IsSoleLeft, terms_in_bundles};
 ghost use Rattle.cover_logic.specs.Inner.Rows.{AreNeededRows, Covers, IsSole};
 
 use crate::bundles::{Bundles, Entry};
-use crate::gap::find_gap;
+use crate::gap::find_shared_gap;
 use crate::term::Term;
 use std::alloc::{AllocError, Global};
 
-/// Whether the row of that number is left.
-fn is_left(left: &[bool], number: usize) -> bool
-    ensures { result ≡ slice_index_or left.now number false }
+/// Whether the entry is of another row than that of the number, and its row is left.
+fn is_rival(row: usize, left: &[bool], entry: Entry) -> bool
+    ensures { IsTrue result ↔ IsRival row left.now entry }
 {
-    left.get(number).copied().unwrap_or(false)
+    entry.number != row && left.get(entry.number).copied().unwrap_or(false)
 }
 
 /// The terms of other rows that are left.
@@ -23,11 +23,28 @@ fn rivals(alloc: Global, row: usize, near: &[Entry], left: &[bool]) -> Result<Ve
 {
     let mut others = Vec::new(alloc);
     for entry in near {
-        if entry.number != row && is_left(left, entry.number) {
+        if is_rival(row, left, *entry) {
             others.push(entry.term)?;
         }
     }
     Ok(others)
+}
+
+/// A value of the entries in the row that the others do not hold.
+fn sole_among(
+    alloc: Global,
+    row: Term,
+    near: &[Entry],
+    others: &[Term],
+) -> Result<Option<u128>, AllocError>
+    ensures { IfOk result (IsSole row (terms_in near.now) others.now) }
+{
+    for entry in near {
+        if let Some(gap) = find_shared_gap(alloc, row, entry.term, others)? {
+            return Ok(Some(gap));
+        }
+    }
+    Ok(None)
 }
 
 /// A value of on in the row that the others do not hold.
@@ -41,14 +58,7 @@ fn sole_value(
     ensures { IfOk result (IsSole row (terms_in_bundles on.now) others.now) }
 {
     let near = on.met_by(alloc, row)?;
-    for entry in &near {
-        if let Some(part) = row.meet(entry.term) {
-            if let Some(gap) = find_gap(alloc, part, others)? {
-                return Ok(Some(gap));
-            }
-        }
-    }
-    Ok(None)
+    sole_among(alloc, row, &near, others)
 }
 
 /// A value of on in the row of that number that no other row which is left holds.
@@ -69,29 +79,49 @@ fn sole_left(
     sole_value(alloc, row, on, &others)
 }
 
-/// The rows that are left when each row goes whose values of on the others hold.
-pub fn needed_by_bundles(
+/// Adds the rows that are left when each row goes whose values of on the others hold. At first all rows are left.
+fn add_needed_rows(
     alloc: Global,
     rows: &[Term],
+    all: &Bundles,
     on: &Bundles,
-    width: u8,
-) -> Result<Vec<Term>, AllocError>
-    requires width { width ≤ 128 }
-    requires fits { All (FitsWidth width) rows.now }
-    requires same { on.now.width ≡ width }
+    left: &mut [bool],
+    kept: &mut Vec<Term>,
+) -> Result<(), AllocError>
+    requires rows { AreRowsIn rows.now all.now on.now.width }
+    requires left { left.old ≡ replicate (length rows.now) true }
+    requires none { kept.old.items ≡ [] }
     requires covers { Covers rows.now (terms_in_bundles on.now) }
-    ensures { IfOk result (λ kept. AreNeededRows (terms_in_bundles on.now) rows.now kept.items) }
+    ensures { OnOk result (AreNeededRows (terms_in_bundles on.now) rows.now kept.new.items) }
 {
-    let all = Bundles::new(alloc, rows, width)?;
-    let mut left = vec![in alloc; true; rows.len()]?;
-    let mut kept = Vec::new(alloc);
     for (i, row) in rows.iter().enumerate() {
-        let sole = sole_left(alloc, i, *row, &all, &left, on)?;
+        let sole = sole_left(alloc, i, *row, all, left, on)?;
         if sole.is_some() {
             kept.push(*row)?;
         } else {
             left[i] = false;
         }
     }
-    Ok(kept)
+    Ok(())
+}
+
+/// The same, with bundles of the rows and of on.
+pub fn add_needed_by_bundles(
+    alloc: Global,
+    rows: &[Term],
+    on: &[Term],
+    width: u8,
+    kept: &mut Vec<Term>,
+) -> Result<(), AllocError>
+    requires width { width ≤ 128 }
+    requires fits { All (FitsWidth width) rows.now }
+    requires on_fits { All (FitsWidth width) on.now }
+    requires none { kept.old.items ≡ [] }
+    requires covers { Covers rows.now on.now }
+    ensures { OnOk result (AreNeededRows on.now rows.now kept.new.items) }
+{
+    let held = Bundles::new(alloc, on, width)?;
+    let all = Bundles::new(alloc, rows, width)?;
+    let mut left = vec![in alloc; true; rows.len()]?;
+    add_needed_rows(alloc, rows, &all, &held, &mut left, kept)
 }

@@ -1,7 +1,7 @@
 //! A list of terms of at most 16 columns, with a mark for each value that one of them holds.
 ghost use Rattle.std.specs.Prelude.{◌≡◌};
 
-use crate::chart::{fill, find};
+use crate::chart::{blank, fill, find};
 use crate::term::Term;
 use std::alloc::{AllocError, Global};
 
@@ -24,9 +24,10 @@ impl Table {
         requires { width ≤ 16 }
         ensures { IfOk result (IsTableOf width []) }
     {
+        let marks = blank(alloc, width)?;
         Ok(Table {
             terms: Vec::new(alloc),
-            marks: vec![in alloc; 0; 1usize << width]?,
+            marks,
             width,
         })
     }

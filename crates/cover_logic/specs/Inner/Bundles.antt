@@ -1,11 +1,12 @@
 -- The entries of bundles. Private functions need it; no public contract cites it.
-use Rattle.std.specs.Prelude.{ℕ, Bool, List, [], ◌∷◌, ◌++◌, Option}
+use Rattle.std.specs.Prelude.{◌≡◌, ℕ, Bool, List, [], ◌∷◌, ◌++◌, Option, All}
 use Rattle.cover_logic.specs.declared.bundles.Bundle.{Bundle}
 use Rattle.cover_logic.specs.declared.bundles.Bundles.{Bundles}
 use Rattle.cover_logic.specs.declared.bundles.Entry.{Entry}
 use Rattle.cover_logic.specs.declared.term.Term.{Term}
-use Rattle.cover_logic.specs.Inner.Entries.{HoldsRivals, IsMet, terms_in}
+use Rattle.cover_logic.specs.Inner.Entries.{HoldsRivals, IsMet, IsNumbered, terms_in}
 use Rattle.cover_logic.specs.Inner.Rows.{IsSole}
+use Rattle.cover_logic.specs.Term.{FitsWidth}
 
 abbrev pub entries_in : List Bundle → List Entry
 entries_in [] = []
@@ -24,3 +25,9 @@ pub record IsSoleLeft (number : ℕ) (row : Term) (rows on : Bundles) (left : Li
   pub met : IsMet row (entries_of rows) near
   pub rivals : HoldsRivals number left near others
   pub own : IsSole row (terms_in_bundles on) others sole
+
+-- the bundles have the rows, all of this number of columns at most, with their numbers
+pub record AreRowsIn (rows : List Term) (all : Bundles) (width : ℕ) : Type 0 where
+  pub columns : all.width ≡ width
+  pub fits : All (FitsWidth width) rows
+  pub numbers : IsNumbered rows (entries_of all)

@@ -53,6 +53,11 @@ abbrev pub IsUncovered : Term → List Term → Option ℕ → Type 0
 IsUncovered t terms gap =
     MatchOption gap ((x : ℕ) → Holds t x → IsCovered terms x) (λ x. Holds t x × (IsCovered terms x → ⊥))
 
+-- a value that the row shares with the term and that the list does not hold, or none where it holds each of them
+abbrev pub IsSharedGap : Term → Term → List Term → Option ℕ → Type 0
+IsSharedGap row t terms gap =
+    MatchOption gap ((x : ℕ) → Holds row x → Holds t x → IsCovered terms x) (λ x. Holds row x × Holds t x × (IsCovered terms x → ⊥))
+
 -- a value of on in the row that the other rows do not hold, or none where they hold each of them
 abbrev pub IsSole : Term → List Term → List Term → Option ℕ → Type 0
 IsSole row on others sole =

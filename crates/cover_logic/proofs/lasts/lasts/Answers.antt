@@ -1,4 +1,4 @@
-use Rattle.std.proofs.Common.{◌≡◌, ◌+◌, ◌^◌, ◌∙◌, ℕ, List, length, replicate, subst, sym, arith, rules}
+use Rattle.std.proofs.Common.{◌≡◌, ◌+◌, ◌∙◌, ℕ, List, length, subst, sym, arith}
 use Rattle.std.proofs.lemmas.List.{with_items_is}
 use Rattle.cover_logic.specs.Inner.Charts.{IsFilled}
 use Rattle.cover_logic.specs.Inner.Lasts.{AreLasts}
@@ -6,9 +6,7 @@ use Rattle.cover_logic.proofs.LastRows.{lasts_more, lasts_none}
 use Rattle.cover_logic.proofs.lasts.lasts.Goals as goal
 
 pub loop-i-init : goal.loop-i-init
-loop-i-init c =
-    let zeros : c.in_ok-chart.chart.items ≡ replicate (2 ^ c.args.width) 0 = search rules in
-    lasts_none c.args.width c.args.rows.now c.in_ok-chart.chart.items zeros
+loop-i-init c = lasts_none c.args.width c.args.rows.now c.in_ok-chart.chart.items c.in_ok-chart.ensures
 
 pub loop-i-preserved : goal.loop-i-preserved
 loop-i-preserved c =

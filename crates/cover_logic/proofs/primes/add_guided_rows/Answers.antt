@@ -1,12 +1,12 @@
 use Rattle.std.proofs.Common.{◌≡◌, [], ◌∷◌, ◌++◌, rules}
 use Rattle.cover_logic.specs.Inner.Waiting.{IsWaiting}
 use Rattle.cover_logic.proofs.PrimeRows.{primes_none, primes_more, primes_all, gone_from}
-use Rattle.cover_logic.proofs.primes.guided_rows.Goals as goal
+use Rattle.cover_logic.proofs.primes.add_guided_rows.Goals as goal
 
 pub loop-seed-init : goal.loop-seed-init
 loop-seed-init c =
     let all = c.in_ok-waiting.ensures in
-    rw c.new-rows.ensures.items
+    rw c.requires.none
     (primes_none _ _ _ (IsWaiting c.in_ok-waiting.waiting) (λ t h. (all t).1 h) (λ t h. (all t).0 h) c.requires.clear c.requires.fits)
 
 pub loop-seed-preserved : goal.loop-seed-preserved

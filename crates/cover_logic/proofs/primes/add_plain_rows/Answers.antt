@@ -5,12 +5,12 @@ use Rattle.list_facts.specs.Laws.Members.{Contains-none}
 use Rattle.cover_logic.specs.declared.term.Term.{Term}
 use Rattle.cover_logic.specs.Inner.Index.{terms_of}
 use Rattle.cover_logic.proofs.PrimeRows.{ArePrimes, primes_none, primes_more, primes_all, gone_from_list, left_in_list}
-use Rattle.cover_logic.proofs.primes.plain_rows.Goals as goal
+use Rattle.cover_logic.proofs.primes.add_plain_rows.Goals as goal
 
 pub loop-seed-init : goal.loop-seed-init
 loop-seed-init c =
     let all : c.in_ok-left.left.items ≡ c.args.on.now = search rules in
-    rw (all, c.new-rows.ensures.items) (primes_none _ _ _ (Contains c.args.on.now) (λ t h. h) (λ t h. h) c.requires.clear c.requires.fits)
+    rw (all, c.requires.none) (primes_none _ _ _ (Contains c.args.on.now) (λ t h. h) (λ t h. h) c.requires.clear c.requires.fits)
 
 pub loop-seed-smaller : goal.loop-seed-smaller
 loop-seed-smaller c =

@@ -6,11 +6,11 @@ use Rattle.std.proofs.lemmas.List.{drop_all}
 use Rattle.cover_logic.specs.Inner.Rows.{IsSole}
 use Rattle.std.specs.List.{Contains, filter}
 use Rattle.std.proofs.lemmas.List.Elements.{Contains-get_or}
-use Rattle.cover_logic.proofs.needed.needed_by_passes.Goals as goal
-use Rattle.cover_logic.proofs.needed.needed_by_passes.Goals.{then-is_some+in_ok-push, else-is_some}
+use Rattle.cover_logic.proofs.needed.add_needed.Goals as goal
+use Rattle.cover_logic.proofs.needed.add_needed.Goals.{then-is_some+in_ok-push, else-is_some}
 
 pub loop-i-init : goal.loop-i-init
-loop-i-init c = rw c.new-kept.ensures.items (kept_none _ _ c.requires)
+loop-i-init c = rw c.requires.none (kept_none _ _ c.requires.covers)
 
 pub loop-i-preserved : goal.loop-i-preserved
 loop-i-preserved c =

@@ -1,0 +1,17 @@
+use Rattle.std.proofs.Common.{List, refl, sym, subst}
+use Rattle.cover_logic.specs.declared.term.Term.{Term}
+use Rattle.cover_logic.specs.Inner.Tables.{AreMarks}
+use Rattle.cover_logic.proofs.Tables.{marks_none}
+use Rattle.cover_logic.proofs.table.Table.new.Goals as goal
+
+pub returns : goal.returns
+returns c =
+    let none = c.new.ensures.items in
+    record {
+      columns = refl;
+      items = none;
+      right = record {
+        few = c.requires;
+        told = subst (λ (ts : List Term). AreMarks c.args.width ts c.in_ok-marks.marks.items) (sym none) (marks_none c.args.width c.in_ok-marks.marks.items c.in_ok-marks.ensures);
+      };
+    }
