@@ -17,12 +17,9 @@ use Rattle.kiss2.specs.declared.said.Said.{Said}
 use Rattle.kiss2.specs.Faults.{fault_in}
 use Rattle.kiss2.specs.Kiss.{HaveNoFault, IsLineFault, before_end, lines_read}
 use Rattle.kiss2.specs.Inner.Judging.{FailsWith, HasShortFields, Keeps, fail_at}
+use Rattle.kiss2.specs.Inner.Reading.{GoesOn, HasCome}
 use Rattle.kiss2.specs.Words.{is_ending}
 use Rattle.kiss2.proofs.FieldBytes.{HasGoodFields, fields_good}
-
--- no line of the first ones ends the text
-abbrev pub GoesOn : List Line → ℕ → Type 0
-GoesOn lines count = (k : ℕ) (d : Line) → k < count → is_ending (get_or lines k d) ≡ false
 
 pub goes_more : (lines : List Line) (i : ℕ) (line : Line) → i < length lines → line ≡ get_or lines i line → is_ending line ≡ false → GoesOn lines i → GoesOn lines (i + 1)
 goes_more lines i line inside here passes before k d lt =
@@ -135,12 +132,7 @@ line_fault lines i line (Fault kind) fault inside here before passes faultless f
     )
 line_fault lines i line NoMemory fault inside here before passes faultless fails same = absurd (cc)
 
--- where the reader is in the lines of a text: it has taken the first ones, none of which ends the text, and the rest is left
-pub record HasCome (lines : List Line) (said : Said) (kept left : List Line) (count : ℕ) : Type 0 where
-  pub left_is : drop count lines ≡ left
-  pub going : GoesOn lines count
-  pub keeps : Keeps said kept (take count lines)
-
+-- the reader has taken no line yet
 pub not_begun : (lines : List Line) (said : Said) (kept left : List Line) → Keeps said kept [] → left ≡ lines → HasCome lines said kept left 0
 not_begun lines said kept left keeps is = record { left_is = sym is; going = λ k d lt. absurd (omega arith); keeps = keeps }
 

@@ -2,6 +2,7 @@
 use Rattle.std.proofs.Common.{◌≡◌, ℕ, zero, suc, ◌+◌, ◌-◌, ◌<◌, ◌≤◌, ◌^◌, Bool, true, false, cond, eqb, ◌||◌, List, [], ◌∷◌, ◌++◌, length, map, take, get_or, Some, None, ap, sym, ◌∙◌, refl, arith, append_assoc, append-nil}
 use Rattle.std.specs.Prelude.{count_by}
 use Rattle.std.specs.List.{cons_option, filter_map, list_any, range_with_len}
+use Rattle.std.proofs.lemmas.Grind.{flat_map-append}
 use Rattle.std.proofs.lemmas.List.{map-append, same_lists, take_more}
 use Rattle.std.proofs.lemmas.List.Elements.{filter_map-append}
 use Rattle.std.proofs.lemmas.List.Folds.{fold-map, list_any-append}
@@ -10,7 +11,29 @@ use Rattle.std.proofs.lemmas.List.{get_or-map, get_or_default}
 use Rattle.std.proofs.lemmas.Nat.Bits.{bit_at_above}
 use Rattle.cubes.specs.Field.{byte_of, character, characters}
 use Rattle.cubes.specs.Symbol.{bit}
+use Rattle.hs_io.specs.Spelling.{ended, line_text, spaced, spelled}
 use Rattle.kiss_file.specs.declared.file.KissRow.{KissRow}
+use Rattle.kiss2.specs.Written.{fields_of_row}
+
+-- the line of a row
+abbrev pub row_text : List (List ℕ) → ℕ → KissRow → List ℕ
+row_text names outputs row = ended (line_text (fields_of_row names outputs row))
+
+-- the lines of one part after those of another
+pub spelled_parts : (head counts table : List (List (List ℕ))) → spelled (head ++ (counts ++ table)) ≡ spelled head ++ (spelled counts ++ spelled table)
+spelled_parts head counts table =
+    let line = λ (fields : List (List ℕ)). ended (line_text fields) in
+    flat_map-append line head (counts ++ table) ∙ ap (λ t. spelled head ++ t) (flat_map-append line counts table)
+
+-- the fields of a row, appended one after another
+pub row_appended :
+    (start first second third fourth fifth last cube from to outputs : List ℕ)
+    → first ≡ start ++ cube → second ≡ first ++ spaced from → third ≡ second ++ spaced to → fourth ≡ third ++ 32 ∷ [] → fifth ≡ fourth ++ outputs → last ≡ fifth ++ 10 ∷ []
+    → last ≡ start ++ ended (line_text (cube ∷ from ∷ to ∷ outputs ∷ []))
+row_appended start first second third fourth fifth last cube from to outputs a b c d e f =
+    f
+    ∙ ap (λ t. t ++ 10 ∷ []) (e ∙ ap (λ t. t ++ outputs) (d ∙ ap (λ t. t ++ 32 ∷ []) (c ∙ ap (λ t. t ++ spaced to) (b ∙ ap (λ t. t ++ spaced from) a))))
+    ∙ simp (append_assoc, append-nil)
 
 -- one character more of a cube
 pub cube_more : (text new : List ℕ) (place care value b : ℕ) → 0 < place → new ≡ text ++ b ∷ [] → b ≡ byte_of (character care value (place - 1))

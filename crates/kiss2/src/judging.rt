@@ -136,16 +136,25 @@ fn add_new(seen: &mut StateNames, names: &[Name]) -> Result<bool, AllocError>
     Ok(true)
 }
 
+/// Adds two lists of names to none, and says whether each name was new. If one was not, some are left out.
+fn add_both(seen: &mut StateNames, first: &[Name], second: &[Name]) -> Result<bool, AllocError>
+    requires few { length first.now + length second.now < 65535 }
+    requires empty { seen.old ≡ [] }
+    ensures { IfOk result (λ new. has_twice (first.now ++ second.now) ≡ not new) }
+{
+    if !add_new(seen, first)? {
+        return Ok(false);
+    }
+    add_new(seen, second)
+}
+
 /// Whether some name occurs twice in two lists together.
 fn stands_twice(alloc: Global, first: &[Name], second: &[Name]) -> Result<bool, AllocError>
     requires { length first.now + length second.now < 65535 }
     ensures { IfOk result (λ twice. twice ≡ has_twice (first.now ++ second.now)) }
 {
     let mut seen = StateNames::new(alloc);
-    if !add_new(&mut seen, first)? {
-        return Ok(true);
-    }
-    let new = add_new(&mut seen, second)?;
+    let new = add_both(&mut seen, first, second)?;
     Ok(!new)
 }
 

@@ -1,6 +1,7 @@
 ghost use Rattle.std.specs.Prelude.{◌≡◌};
 ghost use Rattle.kiss2.specs.Words.{is_ending, is_of_kind, line_kind_of, kind_of_field};
 ghost use Rattle.kiss2.specs.declared.line_kind.LineKind.TheVariants.{Row};
+ghost use Rattle.kiss2.specs.Inner.Kinds.{kind_of_later_word};
 
 use hs_io::Line;
 
@@ -70,7 +71,16 @@ fn first_field_kind(field: &[u8]) -> LineKind
         LineKind::RowCount
     } else if field == b".s".as_slice() {
         LineKind::StateCount
-    } else if field == b".r".as_slice() {
+    } else {
+        later_word_kind(field)
+    }
+}
+
+/// What a line with this first field is, if the field is neither an ending word nor the word of a number.
+fn later_word_kind(field: &[u8]) -> LineKind
+    ensures { result ≡ kind_of_later_word field.now }
+{
+    if field == b".r".as_slice() {
         LineKind::Reset
     } else if field == b".ilb".as_slice() {
         LineKind::InputNames

@@ -1,11 +1,13 @@
 //! Reads a KISS2 text.
-ghost use Rattle.std.specs.Prelude.{◌≡◌, ◌<◌, ◌^◌, ◌⊎◌, Err, List, IfOk, MatchResult, Some, length};
+ghost use Rattle.std.specs.Prelude.{ℕ, ◌≡◌, ◌+◌, ◌<◌, ◌^◌, ◌⊎◌, Err, List, [], false, true, IfOk, MatchResult, OnOk, Some, length};
 ghost use Rattle.hs_io.specs.declared.lines.Line.{Line};
+ghost use Rattle.hs_io.specs.Lines.{lines_of};
 ghost use Rattle.kiss2.specs.declared.fault.KissFault.{KissFault};
 ghost use Rattle.kiss_file.specs.declared.file.KissFile.{KissFile};
 ghost use Rattle.kiss2.specs.declared.fault.KissFail.TheVariants.{NoMemory, Refused};
 ghost use Rattle.kiss2.specs.Kiss.{IsKissFault, IsLineFault, Kiss, closing_fault, lines_read};
 ghost use Rattle.kiss2.specs.Inner.Judging.{IsSmall, Keeps, Stands, fail_at};
+ghost use Rattle.kiss2.specs.Inner.Reading.{HasCome};
 
 use crate::fault::{KissFail, KissFault, KissKind};
 use crate::judging::LineFail;
@@ -47,19 +49,42 @@ fn judge(alloc: Global, bytes: &[u8]) -> Result<Kept, KissFail>
     ensures kept { IfOk result (λ kept. Keeps kept.said kept.rows.items (lines_read bytes.now)) }
     ensures refused { (fault : KissFault) → result ≡ Err (KissFail.Refused fault) → IsLineFault (lines_read bytes.now) fault.line fault.kind }
 {
-    let mut reader = LineReader::new(bytes);
     let mut kept = Kept::new(alloc);
-    while let Some(line) = reader.next_line(alloc)? {
-        if ends(&line) {
-            return Ok(kept);
-        }
-        let number = line.number;
-        match kept.take_line(alloc, line) {
-            Ok(()) => {}
-            Err(fail) => return Err(fail_of(number, fail)),
-        }
-    }
+    judge_lines(alloc, bytes, &mut kept)?;
     Ok(kept)
+}
+
+/// Judges the lines before the ending word, and keeps what they say.
+fn judge_lines(alloc: Global, bytes: &[u8], kept: &mut Kept) -> Result<(), KissFail>
+    requires short { length bytes.now < 2 ^ 32 }
+    requires empty { Keeps kept.old.said kept.old.rows.items [] }
+    ensures kept { OnOk result (Keeps kept.new.said kept.new.rows.items (lines_read bytes.now)) }
+    ensures refused { (fault : KissFault) → result ≡ Err (KissFail.Refused fault) → IsLineFault (lines_read bytes.now) fault.line fault.kind }
+{
+    let mut reader = LineReader::new(bytes);
+    while judge_next(alloc, &mut reader, kept)? {}
+    Ok(())
+}
+
+/// Judges the next line and keeps what it says. False where the text has ended.
+fn judge_next(alloc: Global, reader: &mut LineReader<'_>, kept: &mut Kept) -> Result<bool, KissFail>
+    requires { (bytes : List ℕ) × (count : ℕ) × (length bytes < 2 ^ 32) × HasCome (lines_of bytes) kept.old.said kept.old.rows.items reader.old count }
+    ensures shorter { IfOk result (λ more. more ≡ true → length reader.new < length reader.old) }
+    ensures goes_on { IfOk result (λ more. more ≡ true → (bytes : List ℕ) (count : ℕ) → HasCome (lines_of bytes) kept.old.said kept.old.rows.items reader.old count → HasCome (lines_of bytes) kept.new.said kept.new.rows.items reader.new (count + 1)) }
+    ensures done { IfOk result (λ more. more ≡ false → (bytes : List ℕ) (count : ℕ) → HasCome (lines_of bytes) kept.old.said kept.old.rows.items reader.old count → Keeps kept.new.said kept.new.rows.items (lines_read bytes)) }
+    ensures refused { (fault : KissFault) → result ≡ Err (KissFail.Refused fault) → (bytes : List ℕ) (count : ℕ) → HasCome (lines_of bytes) kept.old.said kept.old.rows.items reader.old count → IsLineFault (lines_read bytes) fault.line fault.kind }
+{
+    let Some(line) = reader.next_line(alloc)? else {
+        return Ok(false);
+    };
+    if ends(&line) {
+        return Ok(false);
+    }
+    let number = line.number;
+    match kept.take_line(alloc, line) {
+        Ok(()) => Ok(true),
+        Err(fail) => Err(fail_of(number, fail)),
+    }
 }
 
 /// The failure at the line of that number.

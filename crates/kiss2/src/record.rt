@@ -7,8 +7,8 @@ ghost use Rattle.hs_io.specs.declared.lines.Line.{Line};
 ghost use Rattle.kiss2.specs.Kiss.{IsNextOf, IsRecordOf, IsRowOf, closing_fault};
 ghost use Rattle.kiss2.specs.Standing.{names_in_column};
 ghost use Rattle.kiss2.specs.Words.{is_character_field, is_open};
-ghost use Rattle.kiss2.specs.Inner.Good.{IsGoodRow, IsKnownRow};
-ghost use Rattle.kiss2.specs.Inner.Judging.{Keeps, names_in_columns, once_after};
+ghost use Rattle.kiss2.specs.Inner.Good.{IsGoodRow, IsKnownRow, IsTableOf};
+ghost use Rattle.kiss2.specs.Inner.Judging.{Keeps, Stands, names_in_columns, once_after};
 
 use crate::said::{ResetLine, Said, add_name};
 use crate::words::{field_of, is_open_field, outputs_in_field};
@@ -17,29 +17,69 @@ use hs_io::Line;
 use kiss_file::{KissFile, KissRow, Rows, StateNames};
 use std::alloc::{AllocError, Global};
 
+/// What the lines of the rows give.
+#[derive(Drop)]
+pub(crate) struct Table {
+    states: StateNames,
+    rows: Rows,
+    /// The number of the reset state.
+    reset: u16,
+}
+
 /// The record that lines without a fault give, by what is kept of them.
 pub(crate) fn record_of(alloc: Global, lines: &[Line], said: Said) -> Result<KissFile, AllocError>
     requires { (all : List Line) × Keeps said lines.now all × (closing_fault all ≡ None) }
     ensures { (all : List Line) → Keeps said lines.now all → closing_fault all ≡ None → IfOk result (λ file. IsRecordOf all file) }
 {
-    let Some(inputs) = said.inputs else {
-        unreachable!()
-    };
-    let Some(outputs) = said.outputs else {
-        unreachable!()
-    };
+    let counts = counts_of(&said);
+    let table = table_of(alloc, lines, &said, counts.0)?;
+    Ok(file_of(counts, said, table))
+}
+
+/// The numbers of inputs and outputs, which were both said.
+fn counts_of(said: &Said) -> (u8, u8)
+    requires inputs { (inputs : ℕ) × (said.now.inputs ≡ Some inputs) }
+    requires outputs { (outputs : ℕ) × (said.now.outputs ≡ Some outputs) }
+    ensures inputs { said.now.inputs ≡ Some result.0 }
+    ensures outputs { said.now.outputs ≡ Some result.1 }
+{
+    match (said.inputs, said.outputs) {
+        (Some(inputs), Some(outputs)) => (inputs, outputs),
+        _ => unreachable!(),
+    }
+}
+
+/// What the lines of the rows give, by what is kept of all lines.
+fn table_of(alloc: Global, lines: &[Line], said: &Said, inputs: u8) -> Result<Table, AllocError>
+    requires kept { (all : List Line) × Keeps said.now lines.now all × (closing_fault all ≡ None) }
+    requires inputs { said.now.inputs ≡ Some inputs }
+    ensures { (all : List Line) → Keeps said.now lines.now all → closing_fault all ≡ None → IfOk result (λ table. IsTableOf all table) }
+{
     let states = states_of(alloc, lines)?;
     let rows = rows_of(alloc, lines, &states, inputs)?;
     let reset = reset_of(&said.reset, &states, rows.as_slice());
-    Ok(KissFile {
-        inputs,
-        outputs,
-        reset,
+    Ok(Table {
         states,
         rows,
+        reset,
+    })
+}
+
+/// The record of the numbers of inputs and outputs, the names that were said and the rows.
+fn file_of(counts: (u8, u8), said: Said, table: Table) -> KissFile
+    requires inputs { said.inputs ≡ Some counts.0 }
+    requires outputs { said.outputs ≡ Some counts.1 }
+    ensures { (all : List Line) → Stands said all → IsTableOf all table → IsRecordOf all result }
+{
+    KissFile {
+        inputs: counts.0,
+        outputs: counts.1,
+        reset: table.reset,
+        states: table.states,
+        rows: table.rows,
         input_names: said.input_names,
         output_names: said.output_names,
-    })
+    }
 }
 
 /// The names of the states in the order of their numbers.

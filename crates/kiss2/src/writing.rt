@@ -8,6 +8,7 @@ ghost use Rattle.cubes.specs.Field.{byte_of, character, characters};
 ghost use Rattle.hs_io.specs.Spelling.{ended, line_text, spaced, spelled};
 ghost use Rattle.kiss_file.specs.Names.{name_of};
 ghost use Rattle.kiss2.specs.Written.{fields_of_row, given_line, kiss_text, next_name, output_characters, states_standing};
+ghost use Rattle.kiss2.specs.Inner.Parts.{count_lines, head_lines, table_lines};
 
 use cubes::Cube;
 use hs_io::{Name, Names};
@@ -19,17 +20,52 @@ use std::alloc::{AllocError, Global};
 pub fn write(alloc: Global, file: &KissFile) -> Result<Vec<u8>, AllocError>
     ensures { IfOk result (λ text. text.items ≡ kiss_text file.now) }
 {
+    let states = count_states(alloc, file)?;
     let mut text = Vec::new(alloc);
-    append_number_line(&mut text, b".i", usize::from(file.inputs))?;
-    append_number_line(&mut text, b".o", usize::from(file.outputs))?;
-    append_given(&mut text, b".ilb", &file.input_names)?;
-    append_given(&mut text, b".ob", &file.output_names)?;
-    append_number_line(&mut text, b".p", file.rows.as_slice().len())?;
-    append_number_line(&mut text, b".s", count_states(alloc, file)?)?;
-    append_name_line(&mut text, b".r", name_at(&file.states, file.reset))?;
-    append_rows(&mut text, &file.states, file.outputs, file.rows.as_slice())?;
-    text.extend_from_slice(b".e\n")?;
+    append_file(&mut text, file, states)?;
     Ok(text)
+}
+
+/// Appends the text of the record, given the number of states in its rows.
+fn append_file(text: &mut Vec<u8>, file: &KissFile, states: usize) -> Result<(), AllocError>
+    requires { states ≡ states_standing file.now }
+    ensures { OnOk result (text.new.items ≡ text.old.items ++ kiss_text file.now) }
+{
+    append_head(text, file)?;
+    append_counts(text, file, states)?;
+    append_table(text, file)?;
+    Ok(())
+}
+
+/// Appends the numbers of inputs and outputs, and their names where they are given.
+fn append_head(text: &mut Vec<u8>, file: &KissFile) -> Result<(), AllocError>
+    ensures { OnOk result (text.new.items ≡ text.old.items ++ spelled (head_lines file.now)) }
+{
+    append_number_line(text, b".i", usize::from(file.inputs))?;
+    append_number_line(text, b".o", usize::from(file.outputs))?;
+    append_given(text, b".ilb", &file.input_names)?;
+    append_given(text, b".ob", &file.output_names)?;
+    Ok(())
+}
+
+/// Appends the numbers of rows and states, and the name of the reset state.
+fn append_counts(text: &mut Vec<u8>, file: &KissFile, states: usize) -> Result<(), AllocError>
+    requires { states ≡ states_standing file.now }
+    ensures { OnOk result (text.new.items ≡ text.old.items ++ spelled (count_lines file.now)) }
+{
+    append_number_line(text, b".p", file.rows.as_slice().len())?;
+    append_number_line(text, b".s", states)?;
+    append_name_line(text, b".r", name_at(&file.states, file.reset))?;
+    Ok(())
+}
+
+/// Appends the rows and the ending word.
+fn append_table(text: &mut Vec<u8>, file: &KissFile) -> Result<(), AllocError>
+    ensures { OnOk result (text.new.items ≡ text.old.items ++ spelled (table_lines file.now)) }
+{
+    append_rows(text, &file.states, file.outputs, file.rows.as_slice())?;
+    text.extend_from_slice(b".e\n")?;
+    Ok(())
 }
 
 /// Appends a word and a number as a line.

@@ -1,90 +1,19 @@
-use Rattle.std.proofs.Common.{◌≡◌, ◌≤◌, length, get_or, Some, All, Contains, sym, ◌∙◌, subst}
-use Rattle.std.specs.List.{AllZip}
-use Rattle.std.specs.Option.{IfNone, IfSome}
-use Rattle.std.proofs.lemmas.List.Elements.{All-weaker}
-use Rattle.std.proofs.lemmas.Option.{none-some}
-use Rattle.kiss_file.specs.declared.file.KissRow.{KissRow}
-use Rattle.kiss2.specs.Inner.Good.{IsGoodRow, IsKnownRow}
-use Rattle.kiss2.specs.Kiss.{IsRowOf}
-use Rattle.kiss2.specs.Standing.{inputs_said, outputs_said, row_lines, state_names}
-use Rattle.kiss2.proofs.Building.{columns_named}
-use Rattle.kiss2.proofs.Closing.{reset_is_known, reset_number, some_rows, zip_some}
-use Rattle.kiss2.proofs.GoodLines.{counts_there, few, inputs_range, outputs_range, rows_good, rows_known}
+use Rattle.std.proofs.Common.{◌∙◌}
+use Rattle.kiss2.proofs.Closing.{some_rows}
+use Rattle.kiss2.proofs.GoodLines.{counts_there}
 use Rattle.kiss2.proofs.record.record_of.Goals as goal
 
-pub unreachable-requires : goal.unreachable-requires
-unreachable-requires c =
+pub counts_of-counts-requires : goal.counts_of-counts-requires
+counts_of-counts-requires c =
     let keeps = c.requires.1 in
     let counts = counts_there c.requires.0 keeps.faultless (some_rows c.requires.0 c.requires.2) in
-    none-some counts.0 (sym c.in_default.is ∙ (keeps.stands.inputs ∙ counts.2))
+    record { inputs = (counts.0, keeps.stands.inputs ∙ counts.2); outputs = (counts.1, keeps.stands.outputs ∙ counts.3) }
 
-pub unreachable-requires-in_default-outputs : goal.unreachable-requires-in_default-outputs
-unreachable-requires-in_default-outputs c =
-    let keeps = c.requires.1 in
-    let counts = counts_there c.requires.0 keeps.faultless (some_rows c.requires.0 c.requires.2) in
-    none-some counts.1 (sym c.in_default-outputs.is ∙ (keeps.stands.outputs ∙ counts.3))
+pub table_of-requires : goal.table_of-requires
+table_of-requires c = record { kept = c.requires; inputs = c.counts_of-counts.ensures.inputs }
 
-pub states_of-requires-clause-few : goal.states_of-requires-clause-few
-states_of-requires-clause-few c =
-    let keeps = c.requires.1 in
-    subst (λ names. length names ≤ 256) (sym (columns_named c.args.lines.now c.requires.0 keeps.rows)) (few c.requires.0 keeps.faultless).0
-
-pub states_of-requires-clause-long : goal.states_of-requires-clause-long
-states_of-requires-clause-long c =
-    let all = c.requires.0 in
-    let keeps = c.requires.1 in
-    let k = c.in-Some.inputs in
-    let o = c.in-Some-outputs.outputs in
-    let inputs : inputs_said all ≡ Some k = sym keeps.stands.inputs ∙ c.in-Some.is in
-    let outputs : outputs_said all ≡ Some o = sym keeps.stands.outputs ∙ c.in-Some-outputs.is in
-    subst (All (λ line. length line.fields ≡ 4)) (sym keeps.rows)
-    (All-weaker (IsGoodRow k o) (λ line. length line.fields ≡ 4) (λ line good. good.fields) (row_lines all) (rows_good all keeps.faultless k o inputs outputs))
-
-pub rows_of-requires : goal.rows_of-requires
-rows_of-requires c =
-    let all = c.requires.0 in
-    let keeps = c.requires.1 in
-    let k = c.in-Some.inputs in
-    let o = c.in-Some-outputs.outputs in
-    let inputs : inputs_said all ≡ Some k = sym keeps.stands.inputs ∙ c.in-Some.is in
-    let outputs : outputs_said all ≡ Some o = sym keeps.stands.outputs ∙ c.in-Some-outputs.is in
-    let good = rows_good all keeps.faultless k o inputs outputs in
-    let range = inputs_range all keeps.faultless k inputs in
-    let named : c.in_ok-states.states ≡ state_names all = c.in_ok-states.ensures ∙ columns_named c.args.lines.now all keeps.rows in
-    record {
-      some_input = range.0;
-      inputs = range.1;
-      states = subst (λ names. length names ≤ 256) (sym named) (few all keeps.faultless).0;
-      good = (o, (outputs_range all keeps.faultless o outputs).1, subst (All (IsGoodRow k o)) (sym keeps.rows) good);
-      known = subst (λ states. All (IsKnownRow states) c.args.lines.now) (sym named) (subst (All (IsKnownRow (state_names all))) (sym keeps.rows) (rows_known all k o good));
-    }
-
-pub reset_of-reset-requires : goal.reset_of-reset-requires
-reset_of-reset-requires c =
-    let all = c.requires.0 in
-    let keeps = c.requires.1 in
-    let known = reset_is_known all c.args.said.reset c.requires.2 keeps.stands.reset in
-    let some = some_rows all c.requires.2 in
-    let named : c.in_ok-states.states ≡ state_names all = c.in_ok-states.ensures ∙ columns_named c.args.lines.now all keeps.rows in
-    let zipped = subst (λ lines. AllZip (IsRowOf c.in_ok-states.states) lines c.in_ok-rows.rows) keeps.rows c.in_ok-rows.ensures in
-    record {
-      few = subst (λ names. length names ≤ 256) (sym named) (few all keeps.faultless).0;
-      known = subst (λ states. IfSome c.args.said.reset (λ line. Contains states line.name)) (sym named) known;
-      some_row = rw c.as_slice.ensures (zip_some (IsRowOf c.in_ok-states.states) (row_lines all) c.in_ok-rows.rows zipped some);
-    }
+pub file_of-requires : goal.file_of-requires
+file_of-requires c = record { inputs = c.counts_of-counts.ensures.inputs; outputs = c.counts_of-counts.ensures.outputs }
 
 pub returns : goal.returns
-returns c all keeps closed =
-    let some = some_rows all closed in
-    let named : c.in_ok-states.states ≡ state_names all = c.in_ok-states.ensures ∙ columns_named c.args.lines.now all keeps.rows in
-    let zipped = subst (λ lines. AllZip (IsRowOf c.in_ok-states.states) lines c.in_ok-rows.rows) keeps.rows c.in_ok-rows.ensures in
-    record {
-      inputs = sym keeps.stands.inputs ∙ c.in-Some.is;
-      outputs = sym keeps.stands.outputs ∙ c.in-Some-outputs.is;
-      states = named;
-      reset = reset_number all c.in_ok-states.states c.in_ok-rows.rows c.args.said.reset c.reset_of-reset.result keeps.stands.reset c.reset_of-reset.ensures.named
-          (subst (λ rows. IfNone c.args.said.reset ((d : KissRow) → c.reset_of-reset.result ≡ (get_or rows 0 d).from)) c.as_slice.ensures c.reset_of-reset.ensures.first) zipped some;
-      rows = zipped;
-      input_names = keeps.stands.input_names;
-      output_names = keeps.stands.output_names;
-    }
+returns c all keeps closed = c.file_of.ensures all keeps.stands (c.in_ok-table.ensures all keeps closed)
