@@ -86,21 +86,18 @@ module _ (F : KissFile) (work : WorkMachine) (codes : Codes) (lawful : IsLawful 
       carries : Carries F N (words_by work.classes codes.words)
       carries = carries_file F W is.class N codes.words (words_by work.classes codes.words) lawful.reset stays_of_file (image reduce is) printed net.carries
 
+      pub notes_counted : length notes ≡ length N.latches
+      notes_counted = (net.noted).count ∙ (net.by_rule.latch_count ∙ sym net.latches)
+
+      pub words_printed : length (words_by work.classes codes.words) ≡ length F.states
+      words_printed = printed.count
+
       module _ (H : Header) (header : IsHeaderOf F.states work.classes split codes notes H) where
         noted : AreNotes codes (net.sets).latches H.latches
         noted = subst (AreNotes codes (net.sets).latches) (sym header.latches) net.noted
 
         latches_noted : length H.latches ≡ codes.bits
         latches_noted = noted.count ∙ net.by_rule.latch_count
-
-        pub latches_counted : length H.latches ≡ length N.latches
-        latches_counted = latches_noted ∙ sym net.latches
-
-        pub words_noted : length H.words ≡ length H.states
-        words_noted = ap (λ (list : List ℕ). length list) header.words ∙ printed.count ∙ ap (λ (list : List (List ℕ)). length list) (sym header.states)
-
-        pub states_written : ArePlainFields H.states
-        states_written = subst ArePlainFields (sym header.states) (plain_fields F lawful)
 
         named : Named F N H
         named = record {

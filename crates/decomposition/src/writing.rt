@@ -1,6 +1,9 @@
 //! From a split and its codes to the text of its network.
 
-ghost use Rattle.std.specs.Prelude.{◌≡◌, ◌≤◌, All, Bool, IfOk, length};
+ghost use Rattle.std.specs.Prelude.{◌≡◌, ◌<◌, ◌≤◌, All, Bool, IfOk, IfSome, length};
+ghost use Rattle.blif_out.specs.Order.{HasKnownStarts, HasRowsInOrder};
+ghost use Rattle.blif_out.specs.Writable.{IsWritable};
+ghost use Rattle.hs_io.specs.Spelling.{ArePlainFields};
 ghost use Rattle.kiss_file.specs.Lawful.{IsLawful};
 ghost use Rattle.kiss_file.specs.Machine.{Conflicting};
 ghost use Rattle.state_codes.specs.Agreement.{AreDistinct};
@@ -8,11 +11,14 @@ ghost use Rattle.state_codes.specs.Code.{IsCode};
 ghost use Rattle.state_codes.specs.Split.{IsPart};
 ghost use Rattle.decomposition.specs.Decomposition.{IsTextOf};
 ghost use Rattle.decomposition.specs.Flow.{Flows};
+ghost use Rattle.decomposition.specs.Inner.Headed.{words_by};
+ghost use Rattle.decomposition.specs.Inner.HeadedText.{IsHeadedText, IsNamedNetwork};
 ghost use Rattle.state_reduce.specs.Work.{IsWork};
 
 use crate::header::header_of;
-use crate::network::network_of_split;
-use kiss_file::KissFile;
+use crate::network::{SplitNetwork, network_of_split};
+use kiss_file::{KissFile, StateNames};
+use partition::Partition;
 use realise::names;
 use state_codes::{Codes, Split};
 use state_reduce::WorkMachine;
@@ -40,9 +46,67 @@ pub fn text_of_split(
     ensures { (reduce : Bool) → IsWork reduce file work
         → IfOk result (λ text. IsTextOf reduce file work.machine split.kind split.parts text.items) }
 {
+    let made = network_of_file(alloc, &file, &work, &split, &codes)?;
+    text_of_network(alloc, states_of(file), classes_of(work), split, codes, made)
+}
+
+/// The names of the states of a file.
+fn states_of(file: KissFile) -> StateNames
+    ensures { result ≡ file.states }
+{
+    file.states
+}
+
+/// The classes of the file's states, if the machine is that of classes.
+fn classes_of(work: WorkMachine) -> Option<Partition>
+    ensures { result ≡ work.classes }
+{
+    work.classes
+}
+
+/// The network of a split, with the names that the file gives to its signals.
+fn network_of_file(
+    alloc: Global,
+    file: &KissFile,
+    work: &WorkMachine,
+    split: &Split,
+    codes: &Codes,
+) -> Result<SplitNetwork, AllocError>
+    requires lawful { IsLawful file.now }
+    requires no_conflict { Conflicting file.now → ⊥ }
+    requires work { (reduce : Bool) × IsWork reduce file.now work.now }
+    requires parts { All (IsPart (length work.now.machine.states)) split.now.parts }
+    requires flows { Flows work.now.machine split.now.parts }
+    requires code { IsCode (length work.now.machine.states) split.now.parts codes.now }
+    requires distinct { AreDistinct (length work.now.machine.states) codes.now.words }
+    requires short { codes.now.bits ≤ 64 }
+    ensures { IfOk result (IsNamedNetwork file.now work.now split.now codes.now) }
+{
     work.machine.keeps_its_states();
-    let signals = names(alloc, &file, codes.bits)?;
-    let made = network_of_split(alloc, &work.machine, &split, &codes, &signals)?;
-    let header = header_of(alloc, file.states, work.classes, split, codes, made.notes)?;
+    let signals = names(alloc, file, codes.bits)?;
+    network_of_split(alloc, &work.machine, split, codes, &signals)
+}
+
+/// The text of a network after its header. The states of the file have these names and, if classes are given, belong
+/// to these classes.
+fn text_of_network(
+    alloc: Global,
+    states: StateNames,
+    classes: Option<Partition>,
+    split: Split,
+    codes: Codes,
+    made: SplitNetwork,
+) -> Result<Vec<u8>, AllocError>
+    requires classes { IfSome classes (All (λ class. class < length codes.words)) }
+    requires writable { IsWritable made.network }
+    requires starts { HasKnownStarts made.network }
+    requires rows { HasRowsInOrder made.network }
+    requires latches { length made.network.latches ≤ 64 }
+    requires notes { length made.notes ≡ length made.network.latches }
+    requires words { length (words_by classes codes.words) ≡ length states }
+    requires states { ArePlainFields states }
+    ensures { IfOk result (λ text. IsHeadedText states classes split codes made text.items) }
+{
+    let header = header_of(alloc, states, classes, split, codes, made.notes)?;
     blif_out::text(alloc, &made.network, &header)
 }

@@ -1,9 +1,10 @@
 //! The report of `definite`.
 
-ghost use Rattle.std.specs.Prelude.{◌≡◌};
+ghost use Rattle.std.specs.Prelude.{◌≡◌, Bool};
 ghost use Rattle.answers.specs.Judged.{IsJudged};
 ghost use Rattle.kiss_file.specs.Lawful.{IsLawful};
 ghost use Rattle.kiss_file.specs.Machine.{Accepted};
+ghost use Rattle.state_reduce.specs.Work.{IsWork};
 ghost use Rattle.machine_reports.specs.Causes.{NotDefiniteRow};
 ghost use Rattle.machine_reports.specs.DefiniteText.{IsChainText};
 
@@ -13,7 +14,7 @@ use answers::Refusal;
 use kiss_file::{Fill, KissFile};
 use machine_table::Machine;
 use shift_real::chain;
-use state_reduce::work_machine;
+use state_reduce::{WorkMachine, work_machine};
 use std::alloc::Global;
 
 /// How the states of the machine that is worked on come together symbol by symbol; or the refusal that names
@@ -32,8 +33,16 @@ pub fn definite(
     ensures { IsJudged (NotDefiniteRow reduce file.now) (λ text. IsChainText reduce file.now text.items) result }
 {
     let work = work_machine(alloc, file, machine, fill, reduce)?;
+    chain_text(alloc, file, &work)
+}
+
+/// How the states of a machine that is worked on come together; or the same refusal.
+fn chain_text(alloc: Global, file: &KissFile, work: &WorkMachine) -> Result<Vec<u8>, Refusal>
+    requires { (reduce : Bool) × IsWork reduce file.now work.now }
+    ensures { (reduce : Bool) → IsWork reduce file.now work.now → IsJudged (NotDefiniteRow reduce file.now) (λ text. IsChainText reduce file.now text.items) result }
+{
     work.machine.keeps_its_states();
-    order_of(alloc, file, &work)?;
+    order_of(alloc, file, work)?;
     let members = chain(alloc, &work.machine)?;
     Ok(lines_of_parts(alloc, members.as_slice())?)
 }

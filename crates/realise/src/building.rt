@@ -11,7 +11,7 @@ use crate::filled::state_rows;
 use crate::lists::gate_rows_of;
 use dependence::{Bit, ReadSet, Reads};
 use gate_rows::{latches, listed_names, name_from};
-use hs_io::{Name, copied_names};
+use hs_io::{Name, Names, copied_names};
 use kiss_file::KissRow;
 use machine_table::Machine;
 use net_core::{Gate, Gates, Network, SignalNames};
@@ -38,15 +38,17 @@ pub fn network(
 {
     let filled = state_rows(alloc, m)?;
     let start = codes.words.as_slice()[m.reset()];
-    let mut gates = Gates::new(alloc);
-    add_latch_gates(alloc, m, codes, reads, names, &filled, &mut gates)?;
-    add_output_gates(alloc, m, codes, reads, names, &filled, &mut gates)?;
-    Ok(Network {
-        inputs: copied_names(alloc, names.inputs.as_slice())?,
-        outputs: copied_names(alloc, names.outputs.as_slice())?,
+    let mut net = Network {
+        inputs: Names::new(alloc),
+        outputs: Names::new(alloc),
         latches: latches(alloc, names, start, codes.bits)?,
-        gates,
-    })
+        gates: Gates::new(alloc),
+    };
+    net.inputs = copied_names(alloc, names.inputs.as_slice())?;
+    net.outputs = copied_names(alloc, names.outputs.as_slice())?;
+    add_latch_gates(alloc, m, codes, reads, names, &filled, &mut net.gates)?;
+    add_output_gates(alloc, m, codes, reads, names, &filled, &mut net.gates)?;
+    Ok(net)
 }
 
 /// Adds the gates of the latch inputs.

@@ -5,6 +5,7 @@ pub mod Contents
 pub mod Tables
 pub mod Reading
 pub mod ContentDemands
+pub mod DemandedGate
 pub mod Latches
 pub mod OutputReading
 pub mod RegisterContents

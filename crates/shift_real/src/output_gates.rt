@@ -1,17 +1,20 @@
 //! The gates of the outputs.
 
-ghost use Rattle.std.specs.Prelude.{◌*◌, ◌<◌, ◌≤◌, IfOk, OnOk, length};
+ghost use Rattle.std.specs.Prelude.{◌*◌, ◌<◌, ◌≤◌, All, IfOk, OnOk, length};
 ghost use Rattle.dependence.specs.declared.sets.ReadSet.{ReadSet};
+ghost use Rattle.gate_rows.specs.Demands.{AreApart, CanBeRead};
 ghost use Rattle.shift_real.specs.Gates.{IsOutputGate};
 ghost use Rattle.shift_real.specs.ShiftNetwork.{AreNamesFor};
+ghost use Rattle.shift_real.specs.Inner.DemandedGate.{IsGateOfDemands};
 ghost use Rattle.shift_real.specs.Inner.Latches.{AddsOutputGates};
 ghost use Rattle.shift_real.specs.Inner.Reading.{AreEffectsAfter};
 ghost use Rattle.shift_real.specs.Inner.Tables.{IsTable};
 
 use crate::demands::content_demands;
 use crate::reading::{effects_after, output_reading};
-use dependence::Effect;
-use gate_rows::{demanded_rows, listed_names, name_from};
+use dependence::{Effect, ReadSet};
+use gate_rows::{Demand, demanded_rows, listed_names, name_from};
+use hs_io::Names;
 use machine_table::Machine;
 use net_core::{Gate, Gates, SignalNames};
 use std::alloc::{AllocError, Global};
@@ -57,12 +60,33 @@ fn output_gate(
     let _limits = (m.inputs(), m.outputs());
     let reading = output_reading(alloc, m, k, table, effects, b)?;
     let demands = content_demands(alloc, m, &reading.classes, reading.mask, b)?;
-    let inputs = reading.set.inputs.as_slice();
-    let latches = reading.set.latches.as_slice();
-    Ok(Gate {
-        inputs: listed_names(alloc, names, inputs, latches)?,
+    gate_of_demands(alloc, names, &reading.set, &demands, b)
+}
+
+/// The gate of an output that reads this set, by what is asked of it.
+fn gate_of_demands(
+    alloc: Global,
+    names: &SignalNames,
+    set: &ReadSet,
+    demands: &[Demand],
+    b: u8,
+) -> Result<Gate, AllocError>
+    requires output { b < length names.now.outputs }
+    requires inputs { All (λ a. a < length names.now.inputs) set.now.inputs }
+    requires latches { All (λ c. c < length names.now.latch_outputs) set.now.latches }
+    requires read { CanBeRead set.now.inputs set.now.latches demands.now }
+    requires apart { AreApart set.now.inputs set.now.latches demands.now }
+    ensures { IfOk result (IsGateOfDemands names.now b set.now.inputs set.now.latches demands.now) }
+{
+    let inputs = set.inputs.as_slice();
+    let latches = set.latches.as_slice();
+    let mut gate = Gate {
+        inputs: Names::new(alloc),
         output: name_from(alloc, &names.outputs, usize::from(b))?,
-        rows: demanded_rows(alloc, &demands, inputs, latches)?,
+        rows: Names::new(alloc),
         on: true,
-    })
+    };
+    gate.inputs = listed_names(alloc, names, inputs, latches)?;
+    gate.rows = demanded_rows(alloc, demands, inputs, latches)?;
+    Ok(gate)
 }

@@ -14,7 +14,7 @@ use crate::output_gates::add_output_gates;
 use crate::starts::{RegisterContents, RegisterFail, register_contents, start_among};
 use crate::tables::state_table;
 use gate_rows::latches;
-use hs_io::copied_names;
+use hs_io::{Names, copied_names};
 use machine_table::Machine;
 use net_core::{Gates, Network, SignalNames};
 use std::alloc::{AllocError, Global};
@@ -35,12 +35,15 @@ pub fn register(alloc: Global, m: &Machine, names: &SignalNames) -> Result<Netwo
     let held = register_contents(alloc, m)?;
     let word = start_among(m, &held)?;
     let bits = held.order * usize::from(m.inputs());
-    Ok(Network {
-        inputs: copied_names(alloc, names.inputs.as_slice())?,
-        outputs: copied_names(alloc, names.outputs.as_slice())?,
+    let mut net = Network {
+        inputs: Names::new(alloc),
+        outputs: Names::new(alloc),
         latches: latches(alloc, names, word, bits)?,
         gates: gates(alloc, m, &held, names)?,
-    })
+    };
+    net.inputs = copied_names(alloc, names.inputs.as_slice())?;
+    net.outputs = copied_names(alloc, names.outputs.as_slice())?;
+    Ok(net)
 }
 
 /// The gates of the latches, and then those of the outputs.

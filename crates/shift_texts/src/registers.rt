@@ -1,9 +1,10 @@
 //! The text of the register of a file's machine.
 
-ghost use Rattle.std.specs.Prelude.{◌≡◌};
+ghost use Rattle.std.specs.Prelude.{◌≡◌, Bool};
 ghost use Rattle.answers.specs.Judged.{IsJudged};
 ghost use Rattle.kiss_file.specs.Lawful.{IsLawful};
-ghost use Rattle.kiss_file.specs.Machine.{Accepted};
+ghost use Rattle.kiss_file.specs.Machine.{Accepted, Conflicting};
+ghost use Rattle.state_reduce.specs.Work.{IsWork};
 ghost use Rattle.shift_texts.specs.Causes.{RefusesShift};
 ghost use Rattle.shift_texts.specs.ShiftText.{IsShiftText};
 
@@ -13,7 +14,7 @@ use crate::orders::short_order;
 use answers::Refusal;
 use kiss_file::{Fill, KissFile};
 use machine_table::Machine;
-use state_reduce::work_machine;
+use state_reduce::{WorkMachine, work_machine};
 use std::alloc::Global;
 
 /// The network of the shift register of the machine that is worked on, after comments that give its order. The
@@ -32,7 +33,17 @@ pub fn shift(
     ensures { IsJudged (RefusesShift reduce file.now) (λ text. IsShiftText reduce file.now text.items) result }
 {
     let work = work_machine(alloc, file, machine, fill, reduce)?;
-    let order = short_order(alloc, file, &work)?;
-    let net = register_of(alloc, file, &work, order)?;
+    shift_of(alloc, file, &work)
+}
+
+/// The same for a machine that is worked on.
+fn shift_of(alloc: Global, file: &KissFile, work: &WorkMachine) -> Result<Vec<u8>, Refusal>
+    requires lawful { IsLawful file.now }
+    requires no_conflict { Conflicting file.now → ⊥ }
+    requires work { (reduce : Bool) × IsWork reduce file.now work.now }
+    ensures { (reduce : Bool) → IsWork reduce file.now work.now → IsJudged (RefusesShift reduce file.now) (λ text. IsShiftText reduce file.now text.items) result }
+{
+    let order = short_order(alloc, file, work)?;
+    let net = register_of(alloc, file, work, order)?;
     Ok(text_of(alloc, order, &net)?)
 }

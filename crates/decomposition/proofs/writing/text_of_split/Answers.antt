@@ -1,57 +1,48 @@
 use Rattle.std.proofs.Common.{arith}
-use Rattle.blif_out.specs.Head.{Head}
-use Rattle.net_core.specs.Denotes.{Denotes}
-use Rattle.partition.proofs.Outcomes.{IfOk-from_both}
-use Rattle.decomposition.proofs.Whole.{apart, classes_inside, counted, latches_counted, net_writable, states_written, text_is, words_noted}
+use Rattle.std.proofs.lemmas.Result.{IfOk-weaker}
+use Rattle.decomposition.proofs.Whole.{classes_inside, net_writable, notes_counted, text_is, words_printed}
+use Rattle.decomposition.proofs.Writable.{plain_fields}
 use Rattle.decomposition.proofs.writing.text_of_split.Goals as goal
 
-pub network_of_split-requires-clause-counted : goal.network_of_split-requires-clause-counted
-network_of_split-requires-clause-counted c =
-    counted c.args.file c.args.work c.args.codes c.requires.lawful c.requires.no_conflict c.requires.code.written.states c.requires.short c.in_ok-signals.signals c.in_ok-signals.ensures c.requires.work.0 c.requires.work.1
-
-pub network_of_split-requires-clause-apart : goal.network_of_split-requires-clause-apart
-network_of_split-requires-clause-apart c =
-    apart c.args.file c.args.work c.args.codes c.requires.lawful c.requires.no_conflict c.requires.code.written.states c.requires.short c.in_ok-signals.signals c.in_ok-signals.ensures
-
-pub header_of-requires : goal.header_of-requires
-header_of-requires c =
+pub text_of_network-requires-clause-classes : goal.text_of_network-requires-clause-classes
+text_of_network-requires-clause-classes c =
     classes_inside c.args.file c.args.work c.args.codes c.requires.lawful c.requires.no_conflict c.requires.code.written.states c.requires.short c.requires.work.0 c.requires.work.1
 
-pub text-requires-clause-writable : goal.text-requires-clause-writable
-text-requires-clause-writable c =
-    net_writable c.args.file c.args.work c.args.codes c.requires.lawful c.requires.no_conflict c.requires.code.written.states c.requires.short c.in_ok-signals.signals c.in_ok-signals.ensures
-    c.args.split c.in_ok-made.made.network c.in_ok-made.made.notes c.in_ok-made.ensures c.requires.work.0 c.requires.work.1
+pub text_of_network-requires-clause-writable : goal.text_of_network-requires-clause-writable
+text_of_network-requires-clause-writable c =
+    let named = c.in_ok-made.ensures in
+    net_writable c.args.file c.args.work c.args.codes c.requires.lawful c.requires.no_conflict c.requires.code.written.states c.requires.short named.names named.own
+    c.args.split c.in_ok-made.made.network c.in_ok-made.made.notes named.net c.requires.work.0 c.requires.work.1
 
-pub text-requires-clause-starts : goal.text-requires-clause-starts
-text-requires-clause-starts c =
-    c.in_ok-made.ensures.starts
+pub text_of_network-requires-clause-starts : goal.text_of_network-requires-clause-starts
+text_of_network-requires-clause-starts c = c.in_ok-made.ensures.net.starts
 
-pub text-requires-clause-rows : goal.text-requires-clause-rows
-text-requires-clause-rows c =
-    c.in_ok-made.ensures.rows
+pub text_of_network-requires-clause-rows : goal.text_of_network-requires-clause-rows
+text_of_network-requires-clause-rows c = c.in_ok-made.ensures.net.rows
 
-pub text-requires-clause-latches : goal.text-requires-clause-latches
-text-requires-clause-latches c =
-    omega (arith, c.in_ok-made.ensures.latches, c.requires.short)
+pub text_of_network-requires-clause-latches : goal.text_of_network-requires-clause-latches
+text_of_network-requires-clause-latches c = omega (arith, c.in_ok-made.ensures.net.latches, c.requires.short)
 
-pub text-requires-clause-notes : goal.text-requires-clause-notes
-text-requires-clause-notes c =
-    latches_counted c.args.file c.args.work c.args.codes c.requires.lawful c.requires.no_conflict c.requires.code.written.states c.requires.short c.in_ok-signals.signals c.in_ok-signals.ensures
-    c.args.split c.in_ok-made.made.network c.in_ok-made.made.notes c.in_ok-made.ensures c.requires.work.0 c.requires.work.1 c.in_ok-header.header c.in_ok-header.ensures
+pub text_of_network-requires-clause-notes : goal.text_of_network-requires-clause-notes
+text_of_network-requires-clause-notes c =
+    let named = c.in_ok-made.ensures in
+    notes_counted c.args.file c.args.work c.args.codes c.requires.lawful c.requires.no_conflict c.requires.code.written.states c.requires.short named.names named.own
+    c.args.split c.in_ok-made.made.network c.in_ok-made.made.notes named.net c.requires.work.0 c.requires.work.1
 
-pub text-requires-clause-words : goal.text-requires-clause-words
-text-requires-clause-words c =
-    words_noted c.args.file c.args.work c.args.codes c.requires.lawful c.requires.no_conflict c.requires.code.written.states c.requires.short c.in_ok-signals.signals c.in_ok-signals.ensures
-    c.args.split c.in_ok-made.made.network c.in_ok-made.made.notes c.in_ok-made.ensures c.requires.work.0 c.requires.work.1 c.in_ok-header.header c.in_ok-header.ensures
+pub text_of_network-requires-clause-words : goal.text_of_network-requires-clause-words
+text_of_network-requires-clause-words c =
+    let named = c.in_ok-made.ensures in
+    words_printed c.args.file c.args.work c.args.codes c.requires.lawful c.requires.no_conflict c.requires.code.written.states c.requires.short named.names named.own
+    c.args.split c.in_ok-made.made.network c.in_ok-made.made.notes named.net c.requires.work.0 c.requires.work.1
 
-pub text-requires-clause-states : goal.text-requires-clause-states
-text-requires-clause-states c =
-    states_written c.args.file c.args.work c.args.codes c.requires.lawful c.requires.no_conflict c.requires.code.written.states c.requires.short c.in_ok-signals.signals c.in_ok-signals.ensures
-    c.args.split c.in_ok-made.made.network c.in_ok-made.made.notes c.in_ok-made.ensures c.requires.work.0 c.requires.work.1 c.in_ok-header.header c.in_ok-header.ensures
+pub text_of_network-requires-clause-states : goal.text_of_network-requires-clause-states
+text_of_network-requires-clause-states c = plain_fields c.args.file c.requires.lawful
 
 pub returns : goal.returns
 returns c = λ reduce is.
-    IfOk-from_both c.text.result c.text.ensures.whole (IfOk-from_both c.text.result {R = λ text. Denotes text.items c.in_ok-made.made.network × Head text.items c.in_ok-header.header} c.text.ensures.denotes c.text.ensures.head (λ text denotes head. (denotes, head)))
-    (λ text whole both.
-    text_is c.args.file c.args.work c.args.codes c.requires.lawful c.requires.no_conflict c.requires.code.written.states c.requires.short c.in_ok-signals.signals c.in_ok-signals.ensures
-    c.args.split c.in_ok-made.made.network c.in_ok-made.made.notes c.in_ok-made.ensures reduce is c.in_ok-header.header c.in_ok-header.ensures c.requires.code c.requires.parts c.requires.count text.items whole both.0 both.1)
+    IfOk-weaker c.text_of_network.result _ _
+    (λ text headed.
+    let named = c.in_ok-made.ensures in
+    text_is c.args.file c.args.work c.args.codes c.requires.lawful c.requires.no_conflict c.requires.code.written.states c.requires.short named.names named.own
+    c.args.split c.in_ok-made.made.network c.in_ok-made.made.notes named.net reduce is headed.header headed.of_split c.requires.code c.requires.parts c.requires.count text.items headed.whole headed.denotes headed.head)
+    c.text_of_network.ensures
