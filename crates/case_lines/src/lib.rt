@@ -7,7 +7,7 @@
 //! A program of cases says in its [`Calls`] what a call of its libraries answers, as a text. For each call,
 //! [`agree`] prints `CALL: N cases` if all of its cases agree. It prints each case that differs, with the
 //! number of bytes before the first difference. Where arguments or answers are bytes, [`unescaped`] reads them and
-//! [`escaped`] writes them. The program `hsdec_cases`, whose cases have more lines, takes numbers and escapes from
+//! [`escaped`] writes them. The library `case_scripts`, whose cases have more lines, takes numbers and escapes from
 //! here. This crate is only for programs of cases, and promises only what [`escaped`] writes and the range of [`limit`].
 #![tactic(auto)]
 
