@@ -1,8 +1,8 @@
 -- What is made of the machine of numbers, its split and its codes.
-use Rattle.std.proofs.Common.{◌≡◌, ℕ, ◌++◌, false, inl, inr, List, [], ◌∷◌, length, sym, subst, arith}
+use Rattle.std.proofs.Common.{◌≡◌, ℕ, ◌++◌, false, inl, inr, List, [], ◌∷◌, Result, Ok, Err, length, sym, subst, arith}
 use Rattle.answers.specs.declared.refusals.Refusal.{Refusal}
 use Rattle.answers.specs.Cause.{CallsForNone}
-use Rattle.answers.specs.Judged.{IsStop}
+use Rattle.answers.specs.Judged.{IsJudged, IsStop}
 use Rattle.answers.specs.Laws.Causes.{none_first}
 use Rattle.decomposition.specs.Decomposition.{IsTextOf}
 use Rattle.state_reduce.specs.declared.work.WorkMachine.{WorkMachine}
@@ -26,7 +26,7 @@ use Rattle.state_codes.specs.declared.split.Part.{Part}
 use Rattle.state_codes.specs.declared.split.Split.{Split}
 use Rattle.state_codes.specs.Fault.{AreApart}
 use Rattle.generated_texts.specs.Figures.{AreFigures}
-use Rattle.generated_texts.specs.Generated.{IsGenerated}
+use Rattle.generated_texts.specs.Generated.{IsGenerated, OfGenerated}
 use Rattle.generated_texts.specs.Trial.{IsTrialText, LongCodeRow}
 use Rattle.generated_texts.specs.Laws.Trials.{one_generated, some_in_parallel}
 
@@ -84,3 +84,9 @@ trial_whole seed a b k F work split parts figures rest is_work planned same_part
       text_is,
       λ N denotes. subst (λ (t : List ℕ). Denotes t N) (sym text_is) (whole_denotes F split.parts figures rest of_file N denotes),
     )
+
+-- what is judged of the machine of the numbers
+pub judged_generated : {V : Type 0} (items : V → List ℕ) (seed a b k : ℕ) (F : KissFile) → IsGenerated seed a b k F → (result : Result V Refusal) → IsJudged (LongCodeRow seed a b k) (λ v. IsTrialText seed a b k F (items v)) result
+    → IsJudged (LongCodeRow seed a b k) (λ v. OfGenerated seed a b k (λ G. IsTrialText seed a b k G (items v))) result
+judged_generated items seed a b k F made (Ok v) (none, right) = (none, (F, made, right))
+judged_generated items seed a b k F made (Err refusal) stop = stop

@@ -1,6 +1,6 @@
 //! The text of a trial.
 
-ghost use Rattle.std.specs.Prelude.{IfOk, false};
+ghost use Rattle.std.specs.Prelude.{◌≡◌, ◌≤◌, ◌++◌, ℕ, List, IfOk, false};
 ghost use Rattle.answers.specs.Judged.{IsJudged};
 ghost use Rattle.state_reduce.specs.Work.{IsWork};
 ghost use Rattle.kiss_file.specs.Lawful.{IsLawful};
@@ -8,7 +8,9 @@ ghost use Rattle.kiss_file.specs.Machine.{Accepted, Conflicting};
 ghost use Rattle.machine_gen.specs.MachineOf.{AreSizes};
 ghost use Rattle.generated_texts.specs.Generated.{IsGenerated, OfGenerated};
 ghost use Rattle.generated_texts.specs.Trial.{IsTrialText, LongCodeRow};
-ghost use Rattle.generated_texts.specs.Inner.Coded.{IsCodedSplit};
+ghost use Rattle.generated_texts.specs.Inner.Coded.{IsCodedSplit, IsSummary};
+ghost use Rattle.split_texts.specs.Written.{IsTextOfParts};
+ghost use Rattle.state_codes.specs.Code.{IsLength};
 
 use crate::figures::{Numbers, figures_of};
 use answers::Refusal;
@@ -34,8 +36,18 @@ pub fn trial(alloc: Global, seed: u64, a: u16, b: u16, k: u8) -> Result<Vec<u8>,
     requires { AreSizes a b k }
     ensures { IsJudged (LongCodeRow seed a b k) (λ text. OfGenerated seed a b k (λ F. IsTrialText seed a b k F text.items)) result }
 {
-    let numbers = Numbers { seed, a, b, k };
     let file = make(alloc, seed, a, b, k)?;
+    trial_of(alloc, Numbers { seed, a, b, k }, file)
+}
+
+/// The same for the file of the machine of the numbers.
+fn trial_of(alloc: Global, numbers: Numbers, file: KissFile) -> Result<Vec<u8>, Refusal>
+    requires sizes { AreSizes numbers.a numbers.b numbers.k }
+    requires made { IsGenerated numbers.seed numbers.a numbers.b numbers.k file }
+    requires lawful { IsLawful file }
+    requires accepted { Accepted file Fill.Refuse }
+    ensures { IsJudged (LongCodeRow numbers.seed numbers.a numbers.b numbers.k) (λ text. IsTrialText numbers.seed numbers.a numbers.b numbers.k file text.items) result }
+{
     let work = machine_of(alloc, &file)?;
     let coded = split_of(alloc, numbers, &file, &work)?;
     Ok(text_of(alloc, numbers, file, work, coded)?)
@@ -84,11 +96,43 @@ fn text_of(
     requires coded { IsCodedSplit work.machine coded }
     ensures { IfOk result (λ text. IsTrialText numbers.seed numbers.a numbers.b numbers.k file text.items) }
 {
-    let CodedSplit { split, codes } = coded;
-    let parts = split.parts.as_slice();
-    let figures = figures_of(alloc, numbers, &work.machine, parts, codes.bits)?;
-    let rest = text_of_codes(alloc, file, work, split, codes)?;
-    let mut text = reports::trial(alloc, &figures)?;
+    let summary = summary_of(alloc, numbers, &work.machine, &coded)?;
+    text_after(alloc, summary, file, work, coded)
+}
+
+/// The summary of a machine and its coded split.
+fn summary_of(
+    alloc: Global,
+    numbers: Numbers,
+    machine: &Machine,
+    coded: &CodedSplit,
+) -> Result<Vec<u8>, AllocError>
+    requires inputs { machine.now.inputs ≤ 8 }
+    requires outputs { machine.now.outputs ≡ 2 }
+    requires latches { IsLength coded.now.split.parts coded.now.codes.bits }
+    ensures { IfOk result (λ text. IsSummary numbers machine.now coded.now.split text.items) }
+{
+    let parts = coded.split.parts.as_slice();
+    let figures = figures_of(alloc, numbers, machine, parts, coded.codes.bits)?;
+    reports::trial(alloc, &figures)
+}
+
+/// The text of a coded split after a text.
+fn text_after(
+    alloc: Global,
+    front: Vec<u8>,
+    file: KissFile,
+    work: WorkMachine,
+    coded: CodedSplit,
+) -> Result<Vec<u8>, AllocError>
+    requires lawful { IsLawful file }
+    requires no_conflict { Conflicting file → ⊥ }
+    requires work { IsWork false file work }
+    requires coded { IsCodedSplit work.machine coded }
+    ensures { IfOk result (λ text. (rest : List ℕ) × IsTextOfParts file work coded.split.kind coded.split.parts rest × (text.items ≡ front.items ++ rest)) }
+{
+    let rest = text_of_codes(alloc, file, work, coded.split, coded.codes)?;
+    let mut text = front;
     text.extend_from_slice(&rest)?;
     Ok(text)
 }

@@ -1,9 +1,5 @@
-use Rattle.std.proofs.lemmas.Result.{err_from_is_err_and}
+use Rattle.generated_texts.proofs.Trying.{judged_generated}
 use Rattle.generated_texts.proofs.trials.trial.Goals as goal
 
-pub returns-in_err-coded : goal.returns-in_err-coded
-returns-in_err-coded c =
-    let p = err_from_is_err_and c.from_residual-in_err-coded.result c.from_residual-in_err-coded.ensures.1 in rw (p.1, p.2) c.in_err-coded.ensures
-
 pub returns : goal.returns
-returns c = (c.in_ok-coded.ensures.0, (c.in_ok-file.file, c.in_ok-file.ensures.machine, c.in_ok-text_of.ensures))
+returns c = judged_generated (λ v. v.items) c.args.seed c.args.a c.args.b c.args.k c.in_ok-file.file c.in_ok-file.ensures.machine c.trial_of.result c.trial_of.ensures
