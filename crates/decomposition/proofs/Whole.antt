@@ -99,6 +99,12 @@ module _ (F : KissFile) (work : WorkMachine) (codes : Codes) (lawful : IsLawful 
         latches_noted : length H.latches ≡ codes.bits
         latches_noted = noted.count ∙ net.by_rule.latch_count
 
+        latches_counted : length H.latches ≡ length N.latches
+        latches_counted = latches_noted ∙ sym net.latches
+
+        states_written : ArePlainFields H.states
+        states_written = subst ArePlainFields (sym header.states) (plain_fields F lawful)
+
         named : Named F N H
         named = record {
           states = header.states;

@@ -1,10 +1,9 @@
 //! A decomposition of the machine of a file.
 
-ghost use Rattle.std.specs.Prelude.{◌≡◌, Bool};
+ghost use Rattle.std.specs.Prelude.{◌≡◌};
 ghost use Rattle.answers.specs.Judged.{IsJudged};
 ghost use Rattle.kiss_file.specs.Lawful.{IsLawful};
-ghost use Rattle.kiss_file.specs.Machine.{Accepted, Conflicting};
-ghost use Rattle.state_reduce.specs.Work.{IsWork};
+ghost use Rattle.kiss_file.specs.Machine.{Accepted};
 ghost use Rattle.split_plans.specs.Given.{HasFewParts};
 ghost use Rattle.split_texts.specs.Causes.{IsNotWritten};
 ghost use Rattle.split_texts.specs.Written.{IsWritten};
@@ -16,7 +15,7 @@ use kiss_file::{Fill, KissFile};
 use machine_table::Machine;
 use split_plans::plan;
 use state_codes::Kind;
-use state_reduce::{WorkMachine, work_machine};
+use state_reduce::work_machine;
 use std::alloc::Global;
 
 /// The text of the decomposition of a kind. `text` is the operand PARTS, which only the kind `Assign` reads.
@@ -37,23 +36,6 @@ pub fn decompose(
     ensures { IsJudged (IsNotWritten kind text.now reduce file) (λ written. IsWritten kind text.now reduce file written.items) result }
 {
     let work = work_machine(alloc, &file, machine, fill, reduce)?;
-    decompose_work(alloc, kind, text, file, work)
-}
-
-/// The same for a machine that is worked on.
-fn decompose_work(
-    alloc: Global,
-    kind: Kind,
-    text: &[u8],
-    file: KissFile,
-    work: WorkMachine,
-) -> Result<Vec<u8>, Refusal>
-    requires few { kind ≡ kinds.Assign → HasFewParts text.now }
-    requires lawful { IsLawful file }
-    requires no_conflict { Conflicting file → ⊥ }
-    requires work { (reduce : Bool) × IsWork reduce file work }
-    ensures { (reduce : Bool) → IsWork reduce file work → IsJudged (IsNotWritten kind text.now reduce file) (λ written. IsWritten kind text.now reduce file written.items) result }
-{
     let split = plan(alloc, kind, text, &work.machine)?;
     write(alloc, file, work, split)
 }
