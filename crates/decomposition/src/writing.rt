@@ -47,21 +47,7 @@ pub fn text_of_split(
         → IfOk result (λ text. IsTextOf reduce file work.machine split.kind split.parts text.items) }
 {
     let made = network_of_file(alloc, &file, &work, &split, &codes)?;
-    text_of_network(alloc, states_of(file), classes_of(work), split, codes, made)
-}
-
-/// The names of the states of a file.
-fn states_of(file: KissFile) -> StateNames
-    ensures { result ≡ file.states }
-{
-    file.states
-}
-
-/// The classes of the file's states, if the machine is that of classes.
-fn classes_of(work: WorkMachine) -> Option<Partition>
-    ensures { result ≡ work.classes }
-{
-    work.classes
+    text_of_network(alloc, file.states, work.classes, split, codes, made)
 }
 
 /// The network of a split, with the names that the file gives to its signals.

@@ -1,7 +1,6 @@
 //! Opening the operand FILE or NET: loading it, and reading its text.
 
-ghost use Rattle.std.specs.Prelude.{◌≡◌, ◌<◌, ◌≤◌, ◌↔◌, ℕ, Err, List, IfOk, length};
-ghost use Rattle.machine_table.specs.Cause.{Caused};
+ghost use Rattle.std.specs.Prelude.{◌≡◌, ◌<◌, ◌≤◌, ◌↔◌, ℕ, List, IfOk, length};
 ghost use Rattle.hs_io.specs.Counts.{Rose};
 ghost use Rattle.operands.specs.Fill.{fill_of};
 ghost use Rattle.operands.specs.Inner.Reading.{IsBuiltOf, IsEntryRefusal, IsReadAs, IsReadOf};
@@ -69,28 +68,18 @@ fn build_machine(alloc: Global, fill: Fill, file: KissFile) -> Result<OpenedMach
 {
     match Machine::build(alloc, &file, fill) {
         Ok(machine) => Ok(OpenedMachine { file, machine }),
-        Err(fail) => Err(refusal_of(alloc, fill, &file, fail)),
-    }
-}
-
-/// Why a file has no machine with that fill.
-fn refusal_of(alloc: Global, fill: Fill, file: &KissFile, fail: BuildFail) -> Refusal
-    requires lawful { IsLawful file.now }
-    requires caused { Caused file.now fill fail }
-    ensures { IsBuiltOf fill file.now (Err result) }
-{
-    let _ = fill;
-    match fail {
-        BuildFail::Conflict { row_a, row_b } => Refusal::Conflict {
+        Err(BuildFail::Conflict { row_a, row_b }) => Err(Refusal::Conflict {
             row: row_a,
             other: row_b,
-        },
-        BuildFail::Unspecified {
-            state,
-            symbol,
-            part,
-        } => unspecified(alloc, file, usize::from(state), symbol, part).unwrap_or(Refusal::NoMemory),
-        BuildFail::NoMemory => Refusal::NoMemory,
+        }),
+        Err(
+            BuildFail::Unspecified {
+                state,
+                symbol,
+                part,
+            },
+        ) => Err(unspecified(alloc, &file, usize::from(state), symbol, part)?),
+        Err(BuildFail::NoMemory) => Err(Refusal::NoMemory),
     }
 }
 
