@@ -5,7 +5,7 @@ use Rattle.std.proofs.lemmas.List.Sums.{passes_at_first}
 use Rattle.std.proofs.lemmas.Bool.{cases_eq, cases_lt, eqb-true}
 use Rattle.partition.specs.Partition.{blocks_of, IsNumbered, Together, Le}
 use Rattle.partition.specs.Inside.{least_of}
-use Rattle.partition.specs.Laws.Labels.{blocks_of-take-more, label-lt-blocks_of, label-lt-blocks_of-take, block_stands, new_label}
+use Rattle.partition.specs.Laws.Labels.{blocks_of-take-more, label-lt-blocks_of-take, block_stands, new_label}
 use Rattle.partition.proofs.Nesting.{least_of-le}
 
 -- a state is in the block of its least

@@ -1,5 +1,5 @@
 -- The least closed partitions of pairs, as they are found one after another.
-use Rattle.std.proofs.Common.{◌≡◌, ℕ, ◌+◌, ◌<◌, ◌≤◌, ◌↔◌, inl, inr, All, AllPairs, List, get_or, length, subst, sym, arith}
+use Rattle.std.proofs.Common.{◌≡◌, ℕ, ◌+◌, ◌<◌, ◌≤◌, ◌↔◌, inl, inr, All, AllPairs, List, Result, Ok, Err, IfOk, get_or, length, subst, sym, arith}
 use Rattle.std.proofs.lemmas.Bool.{cases_lt}
 use Rattle.hs_lattice.specs.Collection.{Adds, Knows}
 use Rattle.hs_lattice.proofs.Members.{All-added, Contains-added, Contains-same, Contains-value}
@@ -74,3 +74,8 @@ pub same_sizes : (F : KissFile) (found : List (List ℕ)) → AreGenerators F fo
 same_sizes F found are i p within read =
     let lawful = (subst (IsClosedPartition F) (sym read) (are.closed i p within)).0 in
     (IsPartition-of (sym lawful.length) lawful, (λ k d inside. IsPartition-of (sym lawful.length) (are.closed k d inside).0))
+
+-- what follows of three facts of a value, if there is one
+pub of_three : {X E : Type 0} (r : Result X E) (P Q R S : X → Type 0) → ((x : X) → P x → Q x → R x → S x) → IfOk r P → IfOk r Q → IfOk r R → IfOk r S
+of_three (Ok x) P Q R S turn p q r = turn x p q r
+of_three (Err e) P Q R S turn p q r = tt

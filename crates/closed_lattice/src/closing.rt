@@ -152,6 +152,25 @@ pub fn principal(alloc: Global, m: &Machine, s: usize, t: usize) -> Result<Parti
     principal_beside(alloc, m, &Principals::none(alloc), s, t)
 }
 
+/// The least closed partition that holds s and t together: the known one of a pair ahead, or a new one.
+fn made(
+    alloc: Global,
+    m: &Machine,
+    known: &Principals,
+    s: u16,
+    t: u16,
+) -> Result<Partition, AllocError>
+    requires known { ArePrincipalsOf m.now known.now }
+    requires s { s < length m.now.states }
+    requires t { t < length m.now.states }
+    ensures { IfOk result (IsPrincipal m.now s t) }
+{
+    match known_ahead(m, known, s, t) {
+        Some(least) => least.copy(alloc),
+        None => principal_beside(alloc, m, known, usize::from(s), usize::from(t)),
+    }
+}
+
 /// Makes the least closed partition that holds s and t together, and keeps it as known.
 fn make_known(
     alloc: Global,
@@ -166,10 +185,7 @@ fn make_known(
     ensures known { OnOk result (ArePrincipalsOf m.now known.new) }
     ensures principal { IfOk result (IsPrincipal m.now s t) }
 {
-    let p = match known_ahead(m, known, s, t) {
-        Some(least) => least.copy(alloc)?,
-        None => principal_beside(alloc, m, known, usize::from(s), usize::from(t))?,
-    };
+    let p = made(alloc, m, known, s, t)?;
     known.add(alloc, s, t, &p)?;
     Ok(p)
 }
@@ -194,6 +210,23 @@ fn learn_pairs(
     Ok(())
 }
 
+/// Makes the least closed partitions of the pairs ahead of two states known.
+fn learn_ahead(
+    alloc: Global,
+    m: &Machine,
+    known: &mut Principals,
+    s: u16,
+    t: u16,
+) -> Result<(), AllocError>
+    requires known { ArePrincipalsOf m.now known.old }
+    requires s { s < length m.now.states }
+    requires t { t < length m.now.states }
+    ensures { OnOk result (ArePrincipalsOf m.now known.new) }
+{
+    let pairs = pairs_ahead(alloc, m, known, s, t)?;
+    learn_pairs(alloc, m, known, pairs)
+}
+
 /// The least closed partition that holds s and t together. It is kept as known, like those of the pairs ahead.
 pub(crate) fn learn(
     alloc: Global,
@@ -212,7 +245,6 @@ pub(crate) fn learn(
     if let Some(least) = known.find(u, v) {
         return least.copy(alloc);
     }
-    let pairs = pairs_ahead(alloc, m, known, u, v)?;
-    learn_pairs(alloc, m, known, pairs)?;
+    learn_ahead(alloc, m, known, u, v)?;
     make_known(alloc, m, known, u, v)
 }

@@ -45,6 +45,33 @@ fn add_principals(
     Ok(())
 }
 
+/// Adds the least closed partitions of the pairs of states that are together in top, or more of them than the limit.
+fn collect(
+    alloc: Global,
+    m: &Machine,
+    top: &Partition,
+    limit: usize,
+    known: &mut Principals,
+    found: &mut Collection<Partition>,
+) -> Result<(), AllocError>
+    requires states { length top.now ≡ length m.now.states }
+    requires known { ArePrincipalsOf m.now known.old }
+    requires collection { IsCollection (λ p. p) (IsPartition (length m.now.states)) Before found.old }
+    requires found { All (IsPrincipalWithin m.now top.now) (items_in found.old) }
+    ensures collection { OnOk result (IsCollection (λ p. p) (IsPartition (length m.now.states)) Before found.new) }
+    ensures found { OnOk result (All (IsPrincipalWithin m.now top.now) (items_in found.new)) }
+    ensures each { OnOk result (length (items_in found.new) ≤ limit
+        → HavePrincipals m.now top.now (length m.now.states) (items_in found.new)) }
+{
+    for t in 0..m.states() {
+        add_principals(alloc, m, top, t, known, found)?;
+        if found.len() > limit {
+            return Ok(());
+        }
+    }
+    Ok(())
+}
+
 /// The least closed partitions of the pairs of states that are together in top, or more of them than the limit.
 fn collected(
     alloc: Global,
@@ -60,12 +87,7 @@ fn collected(
 {
     let mut known = Principals::new(alloc)?;
     let mut found = Collection::new(alloc);
-    for t in 0..m.states() {
-        add_principals(alloc, m, top, t, &mut known, &mut found)?;
-        if found.len() > limit {
-            return Ok(found);
-        }
-    }
+    collect(alloc, m, top, limit, &mut known, &mut found)?;
     Ok(found)
 }
 

@@ -5,13 +5,14 @@
 //! nothing. A pair that no partition which meets the condition holds together is passed over. No partition is made
 //! for either.
 
-ghost use Rattle.std.specs.Prelude.{ℕ, ◌≡◌, ◌+◌, ◌<◌, ◌↔◌, IfOk, IsTrue, List, OnOk, length};
+ghost use Rattle.std.specs.Prelude.{ℕ, ◌≡◌, ◌+◌, ◌<◌, ◌↔◌, ◌⊎◌, IfOk, IsTrue, List, OnOk, length};
 ghost use Rattle.closed_lattice.specs.Closed.{IsClosedPartition, IsPrincipal};
 ghost use Rattle.closed_lattice.specs.Kept.{ArePrincipalsOf};
 ghost use Rattle.closed_lattice.specs.Inner.Growing.{IsSettled, NeverHolds};
 ghost use Rattle.machine_table.specs.Staying.{NeverLeaves};
 ghost use Rattle.pair_operators.specs.Growth.{GrowsOver, IsGrowth, TakesPair, pairs_from};
 ghost use Rattle.closed_lattice.specs.Limits.{HoldsApart, IsGreatestGrown, MeetInZero};
+ghost use Rattle.partition.specs.MeetAndJoin.{IsJoin};
 ghost use Rattle.partition.specs.Partition.{IsPartition, IsZero, Lt, Together, blocks_of, zero_of};
 
 use crate::closing::{joined, learn};
@@ -123,63 +124,94 @@ impl Condition for InTwoBlocks {
     }
 }
 
-/// The growth by the least closed partition of two states. It is not made where it would add nothing.
+/// The join of a partition with the least closed partition of two states.
+fn joined_by(
+    alloc: Global,
+    m: &Machine,
+    known: &mut Principals,
+    p: &Partition,
+    s: usize,
+    t: usize,
+) -> Result<Partition, AllocError>
+    requires known { ArePrincipalsOf m.now known.old }
+    requires states { length p.now ≡ length m.now.states }
+    requires s { s < length m.now.states }
+    requires t { t < length m.now.states }
+    ensures known { OnOk result (ArePrincipalsOf m.now known.new) }
+    ensures joined { IfOk result (λ r. (least : List ℕ) × IsPrincipal m.now s t least × IsJoin p.now least r) }
+{
+    let least = learn(alloc, m, known, s, t)?;
+    joined(alloc, p, &least)
+}
+
+/// Puts the join in place of the partition, if it meets the condition.
+fn take_if_met<C: Condition>(
+    alloc: Global,
+    grown: &mut Partition,
+    join: Partition,
+    condition: &C,
+) -> Result<(), AllocError>
+    requires { C.suits condition.now (length join) }
+    ensures { OnOk result ((C.meets condition.now join × (grown.new ≡ join))
+        ⊎ ((C.meets condition.now join → ⊥) × (grown.new ≡ grown.old))) }
+{
+    if condition.is_met(alloc, &join)? {
+        *grown = join;
+    }
+    Ok(())
+}
+
+/// Grows by the least closed partition of two states. It is not made where it would add nothing.
 fn grow_by<C: Condition>(
     alloc: Global,
     m: &Machine,
     known: &mut Principals,
-    grown: Partition,
+    grown: &mut Partition,
     s: usize,
     t: usize,
     condition: &C,
-) -> Result<Partition, AllocError>
+) -> Result<(), AllocError>
     requires known { ArePrincipalsOf m.now known.old }
     requires stays { NeverLeaves m.now }
-    requires settled { IsSettled m.now (C.meets condition.now) grown }
+    requires settled { IsSettled m.now (C.meets condition.now) grown.old }
     requires s { s < length m.now.states }
     requires t { t < length m.now.states }
     requires suits { C.suits condition.now (length m.now.states) }
     ensures known { OnOk result (ArePrincipalsOf m.now known.new) }
-    ensures takes { IfOk result (TakesPair (IsPrincipal m.now) (C.meets condition.now) grown s t) }
+    ensures takes { OnOk result (TakesPair (IsPrincipal m.now) (C.meets condition.now) grown.old s t grown.new) }
 {
     if grown.same(s, t) {
-        return Ok(grown);
+        return Ok(());
     }
-    if condition.bars(&grown, s, t) {
-        return Ok(grown);
+    if condition.bars(grown, s, t) {
+        return Ok(());
     }
-    let least = learn(alloc, m, known, s, t)?;
-    let joined = joined(alloc, &grown, &least)?;
-    if condition.is_met(alloc, &joined)? {
-        Ok(joined)
-    } else {
-        Ok(grown)
-    }
+    let join = joined_by(alloc, m, known, grown, s, t)?;
+    take_if_met(alloc, grown, join, condition)
 }
 
-/// The growth over the pairs of one state and a greater one.
+/// Grows over the pairs of one state and a greater one.
 fn grow_from<C: Condition>(
     alloc: Global,
     m: &Machine,
     known: &mut Principals,
-    start: Partition,
+    grown: &mut Partition,
     s: usize,
     condition: &C,
-) -> Result<Partition, AllocError>
+) -> Result<(), AllocError>
     requires known { ArePrincipalsOf m.now known.old }
-    requires settled { IsSettled m.now (C.meets condition.now) start }
+    requires settled { IsSettled m.now (C.meets condition.now) grown.old }
     requires state { s < length m.now.states }
     requires suits { C.suits condition.now (length m.now.states) }
     ensures known { OnOk result (ArePrincipalsOf m.now known.new) }
-    ensures settled { IfOk result (IsSettled m.now (C.meets condition.now)) }
-    ensures grown { IfOk result (GrowsOver (IsPrincipal m.now) (C.meets condition.now) start
-        (pairs_from (length m.now.states) s)) }
+    ensures settled { OnOk result (IsSettled m.now (C.meets condition.now) grown.new) }
+    ensures grown { OnOk result (GrowsOver (IsPrincipal m.now) (C.meets condition.now) grown.old
+        (pairs_from (length m.now.states) s) grown.new) }
 {
-    let mut grown = start;
     for t in s + 1..m.states() {
-        grown = grow_by(alloc, m, known, grown, s, t, condition)?;
+        grow_by(alloc, m, known, grown, s, t, condition)?;
     }
-    Ok(grown)
+    Ok(())
 }
 
 /// The growth over the least closed partitions of all pairs.
@@ -199,7 +231,7 @@ fn grow<C: Condition>(
 {
     let mut grown = start;
     for s in 0..m.states() {
-        grown = grow_from(alloc, m, known, grown, s, condition)?;
+        grow_from(alloc, m, known, &mut grown, s, condition)?;
     }
     Ok(grown)
 }

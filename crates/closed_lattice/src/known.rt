@@ -1,8 +1,8 @@
 //! The least closed partitions of pairs of states that are known already.
 
-ghost use Rattle.std.specs.Prelude.{◌≡◌, All, IfOk, IfSome, OnOk, length};
+ghost use Rattle.std.specs.Prelude.{◌≡◌, All, IfOk, IfSome, IsTrue, OnOk, length};
 ghost use Rattle.closed_lattice.specs.Closed.{IsPrincipal};
-ghost use Rattle.closed_lattice.specs.Kept.{ArePrincipalsOf};
+ghost use Rattle.closed_lattice.specs.Kept.{ArePrincipalsOf, IsPrincipalItem};
 ghost use Rattle.kiss_file.specs.declared.file.KissFile.{KissFile};
 
 use partition::Partition;
@@ -14,6 +14,15 @@ pub struct Item {
     s: u16,
     t: u16,
     least: Partition,
+}
+
+impl Item {
+    /// Whether it is that of the two states, whichever comes first.
+    fn is_of(&self, s: u16, t: u16) -> bool
+        ensures { IsTrue result → (F : KissFile) → IsPrincipalItem F self.now → IsPrincipal F s t self.now.least }
+    {
+        self.s == s && self.t == t || self.s == t && self.t == s
+    }
 }
 
 /// Least closed partitions of pairs of states of one machine. They are kept from one growth to the next, so that each
@@ -51,13 +60,20 @@ impl Principals {
         })
     }
 
+    /// The item at the place of the two states, if there is one.
+    fn item(&self, s: u16, t: u16) -> Option<&Item>
+        ensures { IfSome result (λ item. (F : KissFile) → ArePrincipalsOf F self.now → IsPrincipalItem F item.now) }
+    {
+        let place = self.places.get(number_of(s, t))?;
+        self.items.get(*place)
+    }
+
     /// The one that holds the two states together, if it is known.
     pub(crate) fn find(&self, s: u16, t: u16) -> Option<&Partition>
         ensures { IfSome result (λ p. (F : KissFile) → ArePrincipalsOf F self.now → IsPrincipal F s t p.now) }
     {
-        let place = self.places.get(number_of(s, t))?;
-        let item = self.items.get(*place)?;
-        if item.s == s && item.t == t || item.s == t && item.t == s {
+        let item = self.item(s, t)?;
+        if item.is_of(s, t) {
             Some(&item.least)
         } else {
             None

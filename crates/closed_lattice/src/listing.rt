@@ -4,7 +4,7 @@
 //! partitions of its pairs of states. So the closed partitions are the joins of these least ones. Each closed
 //! partition other than zero is above one of them, so the least of these are the least of all.
 
-ghost use Rattle.std.specs.Prelude.{ℕ, ◌≡◌, ◌↔◌, ◌≤◌, All, AllPairs, IfOk, IsTrue, List, length};
+ghost use Rattle.std.specs.Prelude.{ℕ, ◌≡◌, ◌↔◌, ◌≤◌, ◌⊎◌, ◌++◌, ◌∷◌, [], All, AllPairs, IfOk, IsTrue, List, OnOk, length};
 ghost use Rattle.closed_lattice.specs.Closed.{IsAtom, IsClosedPartition};
 ghost use Rattle.closed_lattice.specs.Inner.Generators.{AreGenerators, IsLeastAmong};
 ghost use Rattle.hs_lattice.specs.Listing.{Evidence, IfMore, IfWhole, Lists};
@@ -18,13 +18,22 @@ use machine_table::Machine;
 use partition::{BitPart, BitWorld, Partition};
 use std::alloc::{AllocError, Global};
 
+/// Adds the same partition as a row of bits.
+fn add_row(alloc: Global, p: &Partition, rows: &mut Vec<BitPart>) -> Result<(), AllocError>
+    ensures { OnOk result (rows.new.items ≡ rows.old.items ++ p.now ∷ []) }
+{
+    let row = BitPart::of(alloc, p)?;
+    rows.push(row)?;
+    Ok(())
+}
+
 /// The same partitions as rows of bits.
 fn in_rows(alloc: Global, list: &[Partition]) -> Result<Vec<BitPart>, AllocError>
     ensures { IfOk result (λ rows. rows.items ≡ list.now) }
 {
     let mut rows = Vec::with_capacity(alloc, list.len())?;
     for p in list {
-        rows.push(BitPart::of(alloc, p)?)?;
+        add_row(alloc, p, &mut rows)?;
     }
     Ok(rows)
 }
@@ -51,6 +60,42 @@ fn joins_of(
     join_closure(alloc, &world, generators.as_slice(), limit)
 }
 
+/// The least closed partitions of each two states, each once, in ascending order, or more of them than the limit.
+fn generators(alloc: Global, m: &Machine, limit: usize) -> Result<Vec<Partition>, AllocError>
+    ensures ascending { IfOk result (λ found. AllPairs Before found.items) }
+    ensures closed { IfOk result (λ found. All (IsClosedPartition m.now) found.items) }
+    ensures all { IfOk result (λ found. length found.items ≤ limit → AreGenerators m.now found.items) }
+{
+    let one = Partition::one(alloc, m.states())?;
+    principals_within(alloc, m, &one, limit)
+}
+
+/// The closed partitions in ascending order, or more of them than the limit, out of those of each two states.
+fn all_of(
+    alloc: Global,
+    m: &Machine,
+    partitions: &[Partition],
+    limit: usize,
+) -> Result<Listing<BitPart>, AllocError>
+    requires ascending { AllPairs Before partitions.now }
+    requires closed { All (IsClosedPartition m.now) partitions.now }
+    requires all { length partitions.now ≤ limit → AreGenerators m.now partitions.now }
+    requires positive { 1 ≤ limit }
+    requires bounded { limit ≤ 10000 }
+    ensures whole { IfOk result (λ listing. IfWhole listing (Lists Before (IsClosedPartition m.now))) }
+    ensures within { IfOk result (λ listing. IfWhole listing (λ items. length items ≤ limit)) }
+    ensures no_more { IfOk result (λ listing. IfWhole listing (λ _. (partitions : List (List ℕ))
+        → Evidence Before (IsClosedPartition m.now) limit partitions → ⊥)) }
+    ensures more { IfOk result (λ listing. IfMore listing
+        (Evidence Before (IsClosedPartition m.now) limit)) }
+{
+    if partitions.len() > limit {
+        let rows = in_rows(alloc, &partitions[..limit + 1])?;
+        return Ok(Listing::More(Items::from(rows)));
+    }
+    joins_of(alloc, m, partitions, limit)
+}
+
 /// The closed partitions in ascending order, or where there are more than the limit, limit + 1 of them.
 ///
 /// Any limit + 1 of them may be given as evidence.
@@ -64,14 +109,8 @@ pub fn all(alloc: Global, m: &Machine, limit: usize) -> Result<Listing<BitPart>,
     ensures more { IfOk result (λ listing. IfMore listing
         (Evidence Before (IsClosedPartition m.now) limit)) }
 {
-    let one = Partition::one(alloc, m.states())?;
-    let found = principals_within(alloc, m, &one, limit)?;
-    let partitions = found.as_slice();
-    if partitions.len() > limit {
-        let rows = in_rows(alloc, &partitions[..limit + 1])?;
-        return Ok(Listing::More(Items::from(rows)));
-    }
-    joins_of(alloc, m, partitions, limit)
+    let found = generators(alloc, m, limit)?;
+    all_of(alloc, m, found.as_slice(), limit)
 }
 
 /// Whether no partition of the list is strictly below this one. Such a partition has more blocks, and partitions
@@ -93,18 +132,42 @@ fn is_least(found: &[Partition], p: &Partition) -> bool
     true
 }
 
+/// Adds a copy of the partition, if none of the found ones is strictly below it.
+fn add_least(
+    alloc: Global,
+    found: &[Partition],
+    p: &Partition,
+    list: &mut Vec<Partition>,
+) -> Result<(), AllocError>
+    requires lawful { IsPartition (length p.now) p.now }
+    requires found { All (IsPartition (length p.now)) found.now }
+    requires ascending { AllPairs Before found.now }
+    ensures { OnOk result ((IsLeastAmong found.now p.now × (list.new.items ≡ list.old.items ++ p.now ∷ []))
+        ⊎ ((IsLeastAmong found.now p.now → ⊥) × (list.new.items ≡ list.old.items))) }
+{
+    if is_least(found, p) {
+        let copy = p.copy(alloc)?;
+        list.push(copy)?;
+    }
+    Ok(())
+}
+
+/// The partitions that none of the found ones is strictly below.
+fn least_of(alloc: Global, m: &Machine, found: &[Partition]) -> Result<Vec<Partition>, AllocError>
+    requires { AreGenerators m.now found.now }
+    ensures { IfOk result (λ list. Lists Before (IsAtom m.now) list.items) }
+{
+    let mut list = Vec::new(alloc);
+    for p in found {
+        add_least(alloc, found, p, &mut list)?;
+    }
+    Ok(list)
+}
+
 /// All least closed partitions other than zero, in ascending order.
 pub fn atoms(alloc: Global, m: &Machine) -> Result<Vec<Partition>, AllocError>
     ensures { IfOk result (λ list. Lists Before (IsAtom m.now) list.items) }
 {
-    let one = Partition::one(alloc, m.states())?;
-    let found = principals_within(alloc, m, &one, usize::MAX)?;
-    let candidates = found.as_slice();
-    let mut list = Vec::new(alloc);
-    for p in candidates {
-        if is_least(candidates, p) {
-            list.push(p.copy(alloc)?)?;
-        }
-    }
-    Ok(list)
+    let found = generators(alloc, m, usize::MAX)?;
+    least_of(alloc, m, found.as_slice())
 }

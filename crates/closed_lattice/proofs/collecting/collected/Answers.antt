@@ -4,10 +4,11 @@ use Rattle.partition.specs.Before.{Before}
 use Rattle.partition.specs.Partition.{IsPartition}
 use Rattle.closed_lattice.proofs.collecting.collected.Goals as goal
 
-pub loop-t-init : goal.loop-t-init
-loop-t-init c = record {
-  known = c.in_ok-known.ensures c.args.m.now;
-  collection = IsCollection-none (λ p. p) (IsPartition (length c.args.m.now.states)) Before c.new-found.result c.new-found.ensures;
-  found = rw c.new-found.ensures.items (λ k d within. absurd (omega arith));
-  each = λ s t order below. absurd (omega arith);
-}
+pub collect-requires-clause-known : goal.collect-requires-clause-known
+collect-requires-clause-known c = c.in_ok-known.ensures c.args.m.now
+
+pub collect-requires-clause-collection : goal.collect-requires-clause-collection
+collect-requires-clause-collection c = IsCollection-none (λ p. p) (IsPartition (length c.args.m.now.states)) Before c.new-found.result c.new-found.ensures
+
+pub collect-requires-clause-found : goal.collect-requires-clause-found
+collect-requires-clause-found c = rw c.new-found.ensures.items (λ k d within. absurd (omega arith))

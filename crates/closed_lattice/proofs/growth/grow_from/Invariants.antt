@@ -10,5 +10,5 @@ abbrev pub invariant-loop-t : goal.invariant-loop-t
 invariant-loop-t g l = record {
   known : ArePrincipalsOf l.m l.known;
   settled : IsSettled l.m (g.C.Condition.meets l.condition) l.grown;
-  grown : GrowsOver (IsPrincipal l.m) (g.C.Condition.meets l.condition) l.fn.start (map (λ t. (l.s, t)) (range_with_len (l.s + 1) (l.t - (l.s + 1)))) l.grown;
+  grown : GrowsOver (IsPrincipal l.m) (g.C.Condition.meets l.condition) l.fn.grown (map (λ t. (l.s, t)) (range_with_len (l.s + 1) (l.t - (l.s + 1)))) l.grown;
 }

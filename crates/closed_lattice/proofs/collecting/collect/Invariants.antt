@@ -5,7 +5,7 @@ use Rattle.partition.specs.Partition.{IsPartition}
 use Rattle.closed_lattice.specs.Closed.{IsPrincipalWithin}
 use Rattle.closed_lattice.specs.Inner.Generators.{HavePrincipals}
 use Rattle.closed_lattice.specs.Kept.{ArePrincipalsOf}
-use Rattle.closed_lattice.proofs.collecting.collected.Given as goal
+use Rattle.closed_lattice.proofs.collecting.collect.Given as goal
 
 abbrev pub invariant-loop-t : goal.invariant-loop-t
 invariant-loop-t l = record {
