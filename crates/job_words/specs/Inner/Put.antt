@@ -1,5 +1,5 @@
 -- What a word does to a job as an operand. Only private functions cite this.
-use Rattle.std.specs.Prelude.{◌≡◌, ⊤, ℕ, Bool, true, false, List, Result, Ok, Err}
+use Rattle.std.specs.Prelude.{◌≡◌, ⊤, ℕ, true, false, List, Result, Ok, Err}
 use Rattle.job_words.specs.declared.draft.Refusal.{Refusal}
 use Rattle.job_words.specs.declared.draft.Refusal.TheVariants.{Word, Taken, NoMemory}
 use Rattle.job_words.specs.declared.jobs.Job.{Job}
