@@ -13,8 +13,10 @@
 
 ghost use Rattle.std.specs.Prelude.{◌≤◌, IfOk};
 
+mod answer;
 mod escapes;
 
+pub use answer::Answer;
 use anyhow::{Context, bail};
 pub use escapes::{escaped, unescaped};
 use std::fs;
@@ -31,11 +33,29 @@ pub trait Calls {
     ) -> anyhow::Result<String>;
 }
 
+/// A case of a file.
+#[derive(Clone, Copy)]
+struct Case<'a> {
+    call: &'a str,
+    words: &'a str,
+    wanted: &'a str,
+}
+
 /// The number of cases of one call, and how many of them differ.
 #[derive(Clone, Copy, Default)]
 struct Tally {
     cases: u32,
     differ: u32,
+}
+
+impl Tally {
+    /// Counts a case that agrees or differs.
+    fn count(&mut self, agree: bool) {
+        self.cases = self.cases.saturating_add(1);
+        if !agree {
+            self.differ = self.differ.saturating_add(1);
+        }
+    }
 }
 
 /// Whether all cases of a file agree. Prints a line for each call whose cases all agree, and a line for each
@@ -46,6 +66,15 @@ pub fn agree<C: Calls, R: Files + AllocGlobal + Print>(
     name: &str,
 ) -> anyhow::Result<bool> {
     let text = fs::read_to_string(rt, name).context(format_args!("reading {name}"))?;
+    all_agree(rt, calls, text.as_str())
+}
+
+/// Whether all cases of a text agree. Prints what [`agree`] prints.
+fn all_agree<C: Calls, R: Files + AllocGlobal + Print>(
+    rt: &R,
+    calls: &C,
+    text: &str,
+) -> anyhow::Result<bool> {
     let mut all = true;
     let mut last = "";
     let mut tally = Tally::default();
@@ -53,21 +82,30 @@ pub fn agree<C: Calls, R: Files + AllocGlobal + Print>(
         if line.is_empty() || line.starts_with('#') {
             continue;
         }
-        let (question, wanted) = line.split_once(" =").unwrap_or((line, ""));
-        let (call, words) = question.split_once(' ').unwrap_or((question, ""));
-        if call != last {
+        let case = case_of(line);
+        if case.call != last {
             report(rt, last, &tally)?;
-            last = call;
+            last = case.call;
             tally = Tally::default();
         }
-        tally.cases = tally.cases.saturating_add(1);
-        if !agrees(rt, calls, call, words, wanted)? {
-            tally.differ = tally.differ.saturating_add(1);
-            all = false;
-        }
+        let agree = agrees(rt, calls, &case)?;
+        tally.count(agree);
+        all = all && agree;
     }
     report(rt, last, &tally)?;
     Ok(all)
+}
+
+/// The case that a line says. Its answer follows a space.
+fn case_of(line: &str) -> Case<'_> {
+    let (question, wanted) = line.split_once(" =").unwrap_or((line, ""));
+    let (call, words) = question.split_once(' ').unwrap_or((question, ""));
+    let wanted = wanted.strip_prefix(' ').unwrap_or(wanted);
+    Case {
+        call,
+        words,
+        wanted,
+    }
 }
 
 /// Prints the number of cases of a call, if all of them agree.
@@ -78,28 +116,30 @@ fn report<R: Print>(rt: &R, call: &str, tally: &Tally) -> anyhow::Result<()> {
     Ok(())
 }
 
-/// Whether the answer is the wanted one, which follows a space. Prints the case if it is not.
+/// Whether the answer is the wanted one. Prints the case if it is not.
 fn agrees<C: Calls, R: Files + AllocGlobal + Print>(
     rt: &R,
     calls: &C,
-    call: &str,
-    words: &str,
-    wanted: &str,
+    case: &Case<'_>,
 ) -> anyhow::Result<bool> {
-    let wanted = wanted.strip_prefix(' ').unwrap_or(wanted);
-    let found = match calls.answer(rt, call, words) {
-        Ok(found) => found,
+    match calls.answer(rt, case.call, case.words) {
+        Ok(found) => is_wanted(rt, case, found.as_str()),
         Err(error) => {
-            println!(rt; "{call} {words}: {error:?}")?;
-            return Ok(false);
+            println!(rt; "{} {}: {error:?}", case.call, case.words)?;
+            Ok(false)
         }
-    };
-    if found.as_str() == wanted {
+    }
+}
+
+/// Whether what was found is wanted. Prints the case if it is not.
+fn is_wanted<R: Print>(rt: &R, case: &Case<'_>, found: &str) -> anyhow::Result<bool> {
+    if found == case.wanted {
         return Ok(true);
     }
-    let place = first_difference(found.as_bytes(), wanted.as_bytes());
+    let place = first_difference(found.as_bytes(), case.wanted.as_bytes());
     println!(rt;
-        "{call} {words}: found {found}, wanted {wanted}, which differ after {place} bytes"
+        "{} {}: found {found}, wanted {}, which differ after {place} bytes",
+        case.call, case.words, case.wanted
     )?;
     Ok(false)
 }

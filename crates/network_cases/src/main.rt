@@ -13,8 +13,8 @@ mod networks;
 mod runs;
 mod words;
 
-use anyhow::{Context, ensure};
-use case_lines::{Calls, agree, escaped};
+use anyhow::ensure;
+use case_lines::{Answer, Calls, agree};
 use std::alloc::Global;
 use std::rt::Files;
 
@@ -28,23 +28,21 @@ impl Calls for NetworkCalls {
         call: &str,
         words: &str,
     ) -> anyhow::Result<String> {
-        let text = answer_of(rt.alloc(), call, words).context("no answer")?;
-        let text = escaped(rt.alloc(), text.as_slice())?;
-        String::from_utf8(text).ok().context("no text")
+        let mut answer = Answer::new(rt.alloc());
+        put_answer(rt.alloc(), call, words, &mut answer);
+        answer.text()
     }
 }
 
-/// What a call answers. There is none where the words do not fit the call.
-fn answer_of(alloc: Global, call: &str, words: &str) -> Option<Vec<u8>> {
-    let mut text = Vec::new(alloc);
+/// Puts what a call answers. The answer fails where the words do not fit the call.
+fn put_answer(alloc: Global, call: &str, words: &str, answer: &mut Answer) {
     match call {
         "blif" | "blif_repeated" | "blif_text" => {
-            net_texts::add_answer(alloc, call, words, &mut text)?;
+            net_texts::put_answer(alloc, call, words, answer);
         }
-        "digit" | "check" | "counts" => networks::add_answer(alloc, call, words, &mut text)?,
-        _ => runs::add_answer(alloc, call, words, &mut text)?,
+        "digit" | "check" | "counts" => networks::put_answer(alloc, call, words, answer),
+        _ => runs::put_answer(alloc, call, words, answer),
     }
-    Some(text)
 }
 
 fn main(rt: HostRuntime) -> anyhow::Result<()> {

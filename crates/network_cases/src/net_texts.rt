@@ -1,21 +1,24 @@
 //! The calls of `blif_in` and `blif_out`.
 
-use crate::words::{add, add_all, add_names, add_number, add_unsound, bytes};
+ghost use Rattle.std.specs.Prelude.{◌≤◌, length};
+
+use crate::letters::empty_network;
+use crate::words::{bytes, put_names, put_unsound};
 use blif_in::{BlifFail, BlifFault, BlifKind, read};
 use blif_out::{Header, append};
-use case_lines::number;
+use case_lines::{Answer, number};
 use hs_list::Items;
 use kiss_file::StateNames;
 use net_core::{Gate, Latch, Network};
 use state_codes::Kind;
 use std::alloc::{AllocError, Global};
 
-/// Adds what a call answers.
-pub(crate) fn add_answer(alloc: Global, call: &str, words: &str, text: &mut Vec<u8>) -> Option<()> {
+/// Puts what a call answers.
+pub(crate) fn put_answer(alloc: Global, call: &str, words: &str, answer: &mut Answer) {
     match call {
-        "blif" => add_read(alloc, bytes(alloc, words)?.as_slice(), text),
-        "blif_repeated" => add_read(alloc, repeated(alloc, words)?.as_slice(), text),
-        _ => add_written(alloc, text).ok(),
+        "blif" => put_text(alloc, bytes(alloc, words), answer),
+        "blif_repeated" => put_text(alloc, repeated(alloc, words), answer),
+        _ => put_written(alloc, answer),
     }
 }
 
@@ -23,85 +26,104 @@ pub(crate) fn add_answer(alloc: Global, call: &str, words: &str, text: &mut Vec<
 fn repeated(alloc: Global, words: &str) -> Option<Vec<u8>> {
     let (times, rest) = words.split_once('|')?;
     let (front, piece) = rest.split_once('|')?;
+    let times = number(times).ok()?;
     let mut text = bytes(alloc, front)?;
     let piece = bytes(alloc, piece)?;
-    for _ in 0..number(times).ok()? {
-        text.extend_from_slice(piece.as_slice()).ok()?;
-    }
+    repeat(piece.as_slice(), times, &mut text).ok()?;
     Some(text)
 }
 
-/// Adds the network that a text says, or its first fault.
-fn add_read(alloc: Global, bytes: &[u8], text: &mut Vec<u8>) -> Option<()> {
-    if bytes.len() > 4_194_304 {
-        return None;
+/// Appends a piece the given number of times.
+fn repeat(piece: &[u8], times: usize, text: &mut Vec<u8>) -> Result<(), AllocError> {
+    for _ in 0..times {
+        text.extend_from_slice(piece)?;
     }
+    Ok(())
+}
+
+/// Puts the network that a text says, or its first fault.
+fn put_text(alloc: Global, text: Option<Vec<u8>>, answer: &mut Answer) {
+    match text {
+        Some(text) if text.len() <= 4_194_304 => put_read(alloc, text.as_slice(), answer),
+        _ => answer.fail(),
+    }
+}
+
+/// Puts the network that bytes say, or their first fault.
+fn put_read(alloc: Global, bytes: &[u8], answer: &mut Answer)
+    requires { length bytes.now ≤ 4194304 }
+{
     match read(alloc, bytes) {
-        Ok(net) => add_network(&net, text).ok(),
-        Err(BlifFail::Refused(fault)) => add_fault(alloc, &fault, text).ok(),
-        Err(BlifFail::NoMemory) => None,
+        Ok(net) => put_network(&net, answer),
+        Err(BlifFail::Refused(fault)) => put_fault(&fault, answer),
+        Err(BlifFail::NoMemory) => answer.fail(),
     }
 }
 
-/// Adds a network in one line: inputs, outputs, latches with their starts, and gates with their rows.
-fn add_network(net: &Network, text: &mut Vec<u8>) -> Result<(), AllocError> {
-    add_names(net.inputs.as_slice(), b" ", text)?;
-    add(b"/ ", text)?;
-    add_names(net.outputs.as_slice(), b" ", text)?;
-    add(b"/ ", text)?;
-    add_latches(net.latches.as_slice(), text)?;
-    add(b"/ ", text)?;
-    add_gates(net.gates.as_slice(), text)
+/// Puts a network in one line: inputs, outputs, latches with their starts, and gates with their rows.
+fn put_network(net: &Network, answer: &mut Answer) {
+    put_names(net.inputs.as_slice(), b" ", answer);
+    answer.add(b"/ ");
+    put_names(net.outputs.as_slice(), b" ", answer);
+    answer.add(b"/ ");
+    put_latches(net.latches.as_slice(), answer);
+    answer.add(b"/ ");
+    put_gates(net.gates.as_slice(), answer);
 }
 
-/// Adds latches, each with the digit of its start.
-fn add_latches(latches: &[Latch], text: &mut Vec<u8>) -> Result<(), AllocError> {
+/// Puts latches, each with the digit of its start.
+fn put_latches(latches: &[Latch], answer: &mut Answer) {
     for latch in latches {
         let (input, output) = (latch.input.bytes(), latch.output.bytes());
         let digit = latch.start.digit();
-        add_all(&[input, b" ", output, b" ", &[digit], b" "], text)?;
+        answer.add_all(&[input, b" ", output, b" ", &[digit], b" "]);
     }
-    Ok(())
 }
 
-/// Adds gates.
-fn add_gates(gates: &[Gate], text: &mut Vec<u8>) -> Result<(), AllocError> {
+/// Puts gates.
+fn put_gates(gates: &[Gate], answer: &mut Answer) {
     for gate in gates {
-        add_gate(gate, text)?;
+        put_gate(gate, answer);
     }
-    Ok(())
 }
 
-/// Adds a gate with its rows and the bit that they list.
-fn add_gate(gate: &Gate, text: &mut Vec<u8>) -> Result<(), AllocError> {
-    add_names(gate.inputs.as_slice(), b" ", text)?;
-    add_all(&[b"-> ", gate.output.bytes(), b" "], text)?;
-    add_names(gate.rows.as_slice(), b" ", text)?;
-    if gate.on {
-        add(b"on; ", text)
+/// Puts a gate with its rows and the bit that they list.
+fn put_gate(gate: &Gate, answer: &mut Answer) {
+    put_names(gate.inputs.as_slice(), b" ", answer);
+    answer.add_all(&[b"-> ", gate.output.bytes(), b" "]);
+    put_names(gate.rows.as_slice(), b" ", answer);
+    answer.add(if gate.on {
+        b"on; ".as_slice()
     } else {
-        add(b"off; ", text)
+        b"off; "
+    });
+}
+
+/// Puts a fault.
+fn put_fault(fault: &BlifFault, answer: &mut Answer) {
+    match &fault.kind {
+        BlifKind::Structure(fail) => put_unsound(fail, b" ", answer),
+        kind => answer.add_displayed(format_args!("{} {kind:?} ", fault.line)),
     }
 }
 
-/// Adds a fault.
-fn add_fault(alloc: Global, fault: &BlifFault, text: &mut Vec<u8>) -> Result<(), AllocError> {
-    if let BlifKind::Structure(fail) = &fault.kind {
-        return add_unsound(fail, b" ", text);
+/// Puts the text of the network without signals, and then the text of that network alone, without a header.
+fn put_written(alloc: Global, answer: &mut Answer) {
+    match written(alloc) {
+        Ok(text) => answer.add(text.as_slice()),
+        Err(_) => answer.fail(),
     }
-    let kind = format!(in alloc; "{:?}", fault.kind)?;
-    add_number(u64::from(fault.line), text)?;
-    add_all(&[b" ", kind.as_bytes(), b" "], text)
 }
 
-/// Adds the text of the network without signals, and then the text of that network alone, without a header.
-fn add_written(alloc: Global, text: &mut Vec<u8>) -> Result<(), AllocError> {
-    let net = Network {
-        inputs: Items::new(alloc),
-        outputs: Items::new(alloc),
-        latches: Items::new(alloc),
-        gates: Items::new(alloc),
-    };
+/// The text of the network without signals with a header, and then without one.
+fn written(alloc: Global) -> Result<Vec<u8>, AllocError> {
+    let mut text = headed(alloc)?;
+    append(alloc, &empty_network(alloc), &mut text)?;
+    Ok(text)
+}
+
+/// The text of the network without signals with a header.
+fn headed(alloc: Global) -> Result<Vec<u8>, AllocError> {
     let header = Header {
         kind: Kind::Least,
         classes: None,
@@ -110,7 +132,5 @@ fn add_written(alloc: Global, text: &mut Vec<u8>) -> Result<(), AllocError> {
         words: Items::new(alloc),
         latches: Items::new(alloc),
     };
-    let headed = blif_out::text(alloc, &net, &header)?;
-    add(headed.as_slice(), text)?;
-    append(alloc, &net, text)
+    blif_out::text(alloc, &empty_network(alloc), &header)
 }

@@ -1,51 +1,62 @@
 //! The calls of `net_core`.
 
 use crate::letters::network;
-use crate::words::{add, add_number, add_unsound};
-use net_core::{Order, Start, check};
-use std::alloc::{AllocError, Global};
+use crate::words::put_unsound;
+use case_lines::Answer;
+use net_core::{Network, Order, Start, check};
+use std::alloc::Global;
 
-/// Adds what a call answers.
-pub(crate) fn add_answer(alloc: Global, call: &str, words: &str, text: &mut Vec<u8>) -> Option<()> {
+/// Puts what a call answers.
+pub(crate) fn put_answer(alloc: Global, call: &str, words: &str, answer: &mut Answer) {
     if call == "digit" {
-        return add_digit(words, text);
+        return put_digit(words, answer);
     }
-    let net = network(alloc, words)?;
-    match check(alloc, &net) {
-        Ok(order) if call == "check" => add_order(&order, text).ok(),
-        Ok(order) => add_counts(&order, text).ok(),
-        Err(fail) => add_unsound(&fail, b"", text).ok(),
+    match network(alloc, words) {
+        Some(net) => put_checked(alloc, call, &net, answer),
+        None => answer.fail(),
     }
 }
 
-/// Adds the digit of a start.
-fn add_digit(word: &str, text: &mut Vec<u8>) -> Option<()> {
-    let start = match word {
-        "Zero" => Start::Zero,
-        "One" => Start::One,
-        "Free" => Start::Free,
-        "Unknown" => Start::Unknown,
-        _ => return None,
-    };
-    text.push(start.digit()).ok()
+/// Puts the digit of a start.
+fn put_digit(word: &str, answer: &mut Answer) {
+    match word {
+        "Zero" => answer.add(&[Start::Zero.digit()]),
+        "One" => answer.add(&[Start::One.digit()]),
+        "Free" => answer.add(&[Start::Free.digit()]),
+        "Unknown" => answer.add(&[Start::Unknown.digit()]),
+        _ => answer.fail(),
+    }
 }
 
-/// Adds the places of an order.
-fn add_order(order: &Order, text: &mut Vec<u8>) -> Result<(), AllocError> {
-    add(b"order", text)?;
+/// Puts what is asked of the order of a network, or why it is not sound.
+fn put_checked(alloc: Global, call: &str, net: &Network, answer: &mut Answer) {
+    match check(alloc, net) {
+        Ok(order) => put_ordered(call, &order, answer),
+        Err(fail) => put_unsound(&fail, b"", answer),
+    }
+}
+
+/// Puts what is asked of an order.
+fn put_ordered(call: &str, order: &Order, answer: &mut Answer) {
+    if call == "check" {
+        put_order(order, answer);
+    } else {
+        put_counts(order, answer);
+    }
+}
+
+/// Puts the places of an order.
+fn put_order(order: &Order, answer: &mut Answer) {
+    answer.add(b"order");
     for place in &order.sequence {
-        add(b" ", text)?;
-        add_number(*place as u64, text)?;
+        answer.add(b" ");
+        answer.add_number(*place as u64);
     }
-    Ok(())
 }
 
-/// Adds the numbers of inputs, outputs, latches and signals.
-fn add_counts(order: &Order, text: &mut Vec<u8>) -> Result<(), AllocError> {
-    add_number(order.inputs() as u64, text)?;
-    for count in [order.outputs(), order.latches(), order.signals()] {
-        add(b" ", text)?;
-        add_number(count as u64, text)?;
-    }
-    Ok(())
+/// Puts the numbers of inputs, outputs, latches and signals.
+fn put_counts(order: &Order, answer: &mut Answer) {
+    let (inputs, outputs) = (order.inputs(), order.outputs());
+    let (latches, signals) = (order.latches(), order.signals());
+    answer.add_displayed(format_args!("{inputs} {outputs} {latches} {signals}"));
 }

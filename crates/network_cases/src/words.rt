@@ -1,12 +1,11 @@
-//! Words of cases, and the pieces of answers.
+//! Words of cases, and names in answers.
 
 ghost use Rattle.std.specs.Prelude.{◌≤◌, IfSome, length};
 
-use case_lines::unescaped;
+use case_lines::{Answer, unescaped};
 use hs_io::Name;
-use itoa::Buffer;
 use net_core::NetFail;
-use std::alloc::{AllocError, Global};
+use std::alloc::Global;
 
 /// The bytes of a text with escapes, if they are no more than a file can have.
 pub(crate) fn bytes(alloc: Global, text: &str) -> Option<Vec<u8>>
@@ -20,49 +19,27 @@ pub(crate) fn bytes(alloc: Global, text: &str) -> Option<Vec<u8>>
     }
 }
 
-/// Adds a piece of text.
-pub(crate) fn add(piece: &[u8], text: &mut Vec<u8>) -> Result<(), AllocError> {
-    text.extend_from_slice(piece)
-}
-
-/// Adds pieces of text.
-pub(crate) fn add_all(pieces: &[&[u8]], text: &mut Vec<u8>) -> Result<(), AllocError> {
-    for piece in pieces {
-        add(piece, text)?;
-    }
-    Ok(())
-}
-
-/// Adds a number.
-pub(crate) fn add_number(number: u64, text: &mut Vec<u8>) -> Result<(), AllocError> {
-    add(Buffer::new().format(number).as_bytes(), text)
-}
-
-/// Adds names, with the same piece behind each.
-pub(crate) fn add_names(
-    names: &[Name],
-    behind: &[u8],
-    text: &mut Vec<u8>,
-) -> Result<(), AllocError> {
+/// Puts names, with the same piece behind each.
+pub(crate) fn put_names(names: &[Name], behind: &[u8], answer: &mut Answer) {
     for name in names {
-        add_all(&[name.bytes(), behind], text)?;
+        answer.add_all(&[name.bytes(), behind]);
     }
-    Ok(())
 }
 
-/// Adds why a network is not sound, with the same piece behind each name.
-pub(crate) fn add_unsound(
-    fail: &NetFail,
-    behind: &[u8],
-    text: &mut Vec<u8>,
-) -> Result<(), AllocError> {
+/// Puts why a network is not sound, with the same piece behind each name.
+pub(crate) fn put_unsound(fail: &NetFail, behind: &[u8], answer: &mut Answer) {
     match fail {
-        NetFail::TwoDrivers { name } => add_all(&[b"two drivers ", name.bytes(), behind], text),
-        NetFail::Undriven { name } => add_all(&[b"undriven ", name.bytes(), behind], text),
+        NetFail::TwoDrivers { name } => put_cause(b"two drivers ", name, behind, answer),
+        NetFail::Undriven { name } => put_cause(b"undriven ", name, behind, answer),
         NetFail::Cycle { names } => {
-            add(b"cycle ", text)?;
-            add_names(names.as_slice(), behind, text)
+            answer.add(b"cycle ");
+            put_names(names.as_slice(), behind, answer);
         }
-        NetFail::NoMemory => Err(AllocError),
+        NetFail::NoMemory => answer.fail(),
     }
+}
+
+/// Puts a cause that has a name.
+fn put_cause(cause: &[u8], name: &Name, behind: &[u8], answer: &mut Answer) {
+    answer.add_all(&[cause, name.bytes(), behind]);
 }

@@ -2,25 +2,20 @@
 
 ghost use Rattle.std.specs.Prelude.{◌<◌, ◌≤◌};
 
-use crate::answers::{put, put_bits, truth};
-use crate::words::{cut, number, pieces};
+use crate::words::{cut, number, pieces, truth};
+use case_lines::Answer;
 use cubes::{Cube, CubeFail, first_gap};
 use hs_io::Name;
 use std::alloc::{AllocError, Global};
 
 /// Puts what a call answers.
-pub(crate) fn answer(
-    alloc: Global,
-    call: &str,
-    words: &[u8],
-    into: &mut Vec<u8>,
-) -> Result<(), AllocError> {
+pub(crate) fn put_answer(alloc: Global, call: &str, words: &[u8], answer: &mut Answer) {
     let (first, second) = cut(words, b' ');
     match call {
-        "parse" => put_parsed(alloc, first, second, into),
-        "holds" => into.extend_from_slice(truth(holds(first, second))),
-        "meets" => into.extend_from_slice(truth(meets(first, second))),
-        _ => put_gap(alloc, first, second, into),
+        "parse" => put_parsed(first, second, answer),
+        "holds" => answer.add(truth(holds(first, second))),
+        "meets" => answer.add(truth(meets(first, second))),
+        _ => put_gap(alloc, first, second, answer),
     }
 }
 
@@ -33,29 +28,17 @@ fn places(word: &[u8]) -> u8
 }
 
 /// Puts what a text is read as.
-fn put_parsed(
-    alloc: Global,
-    width: &[u8],
-    text: &[u8],
-    into: &mut Vec<u8>,
-) -> Result<(), AllocError> {
+fn put_parsed(width: &[u8], text: &[u8], answer: &mut Answer) {
     match Cube::parse(text, places(width)) {
-        Ok(cube) => put_cube(alloc, b"", &cube, into),
-        Err(CubeFail::BadWidth { found }) => put(b"width ", found as u64, into),
-        Err(CubeFail::BadChar { place }) => put(b"place ", place as u64, into),
+        Ok(cube) => put_cube(&cube, answer),
+        Err(CubeFail::BadWidth { found }) => answer.add_displayed(format_args!("width {found}")),
+        Err(CubeFail::BadChar { place }) => answer.add_displayed(format_args!("place {place}")),
     }
 }
 
-/// Puts the front, the bits of care and of value, and the width.
-pub(crate) fn put_cube(
-    alloc: Global,
-    front: &[u8],
-    cube: &Cube,
-    into: &mut Vec<u8>,
-) -> Result<(), AllocError> {
-    put_bits(alloc, front, u64::from(cube.care), into)?;
-    put_bits(alloc, b" ", u64::from(cube.value), into)?;
-    put(b" ", u64::from(cube.width), into)
+/// Puts the bits of care and of value, and the width.
+pub(crate) fn put_cube(cube: &Cube, answer: &mut Answer) {
+    answer.add_displayed(format_args!("{:x} {:x} {}", cube.care, cube.value, cube.width));
 }
 
 /// Whether a cube of three places holds the symbol with this number.
@@ -76,17 +59,21 @@ fn meets(text: &[u8], other: &[u8]) -> bool {
 }
 
 /// Puts the least symbol that no cube holds.
-fn put_gap(
-    alloc: Global,
-    width: &[u8],
-    texts: &[u8],
-    into: &mut Vec<u8>,
-) -> Result<(), AllocError> {
-    let texts = pieces(alloc, texts, b' ')?;
-    match gap(alloc, texts.as_slice(), places(width))? {
-        Some(gap) => put_bits(alloc, b"", u64::from(gap), into),
-        None => into.extend_from_slice(b"none"),
+fn put_gap(alloc: Global, width: &[u8], texts: &[u8], answer: &mut Answer) {
+    match gap_of(alloc, texts, places(width)) {
+        Ok(Some(gap)) => answer.add_displayed(format_args!("{gap:x}")),
+        Ok(None) => answer.add(b"none"),
+        Err(_) => answer.fail(),
     }
+}
+
+/// The least symbol that no cube of the fields of a text holds.
+fn gap_of(alloc: Global, texts: &[u8], width: u8) -> Result<Option<u32>, AllocError>
+    requires positive { 0 < width }
+    requires bound { width ≤ 32 }
+{
+    let texts = pieces(alloc, texts, b' ')?;
+    gap(alloc, texts.as_slice(), width)
 }
 
 /// The least symbol that no cube of these fields holds. Fields of another width are left out.
@@ -95,13 +82,31 @@ pub(crate) fn gap(alloc: Global, fields: &[Name], width: u8) -> Result<Option<u3
     requires bound { width ≤ 32 }
 {
     let mut cubes = Vec::new(alloc);
+    add_cubes(fields, width, &mut cubes)?;
+    gap_between(alloc, cubes.as_slice(), width)
+}
+
+/// Adds the cubes of the fields that have a width.
+fn add_cubes(fields: &[Name], width: u8, cubes: &mut Vec<Cube>) -> Result<(), AllocError>
+    requires positive { 0 < width }
+    requires bound { width ≤ 32 }
+{
     for field in fields {
         if let Ok(cube) = Cube::parse(field.bytes(), width) {
             cubes.push(cube)?;
         }
     }
-    if !cubes.iter().all(|cube| cube.width == width) {
-        return Ok(None);
+    Ok(())
+}
+
+/// The least symbol that no cube holds, where each has a width.
+fn gap_between(alloc: Global, cubes: &[Cube], width: u8) -> Result<Option<u32>, AllocError>
+    requires positive { 0 < width }
+    requires bound { width ≤ 32 }
+{
+    if cubes.iter().all(|cube| cube.width == width) {
+        first_gap(alloc, cubes, width)
+    } else {
+        Ok(None)
     }
-    first_gap(alloc, &cubes, width)
 }

@@ -1,59 +1,71 @@
 //! The calls of `hs_list` and `hs_io`.
 
-use crate::answers::{put, put_all};
 use crate::words::pieces;
 use crate::{line_texts, shelves};
-use hs_io::{LoadFail, Name, SinkFail, copied_names};
+use case_lines::Answer;
+use hs_io::{LoadFail, Name, Names, SinkFail, copied_names};
 use hs_list::Items;
-use std::alloc::{AllocError, Global};
+use std::alloc::Global;
 
 /// Puts what a call answers.
-pub(crate) fn answer(
-    alloc: Global,
-    call: &str,
-    words: &[u8],
-    into: &mut Vec<u8>,
-) -> Result<(), AllocError> {
+pub(crate) fn put_answer(alloc: Global, call: &str, words: &[u8], answer: &mut Answer) {
     match call {
-        "items" => put_items(alloc, words, into),
-        "names" => put_copies(alloc, words, into),
-        "messages" => put_message(alloc, words, into),
-        "mem_shelf" => shelves::load_all(alloc, words, into),
-        "mem_sink" => shelves::put_pieces(alloc, words, into),
-        "closed_stream" => shelves::put_to_closed(alloc, into),
-        _ => line_texts::put_lines(alloc, words, into),
+        "items" | "names" => put_listed(alloc, call, words, answer),
+        "messages" => put_message(words, answer),
+        "mem_shelf" => shelves::load_all(alloc, words, answer),
+        "mem_sink" => shelves::put_pieces(alloc, words, answer),
+        "closed_stream" => shelves::put_to_closed(answer),
+        _ => line_texts::put_lines(alloc, words, answer),
+    }
+}
+
+/// Puts the names of a list.
+fn put_listed(alloc: Global, call: &str, words: &[u8], answer: &mut Answer) {
+    match pieces(alloc, words, b'/') {
+        Ok(names) if call == "items" => put_items(names, answer),
+        Ok(names) => put_copies(alloc, names.as_slice(), answer),
+        Err(_) => answer.fail(),
+    }
+}
+
+/// Puts the names of a list that is made from the vector of another list.
+fn put_items(names: Names, answer: &mut Answer) {
+    let list = Items::from(names.into_vec());
+    put_counted(list.as_slice(), answer);
+}
+
+/// Puts the names of a copy.
+fn put_copies(alloc: Global, names: &[Name], answer: &mut Answer) {
+    match copied_names(alloc, names) {
+        Ok(copies) => put_counted(copies.as_slice(), answer),
+        Err(_) => answer.fail(),
     }
 }
 
 /// Puts the number of names, and then the names.
-fn put_counted(names: &[Name], into: &mut Vec<u8>) -> Result<(), AllocError> {
-    put(b"", names.len() as u64, into)?;
+fn put_counted(names: &[Name], answer: &mut Answer) {
+    answer.add_number(names.len() as u64);
     for name in names {
-        put_all(&[b"/", name.bytes()], into)?;
+        answer.add_all(&[b"/", name.bytes()]);
     }
-    Ok(())
-}
-
-/// Puts the names of a list that is made from the vector of another list.
-fn put_items(alloc: Global, words: &[u8], into: &mut Vec<u8>) -> Result<(), AllocError> {
-    let list = Items::from(pieces(alloc, words, b'/')?.into_vec());
-    put_counted(list.as_slice(), into)
-}
-
-/// Puts the names of a copy.
-fn put_copies(alloc: Global, words: &[u8], into: &mut Vec<u8>) -> Result<(), AllocError> {
-    let names = pieces(alloc, words, b'/')?;
-    let copies = copied_names(alloc, names.as_slice())?;
-    put_counted(copies.as_slice(), into)
 }
 
 /// Puts the message of a failure.
-fn put_message(alloc: Global, word: &[u8], into: &mut Vec<u8>) -> Result<(), AllocError> {
-    let message = match word {
-        b"LoadFail::Failed" => LoadFail::Failed.to_string(alloc),
-        b"LoadFail::TooLong" => LoadFail::TooLong.to_string(alloc),
-        b"LoadFail::NoMemory" => LoadFail::NoMemory.to_string(alloc),
-        _ => SinkFail::Failed.to_string(alloc),
-    };
-    into.extend_from_slice(message?.as_bytes())
+fn put_message(word: &[u8], answer: &mut Answer) {
+    if word == b"SinkFail::Failed".as_slice() {
+        answer.add_displayed(SinkFail::Failed);
+    } else {
+        answer.add_displayed(load_fail(word));
+    }
+}
+
+/// The failure of a load that a word names.
+fn load_fail(word: &[u8]) -> LoadFail {
+    if word == b"LoadFail::Failed".as_slice() {
+        LoadFail::Failed
+    } else if word == b"LoadFail::TooLong".as_slice() {
+        LoadFail::TooLong
+    } else {
+        LoadFail::NoMemory
+    }
 }

@@ -1,77 +1,73 @@
 //! Jobs of words.
 
-use crate::answers::{put, put_all, put_debugged, truth};
-use crate::words::pieces;
+use crate::words::truth;
+use case_lines::Answer;
 use job_words::{Form, Job, JobFail, Words, built_forms, job, judge};
 use std::alloc::{AllocError, Global};
 
 /// Puts what a call answers.
-pub(crate) fn answer(
-    alloc: Global,
-    call: &str,
-    line: &[u8],
-    into: &mut Vec<u8>,
-) -> Result<(), AllocError> {
+pub(crate) fn put_answer(alloc: Global, call: &str, line: &[u8], answer: &mut Answer) {
     if call == "form" {
-        return put_form_of(alloc, line, into);
-    }
-    let mut words = Words::new(alloc);
-    add_words(alloc, line, &mut words)?;
-    if words.count() > 1000 {
-        return Ok(());
-    }
-    if call == "job" {
-        put_answer(alloc, job(alloc, &words), into)
+        put_form_of(line, answer);
     } else {
-        put_answer(alloc, judge(alloc, built_forms(), &words), into)
+        put_judgement(alloc, call, line, answer);
     }
 }
 
+/// Puts the job of the words of a line, or the number of the refused word.
+fn put_judgement(alloc: Global, call: &str, line: &[u8], answer: &mut Answer) {
+    let mut words = Words::new(alloc);
+    if add_words(line, &mut words).is_err() {
+        answer.fail();
+    }
+    put_judged(&judged(alloc, call, &words), answer);
+}
+
 /// Adds the words of a line, cut at each space. An empty line has no words.
-fn add_words(alloc: Global, line: &[u8], words: &mut Words) -> Result<(), AllocError> {
+fn add_words(line: &[u8], words: &mut Words) -> Result<(), AllocError> {
     if line.is_empty() {
         return Ok(());
     }
-    let pieces = pieces(alloc, line, b' ')?;
-    for word in pieces.as_slice() {
-        words.push(word.bytes())?;
+    for word in line.split(|byte| *byte == b' ') {
+        words.push(word)?;
     }
     Ok(())
 }
 
+/// The job of words. More than a thousand words are not judged.
+fn judged(alloc: Global, call: &str, words: &Words) -> Result<Job, JobFail> {
+    if words.count() > 1000 {
+        Err(JobFail::NoMemory)
+    } else if call == "job" {
+        job(alloc, words)
+    } else {
+        judge(alloc, built_forms(), words)
+    }
+}
+
 /// Puts a job, or the number of the refused word.
-fn put_answer(
-    alloc: Global,
-    answer: Result<Job, JobFail>,
-    into: &mut Vec<u8>,
-) -> Result<(), AllocError> {
-    match answer {
-        Ok(job) => put_job(alloc, &job, into),
-        Err(JobFail::Usage { word }) => put(b"word ", u64::from(word), into),
-        Err(JobFail::NoMemory) => Err(AllocError),
+fn put_judged(judged: &Result<Job, JobFail>, answer: &mut Answer) {
+    match judged {
+        Ok(job) => put_job(job, answer),
+        Err(JobFail::Usage { word }) => answer.add_displayed(format_args!("word {word}")),
+        Err(JobFail::NoMemory) => answer.fail(),
     }
 }
 
 /// Puts the command, the two names in brackets, the limit, the options, and the four numbers.
-fn put_job(alloc: Global, job: &Job, into: &mut Vec<u8>) -> Result<(), AllocError> {
-    put_debugged(alloc, b"", &job.command, into)?;
-    put_all(
-        &[b" [", job.file.bytes(), b"] [", job.second.bytes(), b"]"],
-        into,
-    )?;
-    put(b" ", job.limit as u64, into)?;
-    put_options(job, into)?;
-    put(b" ", job.seed, into)?;
-    put(b" ", u64::from(job.a), into)?;
-    put(b" ", u64::from(job.b), into)?;
-    put(b" ", u64::from(job.k), into)
+fn put_job(job: &Job, answer: &mut Answer) {
+    answer.add_displayed(format_args!("{:?}", job.command));
+    answer.add_all(&[b" [", job.file.bytes(), b"] [", job.second.bytes(), b"] "]);
+    answer.add_number(job.limit as u64);
+    put_options(job, answer);
+    answer.add_displayed(format_args!(" {} {} {} {}", job.seed, job.a, job.b, job.k));
 }
 
 /// Puts the options.
-fn put_options(job: &Job, into: &mut Vec<u8>) -> Result<(), AllocError> {
-    put_all(&[b" reduce ", truth(job.reduce)], into)?;
-    put_all(&[b" start ", start_of(job)], into)?;
-    put_all(&[b" hold ", truth(job.hold)], into)
+fn put_options(job: &Job, answer: &mut Answer) {
+    answer.add_all(&[b" reduce ", truth(job.reduce)]);
+    answer.add_all(&[b" start ", start_of(job)]);
+    answer.add_all(&[b" hold ", truth(job.hold)]);
 }
 
 /// The word of the first values of the latches.
@@ -83,17 +79,15 @@ fn start_of(job: &Job) -> &[u8] {
 }
 
 /// Puts the operands and options of a command that is built.
-fn put_form_of(alloc: Global, word: &[u8], into: &mut Vec<u8>) -> Result<(), AllocError> {
+fn put_form_of(word: &[u8], answer: &mut Answer) {
     for form in built_forms() {
         if form.command.word() == word {
-            return put_form(alloc, form, into);
+            put_form(form, answer);
         }
     }
-    Ok(())
 }
 
 /// Puts operands and options.
-fn put_form(alloc: Global, form: &Form, into: &mut Vec<u8>) -> Result<(), AllocError> {
-    put_debugged(alloc, b"", &form.operands, into)?;
-    put_debugged(alloc, b" ", &form.options, into)
+fn put_form(form: &Form, answer: &mut Answer) {
+    answer.add_displayed(format_args!("{:?} {:?}", form.operands, form.options));
 }

@@ -25,7 +25,6 @@
 //! - `short_lists` compares what is said of every short list of words with a plain judge.
 #![tactic(auto)]
 
-mod answers;
 mod cubes_and_gaps;
 mod io_calls;
 mod jobs;
@@ -40,8 +39,7 @@ mod word_lists;
 mod words;
 
 use anyhow::{Context, ensure};
-use case_lines::{Calls, agree, escaped, unescaped};
-use std::alloc::AllocError;
+use case_lines::{Answer, Calls, agree, unescaped};
 use std::env;
 use std::rt::Files;
 
@@ -78,17 +76,17 @@ impl Asked {
         rt: &R,
         call: &str,
         words: &[u8],
-        into: &mut Vec<u8>,
-    ) -> Result<(), AllocError> {
+        answer: &mut Answer,
+    ) {
         let alloc = rt.alloc();
         match self {
-            Asked::Io => io_calls::answer(alloc, call, words, into),
-            Asked::Files => shelves::load_file(rt, words, into),
-            Asked::Cubes => cubes_and_gaps::answer(alloc, call, words, into),
-            Asked::Kiss => kiss_texts::answer(alloc, call, words, into),
-            Asked::Jobs => jobs::answer(alloc, call, words, into),
-            Asked::Lines => printed::answer(alloc, call, words, into),
-            Asked::Machines => machines::answer(alloc, call, words, into),
+            Asked::Io => io_calls::put_answer(alloc, call, words, answer),
+            Asked::Files => shelves::load_file(rt, words, answer),
+            Asked::Cubes => cubes_and_gaps::put_answer(alloc, call, words, answer),
+            Asked::Kiss => kiss_texts::put_answer(alloc, call, words, answer),
+            Asked::Jobs => jobs::put_answer(alloc, call, words, answer),
+            Asked::Lines => printed::put_answer(alloc, call, words, answer),
+            Asked::Machines => machines::put_answer(alloc, call, words, answer),
         }
     }
 }
@@ -101,10 +99,9 @@ impl Calls for Asked {
         words: &str,
     ) -> anyhow::Result<String> {
         let words = unescaped(rt.alloc(), words)?;
-        let mut text = Vec::new(rt.alloc());
-        self.put_answer(rt, call, words.as_slice(), &mut text)?;
-        let text = escaped(rt.alloc(), text.as_slice())?;
-        String::from_utf8(text).ok().context("no text")
+        let mut answer = Answer::new(rt.alloc());
+        self.put_answer(rt, call, words.as_slice(), &mut answer);
+        answer.text()
     }
 }
 
@@ -121,11 +118,16 @@ fn agrees(rt: &HostRuntime, word: &str) -> anyhow::Result<bool> {
     }
 }
 
-fn main(rt: HostRuntime) -> anyhow::Result<()> {
+/// Whether all that the words name agrees.
+fn all_agree(rt: &HostRuntime) -> anyhow::Result<bool> {
     let mut all = true;
-    for word in env::args(&rt)?.skip(1) {
-        all = agrees(&rt, word.as_str())? && all;
+    for word in env::args(rt)?.skip(1) {
+        all = agrees(rt, word.as_str())? && all;
     }
-    ensure!(all, "there are differences");
+    Ok(all)
+}
+
+fn main(rt: HostRuntime) -> anyhow::Result<()> {
+    ensure!(all_agree(&rt)?, "there are differences");
     Ok(())
 }

@@ -1,20 +1,18 @@
 //! Lines to err and reports.
 
 use crate::words::{count, cut, number, pieces};
+use case_lines::Answer;
 use hs_list::Items;
 use hs_texts::err_lines;
 use hs_texts::reports::{TrialFigures, counts, trial};
 use std::alloc::{AllocError, Global};
 
 /// Puts what a call answers.
-pub(crate) fn answer(
-    alloc: Global,
-    call: &str,
-    words: &[u8],
-    into: &mut Vec<u8>,
-) -> Result<(), AllocError> {
-    let text = text_of(alloc, call, words)?;
-    into.extend_from_slice(text.as_slice())
+pub(crate) fn put_answer(alloc: Global, call: &str, words: &[u8], answer: &mut Answer) {
+    match text_of(alloc, call, words) {
+        Ok(text) => answer.add(text.as_slice()),
+        Err(_) => answer.fail(),
+    }
 }
 
 /// The text of a call.

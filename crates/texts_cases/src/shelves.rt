@@ -1,9 +1,9 @@
 //! Shelves and sinks.
 
-use crate::answers::{put_all, put_debugged};
-use crate::words::{cut, number, pieces};
+use crate::words::{cut, number};
+use case_lines::Answer;
 use hs_io::{FileShelf, LoadFail, MemShelf, MemSink, Shelf, Sink, SinkFail, StdSink};
-use std::alloc::{AllocError, Global};
+use std::alloc::Global;
 use std::io;
 use std::rt::Files;
 
@@ -18,84 +18,83 @@ fn told(answer: Result<(), LoadFail>) -> &'static [u8] {
 }
 
 /// Puts the answer of each load from a shelf in memory, and the bytes that it gives.
-pub(crate) fn load_all(alloc: Global, words: &[u8], into: &mut Vec<u8>) -> Result<(), AllocError> {
+pub(crate) fn load_all(alloc: Global, words: &[u8], answer: &mut Answer) {
     let mut shelf = MemShelf::new(alloc);
-    let steps = pieces(alloc, words, b';')?;
-    for step in steps.as_slice() {
-        take_step(alloc, &mut shelf, step.bytes(), into)?;
+    for step in words.split(|byte| *byte == b';') {
+        take_step(alloc, &mut shelf, step, answer);
     }
-    Ok(())
 }
 
 /// Takes a step of a shelf.
-fn take_step(
-    alloc: Global,
-    shelf: &mut MemShelf,
-    step: &[u8],
-    into: &mut Vec<u8>,
-) -> Result<(), AllocError> {
+fn take_step(alloc: Global, shelf: &mut MemShelf, step: &[u8], answer: &mut Answer) {
     let (verb, rest) = cut(step, b' ');
     let (first, second) = cut(rest, b' ');
-    match verb {
-        b"add" => shelf.add(first, second),
-        b"fail" => shelf.fail_at(number(first).clamp(1, 1000)),
-        _ => load(alloc, shelf, first, second, into),
+    if verb == b"add".as_slice() {
+        add(shelf, first, second, answer);
+    } else if verb == b"fail".as_slice() {
+        fail_at(shelf, first, answer);
+    } else {
+        load(alloc, shelf, first, number(second), answer);
+    }
+}
+
+/// Adds bytes under a name.
+fn add(shelf: &mut MemShelf, name: &[u8], bytes: &[u8], answer: &mut Answer) {
+    if shelf.add(name, bytes).is_err() {
+        answer.fail();
+    }
+}
+
+/// Makes the load with a number fail.
+fn fail_at(shelf: &mut MemShelf, load: &[u8], answer: &mut Answer) {
+    if shelf.fail_at(number(load).clamp(1, 1000)).is_err() {
+        answer.fail();
     }
 }
 
 /// Puts the answer of a load of a name with a limit, and the bytes that it gives.
-fn load(
-    alloc: Global,
-    shelf: &mut MemShelf,
-    name: &[u8],
-    limit: &[u8],
-    into: &mut Vec<u8>,
-) -> Result<(), AllocError> {
-    let limit = number(limit).min(1000) as usize;
+fn load(alloc: Global, shelf: &mut MemShelf, name: &[u8], limit: u64, answer: &mut Answer) {
     let mut bytes = Vec::new(alloc);
-    let answer = shelf.load(name, limit, &mut bytes);
-    put_all(&[told(answer), bytes.as_slice(), b";"], into)
+    let loaded = shelf.load(name, limit.min(1000) as usize, &mut bytes);
+    answer.add_all(&[told(loaded), bytes.as_slice(), b";"]);
 }
 
 /// Puts the answer of a load of a file with a limit of ten bytes, and the bytes that it gives.
-pub(crate) fn load_file<R: Files + AllocGlobal>(
-    rt: &R,
-    name: &[u8],
-    into: &mut Vec<u8>,
-) -> Result<(), AllocError> {
+pub(crate) fn load_file<R: Files + AllocGlobal>(rt: &R, name: &[u8], answer: &mut Answer) {
     let mut shelf = FileShelf::new(rt);
     let mut bytes = Vec::new(rt.alloc());
-    let answer = shelf.load(name, 10, &mut bytes);
-    put_all(&[told(answer), bytes.as_slice()], into)
+    let loaded = shelf.load(name, 10, &mut bytes);
+    answer.add_all(&[told(loaded), bytes.as_slice()]);
 }
 
 /// Puts the answer of each put to a sink in memory, and the bytes that the sink was given so far.
-pub(crate) fn put_pieces(
-    alloc: Global,
-    words: &[u8],
-    into: &mut Vec<u8>,
-) -> Result<(), AllocError> {
+pub(crate) fn put_pieces(alloc: Global, words: &[u8], answer: &mut Answer) {
     let (room, steps) = cut(words, b';');
-    let steps = pieces(alloc, steps, b';')?;
-    let mut sink = MemSink::new(alloc, number(room).min(1000) as usize)?;
-    for step in steps.as_slice() {
-        put_step(&mut sink, step.bytes(), into)?;
+    match MemSink::new(alloc, number(room).min(1000) as usize) {
+        Ok(mut sink) => put_steps(&mut sink, steps, answer),
+        Err(_) => answer.fail(),
     }
-    Ok(())
+}
+
+/// Takes the steps of a sink.
+fn put_steps(sink: &mut MemSink, steps: &[u8], answer: &mut Answer) {
+    for step in steps.split(|byte| *byte == b';') {
+        put_step(sink, step, answer);
+    }
 }
 
 /// Takes a step of a sink.
-fn put_step(sink: &mut MemSink, step: &[u8], into: &mut Vec<u8>) -> Result<(), AllocError> {
+fn put_step(sink: &mut MemSink, step: &[u8], answer: &mut Answer) {
     let (verb, rest) = cut(step, b' ');
     if verb == b"fail".as_slice() {
         let (call, take) = cut(rest, b' ');
         sink.fail_at(number(call).clamp(1, 1000), number(take).min(1000) as usize);
-        return Ok(());
+    } else {
+        let put = sink.put(rest);
+        answer.add(taken(put));
+        answer.add(sink.bytes());
+        answer.add(b";");
     }
-    let answer = sink.put(rest);
-    into.extend_from_slice(taken(answer))?;
-    into.extend_from_slice(sink.bytes())?;
-    into.extend_from_slice(b";")
 }
 
 /// The word for the answer of a put.
@@ -124,9 +123,9 @@ impl Print for Closed {
 }
 
 /// Puts the answer of a put to a stream that takes nothing.
-pub(crate) fn put_to_closed(alloc: Global, into: &mut Vec<u8>) -> Result<(), AllocError> {
-    let answer = StdSink::new(&Closed).put(b"a line\n");
-    put_debugged(alloc, b"", &answer, into)
+pub(crate) fn put_to_closed(answer: &mut Answer) {
+    let put = StdSink::new(&Closed).put(b"a line\n");
+    answer.add_displayed(format_args!("{put:?}"));
 }
 
 /// Puts a line to standard output and nothing to standard error, and returns whether they took it.

@@ -81,12 +81,26 @@ fn agrees(
     number: usize,
 ) -> Result<bool, AllocError> {
     let mut plain = Vec::new(alloc);
-    let mut words = Words::new(alloc);
     if let Some(word) = first {
-        add_word(word, &mut plain, &mut words)?;
+        plain.push(word)?;
     }
-    add_words(alphabet, count, number, &mut plain, &mut words)?;
-    Ok(refused(alloc, &words)? == refused_word(plain.as_slice()))
+    add_words(alphabet, count, number, &mut plain)?;
+    agrees_on(alloc, plain.as_slice())
+}
+
+/// Whether the plain judge refuses the same word of these, or also accepts them.
+fn agrees_on(alloc: Global, plain: &[&'static [u8]]) -> Result<bool, AllocError> {
+    let mut words = Words::new(alloc);
+    copy_words(plain, &mut words)?;
+    Ok(refused(alloc, &words)? == refused_word(plain))
+}
+
+/// Adds the words of a list.
+fn copy_words(plain: &[&'static [u8]], words: &mut Words) -> Result<(), AllocError> {
+    for word in plain {
+        words.push(word)?;
+    }
+    Ok(())
 }
 
 /// Adds the words of the alphabet that the digits of the number select.
@@ -95,27 +109,16 @@ fn add_words(
     count: u32,
     number: usize,
     plain: &mut Vec<&'static [u8]>,
-    words: &mut Words,
 ) -> Result<(), AllocError> {
     if alphabet.is_empty() {
         return Ok(());
     }
     let mut left = number;
     for _ in 0..count {
-        add_word(alphabet[left % alphabet.len()], plain, words)?;
+        plain.push(alphabet[left % alphabet.len()])?;
         left /= alphabet.len();
     }
     Ok(())
-}
-
-/// Adds a word.
-fn add_word(
-    word: &'static [u8],
-    plain: &mut Vec<&'static [u8]>,
-    words: &mut Words,
-) -> Result<(), AllocError> {
-    plain.push(word)?;
-    words.push(word)
 }
 
 /// The number of the refused word, or 0 if the words are a job.

@@ -18,17 +18,16 @@ pub fn cut(text: &[u8], mark: u8) -> (&[u8], &[u8]) {
 /// The pieces of a text between its bytes `mark`.
 pub fn pieces(alloc: Global, text: &[u8], mark: u8) -> Result<Names, AllocError> {
     let mut pieces = Names::new(alloc);
-    let mut piece = Vec::new(alloc);
-    for byte in text {
-        if *byte == mark {
-            pieces.push(Name::new(alloc, piece.as_slice())?)?;
-            piece.clear();
-        } else {
-            piece.push(*byte)?;
-        }
-    }
-    pieces.push(Name::new(alloc, piece.as_slice())?)?;
+    add_pieces(alloc, text, mark, &mut pieces)?;
     Ok(pieces)
+}
+
+/// Adds the pieces of a text between its bytes `mark`.
+fn add_pieces(alloc: Global, text: &[u8], mark: u8, pieces: &mut Names) -> Result<(), AllocError> {
+    for piece in text.split(|byte| *byte == mark) {
+        pieces.push(Name::new(alloc, piece)?)?;
+    }
+    Ok(())
 }
 
 /// The number that a word says.
@@ -52,4 +51,9 @@ pub fn readable(text: &[u8]) -> &[u8]
     ensures { length result.now < 4294967295 }
 {
     &text[..text.len().min(0xffff_fffe)]
+}
+
+/// The word of a truth value.
+pub fn truth(value: bool) -> &'static [u8] {
+    if value { b"true" } else { b"false" }
 }

@@ -1,6 +1,6 @@
 use denote.Text.{Utf8}
 use denote.Shadow.{shadow}
-use Rattle.case_lines.proofs.agree.Given as goal
+use Rattle.case_lines.proofs.all_agree.Given as goal
 
 -- says that the name of the last call is text
 abbrev pub invariant-loop-line : goal.invariant-loop-line
