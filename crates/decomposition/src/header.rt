@@ -9,29 +9,87 @@ use partition::Partition;
 use state_codes::{CodeWords, Codes, Part, Split};
 use std::alloc::{AllocError, Global};
 
+/// What a header says of the states of the file: their names, their classes if there are any, and their words.
+#[derive(Drop)]
+struct PrintedStates {
+    states: StateNames,
+    classes: Option<Partition>,
+    words: CodeWords,
+}
+
 /// The header of a split with its codes and the notes of its latches. The states of the file have these names
 /// and, if classes are given, belong to these classes.
 pub fn header_of(
     alloc: Global,
-    states: StateNames,
-    classes: Option<Partition>,
+    states: &StateNames,
+    classes: &Option<Partition>,
     split: Split,
-    codes: Codes,
+    codes: &Codes,
     latches: LatchNotes,
 ) -> Result<Header, AllocError>
-    requires { IfSome classes (All (λ class. class < length codes.words)) }
-    ensures { IfOk result (IsHeaderOf states classes split codes latches) }
+    requires states { length states.now < 65536 }
+    requires classes { IfSome classes.now (All (λ class. class < length codes.now.words)) }
+    ensures { IfOk result (IsHeaderOf states.now classes.now split codes.now latches) }
 {
     reads_fit(split.parts.as_slice());
-    let words = printed_words(alloc, &classes, codes.words)?;
+    let printed = printed_states(alloc, states, classes, &codes.words)?;
     Ok(Header {
         kind: split.kind,
-        classes,
+        classes: printed.classes,
         parts: split.parts,
-        states,
-        words,
+        states: printed.states,
+        words: printed.words,
         latches,
     })
+}
+
+/// What a header says of states with these names, these classes if there are any, and these words of their own or
+/// of their classes.
+fn printed_states(
+    alloc: Global,
+    states: &StateNames,
+    classes: &Option<Partition>,
+    words: &CodeWords,
+) -> Result<PrintedStates, AllocError>
+    requires states { length states.now < 65536 }
+    requires classes { IfSome classes.now (All (λ class. class < length words.now)) }
+    ensures states { IfOk result (λ printed. printed.states ≡ states.now) }
+    ensures classes { IfOk result (λ printed. printed.classes ≡ classes.now) }
+    ensures words { IfOk result (λ printed. printed.words ≡ words_by classes.now words.now) }
+{
+    let words = printed_words(alloc, classes, words)?;
+    let classes = copied_classes(alloc, classes)?;
+    let states = copied_states(alloc, states)?;
+    Ok(PrintedStates {
+        states,
+        classes,
+        words,
+    })
+}
+
+/// A copy of the classes, if there are classes.
+fn copied_classes(
+    alloc: Global,
+    classes: &Option<Partition>,
+) -> Result<Option<Partition>, AllocError>
+    ensures { IfOk result (λ copy. copy ≡ classes.now) }
+{
+    match classes {
+        None => Ok(None),
+        Some(classes) => Ok(Some(classes.copy(alloc)?)),
+    }
+}
+
+/// A copy of the names of states.
+fn copied_states(alloc: Global, states: &StateNames) -> Result<StateNames, AllocError>
+    requires { length states.now < 65536 }
+    ensures { IfOk result (λ copy. copy ≡ states.now) }
+{
+    let mut copy = StateNames::new(alloc);
+    for i in 0..states.count() {
+        copy.add(states.name(i))?;
+    }
+    Ok(copy)
 }
 
 /// The numbers of the parts that each part reads are small. It changes nothing.
@@ -54,13 +112,13 @@ fn numbers_fit(numbers: &[u16])
 fn printed_words(
     alloc: Global,
     classes: &Option<Partition>,
-    words: CodeWords,
+    words: &CodeWords,
 ) -> Result<CodeWords, AllocError>
-    requires { IfSome classes.now (All (λ class. class < length words)) }
-    ensures { IfOk result (λ printed. printed ≡ words_by classes.now words) }
+    requires { IfSome classes.now (All (λ class. class < length words.now)) }
+    ensures { IfOk result (λ printed. printed ≡ words_by classes.now words.now) }
 {
     match classes {
-        None => Ok(words),
+        None => Ok(CodeWords::from(words.as_slice().to_vec(alloc)?)),
         Some(classes) => words_of_classes(alloc, classes, words.as_slice()),
     }
 }

@@ -29,25 +29,25 @@ use std::alloc::{AllocError, Global};
 /// which is accepted.
 pub fn text_of_split(
     alloc: Global,
-    file: KissFile,
-    work: WorkMachine,
+    file: &KissFile,
+    work: &WorkMachine,
     split: Split,
-    codes: Codes,
+    codes: &Codes,
 ) -> Result<Vec<u8>, AllocError>
-    requires lawful { IsLawful file }
-    requires no_conflict { Conflicting file → ⊥ }
-    requires work { (reduce : Bool) × IsWork reduce file work }
+    requires lawful { IsLawful file.now }
+    requires no_conflict { Conflicting file.now → ⊥ }
+    requires work { (reduce : Bool) × IsWork reduce file.now work.now }
     requires count { length split.parts ≤ 256 }
-    requires parts { All (IsPart (length work.machine.states)) split.parts }
-    requires flows { Flows work.machine split.parts }
-    requires code { IsCode (length work.machine.states) split.parts codes }
-    requires distinct { AreDistinct (length work.machine.states) codes.words }
-    requires short { codes.bits ≤ 64 }
-    ensures { (reduce : Bool) → IsWork reduce file work
-        → IfOk result (λ text. IsTextOf reduce file work.machine split.kind split.parts text.items) }
+    requires parts { All (IsPart (length work.now.machine.states)) split.parts }
+    requires flows { Flows work.now.machine split.parts }
+    requires code { IsCode (length work.now.machine.states) split.parts codes.now }
+    requires distinct { AreDistinct (length work.now.machine.states) codes.now.words }
+    requires short { codes.now.bits ≤ 64 }
+    ensures { (reduce : Bool) → IsWork reduce file.now work.now
+        → IfOk result (λ text. IsTextOf reduce file.now work.now.machine split.kind split.parts text.items) }
 {
-    let made = network_of_file(alloc, &file, &work, &split, &codes)?;
-    text_of_network(alloc, file.states, work.classes, split, codes, made)
+    let made = network_of_file(alloc, file, work, &split, codes)?;
+    text_of_network(alloc, &file.states, &work.classes, split, codes, made)
 }
 
 /// The network of a split, with the names that the file gives to its signals.
@@ -77,21 +77,22 @@ fn network_of_file(
 /// to these classes.
 fn text_of_network(
     alloc: Global,
-    states: StateNames,
-    classes: Option<Partition>,
+    states: &StateNames,
+    classes: &Option<Partition>,
     split: Split,
-    codes: Codes,
+    codes: &Codes,
     made: SplitNetwork,
 ) -> Result<Vec<u8>, AllocError>
-    requires classes { IfSome classes (All (λ class. class < length codes.words)) }
+    requires few { length states.now ≤ 256 }
+    requires classes { IfSome classes.now (All (λ class. class < length codes.now.words)) }
     requires writable { IsWritable made.network }
     requires starts { HasKnownStarts made.network }
     requires rows { HasRowsInOrder made.network }
     requires latches { length made.network.latches ≤ 64 }
     requires notes { length made.notes ≡ length made.network.latches }
-    requires words { length (words_by classes codes.words) ≡ length states }
-    requires states { ArePlainFields states }
-    ensures { IfOk result (λ text. IsHeadedText states classes split codes made text.items) }
+    requires words { length (words_by classes.now codes.now.words) ≡ length states.now }
+    requires states { ArePlainFields states.now }
+    ensures { IfOk result (λ text. IsHeadedText states.now classes.now split codes.now made text.items) }
 {
     let header = header_of(alloc, states, classes, split, codes, made.notes)?;
     blif_out::text(alloc, &made.network, &header)
