@@ -4,7 +4,7 @@ ghost use Rattle.std.specs.Prelude.{◌≡◌, ◌<◌, ◌^◌, All, IfOk, IfSo
 ghost use Rattle.decomposition.specs.Inner.Headed.{HasSmallReads, IsHeaderOf, words_by};
 
 use blif_out::{Header, LatchNotes};
-use kiss_file::StateNames;
+use kiss_file::{StateNames, copied_states};
 use partition::Partition;
 use state_codes::{CodeWords, Codes, Part, Split};
 use std::alloc::{AllocError, Global};
@@ -78,18 +78,6 @@ fn copied_classes(
         None => Ok(None),
         Some(classes) => Ok(Some(classes.copy(alloc)?)),
     }
-}
-
-/// A copy of the names of states.
-fn copied_states(alloc: Global, states: &StateNames) -> Result<StateNames, AllocError>
-    requires { length states.now < 65536 }
-    ensures { IfOk result (λ copy. copy ≡ states.now) }
-{
-    let mut copy = StateNames::new(alloc);
-    for i in 0..states.count() {
-        copy.add(states.name(i))?;
-    }
-    Ok(copy)
 }
 
 /// The numbers of the parts that each part reads are small. It changes nothing.

@@ -25,8 +25,8 @@ pub fn copied_file(alloc: Global, file: &KissFile) -> Result<KissFile, AllocErro
     Ok(copy)
 }
 
-/// A copy of the names of the states.
-fn copied_states(alloc: Global, states: &StateNames) -> Result<StateNames, AllocError>
+/// A copy of the names of states.
+pub fn copied_states(alloc: Global, states: &StateNames) -> Result<StateNames, AllocError>
     requires { length states.now < 65536 }
     ensures { IfOk result (λ copy. copy ≡ states.now) }
 {

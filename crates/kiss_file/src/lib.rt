@@ -14,7 +14,7 @@ mod fill;
 mod laws;
 mod state_names;
 
-pub use copies::{copied_file, copied_given};
+pub use copies::{copied_file, copied_given, copied_states};
 pub use file::{KissFile, KissRow, Rows};
 pub use fill::Fill;
 pub use laws::{next_is_a_state, rows_decide};
