@@ -1,12 +1,13 @@
 //! A decomposition of the machine of a file.
 
-ghost use Rattle.std.specs.Prelude.{◌≡◌};
+ghost use Rattle.std.specs.Prelude.{◌≡◌, Bool};
 ghost use Rattle.answers.specs.Judged.{IsJudged};
 ghost use Rattle.kiss_file.specs.Lawful.{IsLawful};
-ghost use Rattle.kiss_file.specs.Machine.{Accepted};
+ghost use Rattle.kiss_file.specs.Machine.{Accepted, Conflicting};
 ghost use Rattle.split_plans.specs.Given.{HasFewParts};
 ghost use Rattle.split_texts.specs.Causes.{IsNotWritten};
 ghost use Rattle.split_texts.specs.Written.{IsWritten};
+ghost use Rattle.state_reduce.specs.Work.{IsWork};
 ghost use Rattle.state_codes.specs.declared.split.Kind.TheVariants as kinds;
 
 use crate::writing::write;
@@ -15,7 +16,7 @@ use kiss_file::{Fill, KissFile};
 use machine_table::Machine;
 use split_plans::plan;
 use state_codes::Kind;
-use state_reduce::work_machine;
+use state_reduce::{WorkMachine, work_machine};
 use std::alloc::Global;
 
 /// The text of the decomposition of a kind. `text` is the operand PARTS, which only the kind `Assign` reads.
@@ -24,18 +25,36 @@ pub fn decompose(
     alloc: Global,
     kind: Kind,
     text: &[u8],
-    file: KissFile,
+    file: &KissFile,
     machine: Machine,
     fill: Fill,
     reduce: bool,
 ) -> Result<Vec<u8>, Refusal>
     requires few { kind ≡ kinds.Assign → HasFewParts text.now }
-    requires lawful { IsLawful file }
-    requires accepted { Accepted file fill }
-    requires machine { machine ≡ file }
-    ensures { IsJudged (IsNotWritten kind text.now reduce file) (λ written. IsWritten kind text.now reduce file written.items) result }
+    requires lawful { IsLawful file.now }
+    requires accepted { Accepted file.now fill }
+    requires machine { machine ≡ file.now }
+    ensures { IsJudged (IsNotWritten kind text.now reduce file.now) (λ written. IsWritten kind text.now reduce file.now written.items) result }
 {
-    let work = work_machine(alloc, &file, machine, fill, reduce)?;
+    let work = work_machine(alloc, file, machine, fill, reduce)?;
+    decompose_work(alloc, kind, text, file, &work)
+}
+
+/// The same for the machine that is split.
+fn decompose_work(
+    alloc: Global,
+    kind: Kind,
+    text: &[u8],
+    file: &KissFile,
+    work: &WorkMachine,
+) -> Result<Vec<u8>, Refusal>
+    requires few { kind ≡ kinds.Assign → HasFewParts text.now }
+    requires lawful { IsLawful file.now }
+    requires no_conflict { Conflicting file.now → ⊥ }
+    requires work { (reduce : Bool) × IsWork reduce file.now work.now }
+    ensures { (reduce : Bool) → IsWork reduce file.now work.now
+        → IsJudged (IsNotWritten kind text.now reduce file.now) (λ written. IsWritten kind text.now reduce file.now written.items) result }
+{
     let split = plan(alloc, kind, text, &work.machine)?;
     write(alloc, file, work, split)
 }

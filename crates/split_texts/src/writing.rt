@@ -22,19 +22,19 @@ use std::alloc::{AllocError, Global};
 /// The text of a split that `plan` gives for a machine that `work_machine` gives for the file.
 pub fn write(
     alloc: Global,
-    file: KissFile,
-    work: WorkMachine,
+    file: &KissFile,
+    work: &WorkMachine,
     split: Split,
 ) -> Result<Vec<u8>, Refusal>
-    requires lawful { IsLawful file }
-    requires no_conflict { Conflicting file → ⊥ }
-    requires work { (reduce : Bool) × IsWork reduce file work }
-    requires planned { (text : List ℕ) × IsPlanned split.kind text work.machine split }
-    ensures { IsJudged (HasNoCode work.machine split.parts)
-        (λ written. AreApart (length work.machine.states) split.parts × IsTextOfParts file work split.kind split.parts written.items) result }
+    requires lawful { IsLawful file.now }
+    requires no_conflict { Conflicting file.now → ⊥ }
+    requires work { (reduce : Bool) × IsWork reduce file.now work.now }
+    requires planned { (text : List ℕ) × IsPlanned split.kind text work.now.machine split }
+    ensures { IsJudged (HasNoCode work.now.machine split.parts)
+        (λ written. AreApart (length work.now.machine.states) split.parts × IsTextOfParts file.now work.now split.kind split.parts written.items) result }
 {
-    let codes = codes_of(alloc, &file, &work, &split)?;
-    Ok(text_of_codes(alloc, file, work, split, codes)?)
+    let codes = codes_of(alloc, file, work, &split)?;
+    Ok(text_of_codes(alloc, file, work, split, &codes)?)
 }
 
 /// The codes of a split that `plan` gives.
@@ -80,17 +80,17 @@ fn not_apart(
 /// The text of a split with the codes that `codes_of` gives for it.
 pub fn text_of_codes(
     alloc: Global,
-    file: KissFile,
-    work: WorkMachine,
+    file: &KissFile,
+    work: &WorkMachine,
     split: Split,
-    codes: Codes,
+    codes: &Codes,
 ) -> Result<Vec<u8>, AllocError>
-    requires lawful { IsLawful file }
-    requires no_conflict { Conflicting file → ⊥ }
-    requires work { (reduce : Bool) × IsWork reduce file work }
-    requires planned { (text : List ℕ) × IsPlanned split.kind text work.machine split }
-    requires codes { AreCodes (length work.machine.states) split.parts codes }
-    ensures { IfOk result (λ written. IsTextOfParts file work split.kind split.parts written.items) }
+    requires lawful { IsLawful file.now }
+    requires no_conflict { Conflicting file.now → ⊥ }
+    requires work { (reduce : Bool) × IsWork reduce file.now work.now }
+    requires planned { (text : List ℕ) × IsPlanned split.kind text work.now.machine split }
+    requires codes { AreCodes (length work.now.machine.states) split.parts codes.now }
+    ensures { IfOk result (λ written. IsTextOfParts file.now work.now split.kind split.parts written.items) }
 {
     work.machine.keeps_its_states();
     text_of_split(alloc, file, work, split, codes)
