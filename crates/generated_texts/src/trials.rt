@@ -1,6 +1,6 @@
 //! The text of a trial.
 
-ghost use Rattle.std.specs.Prelude.{◌≡◌, ◌≤◌, ◌++◌, ℕ, List, IfOk, false};
+ghost use Rattle.std.specs.Prelude.{◌≡◌, ◌≤◌, ◌++◌, ℕ, List, IfOk, OnOk, false};
 ghost use Rattle.answers.specs.Judged.{IsJudged};
 ghost use Rattle.state_reduce.specs.Work.{IsWork};
 ghost use Rattle.kiss_file.specs.Lawful.{IsLawful};
@@ -37,19 +37,36 @@ pub fn trial(alloc: Global, seed: u64, a: u16, b: u16, k: u8) -> Result<Vec<u8>,
     ensures { IsJudged (LongCodeRow seed a b k) (λ text. OfGenerated seed a b k (λ F. IsTrialText seed a b k F text.items)) result }
 {
     let file = make(alloc, seed, a, b, k)?;
-    trial_of(alloc, Numbers { seed, a, b, k }, file)
+    trial_of(alloc, Numbers { seed, a, b, k }, &file)
 }
 
 /// The same for the file of the machine of the numbers.
-fn trial_of(alloc: Global, numbers: Numbers, file: KissFile) -> Result<Vec<u8>, Refusal>
+fn trial_of(alloc: Global, numbers: Numbers, file: &KissFile) -> Result<Vec<u8>, Refusal>
     requires sizes { AreSizes numbers.a numbers.b numbers.k }
-    requires made { IsGenerated numbers.seed numbers.a numbers.b numbers.k file }
-    requires lawful { IsLawful file }
-    requires accepted { Accepted file Fill.Refuse }
-    ensures { IsJudged (LongCodeRow numbers.seed numbers.a numbers.b numbers.k) (λ text. IsTrialText numbers.seed numbers.a numbers.b numbers.k file text.items) result }
+    requires made { IsGenerated numbers.seed numbers.a numbers.b numbers.k file.now }
+    requires lawful { IsLawful file.now }
+    requires accepted { Accepted file.now Fill.Refuse }
+    ensures { IsJudged (LongCodeRow numbers.seed numbers.a numbers.b numbers.k) (λ text. IsTrialText numbers.seed numbers.a numbers.b numbers.k file.now text.items) result }
 {
-    let work = machine_of(alloc, &file)?;
-    let coded = split_of(alloc, numbers, &file, &work)?;
+    let work = machine_of(alloc, file)?;
+    trial_on(alloc, numbers, file, &work)
+}
+
+/// The same for the machine of that file.
+fn trial_on(
+    alloc: Global,
+    numbers: Numbers,
+    file: &KissFile,
+    work: &WorkMachine,
+) -> Result<Vec<u8>, Refusal>
+    requires sizes { AreSizes numbers.a numbers.b numbers.k }
+    requires made { IsGenerated numbers.seed numbers.a numbers.b numbers.k work.now.machine }
+    requires lawful { IsLawful file.now }
+    requires no_conflict { Conflicting file.now → ⊥ }
+    requires work { IsWork false file.now work.now }
+    ensures { IsJudged (LongCodeRow numbers.seed numbers.a numbers.b numbers.k) (λ text. IsTrialText numbers.seed numbers.a numbers.b numbers.k file.now text.items) result }
+{
+    let coded = split_of(alloc, numbers, file, work)?;
     Ok(text_of(alloc, numbers, file, work, coded)?)
 }
 
@@ -84,20 +101,21 @@ fn split_of(
 fn text_of(
     alloc: Global,
     numbers: Numbers,
-    file: KissFile,
-    work: WorkMachine,
+    file: &KissFile,
+    work: &WorkMachine,
     coded: CodedSplit,
 ) -> Result<Vec<u8>, AllocError>
     requires sizes { AreSizes numbers.a numbers.b numbers.k }
-    requires made { IsGenerated numbers.seed numbers.a numbers.b numbers.k work.machine }
-    requires lawful { IsLawful file }
-    requires no_conflict { Conflicting file → ⊥ }
-    requires work { IsWork false file work }
-    requires coded { IsCodedSplit work.machine coded }
-    ensures { IfOk result (λ text. IsTrialText numbers.seed numbers.a numbers.b numbers.k file text.items) }
+    requires made { IsGenerated numbers.seed numbers.a numbers.b numbers.k work.now.machine }
+    requires lawful { IsLawful file.now }
+    requires no_conflict { Conflicting file.now → ⊥ }
+    requires work { IsWork false file.now work.now }
+    requires coded { IsCodedSplit work.now.machine coded }
+    ensures { IfOk result (λ text. IsTrialText numbers.seed numbers.a numbers.b numbers.k file.now text.items) }
 {
-    let summary = summary_of(alloc, numbers, &work.machine, &coded)?;
-    text_after(alloc, summary, file, work, coded)
+    let mut text = summary_of(alloc, numbers, &work.machine, &coded)?;
+    append_text(alloc, file, work, coded, &mut text)?;
+    Ok(text)
 }
 
 /// The summary of a machine and its coded split.
@@ -117,22 +135,21 @@ fn summary_of(
     reports::trial(alloc, &figures)
 }
 
-/// The text of a coded split after a text.
-fn text_after(
+/// Appends the text of a coded split.
+fn append_text(
     alloc: Global,
-    front: Vec<u8>,
-    file: KissFile,
-    work: WorkMachine,
+    file: &KissFile,
+    work: &WorkMachine,
     coded: CodedSplit,
-) -> Result<Vec<u8>, AllocError>
-    requires lawful { IsLawful file }
-    requires no_conflict { Conflicting file → ⊥ }
-    requires work { IsWork false file work }
-    requires coded { IsCodedSplit work.machine coded }
-    ensures { IfOk result (λ text. (rest : List ℕ) × IsTextOfParts file work coded.split.kind coded.split.parts rest × (text.items ≡ front.items ++ rest)) }
+    text: &mut Vec<u8>,
+) -> Result<(), AllocError>
+    requires lawful { IsLawful file.now }
+    requires no_conflict { Conflicting file.now → ⊥ }
+    requires work { IsWork false file.now work.now }
+    requires coded { IsCodedSplit work.now.machine coded }
+    ensures { OnOk result ((rest : List ℕ) × IsTextOfParts file.now work.now coded.split.kind coded.split.parts rest × (text.new.items ≡ text.old.items ++ rest)) }
 {
-    let rest = text_of_codes(alloc, file, work, coded.split, coded.codes)?;
-    let mut text = front;
+    let rest = text_of_codes(alloc, file, work, coded.split, &coded.codes)?;
     text.extend_from_slice(&rest)?;
-    Ok(text)
+    Ok(())
 }
