@@ -18,13 +18,41 @@ use std::alloc::{AllocError, Global};
 /// The number of bits and inputs that all gates read.
 pub(crate) fn answer(alloc: Global, m: &Machine, case: Case<'_>) -> Result<usize, Error> {
     let split = split_of(alloc, case, m.states())?;
-    let codes = coded(alloc, &split, m.states())?;
+    answer_of_split(alloc, m, &split, case)
+}
+
+/// The same number, for the codes of a split.
+fn answer_of_split(
+    alloc: Global,
+    m: &Machine,
+    split: &Split,
+    case: Case<'_>,
+) -> Result<usize, Error>
+    requires few { length split.now.parts ≤ 256 }
+    requires parts { All (IsPart (length m.now.states)) split.now.parts }
+{
+    let codes = coded(alloc, split, m.states())?;
+    Ok(answer_of_codes(alloc, m, split, &codes, case)?)
+}
+
+/// The same number, found as many times as the case says.
+fn answer_of_codes(
+    alloc: Global,
+    m: &Machine,
+    split: &Split,
+    codes: &Codes,
+    case: Case<'_>,
+) -> Result<usize, AllocError>
+    requires parts { All (IsPart (length m.now.states)) split.now.parts }
+    requires code { IsCode (length m.now.states) split.now.parts codes.now }
+    requires short { codes.now.bits ≤ 64 }
+{
     let mut found = 0;
     for _ in 0..case.times {
         found = if case.work == "reads" {
-            read_count(alloc, m, &split, &codes)?
+            read_count(alloc, m, split, codes)?
         } else {
-            plain::read_count(alloc, m, &codes)?
+            plain::read_count(alloc, m, codes)?
         };
     }
     Ok(found)

@@ -19,10 +19,17 @@ pub(crate) fn file_of(alloc: Global, case: Case<'_>) -> Result<KissFile, Error>
         bail!("no machine of this kind and size");
     };
     let text = text_of(alloc, shape)?;
+    file_in(alloc, text.as_slice())
+}
+
+/// The file of a text.
+fn file_in(alloc: Global, text: &[u8]) -> Result<KissFile, Error>
+    ensures { IfOk result IsLawful }
+{
     if text.len() >= 1 << 32 {
         bail!("the text is too long");
     }
-    match read(alloc, text.as_slice()) {
+    match read(alloc, text) {
         Ok(file) => Ok(file),
         Err(_) => bail!("the text is no file"),
     }

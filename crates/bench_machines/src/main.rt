@@ -17,6 +17,8 @@
 //!   two pieces of a state.
 #![tactic(auto)]
 
+ghost use Rattle.kiss_file.specs.Lawful.{IsLawful};
+
 mod codes;
 mod files;
 mod lattices;
@@ -26,6 +28,7 @@ mod tables;
 mod texts;
 
 use anyhow::{Error, bail};
+use kiss_file::KissFile;
 use machine_table::Machine;
 use state_reduce::equivalence;
 use std::alloc::Global;
@@ -54,12 +57,27 @@ fn case_of(line: &str) -> Option<Case<'_>> {
 /// The number of rows, and the result of the work.
 fn answer(alloc: Global, case: Case<'_>) -> Result<(usize, usize), Error> {
     let file = files::file_of(alloc, case)?;
-    let rows = file.rows.as_slice().len();
-    if case.work == "read" {
-        return Ok((rows, 0));
-    }
-    let machine = files::machine_of(alloc, &file)?;
-    Ok((rows, worked(alloc, &machine, case)?))
+    answer_of_file(alloc, &file, case)
+}
+
+/// The number of rows of a file, and the result of the work on it.
+fn answer_of_file(alloc: Global, file: &KissFile, case: Case<'_>) -> Result<(usize, usize), Error>
+    requires { IsLawful file.now }
+{
+    let found = if case.work == "read" {
+        0
+    } else {
+        found_in(alloc, file, case)?
+    };
+    Ok((file.rows.as_slice().len(), found))
+}
+
+/// The result of the work on the machine of a file.
+fn found_in(alloc: Global, file: &KissFile, case: Case<'_>) -> Result<usize, Error>
+    requires { IsLawful file.now }
+{
+    let machine = files::machine_of(alloc, file)?;
+    worked(alloc, &machine, case)
 }
 
 /// The result of the work on a machine.
@@ -74,14 +92,19 @@ fn worked(alloc: Global, m: &Machine, case: Case<'_>) -> Result<usize, Error> {
     }
 }
 
+/// Does the case that a line says, and prints its counts.
+fn work(rt: &HostRuntime, line: &str) -> Result<(), Error> {
+    let Some(case) = case_of(line) else {
+        bail!("a case has a kind, a size, the work and how often");
+    };
+    let (rows, found) = answer(rt.alloc(), case)?;
+    println!(rt; "{line}: {rows} {found}")?;
+    Ok(())
+}
+
 fn main(rt: HostRuntime) -> Result<(), Error> {
-    let alloc = rt.alloc();
     for line in env::args(&rt)?.skip(1) {
-        let Some(case) = case_of(line.as_str()) else {
-            bail!("a case has a kind, a size, the work and how often");
-        };
-        let (rows, found) = answer(alloc, case)?;
-        println!(rt; "{}: {rows} {found}", line.as_str())?;
+        work(&rt, line.as_str())?;
     }
     Ok(())
 }
