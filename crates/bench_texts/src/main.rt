@@ -19,7 +19,7 @@ mod plain;
 mod reading;
 
 use anyhow::{Error, bail};
-use forms::form_of;
+use forms::{form_of, text_of};
 use std::alloc::Global;
 use std::env;
 
@@ -65,21 +65,31 @@ fn answer(alloc: Global, case: Case<'_>, text: &[u8]) -> Result<(usize, usize), 
     Ok(counts)
 }
 
+/// Does the case that a line says, and prints its counts.
+fn work(rt: &HostRuntime, line: &str) -> Result<(), Error> {
+    let Some(case) = case_of(line) else {
+        bail!("a case has a subject, a kind, a size, the work and how often");
+    };
+    let Some(form) = form_of(case.subject, case.kind) else {
+        bail!("no such kind of text");
+    };
+    let text = text_of(rt.alloc(), form, case.size)?;
+    work_on(rt, line, case, text.as_slice())
+}
+
+/// Does a case on its text, and prints the counts.
+fn work_on(rt: &HostRuntime, line: &str, case: Case<'_>, text: &[u8]) -> Result<(), Error> {
+    if text.len() >= 1 << 32 {
+        bail!("the text is too long");
+    }
+    let (first, second) = answer(rt.alloc(), case, text)?;
+    println!(rt; "{line}: {} bytes, {first} {second}", text.len())?;
+    Ok(())
+}
+
 fn main(rt: HostRuntime) -> Result<(), Error> {
-    let alloc = rt.alloc();
     for line in env::args(&rt)?.skip(1) {
-        let Some(case) = case_of(line.as_str()) else {
-            bail!("a case has a subject, a kind, a size, the work and how often");
-        };
-        let Some(form) = form_of(case.subject, case.kind) else {
-            bail!("no such kind of text");
-        };
-        let text = forms::text_of(alloc, form, case.size)?;
-        if text.len() >= 1 << 32 {
-            bail!("the text is too long");
-        }
-        let (first, second) = answer(alloc, case, &text)?;
-        println!(rt; "{}: {} bytes, {first} {second}", line.as_str(), text.len())?;
+        work(&rt, line.as_str())?;
     }
     Ok(())
 }

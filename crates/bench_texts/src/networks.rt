@@ -8,7 +8,7 @@ use crate::Case;
 use crate::forms::{form_of, text_of};
 use crate::plain::count_ones;
 use anyhow::{Error, bail};
-use blif_in::{OrderedNetwork, read_ordered};
+use blif_in::read_ordered;
 use net_core::{Network, Order};
 use net_sim::run;
 use std::alloc::Global;
@@ -18,23 +18,42 @@ pub(crate) fn answer(alloc: Global, text: &[u8], case: Case<'_>) -> Result<(usiz
     requires { length text.now < 2 ^ 32 }
 {
     match read_ordered(alloc, text) {
-        Ok(OrderedNetwork { net, order }) => {
-            Ok((order.gates.len(), ones(alloc, &net, &order, case)?))
-        }
+        Ok(read) => counts(alloc, &read.net, &read.order, case),
         Err(_) => bail!("the text is no network"),
     }
 }
 
-/// The number of ones that the work gives.
-fn ones(alloc: Global, net: &Network, order: &Order, case: Case<'_>) -> Result<usize, Error>
+/// The number of gates of a network, and the number of ones that the work gives.
+fn counts(
+    alloc: Global,
+    net: &Network,
+    order: &Order,
+    case: Case<'_>,
+) -> Result<(usize, usize), Error>
     requires sound { Sound net.now }
     requires order { IsOrderOf net.now order.now }
 {
     let symbols = symbols_of(alloc, case)?;
-    match case.work {
+    let ones = ones(alloc, net, order, case.work, symbols.as_slice())?;
+    Ok((order.gates.len(), ones))
+}
+
+/// The number of ones that the work gives.
+fn ones(
+    alloc: Global,
+    net: &Network,
+    order: &Order,
+    work: &str,
+    symbols: &[u8],
+) -> Result<usize, Error>
+    requires sound { Sound net.now }
+    requires order { IsOrderOf net.now order.now }
+    requires short { length symbols.now < 2 ^ 32 }
+{
+    match work {
         "order" => Ok(0),
-        "plain" => Ok(count_ones(alloc, order, &symbols)?),
-        "run" => ones_of_run(alloc, net, order, &symbols),
+        "plain" => Ok(count_ones(alloc, order, symbols)?),
+        "run" => ones_of_run(alloc, net, order, symbols),
         _ => bail!("no such work on networks"),
     }
 }

@@ -12,18 +12,34 @@ pub(crate) fn count_ones(
 ) -> Result<usize, AllocError> {
     let mut signals = vec![in alloc; false; order.signal_count]?;
     let mut next = vec![in alloc; false; order.latch_signals.len()]?;
+    Ok(ones_of_symbols(order, symbols, &mut signals, &mut next))
+}
+
+/// The number of ones in the answers to the symbols, from the state that the signals hold.
+fn ones_of_symbols(order: &Order, symbols: &[u8], signals: &mut [bool], next: &mut [bool]) -> usize
+    requires { length signals.old ≡ order.now.signal_count }
+{
     let mut ones = 0usize;
     for symbol in symbols.split(|byte| *byte == b'\n') {
         if !symbol.is_empty() {
-            put_symbol(&mut signals, symbol);
-            evaluate(order, &mut signals);
-            for output in &order.output_signals {
-                ones = ones.wrapping_add(usize::from(signals[*output]));
-            }
-            step(order, &mut signals, &mut next);
+            put_symbol(signals, symbol);
+            evaluate(order, signals);
+            ones = ones.wrapping_add(ones_of_outputs(order, signals));
+            step(order, signals, next);
         }
     }
-    Ok(ones)
+    ones
+}
+
+/// The number of outputs that are one.
+fn ones_of_outputs(order: &Order, signals: &[bool]) -> usize
+    requires { length signals.now ≡ order.now.signal_count }
+{
+    let mut ones = 0usize;
+    for output in &order.output_signals {
+        ones = ones.wrapping_add(usize::from(signals[*output]));
+    }
+    ones
 }
 
 /// Gives the inputs the bits of a symbol.
