@@ -1,10 +1,12 @@
 //! The calls of `cover_logic`.
 
 ghost use Rattle.std.specs.Prelude.{◌≤◌};
+ghost use Rattle.cover_logic.specs.Cover.{CanCover};
 
 use crate::functions::{are_good, held_by_any};
-use crate::terms::{add_terms, masked, terms};
-use crate::words::{add, add_number, cut};
+use crate::terms::{masked, put_terms, terms};
+use crate::words::cut;
+use case_lines::Answer;
 use cover_logic::{Term, can_cover, cover};
 use std::alloc::{AllocError, Global};
 
@@ -16,14 +18,28 @@ pub(crate) struct Gate {
     pub(crate) off: Vec<Term>,
 }
 
-/// Adds what a call answers.
-pub(crate) fn add_answer(alloc: Global, call: &str, words: &str, text: &mut Vec<u8>) -> Option<()> {
+/// Puts what a call answers.
+pub(crate) fn put_answer(alloc: Global, call: &str, words: &str, answer: &mut Answer) {
     match call {
-        "can" => add_can(alloc, words, text),
-        "cover" => add_cover(alloc, &read_gate(alloc, words)?, text),
-        "first" => add_first(alloc, words, text),
-        "odd" => add_odd(alloc, words, text),
-        "functions" => add_functions(alloc, text),
+        "functions" => put_functions(alloc, answer),
+        _ => put_of_gate(alloc, call, words, answer),
+    }
+}
+
+/// Puts what is asked of the gate that words say.
+fn put_of_gate(alloc: Global, call: &str, words: &str, answer: &mut Answer) {
+    match gate_of(alloc, call, words) {
+        Some(gate) => put_asked(alloc, call, &gate, answer),
+        None => answer.fail(),
+    }
+}
+
+/// The gate that words say, for a call.
+fn gate_of(alloc: Global, call: &str, words: &str) -> Option<Gate> {
+    match call {
+        "first" => read_columns(alloc, words, &OnValues::FirstColumn),
+        "odd" => read_columns(alloc, words, &OnValues::OddOnes),
+        "can" | "cover" => read_gate(alloc, words),
         _ => None,
     }
 }
@@ -38,36 +54,54 @@ fn read_gate(alloc: Global, words: &str) -> Option<Gate> {
     let (width, lists) = words.split_once(" on")?;
     let (on, off) = lists.split_once(" off")?;
     let width = small(width)?;
-    let on = terms(alloc, on).ok()?;
-    let off = terms(alloc, off).ok()?;
-    Some(Gate { width, on, off })
+    gate_of_lists(alloc, width, on, off).ok()
 }
 
-/// Adds whether lists have a cover.
-fn add_can(alloc: Global, words: &str, text: &mut Vec<u8>) -> Option<()> {
-    let gate = read_gate(alloc, words)?;
+/// The gate of two lists of terms.
+fn gate_of_lists(alloc: Global, width: u8, on: &str, off: &str) -> Result<Gate, AllocError> {
+    let on = terms(alloc, on)?;
+    let off = terms(alloc, off)?;
+    Ok(Gate { width, on, off })
+}
+
+/// Puts what a call asks of a gate.
+fn put_asked(alloc: Global, call: &str, gate: &Gate, answer: &mut Answer) {
     let can = can_cover(&gate.on, &gate.off, gate.width);
-    add(text, if can { "yes" } else { "no" }).ok()
+    if call == "can" {
+        answer.add(if can { b"yes".as_slice() } else { b"no" });
+    } else {
+        put_covered(alloc, call, gate, answer);
+    }
 }
 
-/// The rows of a cover, if a second cover has the same rows in the same order.
+/// The rows of a cover, if there is one and if a second cover has the same rows in the same order.
 fn rows(alloc: Global, gate: &Gate) -> Option<Vec<Term>> {
     if !can_cover(&gate.on, &gate.off, gate.width) {
         return None;
     }
-    let rows = cover(alloc, &gate.on, &gate.off, gate.width).ok()?;
-    let again = cover(alloc, &gate.on, &gate.off, gate.width).ok()?;
-    if rows.as_slice() == again.as_slice() {
-        Some(rows)
-    } else {
-        None
+    match cover(alloc, &gate.on, &gate.off, gate.width) {
+        Ok(rows) if is_made_again(alloc, gate, rows.as_slice()) => Some(rows),
+        _ => None,
     }
 }
 
-/// Adds the rows of a gate.
-fn add_cover(alloc: Global, gate: &Gate, text: &mut Vec<u8>) -> Option<()> {
-    let rows = rows(alloc, gate)?;
-    add_terms(alloc, rows.as_slice(), gate.width, text).ok()
+/// Whether another cover of the gate has these rows in this order.
+fn is_made_again(alloc: Global, gate: &Gate, rows: &[Term]) -> bool
+    requires { CanCover gate.now.width gate.now.on.items gate.now.off.items }
+{
+    match cover(alloc, &gate.on, &gate.off, gate.width) {
+        Ok(again) => again.as_slice() == rows,
+        Err(_) => false,
+    }
+}
+
+/// Puts what a call asks of the rows of a gate.
+fn put_covered(alloc: Global, call: &str, gate: &Gate, answer: &mut Answer) {
+    match rows(alloc, gate) {
+        Some(rows) if call == "odd" => put_count(&gate.on, rows.as_slice(), answer),
+        Some(rows) => put_terms(alloc, rows.as_slice(), gate.width, answer),
+        None => answer.fail(),
+    }
 }
 
 /// Which values of a gate are on and which are off; the others are free.
@@ -141,20 +175,12 @@ fn read_columns(alloc: Global, words: &str, values: &OnValues) -> Option<Gate> {
     gate_of_values(alloc, width, u32::from(columns), values).ok()
 }
 
-/// Adds the rows for the values that are on where column 0 is 1.
-fn add_first(alloc: Global, words: &str, text: &mut Vec<u8>) -> Option<()> {
-    let gate = read_columns(alloc, words, &OnValues::FirstColumn)?;
-    add_cover(alloc, &gate, text)
-}
-
-/// Adds the number of rows that cover the values with an odd number of ones, if each of these values is a row.
-fn add_odd(alloc: Global, words: &str, text: &mut Vec<u8>) -> Option<()> {
-    let gate = read_columns(alloc, words, &OnValues::OddOnes)?;
-    let rows = rows(alloc, &gate)?;
-    if are_among(gate.on.as_slice(), rows.as_slice()) {
-        add_number(rows.len(), text).ok()
+/// Puts the number of rows, if each of the terms is a row.
+fn put_count(terms: &[Term], rows: &[Term], answer: &mut Answer) {
+    if are_among(terms, rows) {
+        answer.add_number(rows.len() as u64);
     } else {
-        None
+        answer.fail();
     }
 }
 
@@ -168,24 +194,27 @@ fn are_among(terms: &[Term], rows: &[Term]) -> bool {
     true
 }
 
-/// Adds the number of the 81 functions of two columns that have a good cover.
-fn add_functions(alloc: Global, text: &mut Vec<u8>) -> Option<()> {
-    let mut good = 0usize;
+/// Puts the number of the 81 functions of two columns that have a good cover.
+fn put_functions(alloc: Global, answer: &mut Answer) {
+    let mut good = 0u64;
     for number in 0..81u8 {
-        if is_good(alloc, number)? {
-            good = good.wrapping_add(1);
+        match gate_of_values(alloc, 2, 2, &OnValues::Digits(number)) {
+            Ok(gate) if is_good(alloc, &gate) => good = good.wrapping_add(1),
+            Ok(_) => {}
+            Err(_) => answer.fail(),
         }
     }
-    add_number(good, text).ok()
+    answer.add_number(good);
 }
 
-/// Whether a function of two columns has a good cover.
-fn is_good(alloc: Global, number: u8) -> Option<bool> {
-    let gate = gate_of_values(alloc, 2, 2, &OnValues::Digits(number)).ok()?;
-    let rows = rows(alloc, &gate)?;
-    Some(are_good(
-        rows.as_slice(),
-        held_by_any(&gate.on),
-        held_by_any(&gate.off),
-    ))
+/// Whether the gate of a function of two columns has a good cover.
+fn is_good(alloc: Global, gate: &Gate) -> bool {
+    match rows(alloc, gate) {
+        Some(rows) => are_good(
+            rows.as_slice(),
+            held_by_any(&gate.on),
+            held_by_any(&gate.off),
+        ),
+        None => false,
+    }
 }

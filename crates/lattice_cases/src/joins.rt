@@ -1,44 +1,48 @@
 //! The calls of `hs_lattice`, on numbers and on partitions that are kept in both ways.
 
-ghost use Rattle.std.specs.Prelude.{◌≡◌, ◌++◌, ◌∷◌, [], ◌<◌, All, IfOk, IfSome, OnOk};
+ghost use Rattle.std.specs.Prelude.{◌≡◌, ◌++◌, ◌∷◌, [], ◌<◌, ◌≤◌, All, IfOk, IfSome, OnOk};
 ghost use Rattle.hs_lattice.specs.Collection.{IsCollection};
+ghost use Rattle.partition.specs.Partition.{IsStateCount};
 
 use crate::numbers::Below;
-use crate::words::{add, add_number, add_truth, count, cut};
+use crate::words::{count, cut, put_truth};
 use crate::worlds::Worded;
-use case_lines::limit;
+use case_lines::{Answer, limit};
 use hs_lattice::{Collection, Listing, join_closure};
 use partition::{BitWorld, PartWorld};
 use std::alloc::{AllocError, Global};
 
-/// Adds what a call answers.
-pub(crate) fn add_answer(alloc: Global, call: &str, words: &str, text: &mut Vec<u8>) -> Option<()> {
-    let (kind, world) = call.rsplit_once('_')?;
+/// Puts what a call answers.
+pub(crate) fn put_answer(alloc: Global, call: &str, words: &str, answer: &mut Answer) {
+    let (kind, world) = call.rsplit_once('_').unwrap_or((call, ""));
     let (n, words) = cut(words);
-    let n = count(n)?;
-    match world {
-        "numbers" => add_in_world(alloc, &Below { n: n as u16 }, kind, words, text),
-        "labels" => add_in_world(alloc, &PartWorld { n }, kind, words, text),
-        "rows" => add_in_world(alloc, &BitWorld { n }, kind, words, text),
-        _ => None,
+    match count(n) {
+        Some(n) => put_of_size(alloc, kind, world, n, words, answer),
+        None => answer.fail(),
     }
 }
 
-/// Adds what is asked of a world.
-fn add_in_world<W: Worded>(
-    alloc: Global,
-    world: &W,
-    kind: &str,
-    words: &str,
-    text: &mut Vec<u8>,
-) -> Option<()>
+/// Puts what is asked of a world of the given size.
+fn put_of_size(alloc: Global, kind: &str, world: &str, n: usize, words: &str, answer: &mut Answer)
+    requires { IsStateCount n }
+{
+    match world {
+        "numbers" => put_in_world(alloc, &Below { n: n as u16 }, kind, words, answer),
+        "labels" => put_in_world(alloc, &PartWorld { n }, kind, words, answer),
+        "rows" => put_in_world(alloc, &BitWorld { n }, kind, words, answer),
+        _ => answer.fail(),
+    }
+}
+
+/// Puts what is asked of a world.
+fn put_in_world<W: Worded>(alloc: Global, world: &W, kind: &str, words: &str, answer: &mut Answer)
     requires { W.lawful world.now }
 {
     match kind {
-        "joined" => add_joined(alloc, world, words, text),
-        "collected" => add_collected(alloc, world, words, text),
-        "join_of_three" => add_join_of_three(alloc, world, words, text),
-        _ => None,
+        "joined" => put_joined(alloc, world, words, answer),
+        "collected" => put_collected(alloc, world, words, answer),
+        "join_of_three" => put_join_of_three(alloc, world, words, answer),
+        _ => answer.fail(),
     }
 }
 
@@ -65,62 +69,116 @@ fn values<W: Worded>(alloc: Global, world: &W, words: &str) -> Option<Vec<W::Ite
     Some(list)
 }
 
-/// Adds values, each after a space.
-fn add_values<W: Worded>(
-    alloc: Global,
-    world: &W,
-    items: &[W::Item],
-    text: &mut Vec<u8>,
-) -> Result<(), AllocError> {
+/// Puts values, each after a space.
+fn put_values<W: Worded>(alloc: Global, world: &W, items: &[W::Item], answer: &mut Answer) {
     for item in items {
-        add(text, " ")?;
-        world.add_word(alloc, item, text)?;
+        answer.add(b" ");
+        world.put_word(alloc, item, answer);
     }
-    Ok(())
 }
 
-/// Adds the joins of values, up to a limit.
-fn add_joined<W: Worded>(alloc: Global, world: &W, words: &str, text: &mut Vec<u8>) -> Option<()>
+/// Puts the joins of the values that words say, up to the limit in the first word.
+fn put_joined<W: Worded>(alloc: Global, world: &W, words: &str, answer: &mut Answer)
     requires { W.lawful world.now }
 {
-    let (most, words) = limit(words).ok()?;
-    let values = values(alloc, world, words)?;
-    let listing = join_closure(alloc, world, values.as_slice(), most).ok()?;
-    add_listing(alloc, world, &listing, text).ok()
+    match limit(words) {
+        Ok((most, words)) => put_joins_up_to(alloc, world, most, words, answer),
+        Err(_) => answer.fail(),
+    }
 }
 
-/// Adds a listing: whether it is whole, and its values.
-fn add_listing<W: Worded>(
+/// Puts the joins of the values that words say, up to a limit.
+fn put_joins_up_to<W: Worded>(
+    alloc: Global,
+    world: &W,
+    most: usize,
+    words: &str,
+    answer: &mut Answer,
+)
+    requires world { W.lawful world.now }
+    requires positive { 1 ≤ most }
+    requires bounded { most ≤ 10000 }
+{
+    match values(alloc, world, words) {
+        Some(values) => put_joins(alloc, world, values.as_slice(), most, answer),
+        None => answer.fail(),
+    }
+}
+
+/// Puts whether the joins of values are within a limit, and the joins.
+fn put_joins<W: Worded>(
+    alloc: Global,
+    world: &W,
+    values: &[W::Item],
+    most: usize,
+    answer: &mut Answer,
+)
+    requires world { W.lawful world.now }
+    requires values { All (λ x. W.fits world.now (W.meaning x)) values.now }
+    requires positive { 1 ≤ most }
+    requires bounded { most ≤ 10000 }
+{
+    match join_closure(alloc, world, values, most) {
+        Ok(listing) => put_listing(alloc, world, &listing, answer),
+        Err(_) => answer.fail(),
+    }
+}
+
+/// Puts a listing: whether it is whole, and its values.
+fn put_listing<W: Worded>(
     alloc: Global,
     world: &W,
     listing: &Listing<W::Item>,
-    text: &mut Vec<u8>,
-) -> Result<(), AllocError> {
+    answer: &mut Answer,
+) {
     let (word, items) = match listing {
-        Listing::Whole(all) => ("whole", all.as_slice()),
-        Listing::More(some) => ("more", some.as_slice()),
+        Listing::Whole(all) => (b"whole".as_slice(), all.as_slice()),
+        Listing::More(some) => (b"more".as_slice(), some.as_slice()),
     };
-    add(text, word)?;
-    add_values(alloc, world, items, text)
+    answer.add(word);
+    put_values(alloc, world, items, answer);
 }
 
-/// Adds how many of the values came again in a collection, and the values of the collection in ascending order.
-fn add_collected<W: Worded>(alloc: Global, world: &W, words: &str, text: &mut Vec<u8>) -> Option<()>
+/// Puts how many of the values came again in a collection, and the values of the collection in ascending order.
+fn put_collected<W: Worded>(alloc: Global, world: &W, words: &str, answer: &mut Answer)
     requires { W.lawful world.now }
 {
-    let items = values(alloc, world, words)?;
-    let mut known = Collection::new(alloc);
-    let again = collect(alloc, world, items.as_slice(), &mut known).ok()?;
-    let ascending = known.ascending(alloc, world).ok()?;
-    add_again(again, text).ok()?;
-    add_values(alloc, world, ascending.as_slice(), text).ok()
+    match values(alloc, world, words) {
+        Some(values) => put_collection(alloc, world, values.as_slice(), answer),
+        None => answer.fail(),
+    }
 }
 
-/// Adds how many values came again.
-fn add_again(again: usize, text: &mut Vec<u8>) -> Result<(), AllocError> {
-    add(text, "again ")?;
-    add_number(again, text)?;
-    add(text, ":")
+/// Puts how many of these values came again in a collection, and its values in ascending order.
+fn put_collection<W: Worded>(alloc: Global, world: &W, values: &[W::Item], answer: &mut Answer)
+    requires world { W.lawful world.now }
+    requires values { All (λ x. W.fits world.now (W.meaning x)) values.now }
+{
+    let mut known = Collection::new(alloc);
+    match collect(alloc, world, values, &mut known) {
+        Ok(again) => put_ascending(alloc, world, again, known, answer),
+        Err(_) => answer.fail(),
+    }
+}
+
+/// Puts how many values came again, and the values of a collection in ascending order.
+fn put_ascending<W: Worded>(
+    alloc: Global,
+    world: &W,
+    again: usize,
+    known: Collection<W::Item>,
+    answer: &mut Answer,
+)
+    requires world { W.lawful world.now }
+    requires known { IsCollection W.meaning (W.fits world.now) (W.precedes world.now) known }
+{
+    answer.add(b"again ");
+    answer.add_number(again as u64);
+    answer.add(b":");
+    match known.ascending(alloc, world) {
+        Ok(items) => put_values(alloc, world, items.as_slice(), answer),
+        Err(_) => answer.fail(),
+    }
 }
 
 /// Adds copies of the values to a collection, and counts those that it held before.
@@ -143,21 +201,28 @@ fn collect<W: Worded>(
     Ok(again)
 }
 
-/// Adds the join of three values, and whether it is the least value.
-fn add_join_of_three<W: Worded>(
-    alloc: Global,
-    world: &W,
-    words: &str,
-    text: &mut Vec<u8>,
-) -> Option<()>
+/// Puts the join of three values, and whether it is the least value.
+fn put_join_of_three<W: Worded>(alloc: Global, world: &W, words: &str, answer: &mut Answer)
     requires { W.lawful world.now }
 {
-    let values = values(alloc, world, words)?;
-    let [x, y, z] = values.as_slice() else {
-        return None;
+    match values(alloc, world, words) {
+        Some(values) => put_join(alloc, world, values.as_slice(), answer),
+        None => answer.fail(),
+    }
+}
+
+/// Puts the join of three values, and whether it is the least value. The answer fails for another number of values.
+fn put_join<W: Worded>(alloc: Global, world: &W, values: &[W::Item], answer: &mut Answer)
+    requires world { W.lawful world.now }
+    requires values { All (λ x. W.fits world.now (W.meaning x)) values.now }
+{
+    let [x, y, z] = values else {
+        return answer.fail();
     };
-    let all = join_of_three(alloc, world, x, y, z).ok()?;
-    add_and_least(alloc, world, &all, text).ok()
+    match join_of_three(alloc, world, x, y, z) {
+        Ok(all) => put_and_least(alloc, world, &all, answer),
+        Err(_) => answer.fail(),
+    }
 }
 
 /// The join of three values.
@@ -179,18 +244,15 @@ fn join_of_three<W: Worded>(
     Ok(three)
 }
 
-/// Adds a value, and whether it is the least one.
-fn add_and_least<W: Worded>(
-    alloc: Global,
-    world: &W,
-    item: &W::Item,
-    text: &mut Vec<u8>,
-) -> Result<(), AllocError>
+/// Puts a value, and whether it is the least one.
+fn put_and_least<W: Worded>(alloc: Global, world: &W, item: &W::Item, answer: &mut Answer)
     requires world { W.lawful world.now }
     requires item { W.fits world.now (W.meaning item.now) }
 {
-    let least = world.bottom(alloc)?;
-    world.add_word(alloc, item, text)?;
-    add(text, " ")?;
-    add_truth(world.same(item, &least), text)
+    world.put_word(alloc, item, answer);
+    answer.add(b" ");
+    match world.bottom(alloc) {
+        Ok(least) => put_truth(world.same(item, &least), answer),
+        Err(_) => answer.fail(),
+    }
 }

@@ -4,153 +4,163 @@ ghost use Rattle.std.specs.Prelude.{◌≡◌, ◌<◌, length};
 ghost use Rattle.partition.specs.Partition.{IsStateCount};
 
 use crate::words::{
-    add, add_number, add_part, add_part_or_fault, add_truth, count, cut, labels, named, part,
-    states, two_parts,
+    count, cut, labels, named, part, put_made, put_part, put_part_or_fault, put_truth, states,
 };
+use case_lines::Answer;
 use partition::{Partition, parse_of_show};
-use std::alloc::{AllocError, Global};
+use std::alloc::Global;
 
-/// Adds what a call answers.
-pub(crate) fn add_answer(alloc: Global, call: &str, words: &str, text: &mut Vec<u8>) -> Option<()> {
+/// Puts what a call answers.
+pub(crate) fn put_answer(alloc: Global, call: &str, words: &str, answer: &mut Answer) {
+    let (first, rest) = cut(words);
     match call {
-        "from_labels" => add_from_labels(alloc, words, text),
-        "parse" => add_parsed(alloc, words, text),
-        "hold" => add_hold(alloc, words, text),
-        "zero" | "one" => add_part(alloc, &named(alloc, call, count(words)?)?, text).ok(),
-        "label" | "same" | "merge" => add_of_states(alloc, call, words, text),
+        "from_labels" => put_from_labels(alloc, words, answer),
+        "parse" | "hold" | "zero" | "one" => put_of_count(alloc, call, first, rest, answer),
+        _ => put_of_word(alloc, call, first, rest, answer),
+    }
+}
+
+/// Puts the partition with labels.
+fn put_from_labels(alloc: Global, words: &str, answer: &mut Answer) {
+    match labels(alloc, words) {
+        Some(labels) => {
+            let read = Partition::from_labels(alloc, labels.as_slice());
+            put_part_or_fault(alloc, read, answer);
+        }
+        None => answer.fail(),
+    }
+}
+
+/// Puts the partition that words say of the number of states in the first one.
+fn put_of_count(alloc: Global, call: &str, n: &str, words: &str, answer: &mut Answer) {
+    match count(n) {
+        Some(n) => put_of_size(alloc, call, n, words, answer),
+        None => answer.fail(),
+    }
+}
+
+/// Puts the partition of n states that words say.
+fn put_of_size(alloc: Global, call: &str, n: usize, words: &str, answer: &mut Answer)
+    requires { IsStateCount n }
+{
+    match call {
+        "parse" => put_part_or_fault(alloc, Partition::parse(alloc, words.as_bytes(), n), answer),
+        "hold" => put_hold(alloc, n, words, answer),
+        _ => put_named(alloc, call, n, answer),
+    }
+}
+
+/// Puts the partition in which two states are together.
+fn put_hold(alloc: Global, n: usize, words: &str, answer: &mut Answer)
+    requires { IsStateCount n }
+{
+    match states(words) {
+        Some((s, t)) if s < n && t < n => put_made(alloc, Partition::hold(alloc, n, s, t), answer),
+        _ => answer.fail(),
+    }
+}
+
+/// Puts the partition of n states that a word names.
+fn put_named(alloc: Global, kind: &str, n: usize, answer: &mut Answer)
+    requires { IsStateCount n }
+{
+    match named(alloc, kind, n) {
+        Some(p) => put_part(alloc, &p, answer),
+        None => answer.fail(),
+    }
+}
+
+/// Puts what is asked of the partition that a word says and of the words after it.
+fn put_of_word(alloc: Global, call: &str, word: &str, words: &str, answer: &mut Answer) {
+    match part(alloc, word) {
+        Some(mut p) => put_of_part(alloc, call, &mut p, words, answer),
+        None => answer.fail(),
+    }
+}
+
+/// Puts what is asked of a partition and of the words after it.
+fn put_of_part(alloc: Global, call: &str, p: &mut Partition, words: &str, answer: &mut Answer) {
+    match call {
+        "label" | "same" | "merge" => put_of_states(alloc, call, p, words, answer),
         "len" | "blocks" | "copy" | "parse_of_show" | "complement" => {
-            add_of_one(alloc, call, &part(alloc, words)?, text).ok()
+            put_of_one(alloc, call, p, answer);
         }
-        _ => {
-            let (p, q) = two_parts(alloc, words)?;
-            add_of_two(alloc, call, &p, &q, text)
-        }
+        _ => put_of_second(alloc, call, p, words, answer),
     }
 }
 
-/// Adds the partition with labels.
-fn add_from_labels(alloc: Global, words: &str, text: &mut Vec<u8>) -> Option<()> {
-    let labels = labels(alloc, words)?;
-    add_part_or_fault(
-        alloc,
-        Partition::from_labels(alloc, labels.as_slice()),
-        text,
-    )
-    .ok()
-}
-
-/// Adds the partition of a text.
-fn add_parsed(alloc: Global, words: &str, text: &mut Vec<u8>) -> Option<()> {
-    let (n, said) = cut(words);
-    let answer = Partition::parse(alloc, said.as_bytes(), count(n)?);
-    add_part_or_fault(alloc, answer, text).ok()
-}
-
-/// Adds the partition in which two states are together.
-fn add_hold(alloc: Global, words: &str, text: &mut Vec<u8>) -> Option<()> {
-    let (n, both) = cut(words);
-    let n = count(n)?;
-    let (s, t) = states(both)?;
-    if s >= n || t >= n {
-        return None;
-    }
-    add_part(alloc, &Partition::hold(alloc, n, s, t).ok()?, text).ok()
-}
-
-/// Adds what is asked of one partition.
-fn add_of_one(
-    alloc: Global,
-    call: &str,
-    p: &Partition,
-    text: &mut Vec<u8>,
-) -> Result<(), AllocError> {
+/// Puts what is asked of one partition.
+fn put_of_one(alloc: Global, call: &str, p: &Partition, answer: &mut Answer) {
     match call {
-        "len" => add_number(p.len(), text),
-        "blocks" => add_number(p.blocks(), text),
-        "copy" => add_part(alloc, &p.copy(alloc)?, text),
-        "complement" => add_part(alloc, &p.complement(alloc)?, text),
-        _ => add_part_or_fault(alloc, parse_of_show(alloc, p), text),
+        "len" => answer.add_number(p.len() as u64),
+        "blocks" => answer.add_number(p.blocks() as u64),
+        "copy" => put_made(alloc, p.copy(alloc), answer),
+        "complement" => put_made(alloc, p.complement(alloc), answer),
+        _ => put_part_or_fault(alloc, parse_of_show(alloc, p), answer),
     }
 }
 
-/// Adds what is asked of a partition and one or two of its states.
-fn add_of_states(alloc: Global, call: &str, words: &str, text: &mut Vec<u8>) -> Option<()> {
-    let (p, both) = cut(words);
-    let (s, t) = states(both)?;
-    let mut p = part(alloc, p)?;
-    if s >= p.len() || t >= p.len() {
-        return None;
+/// Puts what is asked of a partition and of one or two of its states, which words say.
+fn put_of_states(alloc: Global, call: &str, p: &mut Partition, words: &str, answer: &mut Answer) {
+    match states(words) {
+        Some((s, t)) if s < p.len() && t < p.len() => {
+            put_at_states(alloc, call, p, s, t, answer);
+        }
+        _ => answer.fail(),
     }
-    add_at_states(alloc, call, &mut p, s, t, text).ok()
 }
 
-/// Adds what is asked of two states of a partition.
-fn add_at_states(
+/// Puts what is asked of two states of a partition.
+fn put_at_states(
     alloc: Global,
     call: &str,
     p: &mut Partition,
     s: usize,
     t: usize,
-    text: &mut Vec<u8>,
-) -> Result<(), AllocError>
+    answer: &mut Answer,
+)
     requires s { s < length p.old }
     requires t { t < length p.old }
 {
     match call {
-        "label" => add_number(usize::from(p.label(s)), text),
-        "same" => add_truth(p.same(s, t), text),
+        "label" => answer.add_number(u64::from(p.label(s))),
+        "same" => put_truth(p.same(s, t), answer),
         _ => {
             p.merge(s, t);
-            add_part(alloc, p, text)
+            put_part(alloc, p, answer);
         }
     }
 }
 
-/// Adds what is asked of two partitions.
-fn add_of_two(
-    alloc: Global,
-    call: &str,
-    p: &Partition,
-    q: &Partition,
-    text: &mut Vec<u8>,
-) -> Option<()> {
-    if call == "equal" {
-        return add_truth(p.equal(q), text).ok();
+/// Puts what is asked of a partition and of the one that a word says.
+fn put_of_second(alloc: Global, call: &str, p: &Partition, word: &str, answer: &mut Answer) {
+    match part(alloc, word) {
+        Some(q) => put_of_two(alloc, call, p, &q, answer),
+        None => answer.fail(),
     }
-    if p.len() != q.len() {
-        return None;
-    }
-    if call == "inside" {
-        return add_inside(alloc, p, q, text);
-    }
-    add_compared(alloc, call, p, q, text).ok()
 }
 
-/// Adds how two partitions of the same states compare, or their meet or join.
-fn add_compared(
-    alloc: Global,
-    call: &str,
-    p: &Partition,
-    q: &Partition,
-    text: &mut Vec<u8>,
-) -> Result<(), AllocError>
+/// Puts what is asked of two partitions.
+fn put_of_two(alloc: Global, call: &str, p: &Partition, q: &Partition, answer: &mut Answer) {
+    if call == "equal" {
+        put_truth(p.equal(q), answer);
+    } else if p.len() == q.len() {
+        put_compared(alloc, call, p, q, answer);
+    } else {
+        answer.fail();
+    }
+}
+
+/// Puts how two partitions of the same states compare, or their meet or join, or the one inside the other.
+fn put_compared(alloc: Global, call: &str, p: &Partition, q: &Partition, answer: &mut Answer)
     requires { length q.now ≡ length p.now }
 {
     match call {
-        "le" => add_truth(p.le(q), text),
-        "before" => add_truth(p.before(q), text),
-        "meet" => add_part(alloc, &p.meet(alloc, q)?, text),
-        "join" => add_part(alloc, &p.join(alloc, q)?, text),
-        _ => add(text, "no such call"),
+        "le" => put_truth(p.le(q), answer),
+        "before" => put_truth(p.before(q), answer),
+        "meet" => put_made(alloc, p.meet(alloc, q), answer),
+        "join" => put_made(alloc, p.join(alloc, q), answer),
+        "inside" if q.le(p) => put_made(alloc, p.inside(alloc, q), answer),
+        _ => answer.fail(),
     }
-}
-
-/// Adds the blocks of q inside those of p.
-fn add_inside(alloc: Global, p: &Partition, q: &Partition, text: &mut Vec<u8>) -> Option<()>
-    requires { length q.now ≡ length p.now }
-{
-    if !q.le(p) {
-        return None;
-    }
-    add_part(alloc, &p.inside(alloc, q).ok()?, text).ok()
 }

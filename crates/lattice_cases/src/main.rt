@@ -16,11 +16,10 @@ mod terms;
 mod words;
 mod worlds;
 
-use anyhow::{Context, ensure};
-use case_lines::{Calls, agree};
+use anyhow::ensure;
+use case_lines::{Answer, Calls, agree};
 use std::alloc::Global;
 use std::rt::Files;
-use words::add;
 
 /// The calls that a file asks.
 enum Asked {
@@ -41,13 +40,13 @@ static FILES: [(Asked, &str); 6] = [
 ];
 
 impl Asked {
-    /// Adds what a call answers. None if the words do not fit the call.
-    fn add_answer(&self, alloc: Global, call: &str, words: &str, text: &mut Vec<u8>) -> Option<()> {
+    /// Puts what a call answers. The answer fails where the words do not fit the call.
+    fn put_answer(&self, alloc: Global, call: &str, words: &str, answer: &mut Answer) {
         match self {
-            Asked::Labels => labels::add_answer(alloc, call, words, text),
-            Asked::Rows => rows::add_answer(alloc, call, words, text),
-            Asked::Joins => joins::add_answer(alloc, call, words, text),
-            Asked::Covers => gates::add_answer(alloc, call, words, text),
+            Asked::Labels => labels::put_answer(alloc, call, words, answer),
+            Asked::Rows => rows::put_answer(alloc, call, words, answer),
+            Asked::Joins => joins::put_answer(alloc, call, words, answer),
+            Asked::Covers => gates::put_answer(alloc, call, words, answer),
         }
     }
 }
@@ -59,13 +58,9 @@ impl Calls for Asked {
         call: &str,
         words: &str,
     ) -> anyhow::Result<String> {
-        let alloc = rt.alloc();
-        let mut text = Vec::new(alloc);
-        if self.add_answer(alloc, call, words, &mut text).is_none() {
-            text.clear();
-            add(&mut text, "no answer")?;
-        }
-        String::from_utf8(text).ok().context("no text")
+        let mut answer = Answer::new(rt.alloc());
+        self.put_answer(rt.alloc(), call, words, &mut answer);
+        answer.text()
     }
 }
 

@@ -2,110 +2,101 @@
 
 ghost use Rattle.std.specs.Prelude.{◌≡◌, ◌<◌, length};
 
-use crate::words::{add, add_number, add_part, add_truth, cut, part, states, two_parts};
+use crate::words::{cut, part, put_made, put_truth, states};
+use case_lines::Answer;
 use partition::BitPart;
 use std::alloc::{AllocError, Global};
 
-/// Adds what a call answers.
-pub(crate) fn add_answer(alloc: Global, call: &str, words: &str, text: &mut Vec<u8>) -> Option<()> {
-    match call {
-        "rows_of" | "rows_len" | "rows_blocks" | "rows_copy" => {
-            add_of_one(alloc, call, &bit_part(alloc, words)?, text).ok()
-        }
-        "row" | "rows_same" => add_of_states(alloc, words, text),
-        _ => {
-            let (p, q) = two_parts(alloc, words)?;
-            let p = BitPart::of(alloc, &p).ok()?;
-            let q = BitPart::of(alloc, &q).ok()?;
-            add_of_two(alloc, call, &p, &q, text)
-        }
+/// Puts what a call answers.
+pub(crate) fn put_answer(alloc: Global, call: &str, words: &str, answer: &mut Answer) {
+    let (p, rest) = cut(words);
+    match bit_part(alloc, p) {
+        Some(p) => put_of_part(alloc, call, &p, rest, answer),
+        None => answer.fail(),
     }
 }
 
 /// The partition that a word says, with rows of bits.
 pub(crate) fn bit_part(alloc: Global, word: &str) -> Option<BitPart> {
-    let p = part(alloc, word)?;
-    BitPart::of(alloc, &p).ok()
+    match part(alloc, word) {
+        Some(p) => BitPart::of(alloc, &p).ok(),
+        None => None,
+    }
 }
 
-/// Adds a partition with rows of bits.
-pub(crate) fn add_bit_part(
-    alloc: Global,
-    p: &BitPart,
-    text: &mut Vec<u8>,
-) -> Result<(), AllocError> {
-    let labels = p.labels(alloc)?;
-    add_part(alloc, &labels, text)
+/// Puts a partition with rows of bits.
+pub(crate) fn put_bit_part(alloc: Global, p: &BitPart, answer: &mut Answer) {
+    put_made(alloc, p.labels(alloc), answer);
 }
 
-/// Adds what is asked of one partition.
-fn add_of_one(
-    alloc: Global,
-    call: &str,
-    p: &BitPart,
-    text: &mut Vec<u8>,
-) -> Result<(), AllocError> {
+/// Puts a partition with rows of bits that a call makes.
+fn put_made_rows(alloc: Global, made: Result<BitPart, AllocError>, answer: &mut Answer) {
+    match made {
+        Ok(p) => put_bit_part(alloc, &p, answer),
+        Err(_) => answer.fail(),
+    }
+}
+
+/// Puts what is asked of a partition and of the words after it.
+fn put_of_part(alloc: Global, call: &str, p: &BitPart, words: &str, answer: &mut Answer) {
     match call {
-        "rows_of" => add_bit_part(alloc, p, text),
-        "rows_len" => add_number(p.len(), text),
-        "rows_blocks" => add_number(p.blocks(), text),
-        _ => add_bit_part(alloc, &p.copy(alloc)?, text),
+        "rows_of" => put_bit_part(alloc, p, answer),
+        "rows_len" => answer.add_number(p.len() as u64),
+        "rows_blocks" => answer.add_number(p.blocks() as u64),
+        "rows_copy" => put_made_rows(alloc, p.copy(alloc), answer),
+        "row" | "rows_same" => put_of_states(p, words, answer),
+        _ => put_of_word(alloc, call, p, words, answer),
     }
 }
 
-/// Adds the row of a state, or, if there are two states, whether they are together.
-fn add_of_states(alloc: Global, words: &str, text: &mut Vec<u8>) -> Option<()> {
-    let (p, both) = cut(words);
-    let (s, t) = states(both)?;
-    let p = bit_part(alloc, p)?;
-    if s >= p.len() || t >= p.len() {
-        return None;
+/// Puts the row of a state, or, if there are two states, whether they are together.
+fn put_of_states(p: &BitPart, words: &str, answer: &mut Answer) {
+    match states(words) {
+        Some((s, t)) if s < p.len() && t < p.len() => {
+            if words.contains(' ') {
+                put_truth(p.same(s, t), answer);
+            } else {
+                put_row(p.row(s), answer);
+            }
+        }
+        _ => answer.fail(),
     }
-    if both.contains(' ') {
-        return add_truth(p.same(s, t), text).ok();
-    }
-    add_row(alloc, p.row(s), text).ok()
 }
 
-/// Adds the words of a row.
-fn add_row(alloc: Global, row: &[u64], text: &mut Vec<u8>) -> Result<(), AllocError> {
+/// Puts the words of a row.
+fn put_row(row: &[u64], answer: &mut Answer) {
     for word in row {
-        add(text, format!(in alloc; "{word:x};")?.as_str())?;
+        answer.add_displayed(format_args!("{word:x};"));
     }
-    Ok(())
 }
 
-/// Adds what is asked of two partitions.
-fn add_of_two(
-    alloc: Global,
-    call: &str,
-    p: &BitPart,
-    q: &BitPart,
-    text: &mut Vec<u8>,
-) -> Option<()> {
+/// Puts what is asked of a partition and of the one that a word says.
+fn put_of_word(alloc: Global, call: &str, p: &BitPart, word: &str, answer: &mut Answer) {
+    match bit_part(alloc, word) {
+        Some(q) => put_of_two(alloc, call, p, &q, answer),
+        None => answer.fail(),
+    }
+}
+
+/// Puts what is asked of two partitions.
+fn put_of_two(alloc: Global, call: &str, p: &BitPart, q: &BitPart, answer: &mut Answer) {
     if call == "rows_equal" {
-        return add_truth(p.equal(q), text).ok();
+        put_truth(p.equal(q), answer);
+    } else if p.len() == q.len() {
+        put_compared(alloc, call, p, q, answer);
+    } else {
+        answer.fail();
     }
-    if p.len() != q.len() {
-        return None;
-    }
-    add_compared(alloc, call, p, q, text).ok()
 }
 
-/// Adds how two partitions of the same states compare, or their meet or join.
-fn add_compared(
-    alloc: Global,
-    call: &str,
-    p: &BitPart,
-    q: &BitPart,
-    text: &mut Vec<u8>,
-) -> Result<(), AllocError>
+/// Puts how two partitions of the same states compare, or their meet or join.
+fn put_compared(alloc: Global, call: &str, p: &BitPart, q: &BitPart, answer: &mut Answer)
     requires { length q.now ≡ length p.now }
 {
     match call {
-        "rows_before" => add_truth(p.before(q), text),
-        "rows_meet" => add_bit_part(alloc, &p.meet(alloc, q)?, text),
-        "rows_join" => add_bit_part(alloc, &p.join(alloc, q)?, text),
-        _ => add(text, "no such call"),
+        "rows_before" => put_truth(p.before(q), answer),
+        "rows_meet" => put_made_rows(alloc, p.meet(alloc, q), answer),
+        "rows_join" => put_made_rows(alloc, p.join(alloc, q), answer),
+        _ => answer.fail(),
     }
 }

@@ -1,5 +1,6 @@
 //! Terms as texts: a character for each column, `0`, `1` or `-`, column 0 first; `.` is the term of no columns.
 
+use case_lines::Answer;
 use cover_logic::Term;
 use std::alloc::{AllocError, Global};
 
@@ -69,23 +70,20 @@ fn ordered(alloc: Global, terms: &[Term], width: u8) -> Result<Vec<Vec<u8>>, All
     Ok(texts)
 }
 
-/// Adds texts, separated by spaces.
-fn add_texts(texts: &[Vec<u8>], text: &mut Vec<u8>) -> Result<(), AllocError> {
+/// Puts texts, separated by spaces.
+fn put_texts(texts: &[Vec<u8>], answer: &mut Answer) {
     for (place, item) in texts.iter().enumerate() {
-        let between: &[u8] = if place == 0 { b"" } else { b" " };
-        text.extend_from_slice(between)?;
-        text.extend_from_slice(item.as_slice())?;
+        if place > 0 {
+            answer.add(b" ");
+        }
+        answer.add(item.as_slice());
     }
-    Ok(())
 }
 
-/// Adds the texts of terms in ascending order.
-pub(crate) fn add_terms(
-    alloc: Global,
-    terms: &[Term],
-    width: u8,
-    text: &mut Vec<u8>,
-) -> Result<(), AllocError> {
-    let texts = ordered(alloc, terms, width)?;
-    add_texts(texts.as_slice(), text)
+/// Puts the texts of terms in ascending order.
+pub(crate) fn put_terms(alloc: Global, terms: &[Term], width: u8, answer: &mut Answer) {
+    match ordered(alloc, terms, width) {
+        Ok(texts) => put_texts(texts.as_slice(), answer),
+        Err(_) => answer.fail(),
+    }
 }

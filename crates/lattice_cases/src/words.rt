@@ -3,7 +3,7 @@
 ghost use Rattle.std.specs.Prelude.{◌<◌, ◌≤◌, IfSome};
 ghost use Rattle.partition.specs.Partition.{IsStateCount};
 
-use itoa::Buffer;
+use case_lines::Answer;
 use partition::{PartFail, Partition};
 use std::alloc::{AllocError, Global};
 
@@ -77,13 +77,6 @@ pub(crate) fn part(alloc: Global, word: &str) -> Option<Partition> {
     }
 }
 
-/// The partitions that two words say.
-pub(crate) fn two_parts(alloc: Global, words: &str) -> Option<(Partition, Partition)> {
-    let (p, q) = cut(words);
-    let p = part(alloc, p)?;
-    Some((p, part(alloc, q)?))
-}
-
 /// The partition of n states that a word names.
 pub(crate) fn named(alloc: Global, kind: &str, n: usize) -> Option<Partition>
     requires { IsStateCount n }
@@ -109,43 +102,54 @@ fn neighbours(alloc: Global, n: usize, first: u16) -> Option<Partition>
     Partition::from_labels(alloc, labels.as_slice()).ok()
 }
 
-/// Adds a partition: its labels, or its name if it has more than eight states and is zero or one.
-pub(crate) fn add_part(alloc: Global, p: &Partition, text: &mut Vec<u8>) -> Result<(), AllocError> {
+/// Puts a partition: its labels, or its name if it has more than eight states and is zero or one.
+pub(crate) fn put_part(alloc: Global, p: &Partition, answer: &mut Answer) {
     let n = p.len();
     if n > 8 && p.blocks() == n {
-        add(text, "zero*")?;
-        return add_number(n, text);
+        put_name(b"zero*", n, answer);
+    } else if n > 8 && p.blocks() == 1 {
+        put_name(b"one*", n, answer);
+    } else {
+        put_labels(alloc, p, answer);
     }
-    if n > 8 && p.blocks() == 1 {
-        add(text, "one*")?;
-        return add_number(n, text);
-    }
-    p.show(alloc, text)
 }
 
-/// Adds a partition, or why there is none.
-pub(crate) fn add_part_or_fault(
+/// Puts the name of a partition of n states.
+fn put_name(kind: &[u8], n: usize, answer: &mut Answer) {
+    answer.add(kind);
+    answer.add_number(n as u64);
+}
+
+/// Puts the labels of a partition.
+fn put_labels(alloc: Global, p: &Partition, answer: &mut Answer) {
+    let mut text = Vec::new(alloc);
+    if p.show(alloc, &mut text).is_err() {
+        answer.fail();
+    }
+    answer.add(text.as_slice());
+}
+
+/// Puts a partition that a call makes.
+pub(crate) fn put_made(alloc: Global, made: Result<Partition, AllocError>, answer: &mut Answer) {
+    match made {
+        Ok(p) => put_part(alloc, &p, answer),
+        Err(_) => answer.fail(),
+    }
+}
+
+/// Puts a partition, or why there is none.
+pub(crate) fn put_part_or_fault(
     alloc: Global,
-    answer: Result<Partition, PartFail>,
-    text: &mut Vec<u8>,
-) -> Result<(), AllocError> {
-    match answer {
-        Ok(p) => add_part(alloc, &p, text),
-        Err(fail) => add(text, format!(in alloc; "{fail:?}")?.as_str()),
+    read: Result<Partition, PartFail>,
+    answer: &mut Answer,
+) {
+    match read {
+        Ok(p) => put_part(alloc, &p, answer),
+        Err(fail) => answer.add_displayed(format_args!("{fail:?}")),
     }
 }
 
-/// Adds a piece of text.
-pub(crate) fn add(text: &mut Vec<u8>, piece: &str) -> Result<(), AllocError> {
-    text.extend_from_slice(piece.as_bytes())
-}
-
-/// Adds a number.
-pub(crate) fn add_number(number: usize, text: &mut Vec<u8>) -> Result<(), AllocError> {
-    add(text, Buffer::new().format(number))
-}
-
-/// Adds a truth.
-pub(crate) fn add_truth(holds: bool, text: &mut Vec<u8>) -> Result<(), AllocError> {
-    add(text, if holds { "true" } else { "false" })
+/// Puts a truth.
+pub(crate) fn put_truth(holds: bool, answer: &mut Answer) {
+    answer.add(if holds { b"true".as_slice() } else { b"false" });
 }

@@ -3,11 +3,12 @@
 ghost use Rattle.std.specs.Prelude.{IfSome};
 
 use crate::numbers::Below;
-use crate::rows::add_bit_part;
-use crate::words::{add_number, add_part, part};
+use crate::rows::{bit_part, put_bit_part};
+use crate::words::{part, put_part};
+use case_lines::Answer;
 use hs_lattice::JoinWorld;
 use partition::{BitPart, BitWorld, PartWorld, Partition};
-use std::alloc::{AllocError, Global};
+use std::alloc::Global;
 
 /// A world whose values words say.
 pub(crate) trait Worded: JoinWorld {
@@ -15,13 +16,8 @@ pub(crate) trait Worded: JoinWorld {
     fn value(&self, alloc: Global, word: &str) -> Option<Self::Item>
         ensures { IfSome result (λ item. Self.fits self.now (Self.meaning item)) };
 
-    /// Adds the word of a value.
-    fn add_word(
-        &self,
-        alloc: Global,
-        item: &Self::Item,
-        text: &mut Vec<u8>,
-    ) -> Result<(), AllocError>;
+    /// Puts the word of a value.
+    fn put_word(&self, alloc: Global, item: &Self::Item, answer: &mut Answer);
 }
 
 impl Worded for Below {
@@ -30,43 +26,33 @@ impl Worded for Below {
         if x < self.n { Some(x) } else { None }
     }
 
-    fn add_word(&self, _alloc: Global, item: &u16, text: &mut Vec<u8>) -> Result<(), AllocError> {
-        add_number(usize::from(*item), text)
+    fn put_word(&self, _alloc: Global, item: &u16, answer: &mut Answer) {
+        answer.add_number(u64::from(*item));
     }
 }
 
 impl Worded for PartWorld {
     fn value(&self, alloc: Global, word: &str) -> Option<Partition> {
-        let p = part(alloc, word)?;
-        if p.len() == self.n { Some(p) } else { None }
+        match part(alloc, word) {
+            Some(p) if p.len() == self.n => Some(p),
+            _ => None,
+        }
     }
 
-    fn add_word(
-        &self,
-        alloc: Global,
-        item: &Partition,
-        text: &mut Vec<u8>,
-    ) -> Result<(), AllocError> {
-        add_part(alloc, item, text)
+    fn put_word(&self, alloc: Global, item: &Partition, answer: &mut Answer) {
+        put_part(alloc, item, answer);
     }
 }
 
 impl Worded for BitWorld {
     fn value(&self, alloc: Global, word: &str) -> Option<BitPart> {
-        let p = part(alloc, word)?;
-        if p.len() == self.n {
-            BitPart::of(alloc, &p).ok()
-        } else {
-            None
+        match bit_part(alloc, word) {
+            Some(p) if p.len() == self.n => Some(p),
+            _ => None,
         }
     }
 
-    fn add_word(
-        &self,
-        alloc: Global,
-        item: &BitPart,
-        text: &mut Vec<u8>,
-    ) -> Result<(), AllocError> {
-        add_bit_part(alloc, item, text)
+    fn put_word(&self, alloc: Global, item: &BitPart, answer: &mut Answer) {
+        put_bit_part(alloc, item, answer);
     }
 }
