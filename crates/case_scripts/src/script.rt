@@ -2,6 +2,7 @@
 
 use crate::cases::Case;
 use crate::files::CaseFiles;
+use crate::texts::word_and_rest;
 use crate::wanted::copy;
 use crate::{Calls, texts};
 use anyhow::{Context, bail};
@@ -17,7 +18,20 @@ pub(crate) fn agrees<C: Calls, R: Files + AllocGlobal + Print>(
     text: &str,
 ) -> anyhow::Result<bool> {
     let mut script = Script::new(rt.alloc());
-    script.take_all(rt, calls, name, text)
+    script.agrees(rt, calls, name, text)
+}
+
+/// What a line is.
+#[derive(Clone, Copy)]
+enum LineKind {
+    /// It says nothing.
+    Comment,
+    /// It adds to the text.
+    Text,
+    /// It begins a file or a case.
+    Begin,
+    /// It is a line of the open case.
+    OfCase,
 }
 
 /// What a text is for.
@@ -34,6 +48,8 @@ enum Place {
 #[derive(Drop)]
 struct Script {
     alloc: Global,
+    /// The number of lines so far.
+    lines: usize,
     files: CaseFiles,
     case: Option<Case>,
     place: Place,
@@ -48,6 +64,7 @@ impl Script {
     fn new(alloc: Global) -> Script {
         Script {
             alloc,
+            lines: 0,
             files: CaseFiles::new(alloc),
             case: None,
             place: Place::Nowhere,
@@ -59,72 +76,80 @@ impl Script {
     }
 
     /// Takes the lines of a file, and prints how many of its cases agree. Returns whether all do.
-    fn take_all<C: Calls, R: Files + AllocGlobal + Print>(
+    fn agrees<C: Calls, R: Files + AllocGlobal + Print>(
         &mut self,
         rt: &R,
         calls: &C,
         name: &str,
         text: &str,
     ) -> anyhow::Result<bool> {
-        self.take_lines(rt, calls, name, text)?;
-        self.end_text()?;
-        self.end_case(rt, calls, name)?;
+        let taken = self.take_all(rt, calls, name, text);
+        taken.context(format_args!("{name} after {} lines", self.lines))?;
+        self.report(rt, name)
+    }
+
+    /// Prints how many cases agree. Returns whether all do.
+    fn report<R: Print>(&self, rt: &R, name: &str) -> anyhow::Result<bool> {
         println!(rt; "{name}: {} of {} agree", self.agreeing, self.cases)?;
         Ok(self.agreeing == self.cases)
     }
 
-    /// Takes the lines of a file.
-    fn take_lines<C: Calls, R: Files + AllocGlobal + Print>(
+    /// Takes the lines of a file, and ends the last text and the last case.
+    fn take_all<C: Calls, R: Files + AllocGlobal + Print>(
         &mut self,
         rt: &R,
         calls: &C,
         name: &str,
         text: &str,
     ) -> anyhow::Result<()> {
-        for (place, line) in text.split('\n').enumerate() {
-            self.take(rt, calls, name, place, line)
-                .context(format_args!("{name} after {place} lines"))?;
+        for line in text.split('\n') {
+            self.take(rt, calls, name, line)?;
+            self.lines = self.lines.saturating_add(1);
         }
-        Ok(())
+        self.end(rt, calls, name)
     }
 
-    /// Takes a line, which comes after `place` lines.
+    /// Takes a line.
     fn take<C: Calls, R: Files + AllocGlobal + Print>(
         &mut self,
         rt: &R,
         calls: &C,
         name: &str,
-        place: usize,
         line: &str,
     ) -> anyhow::Result<()> {
-        if line.is_empty() || line.starts_with('#') {
-            return Ok(());
+        let (word, rest) = word_and_rest(line);
+        match kind_of(line, word) {
+            LineKind::Comment => Ok(()),
+            LineKind::Text => texts::add(rt, &self.files, &mut self.text, word, rest),
+            LineKind::Begin => {
+                self.end(rt, calls, name)?;
+                self.begin(word, rest)
+            }
+            LineKind::OfCase => self.take_of_case(word, rest),
         }
-        let (word, rest) = line.split_once(' ').unwrap_or((line, ""));
-        if texts::add(rt, &self.files, &mut self.text, word, rest)? {
-            return Ok(());
-        }
-        self.end_text()?;
-        if word != "file" && word != "case" {
-            return self.take_of_case(word, rest);
-        }
-        self.end_case(rt, calls, name)?;
-        Ok(self.begin(word, rest, place)?)
     }
 
-    /// Begins a file, or a case that comes after `place` lines.
-    fn begin(&mut self, word: &str, rest: &str, place: usize) -> Result<(), AllocError> {
+    /// Puts the text where it belongs, and runs the open case.
+    fn end<C: Calls, R: Print>(&mut self, rt: &R, calls: &C, name: &str) -> anyhow::Result<()> {
+        self.end_text()?;
+        self.end_case(rt, calls, name)
+    }
+
+    /// Begins a file, or a case.
+    fn begin(&mut self, word: &str, rest: &str) -> anyhow::Result<()> {
         if word == "file" {
             self.place = Place::File;
-            return copy(&mut self.file, rest.as_bytes());
+            copy(&mut self.file, rest.as_bytes())?;
+            return Ok(());
         }
-        let case = Case::new(self.alloc, place.saturating_add(1), rest)?;
+        let case = Case::new(self.alloc, self.lines.saturating_add(1), rest)?;
         self.case = Some(case);
         Ok(())
     }
 
     /// Takes a line of the open case.
     fn take_of_case(&mut self, word: &str, rest: &str) -> anyhow::Result<()> {
+        self.end_text()?;
         let Some(case) = &mut self.case else {
             bail!("no case stands here");
         };
@@ -182,5 +207,17 @@ impl Script {
             self.case = None;
         }
         Ok(())
+    }
+}
+
+/// What a line with this first word is.
+fn kind_of(line: &str, word: &str) -> LineKind {
+    if line.is_empty() || line.starts_with('#') {
+        return LineKind::Comment;
+    }
+    match word {
+        "|" | "bytes" | "times" | "each" | "fill" | "copy" | "data" | "cut" => LineKind::Text,
+        "file" | "case" => LineKind::Begin,
+        _ => LineKind::OfCase,
     }
 }

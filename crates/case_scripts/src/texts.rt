@@ -7,21 +7,19 @@ use std::alloc::{AllocError, Global};
 use std::fs;
 use std::rt::Files;
 
-/// Adds what the line says to the text, and returns whether it is a line of a text.
+/// Adds what a line of a text says to the text.
 pub(crate) fn add<R: Files + AllocGlobal>(
     rt: &R,
     files: &CaseFiles,
     text: &mut Vec<u8>,
     word: &str,
     rest: &str,
-) -> anyhow::Result<bool> {
+) -> anyhow::Result<()> {
     match word {
-        "|" | "copy" | "cut" => change(files, text, word, rest)?,
-        "bytes" | "times" | "each" | "fill" => append_pieces(rt.alloc(), text, word, rest)?,
-        "data" => append_data(rt, text, rest)?,
-        _ => return Ok(false),
+        "|" | "copy" | "cut" => change(files, text, word, rest),
+        "data" => append_data(rt, text, rest),
+        _ => append_pieces(rt.alloc(), text, word, rest),
     }
-    Ok(true)
 }
 
 /// Appends the line or the file, or cuts the text.
@@ -80,8 +78,13 @@ fn append_repeated(
 
 /// A number, and the text after the first space.
 pub(crate) fn number_and_text(text: &str) -> anyhow::Result<(usize, &str)> {
-    let (front, rest) = text.split_once(' ').unwrap_or((text, ""));
+    let (front, rest) = word_and_rest(text);
     Ok((number(front)?, rest))
+}
+
+/// A word, and the text after the first space.
+pub(crate) fn word_and_rest(text: &str) -> (&str, &str) {
+    text.split_once(' ').unwrap_or((text, ""))
 }
 
 /// Appends the piece a number of times.
