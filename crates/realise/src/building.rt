@@ -1,6 +1,6 @@
 //! The network of codes.
 
-ghost use Rattle.std.specs.Prelude.{◌≡◌, ◌≤◌, IfOk, OnOk, length};
+ghost use Rattle.std.specs.Prelude.{◌≡◌, ◌≤◌, IfOk, OnOk, [], length};
 ghost use Rattle.dependence.specs.Bit.{IsBit, value_of};
 ghost use Rattle.dependence.specs.Permits.{next_value, output_value};
 ghost use Rattle.realise.specs.Realised.{AreCounted, AreEnough, IsEnough, IsGateFor, IsRealised, IsWithin};
@@ -14,7 +14,7 @@ use gate_rows::{latches, listed_names, name_from};
 use hs_io::{Name, Names, copied_names};
 use kiss_file::KissRow;
 use machine_table::Machine;
-use net_core::{Gate, Gates, Network, SignalNames};
+use net_core::{Gate, Gates, Latches, Network, SignalNames};
 use state_codes::Codes;
 use std::alloc::{AllocError, Global};
 
@@ -36,19 +36,39 @@ pub fn network(
     requires reads { AreEnough m.now codes.now.bits codes.now.words reads.now }
     ensures { IfOk result (IsRealised m.now codes.now.bits codes.now.words reads.now names.now) }
 {
-    let filled = state_rows(alloc, m)?;
-    let start = codes.words.as_slice()[m.reset()];
     let mut net = Network {
         inputs: Names::new(alloc),
         outputs: Names::new(alloc),
-        latches: latches(alloc, names, start, codes.bits)?,
+        latches: Latches::new(alloc),
         gates: Gates::new(alloc),
     };
+    fill(alloc, m, codes, reads, names, &mut net)?;
+    Ok(net)
+}
+
+/// Gives a network without gates its names, its latches and its gates.
+fn fill(
+    alloc: Global,
+    m: &Machine,
+    codes: &Codes,
+    reads: &Reads,
+    names: &SignalNames,
+    net: &mut Network,
+) -> Result<(), AllocError>
+    requires words { length codes.now.words ≡ length m.now.states }
+    requires short { codes.now.bits ≤ 64 }
+    requires names { AreCounted m.now codes.now.bits names.now }
+    requires reads { AreEnough m.now codes.now.bits codes.now.words reads.now }
+    requires bare { net.old.gates ≡ [] }
+    ensures { OnOk result (IsRealised m.now codes.now.bits codes.now.words reads.now names.now net.new) }
+{
+    let start = codes.words.as_slice()[m.reset()];
     net.inputs = copied_names(alloc, names.inputs.as_slice())?;
     net.outputs = copied_names(alloc, names.outputs.as_slice())?;
+    net.latches = latches(alloc, names, start, codes.bits)?;
+    let filled = state_rows(alloc, m)?;
     add_latch_gates(alloc, m, codes, reads, names, &filled, &mut net.gates)?;
-    add_output_gates(alloc, m, codes, reads, names, &filled, &mut net.gates)?;
-    Ok(net)
+    add_output_gates(alloc, m, codes, reads, names, &filled, &mut net.gates)
 }
 
 /// Adds the gates of the latch inputs.
