@@ -1,50 +1,50 @@
 //! Bytes in the texts of cases.
 
-ghost use Rattle.std.specs.Prelude.{◌≡◌, ◌<◌, ◌++◌, flat_map, IfOk, OnOk};
+ghost use Rattle.std.specs.Prelude.{◌≡◌, ◌<◌, ◌++◌, flat_map, IfOk, IfSome, OnOk};
 ghost use Rattle.case_lines.specs.Escapes.{digit_of, escape_of};
 
-use anyhow::bail;
+use anyhow::Context;
 use std::alloc::{AllocError, Global};
 
 /// The bytes of a text: `\n`, `\r` and `\t` are one byte each, and so is `\x` with two hexadecimal digits.
 pub fn unescaped(alloc: Global, text: &str) -> anyhow::Result<Vec<u8>> {
     let mut bytes = Vec::new(alloc);
-    for (place, piece) in text.split('\\').enumerate() {
-        if place == 0 {
-            bytes.extend_from_slice(piece.as_bytes())?;
-        } else {
-            append_escape(&mut bytes, piece.as_bytes())?;
-        }
+    let mut pieces = text.split('\\');
+    let front = pieces.next().unwrap_or("");
+    bytes.extend_from_slice(front.as_bytes())?;
+    for piece in pieces {
+        append_escape(&mut bytes, piece.as_bytes())?;
     }
     Ok(bytes)
 }
 
 /// Appends what a backslash and the piece after it mean.
 fn append_escape(bytes: &mut Vec<u8>, piece: &[u8]) -> anyhow::Result<()> {
-    let (byte, rest) = match piece {
-        [b'n', rest @ ..] => (b'\n', rest),
-        [b'r', rest @ ..] => (b'\r', rest),
-        [b't', rest @ ..] => (b'\t', rest),
-        [b'x', high, low, rest @ ..] => {
-            let high = digit(*high)?;
-            let low = digit(*low)?;
-            (high * 16 + low, rest)
-        }
-        _ => bail!("no such escape"),
-    };
+    let (byte, rest) = escape(piece).context("no such escape")?;
     bytes.push(byte)?;
     bytes.extend_from_slice(rest)?;
     Ok(())
 }
 
+/// The byte that a backslash and the front of a piece mean, and the rest of the piece.
+fn escape(piece: &[u8]) -> Option<(u8, &[u8])> {
+    match piece {
+        [b'n', rest @ ..] => Some((b'\n', rest)),
+        [b'r', rest @ ..] => Some((b'\r', rest)),
+        [b't', rest @ ..] => Some((b'\t', rest)),
+        [b'x', high, low, rest @ ..] => Some((digit(*high)? * 16 + digit(*low)?, rest)),
+        _ => None,
+    }
+}
+
 /// The number of a hexadecimal digit.
-fn digit(byte: u8) -> anyhow::Result<u8>
-    ensures { IfOk result (λ digit. digit < 16) }
+fn digit(byte: u8) -> Option<u8>
+    ensures { IfSome result (λ digit. digit < 16) }
 {
     match byte {
-        b'0'..=b'9' => Ok(byte - b'0'),
-        b'a'..=b'f' => Ok(byte - b'a' + 10),
-        _ => bail!("no hexadecimal digit"),
+        b'0'..=b'9' => Some(byte - b'0'),
+        b'a'..=b'f' => Some(byte - b'a' + 10),
+        _ => None,
     }
 }
 

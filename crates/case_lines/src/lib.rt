@@ -83,29 +83,45 @@ fn all_agree<C: Calls, R: Files + AllocGlobal + Print>(
             continue;
         }
         let case = case_of(line);
-        if case.call != last {
-            report(rt, last, &tally)?;
-            last = case.call;
-            tally = Tally::default();
-        }
-        let agree = agrees(rt, calls, &case)?;
-        tally.count(agree);
-        all = all && agree;
+        all = take(rt, calls, &case, last, &mut tally)? && all;
+        last = case.call;
     }
     report(rt, last, &tally)?;
     Ok(all)
 }
 
+/// Whether a case agrees. Counts it in the tally of the last call, which is begun anew where the call is another one.
+fn take<C: Calls, R: Files + AllocGlobal + Print>(
+    rt: &R,
+    calls: &C,
+    case: &Case<'_>,
+    last: &str,
+    tally: &mut Tally,
+) -> anyhow::Result<bool> {
+    if case.call != last {
+        report(rt, last, tally)?;
+        *tally = Tally::default();
+    }
+    let agree = agrees(rt, calls, case)?;
+    tally.count(agree);
+    Ok(agree)
+}
+
 /// The case that a line says. Its answer follows a space.
 fn case_of(line: &str) -> Case<'_> {
-    let (question, wanted) = line.split_once(" =").unwrap_or((line, ""));
-    let (call, words) = question.split_once(' ').unwrap_or((question, ""));
+    let (question, wanted) = cut(line, " =");
+    let (call, words) = cut(question, " ");
     let wanted = wanted.strip_prefix(' ').unwrap_or(wanted);
     Case {
         call,
         words,
         wanted,
     }
+}
+
+/// The text up to the first mark, and the text after it.
+fn cut<'a>(text: &'a str, mark: &str) -> (&'a str, &'a str) {
+    text.split_once(mark).unwrap_or((text, ""))
 }
 
 /// Prints the number of cases of a call, if all of them agree.
