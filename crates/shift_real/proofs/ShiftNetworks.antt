@@ -32,7 +32,7 @@ use Rattle.shift_real.proofs.Along.{answers_from}
 use Rattle.shift_real.specs.Definite.{Definite, IsOrder}
 use Rattle.shift_real.specs.Gates.{IsOutputGate, output_after, taking, values_read}
 use Rattle.shift_real.specs.Inner.Latches.{AddsOutputGates, IsOutputGateAt, latch_gate, taken_by}
-use Rattle.shift_real.specs.Inner.ShiftGates.{AreShiftGates}
+use Rattle.shift_real.specs.Inner.ShiftGates.{AreShiftGates, IsShiftNetwork}
 use Rattle.shift_real.specs.Register.{HasShortOrder, latch_values, shifted, state_after}
 use Rattle.shift_real.specs.ShiftNetwork.{AnswersAs, AreNamesFor, HasNames, IsRegister, StartsAtContent, StepsAlong}
 use Rattle.shift_real.specs.Start.{WritesStart}
@@ -344,12 +344,12 @@ gates_built F k names none latch_gates gates count is_none is_count is added =
 pub names_for : (F : KissFile) (names : SignalNames) (k : ℕ) → (j : ℕ) × HasShortOrder F j × AreNamesFor F j names → IsOrder F k → AreNamesFor F k names
 names_for F names k (j, has, counted) is = subst (λ (n : ℕ). AreNamesFor F n names) (order_once F j k has.order is) counted
 
-module _ (F : KissFile) (k bits word : ℕ) (names : SignalNames) (N : Network) (given : (j : ℕ) × HasShortOrder F j × AreNamesFor F j names) (is : IsOrder F k) (is_bits : bits ≡ k * F.inputs) (inputs : N.inputs ≡ names.inputs) (outputs : N.outputs ≡ names.outputs) (latches : AreLatches names bits word N.latches) (gates : AreShiftGates F k names N.gates) where
+module _ (F : KissFile) (k word : ℕ) (names : SignalNames) (N : Network) (given : (j : ℕ) × HasShortOrder F j × AreNamesFor F j names) (is : IsOrder F k) (net : IsShiftNetwork F k word names N) where
   counted_here : AreNamesFor F k names
   counted_here = names_for F names k given is
 
   built_here : IsBuilt F k names N
-  built_here = record { named = record { inputs = inputs; outputs = outputs; latch_inputs = latches.inputs; latch_outputs = latches.outputs }; gates = gates }
+  built_here = record { named = record { inputs = net.inputs; outputs = net.outputs; latch_inputs = net.latches.inputs; latch_outputs = net.latches.outputs }; gates = net.gates }
 
   pub sound_at : Sound N
   sound_at = is_sound F k names N counted_here built_here
@@ -361,7 +361,7 @@ module _ (F : KissFile) (k bits word : ℕ) (names : SignalNames) (N : Network) 
     starts_here : StartsAtContent F k N
     starts_here =
         let start = starts k is in
-        (start.word, start.is_start, subst (AreStarts N.latches) (ap (λ (n : ℕ). code_bits n word) is_bits ∙ start.latches) latches.starts)
+        (start.word, start.is_start, subst (AreStarts N.latches) start.latches net.latches.starts)
 
     pub register_at : (j : ℕ) → IsOrder F j → IsRegister F j names N
     register_at j other = subst (λ (n : ℕ). IsRegister F n names N) (order_once F k j is other) (is_register F k names N counted_here built_here starts_here)

@@ -1,13 +1,13 @@
 //! The network of a shift register.
 
-ghost use Rattle.std.specs.Prelude.{ℕ, IfErr, IfOk};
+ghost use Rattle.std.specs.Prelude.{ℕ, IfErr, IfOk, OnOk};
 ghost use Rattle.net_core.specs.Sound.{Sound};
 ghost use Rattle.shift_real.specs.Definite.{IsOrder};
 ghost use Rattle.shift_real.specs.Register.{HasShortOrder};
 ghost use Rattle.shift_real.specs.ShiftNetwork.{AnswersAs, AreNamesFor, IsRegister, StepsAlong};
 ghost use Rattle.shift_real.specs.Start.{IsRegisterCause};
 ghost use Rattle.shift_real.specs.Inner.RegisterContents.{AreRegisterContents};
-ghost use Rattle.shift_real.specs.Inner.ShiftGates.{AreShiftGates};
+ghost use Rattle.shift_real.specs.Inner.ShiftGates.{AreShiftGates, IsShiftNetwork};
 
 use crate::latches::add_latch_gates;
 use crate::output_gates::add_output_gates;
@@ -16,7 +16,7 @@ use crate::tables::state_table;
 use gate_rows::latches;
 use hs_io::{Names, copied_names};
 use machine_table::Machine;
-use net_core::{Gates, Network, SignalNames};
+use net_core::{Gates, Latches, Network, SignalNames};
 use std::alloc::{AllocError, Global};
 
 /// The network of the register of a definite machine. The latch with the number j times the inputs plus i holds
@@ -34,16 +34,50 @@ pub fn register(alloc: Global, m: &Machine, names: &SignalNames) -> Result<Netwo
     let _limits = (m.states(), m.reset());
     let held = register_contents(alloc, m)?;
     let word = start_among(m, &held)?;
-    let bits = held.order * usize::from(m.inputs());
+    Ok(network(alloc, m, &held, word, names)?)
+}
+
+/// The network of a register that starts at a word.
+fn network(
+    alloc: Global,
+    m: &Machine,
+    held: &RegisterContents,
+    word: u64,
+    names: &SignalNames,
+) -> Result<Network, AllocError>
+    requires held { AreRegisterContents m.now held.now }
+    requires names { AreNamesFor m.now held.now.order names.now }
+    ensures { IfOk result (IsShiftNetwork m.now held.now.order word names.now) }
+{
     let mut net = Network {
         inputs: Names::new(alloc),
         outputs: Names::new(alloc),
-        latches: latches(alloc, names, word, bits)?,
-        gates: gates(alloc, m, &held, names)?,
+        latches: Latches::new(alloc),
+        gates: Gates::new(alloc),
     };
+    fill(alloc, m, held, word, names, &mut net)?;
+    Ok(net)
+}
+
+/// Gives a network its names, its latches and its gates.
+fn fill(
+    alloc: Global,
+    m: &Machine,
+    held: &RegisterContents,
+    word: u64,
+    names: &SignalNames,
+    net: &mut Network,
+) -> Result<(), AllocError>
+    requires held { AreRegisterContents m.now held.now }
+    requires names { AreNamesFor m.now held.now.order names.now }
+    ensures { OnOk result (IsShiftNetwork m.now held.now.order word names.now net.new) }
+{
+    let bits = held.order * usize::from(m.inputs());
     net.inputs = copied_names(alloc, names.inputs.as_slice())?;
     net.outputs = copied_names(alloc, names.outputs.as_slice())?;
-    Ok(net)
+    net.latches = latches(alloc, names, word, bits)?;
+    net.gates = gates(alloc, m, held, names)?;
+    Ok(())
 }
 
 /// The gates of the latches, and then those of the outputs.
