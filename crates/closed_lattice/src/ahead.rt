@@ -46,12 +46,6 @@ fn pair_at(m: &Machine, s: u16, t: u16, k: usize) -> Option<(u16, u16)>
     Some((numbered(m, u), numbered(m, v)))
 }
 
-/// Whether the pair ahead is of two other states, and their least closed partition is not known.
-fn is_new(known: &Principals, pair: (u16, u16), ahead: (u16, u16)) -> bool {
-    let (u, v) = ahead;
-    u != v && number_of(u, v) != number_of(pair.0, pair.1) && known.find(u, v).is_none()
-}
-
 /// Two states that the two go to at a symbol of one of the first columns of s, other than the two themselves, and
 /// whose least closed partition is not known.
 fn pair_ahead(m: &Machine, known: &Principals, s: u16, t: u16) -> Option<(u16, u16)>
@@ -60,9 +54,9 @@ fn pair_ahead(m: &Machine, known: &Principals, s: u16, t: u16) -> Option<(u16, u
     ensures { IfSome result (λ pair. (pair.0 < length m.now.states) × (pair.1 < length m.now.states)) }
 {
     for k in 0..MOST_COLUMNS {
-        let ahead = pair_at(m, s, t, k)?;
-        if is_new(known, (s, t), ahead) {
-            return Some(ahead);
+        let (u, v) = pair_at(m, s, t, k)?;
+        if u != v && number_of(u, v) != number_of(s, t) && known.find(u, v).is_none() {
+            return Some((u, v));
         }
     }
     None

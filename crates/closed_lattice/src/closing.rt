@@ -210,23 +210,6 @@ fn learn_pairs(
     Ok(())
 }
 
-/// Makes the least closed partitions of the pairs ahead of two states known.
-fn learn_ahead(
-    alloc: Global,
-    m: &Machine,
-    known: &mut Principals,
-    s: u16,
-    t: u16,
-) -> Result<(), AllocError>
-    requires known { ArePrincipalsOf m.now known.old }
-    requires s { s < length m.now.states }
-    requires t { t < length m.now.states }
-    ensures { OnOk result (ArePrincipalsOf m.now known.new) }
-{
-    let pairs = pairs_ahead(alloc, m, known, s, t)?;
-    learn_pairs(alloc, m, known, pairs)
-}
-
 /// The least closed partition that holds s and t together. It is kept as known, like those of the pairs ahead.
 pub(crate) fn learn(
     alloc: Global,
@@ -245,6 +228,7 @@ pub(crate) fn learn(
     if let Some(least) = known.find(u, v) {
         return least.copy(alloc);
     }
-    learn_ahead(alloc, m, known, u, v)?;
+    let pairs = pairs_ahead(alloc, m, known, u, v)?;
+    learn_pairs(alloc, m, known, pairs)?;
     make_known(alloc, m, known, u, v)
 }

@@ -18,22 +18,13 @@ use machine_table::Machine;
 use partition::{BitPart, BitWorld, Partition};
 use std::alloc::{AllocError, Global};
 
-/// Adds the same partition as a row of bits.
-fn add_row(alloc: Global, p: &Partition, rows: &mut Vec<BitPart>) -> Result<(), AllocError>
-    ensures { OnOk result (rows.new.items ≡ rows.old.items ++ p.now ∷ []) }
-{
-    let row = BitPart::of(alloc, p)?;
-    rows.push(row)?;
-    Ok(())
-}
-
 /// The same partitions as rows of bits.
 fn in_rows(alloc: Global, list: &[Partition]) -> Result<Vec<BitPart>, AllocError>
     ensures { IfOk result (λ rows. rows.items ≡ list.now) }
 {
     let mut rows = Vec::with_capacity(alloc, list.len())?;
     for p in list {
-        add_row(alloc, p, &mut rows)?;
+        rows.push(BitPart::of(alloc, p)?)?;
     }
     Ok(rows)
 }

@@ -11,6 +11,9 @@ pub returns-then-bars-clause-takes : goal.returns-then-bars-clause-takes
 returns-then-bars-clause-takes g c =
     pair_refused c.args.m.now (g.C.Condition.meets c.args.condition.now) c.requires.stays c.args.grown.now c.args.s c.args.t c.requires.s c.requires.t c.requires.settled (c.bars.ensures c.if-bars.true)
 
+pub joined_by-requires-clause-states : goal.joined_by-requires-clause-states
+joined_by-requires-clause-states g c = c.requires.settled.0.0.length
+
 pub take_if_met-requires : goal.take_if_met-requires
 take_if_met-requires g c =
     let lawful = c.in_ok-join.ensures.joined.2.lawful in
