@@ -1,7 +1,8 @@
 //! From words to a job.
 
-ghost use Rattle.std.specs.Prelude.{◌≡◌, ◌+◌, ◌-◌, ◌^◌, ◌<◌, ℕ, List, [], Ok, Err, Option, Some, IfOk, map, drop, length};
+ghost use Rattle.std.specs.Prelude.{◌≡◌, ◌+◌, ◌-◌, ◌^◌, ◌<◌, ℕ, List, [], Ok, Err, Option, Some, IfOk, OnOk, map, drop, length};
 ghost use Rattle.std.specs.Option.{option_map};
+ghost use Rattle.job_words.specs.Inner.Draft.{IsDraft};
 ghost use Rattle.job_words.specs.Item.{items_of};
 ghost use Rattle.job_words.specs.Job.{JobOf, judged, judgement, row_named};
 ghost use Rattle.job_words.specs.Table.{IsBuilt, built, row_of};
@@ -48,14 +49,14 @@ fn form_named<'a>(forms: &'a [Form], word: &[u8]) -> Option<&'a Form>
     None
 }
 
-/// The job of the words after the command.
-fn read(alloc: Global, form: &Form, words: &Words) -> Result<Job, JobFail>
+/// Adds the words after the command to the draft of its job.
+fn add_words(alloc: Global, form: &Form, words: &Words, draft: &mut Draft) -> Result<(), JobFail>
     requires few { length words.now < 2 ^ 32 - 1 }
     requires some { 0 < length words.now }
-    ensures job { IfOk result (λ job. judged (row_of form.now) [] 2 (items_of (drop 1 words.now)) ≡ Ok job) }
+    requires none { IsDraft (row_of form.now) [] draft.old }
+    ensures job { OnOk result (judged (row_of form.now) [] 2 (items_of (drop 1 words.now)) ≡ Ok draft.new.job) }
     ensures usage { (word : ℕ) → result ≡ Err (JobFail.Usage word) → judged (row_of form.now) [] 2 (items_of (drop 1 words.now)) ≡ Err word }
 {
-    let mut draft = Draft::new(alloc, form.command)?;
     let mut i = 1;
     while i < words.count() {
         let item = item_at(words, i);
@@ -69,6 +70,18 @@ fn read(alloc: Global, form: &Form, words: &Words) -> Result<Job, JobFail>
     if draft.operands < form.operands.len() {
         return Err(usage(i + 1));
     }
+    Ok(())
+}
+
+/// The job of the words after the command.
+fn read(alloc: Global, form: &Form, words: &Words) -> Result<Job, JobFail>
+    requires few { length words.now < 2 ^ 32 - 1 }
+    requires some { 0 < length words.now }
+    ensures job { IfOk result (λ job. judged (row_of form.now) [] 2 (items_of (drop 1 words.now)) ≡ Ok job) }
+    ensures usage { (word : ℕ) → result ≡ Err (JobFail.Usage word) → judged (row_of form.now) [] 2 (items_of (drop 1 words.now)) ≡ Err word }
+{
+    let mut draft = Draft::new(alloc, form.command)?;
+    add_words(alloc, form, words, &mut draft)?;
     Ok(draft.job)
 }
 

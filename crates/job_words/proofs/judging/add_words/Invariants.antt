@@ -1,7 +1,7 @@
 use Rattle.std.proofs.Common.{◌≤◌, ◌-◌, length}
 use Rattle.job_words.specs.Table.{row_of}
 use Rattle.job_words.proofs.Reading.{IsReading}
-use Rattle.job_words.proofs.judging.read.Given as goal
+use Rattle.job_words.proofs.judging.add_words.Given as goal
 
 abbrev pub invariant-loop-i : goal.invariant-loop-i
 invariant-loop-i l = record {
