@@ -1,8 +1,10 @@
 //! From the text of a cover to the text of its network.
 
-ghost use Rattle.std.specs.Prelude.{◌≡◌};
+ghost use Rattle.std.specs.Prelude.{◌≡◌, ℕ, List, length};
 ghost use Rattle.answers.specs.Judged.{IsJudged};
+ghost use Rattle.cover_split.specs.Cover.{IsCover};
 ghost use Rattle.cover_texts.specs.Flaws.{BadCoverRow};
+ghost use Rattle.cover_texts.specs.Inner.Steps.{IsRead};
 ghost use Rattle.cover_texts.specs.Written.{IsCoverText};
 ghost use Rattle.kiss_file.specs.Lawful.{IsLawful};
 
@@ -10,6 +12,7 @@ use crate::flaws::read;
 use crate::pairs::machine_of_pairs;
 use crate::writing::text_of_pairs;
 use answers::Refusal;
+use cover_split::Cover;
 use kiss_file::KissFile;
 use machine_table::Machine;
 use std::alloc::Global;
@@ -26,6 +29,22 @@ pub fn cover(
     ensures { IsJudged (BadCoverRow file.now text.now) (λ written. IsCoverText file.now text.now written.items) result }
 {
     let blocks = read(alloc, file, machine, text)?;
-    let pairs = machine_of_pairs(alloc, machine, &blocks)?;
-    Ok(text_of_pairs(alloc, file, &blocks, &pairs)?)
+    cover_by(alloc, file, machine, &blocks)
+}
+
+/// The same by the cover that a text gives.
+fn cover_by(
+    alloc: Global,
+    file: &KissFile,
+    machine: &Machine,
+    blocks: &Cover,
+) -> Result<Vec<u8>, Refusal>
+    requires lawful { IsLawful file.now }
+    requires machine { machine.now ≡ file.now }
+    requires cover { IsCover (length file.now.states) blocks.now.blocks }
+    ensures { (text : List ℕ) → IsRead (length file.now.states) text blocks.now.blocks
+        → IsJudged (BadCoverRow file.now text) (λ written. IsCoverText file.now text written.items) result }
+{
+    let pairs = machine_of_pairs(alloc, machine, blocks)?;
+    Ok(text_of_pairs(alloc, file, blocks, &pairs)?)
 }

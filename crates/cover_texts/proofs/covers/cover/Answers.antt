@@ -1,15 +1,4 @@
-use Rattle.std.proofs.Common.{length, refl}
-use Rattle.std.proofs.lemmas.Result.{err_from_is_err_and}
-use Rattle.cover_texts.proofs.Judged.{judged_text}
-use Rattle.cover_texts.proofs.Judging.{stop_of_machine}
 use Rattle.cover_texts.proofs.covers.cover.Goals as goal
 
-pub returns-in_err-pairs : goal.returns-in_err-pairs
-returns-in_err-pairs c =
-    let p = err_from_is_err_and c.from_residual-in_err-pairs.result c.from_residual-in_err-pairs.ensures.1 in
-    rw (p.1, p.2)
-    (stop_of_machine c.args.file.now c.args.machine.now (length c.args.machine.now.states) c.requires.machine refl c.args.text.now c.in_ok-blocks.blocks.blocks _ c.in_ok-blocks.ensures c.in_err-pairs.ensures)
-
 pub returns : goal.returns
-returns c =
-    judged_text c.args.file.now c.args.machine.now c.in_ok-pairs.pairs c.requires.machine c.args.text.now c.in_ok-blocks.blocks.blocks c.in_ok-blocks.ensures c.in_ok-pairs.ensures c.in_ok-text_of_pairs.field-0.items c.in_ok-text_of_pairs.ensures
+returns c = c.cover_by.ensures c.args.text.now c.in_ok-blocks.ensures
