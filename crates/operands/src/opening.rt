@@ -3,7 +3,7 @@
 ghost use Rattle.std.specs.Prelude.{◌≡◌, ◌<◌, ◌≤◌, ◌↔◌, ℕ, List, IfOk, length};
 ghost use Rattle.hs_io.specs.Counts.{Rose};
 ghost use Rattle.operands.specs.Fill.{fill_of};
-ghost use Rattle.operands.specs.Inner.Reading.{IsBuiltOf, IsEntryRefusal, IsReadAs, IsReadOf};
+ghost use Rattle.operands.specs.Inner.Reading.{IsBuiltOf, IsEntryRefusal, IsMachineOf, IsReadAs, IsReadOf};
 ghost use Rattle.operands.specs.Opened.{IsNetOpened, IsOpened};
 ghost use Rattle.operands.specs.Loading.{IsShortText};
 ghost use Rattle.kiss_file.specs.Lawful.{IsLawful};
@@ -55,19 +55,28 @@ fn read_machine(alloc: Global, fill: Fill, text: &[u8]) -> Result<OpenedMachine,
     ensures { IsReadOf fill text.now result }
 {
     match read(alloc, text) {
-        Ok(file) => build_machine(alloc, fill, file),
+        Ok(file) => with_machine(alloc, fill, file),
         Err(KissFail::Refused(fault)) => Err(Refusal::NoMachine(fault)),
         Err(KissFail::NoMemory) => Err(Refusal::NoMemory),
     }
 }
 
-/// The machine of the record of a file.
-fn build_machine(alloc: Global, fill: Fill, file: KissFile) -> Result<OpenedMachine, Refusal>
+/// The record of a file with its machine.
+fn with_machine(alloc: Global, fill: Fill, file: KissFile) -> Result<OpenedMachine, Refusal>
     requires { IsLawful file }
     ensures { IsBuiltOf fill file result }
 {
-    match Machine::build(alloc, &file, fill) {
-        Ok(machine) => Ok(OpenedMachine { file, machine }),
+    let machine = build_machine(alloc, fill, &file)?;
+    Ok(OpenedMachine { file, machine })
+}
+
+/// The machine of the record of a file.
+fn build_machine(alloc: Global, fill: Fill, file: &KissFile) -> Result<Machine, Refusal>
+    requires { IsLawful file.now }
+    ensures { IsMachineOf fill file.now result }
+{
+    match Machine::build(alloc, file, fill) {
+        Ok(machine) => Ok(machine),
         Err(BuildFail::Conflict { row_a, row_b }) => Err(Refusal::Conflict {
             row: row_a,
             other: row_b,
@@ -78,7 +87,7 @@ fn build_machine(alloc: Global, fill: Fill, file: KissFile) -> Result<OpenedMach
                 symbol,
                 part,
             },
-        ) => Err(unspecified(alloc, &file, usize::from(state), symbol, part)?),
+        ) => Err(unspecified(alloc, file, usize::from(state), symbol, part)?),
         Err(BuildFail::NoMemory) => Err(Refusal::NoMemory),
     }
 }

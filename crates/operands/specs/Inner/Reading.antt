@@ -23,6 +23,11 @@ IsEntryRefusal F s x part refusal =
     (name : List ℕ) × (refusal ≡ Unspecified name (map digit (symbol_of F.inputs x)) part) × (slice_get F.states s ≡ Some name)
 
 -- the machine of a file, or the refusal that the file calls for
+abbrev pub IsMachineOf : Fill → KissFile → Result KissFile Refusal → Type 0
+IsMachineOf fill F (Ok machine) = (machine ≡ F) × Accepted F fill
+IsMachineOf fill F (Err refusal) = (refusal ≡ NoMemory) ⊎ Conflicts F refusal ⊎ LeavesOpen fill F refusal
+
+-- the same with the record of the file
 abbrev pub IsBuiltOf : Fill → KissFile → Result OpenedMachine Refusal → Type 0
 IsBuiltOf fill F (Ok opened) = (opened.file ≡ F) × (opened.machine ≡ F) × Accepted F fill
 IsBuiltOf fill F (Err refusal) = (refusal ≡ NoMemory) ⊎ Conflicts F refusal ⊎ LeavesOpen fill F refusal

@@ -2,9 +2,9 @@ use Rattle.operands.proofs.Opened.{read_of_built}
 use Rattle.operands.proofs.opening.read_machine.Goals as goal
 use Rattle.kiss2_laws.proofs.ReadLawful.{read_lawful}
 
-pub build_machine-requires : goal.build_machine-requires
-build_machine-requires c = read_lawful c.args.text.now c.in-Ok.file c.in-Ok.ensures.read
+pub with_machine-requires : goal.with_machine-requires
+with_machine-requires c = read_lawful c.args.text.now c.in-Ok.file c.in-Ok.ensures.read
 
 pub returns-in-Ok : goal.returns-in-Ok
 returns-in-Ok c =
-    read_of_built c.args.text.now c.args.fill c.in-Ok.file c.build_machine.result c.in-Ok.ensures.read (read_lawful c.args.text.now c.in-Ok.file c.in-Ok.ensures.read) c.build_machine.ensures
+    read_of_built c.args.text.now c.args.fill c.in-Ok.file c.with_machine.result c.in-Ok.ensures.read (read_lawful c.args.text.now c.in-Ok.file c.in-Ok.ensures.read) c.with_machine.ensures
