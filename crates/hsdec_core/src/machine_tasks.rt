@@ -30,7 +30,7 @@ use machine_reports::{
     check, closed, definite, high, ispairs, low, output, pairs, reduce, sopairs,
 };
 use machine_table::Machine;
-use operands::{OpenedMachine, fill, open_machine};
+use operands::{fill, open_machine};
 use shift_texts::shift;
 use split_texts::decompose;
 use std::alloc::{AllocError, Global};
@@ -53,7 +53,7 @@ pub fn on_machine<F: Shelf>(
     ensures never_falls { F.faults shelf.old ≤ F.faults shelf.new }
 {
     let opened = open_machine(alloc, job, shelf)?;
-    report(alloc, job, task, opened)
+    report(alloc, job, task, &opened.file, opened.machine)
 }
 
 /// Makes what a task asks for of the machine of a file.
@@ -61,19 +61,20 @@ fn report(
     alloc: Global,
     job: &Job,
     task: MachineTask,
-    opened: OpenedMachine,
+    file: &KissFile,
+    machine: Machine,
 ) -> Result<Report, Refusal>
     requires few { task ≡ OfWork (works.Decompose kinds.Assign) → HasFewSlashes job.now.second }
     requires limited { IsLimit job.now.limit }
-    requires lawful { IsLawful opened.file }
-    requires accepted { Accepted opened.file (fill_of job.now) }
-    requires machine { opened.machine ≡ opened.file }
-    ensures { IsReported (own_cause task job.now opened.file) (IsReport task job.now opened.file) (IsShown task job.now opened.file) result }
+    requires lawful { IsLawful file.now }
+    requires accepted { Accepted file.now (fill_of job.now) }
+    requires machine { machine ≡ file.now }
+    ensures { IsReported (own_cause task job.now file.now) (IsReport task job.now file.now) (IsShown task job.now file.now) result }
 {
     match task {
-        MachineTask::Listing(listed) => listing(alloc, listed, &opened.machine, job.limit),
-        MachineTask::OfFile(task) => on_file(alloc, job, task, &opened.file, &opened.machine),
-        MachineTask::OfWork(task) => on_work(alloc, job, task, opened),
+        MachineTask::Listing(listed) => listing(alloc, listed, &machine, job.limit),
+        MachineTask::OfFile(task) => on_file(alloc, job, task, file, &machine),
+        MachineTask::OfWork(task) => on_work(alloc, job, task, file, machine),
     }
 }
 
@@ -104,18 +105,18 @@ fn on_work(
     alloc: Global,
     job: &Job,
     task: WorkTask,
-    opened: OpenedMachine,
+    file: &KissFile,
+    machine: Machine,
 ) -> Result<Report, Refusal>
     requires few { task ≡ works.Decompose kinds.Assign → HasFewSlashes job.now.second }
-    requires lawful { IsLawful opened.file }
-    requires accepted { Accepted opened.file (fill_of job.now) }
-    requires machine { opened.machine ≡ opened.file }
-    ensures { IsReported (work_cause task job.now opened.file) (IsWorkText task job.now opened.file) (λ _. ⊥) result }
+    requires lawful { IsLawful file.now }
+    requires accepted { Accepted file.now (fill_of job.now) }
+    requires machine { machine ≡ file.now }
+    ensures { IsReported (work_cause task job.now file.now) (IsWorkText task job.now file.now) (λ _. ⊥) result }
 {
-    let OpenedMachine { file, machine } = opened;
     match task {
-        WorkTask::Definite => judged(definite(alloc, &file, machine, fill(job), job.reduce)),
-        WorkTask::Shift => judged(shift(alloc, &file, machine, fill(job), job.reduce)),
+        WorkTask::Definite => judged(definite(alloc, file, machine, fill(job), job.reduce)),
+        WorkTask::Shift => judged(shift(alloc, file, machine, fill(job), job.reduce)),
         WorkTask::Decompose(kind) => judged(decompose(
             alloc,
             kind,

@@ -16,21 +16,21 @@ decompose-requires-clause-few c = λ assign. parts_few c.args.job.now.second c.b
 
 pub returns-in-Definite : goal.returns-in-Definite
 returns-in-Definite c =
-    let F = c.args.opened.file in
+    let F = c.args.file.now in
     reported_as (λ task. work_cause task c.args.job.now) (λ task. IsWorkText task c.args.job.now) (λ _ _ _. ⊥)
     _ Definite F F c.judged.result c.in-Definite.is refl
     (judged_reported (λ v. v.items) _ _ _ c.definite.result c.judged.result c.judged.ensures (few_of answers.NotDefinite _ (λ e. cc) (not_definite_is_of c.args.job.now.reduce F)) c.definite.ensures)
 
 pub returns-in-Shift : goal.returns-in-Shift
 returns-in-Shift c =
-    let F = c.args.opened.file in
+    let F = c.args.file.now in
     reported_as (λ task. work_cause task c.args.job.now) (λ task. IsWorkText task c.args.job.now) (λ _ _ _. ⊥)
     _ Shift F F c.judged-in-Shift.result c.in-Shift.is refl
     (judged_reported (λ v. v.items) _ _ _ c.shift.result c.judged-in-Shift.result c.judged-in-Shift.ensures (λ refusal h. plain_few _ (shift_plain c.args.job.now.reduce F refusal h)) c.shift.ensures)
 
 pub returns-in-Decompose : goal.returns-in-Decompose
 returns-in-Decompose c =
-    let F = c.args.opened.file in
+    let F = c.args.file.now in
     let kind = c.in-Decompose.kind in
     let reduce = c.args.job.now.reduce in
     reported_as (λ task. work_cause task c.args.job.now) (λ task. IsWorkText task c.args.job.now) (λ _ _ _. ⊥)

@@ -11,14 +11,14 @@ on_work-requires-clause-few c = λ assign. c.requires.few (c.in-OfWork.is ∙ ap
 pub returns-in-Listing : goal.returns-in-Listing
 returns-in-Listing c =
     reported_as (λ task. own_cause task c.args.job.now) (λ task. IsReport task c.args.job.now) (λ task. IsShown task c.args.job.now)
-    _ (Listing c.in-Listing.listed) c.args.opened.file c.args.opened.machine c.listing.result c.in-Listing.is c.requires.machine c.listing.ensures
+    _ (Listing c.in-Listing.listed) c.args.file.now c.args.machine c.listing.result c.in-Listing.is c.requires.machine c.listing.ensures
 
 pub returns-in-OfFile : goal.returns-in-OfFile
 returns-in-OfFile c =
     reported_as (λ task. own_cause task c.args.job.now) (λ task. IsReport task c.args.job.now) (λ task. IsShown task c.args.job.now)
-    _ (OfFile c.in-OfFile.task) c.args.opened.file c.args.opened.file c.on_file.result c.in-OfFile.is refl c.on_file.ensures
+    _ (OfFile c.in-OfFile.task) c.args.file.now c.args.file.now c.on_file.result c.in-OfFile.is refl c.on_file.ensures
 
 pub returns-in-OfWork : goal.returns-in-OfWork
 returns-in-OfWork c =
     reported_as (λ task. own_cause task c.args.job.now) (λ task. IsReport task c.args.job.now) (λ task. IsShown task c.args.job.now)
-    _ (OfWork c.in-OfWork.task) c.args.opened.file c.args.opened.file c.on_work.result c.in-OfWork.is refl c.on_work.ensures
+    _ (OfWork c.in-OfWork.task) c.args.file.now c.args.file.now c.on_work.result c.in-OfWork.is refl c.on_work.ensures
