@@ -3,13 +3,14 @@
 ghost use Rattle.std.specs.Prelude.{◌≡◌, All, IfSome, length};
 ghost use Rattle.partition.specs.Partition.{IsPartition, IsStateCount};
 
-use crate::words::{add, add_between, add_number, cut, number, part};
+use crate::words::{cut, number, part, put_between};
+use case_lines::Answer;
 use dependence::{permits, permits_output};
 use least_codes::{Bit, least_reads, split};
 use machine_table::Machine;
 use partition::Partition;
 use state_codes::{Codes, Kind, encode, given};
-use std::alloc::{AllocError, Global};
+use std::alloc::Global;
 
 /// The partitions of n states that a text says, with slashes between them.
 fn partitions(alloc: Global, text: &str, n: usize) -> Option<Vec<Partition>>
@@ -66,67 +67,81 @@ fn reads(alloc: Global, call: &str, m: &Machine, codes: &Codes, gate: u8, set: u
     None
 }
 
-/// Adds the least reads of a gate.
-pub(crate) fn add_reads(
-    alloc: Global,
-    call: &str,
-    words: &str,
-    m: &Machine,
-    text: &mut Vec<u8>,
-) -> Option<()> {
+/// Puts the least reads of a gate.
+pub(crate) fn put_reads(alloc: Global, call: &str, words: &str, m: &Machine, answer: &mut Answer) {
+    match reads_of(alloc, call, words, m) {
+        Some(set) => put_set(set, answer),
+        None => answer.fail(),
+    }
+}
+
+/// The least reads of the gate that words say.
+fn reads_of(alloc: Global, call: &str, words: &str, m: &Machine) -> Option<u64> {
     let (parts, words) = cut(words);
     let (gate, list) = cut(words);
     let (gate, set) = (number(gate)?, set_of(list)?);
-    m.keeps_its_states();
-    let parts = partitions(alloc, parts, m.states())?;
-    let codes = codes(alloc, parts, m.states())?;
-    if codes.words.as_slice().len() != m.states() {
-        return None;
-    }
-    let found = reads(alloc, call, m, &codes, gate, set)?;
-    add_set(found, text).ok()
+    let codes = codes_of(alloc, parts, m)?;
+    reads(alloc, call, m, &codes, gate, set)
 }
 
-/// Adds the bits of a set.
-fn add_set(set: u64, text: &mut Vec<u8>) -> Result<(), AllocError> {
-    let mut between = "";
+/// The codes of the states that a text gives by partitions.
+fn codes_of(alloc: Global, text: &str, m: &Machine) -> Option<Codes>
+    ensures { IfSome result (λ codes. length codes.words ≡ length m.now.states) }
+{
+    m.keeps_its_states();
+    let parts = partitions(alloc, text, m.states())?;
+    match codes(alloc, parts, m.states()) {
+        Some(codes) if codes.words.as_slice().len() == m.states() => Some(codes),
+        _ => None,
+    }
+}
+
+/// Puts the bits of a set.
+fn put_set(set: u64, answer: &mut Answer) {
+    if set == 0 {
+        return answer.add(b"none");
+    }
+    let mut between = b"".as_slice();
     for bit in 0..64u8 {
         if set >> bit & 1 == 1 {
-            add(text, between)?;
-            add_number(u64::from(bit), text)?;
-            between = ",";
+            answer.add(between);
+            answer.add_number(u64::from(bit));
+            between = b",";
         }
     }
-    add(text, if set == 0 { "none" } else { "" })
 }
 
-/// Adds the least code of a machine of 3 to 8 states.
-pub(crate) fn add_least_code(alloc: Global, m: &Machine, text: &mut Vec<u8>) -> Option<()> {
+/// Puts the least code of a machine of 3 to 8 states.
+pub(crate) fn put_least_code(alloc: Global, m: &Machine, answer: &mut Answer) {
+    match least_code(alloc, m) {
+        Some(codes) => put_codes(&codes, answer),
+        None => answer.fail(),
+    }
+}
+
+/// The least code of a machine of 3 to 8 states.
+fn least_code(alloc: Global, m: &Machine) -> Option<Codes> {
     let n = m.states();
     if n < 3 || n > 8 {
         return None;
     }
-    let split = split(alloc, m).ok()?;
-    if split.kind != Kind::Least {
-        return None;
+    match split(alloc, m) {
+        Ok(split) if split.kind == Kind::Least => encode(alloc, &split, n).ok(),
+        _ => None,
     }
-    let codes = encode(alloc, &split, n).ok()?;
-    add_codes(&codes, text).ok()
 }
 
-/// Adds the code of each state, bit 0 first, with a space between each two.
-fn add_codes(codes: &Codes, text: &mut Vec<u8>) -> Result<(), AllocError> {
+/// Puts the code of each state, bit 0 first, with a space between each two.
+fn put_codes(codes: &Codes, answer: &mut Answer) {
     for (state, word) in codes.words.as_slice().iter().enumerate() {
-        add_between(text, state)?;
-        add_bits(*word, codes.bits, text)?;
+        put_between(state, answer);
+        put_bits(*word, codes.bits, answer);
     }
-    Ok(())
 }
 
-/// Adds the bits of a word, bit 0 first.
-fn add_bits(word: u64, bits: usize, text: &mut Vec<u8>) -> Result<(), AllocError> {
+/// Puts the bits of a word, bit 0 first.
+fn put_bits(word: u64, bits: usize, answer: &mut Answer) {
     for bit in 0..bits {
-        add_number(word >> (bit & 63) & 1, text)?;
+        answer.add_number(word >> (bit & 63) & 1);
     }
-    Ok(())
 }

@@ -16,7 +16,7 @@ mod words;
 mod worlds;
 
 use anyhow::{Context, ensure};
-use case_lines::{Calls, agree};
+use case_lines::{Answer, Calls, agree};
 use kiss_file::{Fill, KissFile};
 use kiss2::read;
 use kiss2_laws::read_is_lawful;
@@ -24,7 +24,7 @@ use machine_table::{Machine, lawful_is_a_table};
 use std::alloc::Global;
 use std::fs;
 use std::rt::Files;
-use words::{add, cut};
+use words::cut;
 
 /// The files of cases.
 static FILES: [&str; 4] = [
@@ -52,59 +52,58 @@ impl Calls for MachineCalls {
 
 /// What a call answers for the machine of a file.
 fn answer_of(alloc: Global, call: &str, words: &str, bytes: &[u8]) -> anyhow::Result<String> {
-    let mut text = Vec::new(alloc);
-    if add_answer_of(alloc, call, words, bytes, &mut text).is_none() {
-        add(&mut text, "no answer")?;
-    }
-    String::from_utf8(text).ok().context("no text")
+    let mut answer = Answer::new(alloc);
+    put_answer_of(alloc, call, words, bytes, &mut answer);
+    answer.text()
 }
 
-/// Adds what a call answers for the machine of a file. There is none where the file has no machine.
-fn add_answer_of(
-    alloc: Global,
-    call: &str,
-    words: &str,
-    bytes: &[u8],
-    text: &mut Vec<u8>,
-) -> Option<()> {
+/// Puts what a call answers for the machine of a file. The answer fails where the bytes are no file.
+fn put_answer_of(alloc: Global, call: &str, words: &str, bytes: &[u8], answer: &mut Answer) {
     if bytes.len() > 4_194_304 {
-        return None;
+        return answer.fail();
     }
     read_is_lawful();
-    lawful_is_a_table();
-    let Ok(file) = read(alloc, bytes) else {
-        return None;
-    };
-    let Ok(machine) = Machine::build(alloc, &file, Fill::Refuse) else {
-        return None;
-    };
-    add_answer(alloc, call, words, &file, &machine, text)
+    match read(alloc, bytes) {
+        Ok(file) => put_answer_in(alloc, call, words, &file, answer),
+        Err(_) => answer.fail(),
+    }
 }
 
-/// Adds what a call answers for a machine. There is none where the words do not fit the call.
-fn add_answer(
+/// Puts what a call answers for the machine of a file. The answer fails where the file has no machine.
+fn put_answer_in(alloc: Global, call: &str, words: &str, file: &KissFile, answer: &mut Answer)
+    requires { IsLawful file.now }
+{
+    lawful_is_a_table();
+    match Machine::build(alloc, file, Fill::Refuse) {
+        Ok(machine) => put_answer(alloc, call, words, file, &machine, answer),
+        Err(_) => answer.fail(),
+    }
+}
+
+/// Puts what a call answers for a machine. The answer fails where the words do not fit the call.
+fn put_answer(
     alloc: Global,
     call: &str,
     words: &str,
     file: &KissFile,
     m: &Machine,
-    text: &mut Vec<u8>,
-) -> Option<()>
+    answer: &mut Answer,
+)
     requires lawful { IsLawful file.now }
     requires machine { m.now ≡ file.now }
 {
     match call {
-        "chain" => registers::add_chain(alloc, m, text).ok(),
-        "order" => registers::add_order(alloc, m, text),
-        "start" => registers::add_start(alloc, m, text),
-        "register" => registers::add_register(alloc, file, m, text),
-        "cover" => covers::add_cover(alloc, words, m, text),
-        "latch_reads" | "output_reads" => codes::add_reads(alloc, call, words, m, text),
-        "least_code" => codes::add_least_code(alloc, m, text),
-        "mm_least" | "mm_join" | "mm_before" => worlds::add_in_mm_world(
-            alloc, call, words, m, text,
-        ),
-        _ => pairs::add_answer(alloc, call, words, m, text),
+        "chain" => registers::put_chain(alloc, m, answer),
+        "order" => registers::put_order(alloc, m, answer),
+        "start" => registers::put_start(alloc, m, answer),
+        "register" => registers::put_register(alloc, file, m, answer),
+        "cover" => covers::put_cover(alloc, words, m, answer),
+        "latch_reads" | "output_reads" => codes::put_reads(alloc, call, words, m, answer),
+        "least_code" => codes::put_least_code(alloc, m, answer),
+        "mm_least" | "mm_join" | "mm_before" => {
+            worlds::put_in_mm_world(alloc, call, words, m, answer);
+        }
+        _ => pairs::put_answer(alloc, call, words, m, answer),
     }
 }
 

@@ -1,72 +1,57 @@
 //! Networks as texts: their statements in order, joined by semicolons.
 
-use crate::words::{add, add_bytes};
+use case_lines::Answer;
 use hs_io::Names;
 use net_core::{Gate, Latch, Network};
-use std::alloc::AllocError;
 
-/// Adds the statements of a network.
-pub(crate) fn add_network(net: &Network, text: &mut Vec<u8>) -> Result<(), AllocError> {
-    add(text, ".inputs")?;
-    add_names(&net.inputs, text)?;
-    add(text, "; .outputs")?;
-    add_names(&net.outputs, text)?;
-    add_latches(net.latches.as_slice(), text)?;
-    add_gates(net.gates.as_slice(), text)
+/// Puts the statements of a network.
+pub(crate) fn put_network(net: &Network, answer: &mut Answer) {
+    answer.add(b".inputs");
+    put_names(&net.inputs, answer);
+    answer.add(b"; .outputs");
+    put_names(&net.outputs, answer);
+    put_latches(net.latches.as_slice(), answer);
+    put_gates(net.gates.as_slice(), answer);
 }
 
-/// Adds names, each after a space.
-fn add_names(names: &Names, text: &mut Vec<u8>) -> Result<(), AllocError> {
+/// Puts names, each after a space.
+fn put_names(names: &Names, answer: &mut Answer) {
     for name in names.as_slice() {
-        add(text, " ")?;
-        add_bytes(text, name.bytes())?;
+        answer.add_all(&[b" ", name.bytes()]);
     }
-    Ok(())
 }
 
-/// Adds latches: the input, the output and the digit of the start of each.
-fn add_latches(latches: &[Latch], text: &mut Vec<u8>) -> Result<(), AllocError> {
+/// Puts latches: the input, the output and the digit of the start of each.
+fn put_latches(latches: &[Latch], answer: &mut Answer) {
     for latch in latches {
-        add_latch(latch, text)?;
+        let (input, output) = (latch.input.bytes(), latch.output.bytes());
+        let digit = latch.start.digit();
+        answer.add_all(&[b"; .latch ", input, b" ", output, b" ", &[digit]]);
     }
-    Ok(())
 }
 
-/// Adds a latch.
-fn add_latch(latch: &Latch, text: &mut Vec<u8>) -> Result<(), AllocError> {
-    add(text, "; .latch ")?;
-    add_bytes(text, latch.input.bytes())?;
-    add(text, " ")?;
-    add_bytes(text, latch.output.bytes())?;
-    add(text, " ")?;
-    add_bytes(text, &[latch.start.digit()])
-}
-
-/// Adds gates.
-fn add_gates(gates: &[Gate], text: &mut Vec<u8>) -> Result<(), AllocError> {
+/// Puts gates.
+fn put_gates(gates: &[Gate], answer: &mut Answer) {
     for gate in gates {
-        add_gate(gate, text)?;
+        put_gate(gate, answer);
     }
-    Ok(())
 }
 
-/// Adds a gate: what it lists and its output, and then its rows.
-fn add_gate(gate: &Gate, text: &mut Vec<u8>) -> Result<(), AllocError> {
-    add(text, "; .names")?;
-    add_names(&gate.inputs, text)?;
-    add(text, " ")?;
-    add_bytes(text, gate.output.bytes())?;
-    let value = if gate.on { "1" } else { "0" };
+/// Puts a gate: what it lists and its output, and then its rows.
+fn put_gate(gate: &Gate, answer: &mut Answer) {
+    answer.add(b"; .names");
+    put_names(&gate.inputs, answer);
+    answer.add_all(&[b" ", gate.output.bytes()]);
     for row in gate.rows.as_slice() {
-        add_row(row.bytes(), value, text)?;
+        put_row(row.bytes(), gate.on, answer);
     }
-    Ok(())
 }
 
-/// Adds a row and the value that it has.
-fn add_row(row: &[u8], value: &str, text: &mut Vec<u8>) -> Result<(), AllocError> {
-    add(text, "; ")?;
-    add_bytes(text, row)?;
-    add(text, if row.is_empty() { "" } else { " " })?;
-    add(text, value)
+/// Puts a row and the value that it has.
+fn put_row(row: &[u8], on: bool, answer: &mut Answer) {
+    answer.add_all(&[b"; ", row]);
+    if !row.is_empty() {
+        answer.add(b" ");
+    }
+    answer.add_number(u64::from(on));
 }

@@ -3,169 +3,194 @@
 ghost use Rattle.std.specs.Prelude.{◌≤◌};
 ghost use Rattle.io_pairs.specs.Outputs.{AreOutputs};
 
-use crate::words::{add, add_between, add_debug, add_number, add_part, part};
-use crate::worlds::{add_in_listing, add_pair};
-use case_lines::limit;
+use crate::words::{part, put_between, put_part};
+use crate::worlds::{put_in_listing, put_pair};
+use case_lines::{Answer, limit};
 use hs_lattice::Listing;
 use io_pairs::{
     InputWorld, IoPair, OutputWorld, Outs, OutsFail, input_high, input_low, input_pairs,
     output_high, output_low, output_pairs, outputs,
 };
 use machine_table::Machine;
-use std::alloc::{AllocError, Global};
+use partition::Partition;
+use std::alloc::Global;
 
-/// Adds what a call answers.
-pub(crate) fn add_answer(
-    alloc: Global,
-    call: &str,
-    words: &str,
-    m: &Machine,
-    text: &mut Vec<u8>,
-) -> Option<()> {
+/// Puts what a call answers.
+pub(crate) fn put_answer(alloc: Global, call: &str, words: &str, m: &Machine, answer: &mut Answer) {
     if m.inputs() > 8 {
-        return None;
+        return answer.fail();
     }
     if call.starts_with("input_") {
-        return add_of_inputs(alloc, call, words, m, text);
+        return put_of_inputs(alloc, call, words, m, answer);
     }
     match outputs(alloc, m) {
-        Ok(outs) => add_of_outputs(alloc, call, words, m, &outs, text),
-        Err(OutsFail::TooMany) => add(text, "too many").ok(),
-        Err(OutsFail::NoMemory) => None,
+        Ok(outs) => put_of_outputs(alloc, call, words, m, &outs, answer),
+        Err(OutsFail::TooMany) => answer.add(b"too many"),
+        Err(OutsFail::NoMemory) => answer.fail(),
     }
 }
 
-/// Adds what is asked of symbols and states.
-fn add_of_inputs(
-    alloc: Global,
-    call: &str,
-    words: &str,
-    m: &Machine,
-    text: &mut Vec<u8>,
-) -> Option<()>
+/// Puts what is asked of symbols and states.
+fn put_of_inputs(alloc: Global, call: &str, words: &str, m: &Machine, answer: &mut Answer)
     requires { m.now.inputs ≤ 8 }
 {
-    m.keeps_its_states();
     match call {
-        "input_pairs" | "input_pair_count" => {
-            let listing = input_pairs(alloc, m, limit(words).ok()?.0).ok()?;
-            add_listing(alloc, call == "input_pairs", &listing, text).ok()
-        }
-        "input_low" => {
-            let p = part(alloc, words, 1usize << m.inputs())?;
-            add_part(alloc, &input_low(alloc, m, &p).ok()?, text).ok()
-        }
-        "input_high" => {
-            let q = part(alloc, words, m.states())?;
-            add_part(alloc, &input_high(alloc, m, &q).ok()?, text).ok()
-        }
-        _ => add_in_input_world(alloc, call, words, m, text),
+        "input_pairs" => put_pairs(alloc, listed_inputs(alloc, words, m), answer),
+        "input_pair_count" => put_count(listed_inputs(alloc, words, m), answer),
+        "input_low" => put_made(alloc, low_of_symbols(alloc, words, m), answer),
+        "input_high" => put_made(alloc, high_of_states(alloc, words, m), answer),
+        _ => put_in_input_world(alloc, call, words, m, answer),
     }
 }
 
-/// Adds what is asked of states and outputs.
-fn add_of_outputs(
+/// The pairs of symbols and states, up to the limit that words say.
+fn listed_inputs(alloc: Global, words: &str, m: &Machine) -> Option<Listing<IoPair>>
+    requires { m.now.inputs ≤ 8 }
+{
+    let (most, _) = limit(words).ok()?;
+    input_pairs(alloc, m, most).ok()
+}
+
+/// The least partition of the states that makes a pair with one of the symbols.
+fn low_of_symbols(alloc: Global, words: &str, m: &Machine) -> Option<Partition>
+    requires { m.now.inputs ≤ 8 }
+{
+    let p = part(alloc, words, 1usize << m.inputs())?;
+    input_low(alloc, m, &p).ok()
+}
+
+/// The greatest partition of the symbols that makes a pair with one of the states.
+fn high_of_states(alloc: Global, words: &str, m: &Machine) -> Option<Partition>
+    requires { m.now.inputs ≤ 8 }
+{
+    let q = part(alloc, words, m.states())?;
+    input_high(alloc, m, &q).ok()
+}
+
+/// Puts what is asked of states and outputs.
+fn put_of_outputs(
     alloc: Global,
     call: &str,
     words: &str,
     m: &Machine,
     outs: &Outs,
-    text: &mut Vec<u8>,
-) -> Option<()>
+    answer: &mut Answer,
+)
     requires inputs { m.now.inputs ≤ 8 }
     requires outs { AreOutputs m.now outs.now }
 {
-    m.keeps_its_states();
     match call {
-        "outputs" => add_debug(alloc, &outs.as_slice(), text).ok(),
-        "output_pairs" | "output_pair_count" => {
-            let listing = output_pairs(alloc, m, outs, limit(words).ok()?.0).ok()?;
-            add_listing(alloc, call == "output_pairs", &listing, text).ok()
-        }
-        "output_low" => {
-            let p = part(alloc, words, m.states())?;
-            add_part(alloc, &output_low(alloc, m, outs, &p).ok()?, text).ok()
-        }
-        "output_high" => add_output_high(alloc, words, m, outs, text),
-        _ => add_in_output_world(alloc, call, words, m, outs, text),
+        "outputs" => answer.add_displayed(format_args!("{:?}", outs.as_slice())),
+        "output_pairs" => put_pairs(alloc, listed_outputs(alloc, words, m, outs), answer),
+        "output_pair_count" => put_count(listed_outputs(alloc, words, m, outs), answer),
+        "output_low" => put_made(alloc, low_of_states(alloc, words, m, outs), answer),
+        "output_high" => put_made(alloc, high_of_outputs(alloc, words, m, outs), answer),
+        _ => put_in_output_world(alloc, call, words, m, outs, answer),
     }
 }
 
-/// Adds the greatest partition of the states that makes a pair with one of the outputs.
-fn add_output_high(
-    alloc: Global,
-    words: &str,
-    m: &Machine,
-    outs: &Outs,
-    text: &mut Vec<u8>,
-) -> Option<()>
+/// The pairs of states and outputs, up to the limit that words say.
+fn listed_outputs(alloc: Global, words: &str, m: &Machine, outs: &Outs) -> Option<Listing<IoPair>>
+    requires inputs { m.now.inputs ≤ 8 }
+    requires outs { AreOutputs m.now outs.now }
+{
+    let (most, _) = limit(words).ok()?;
+    output_pairs(alloc, m, outs, most).ok()
+}
+
+/// The least partition of the outputs that makes a pair with one of the states.
+fn low_of_states(alloc: Global, words: &str, m: &Machine, outs: &Outs) -> Option<Partition>
+    requires inputs { m.now.inputs ≤ 8 }
+    requires outs { AreOutputs m.now outs.now }
+{
+    let p = part(alloc, words, m.states())?;
+    output_low(alloc, m, outs, &p).ok()
+}
+
+/// The greatest partition of the states that makes a pair with one of the outputs.
+fn high_of_outputs(alloc: Global, words: &str, m: &Machine, outs: &Outs) -> Option<Partition>
     requires inputs { m.now.inputs ≤ 8 }
     requires outs { AreOutputs m.now outs.now }
 {
     let q = part(alloc, words, outs.as_slice().len())?;
-    add_part(alloc, &output_high(alloc, m, outs, &q).ok()?, text).ok()
+    output_high(alloc, m, outs, &q).ok()
 }
 
-/// Adds the pairs of a listing or their number, after `more` where the listing is not whole.
-fn add_listing(
-    alloc: Global,
-    all: bool,
-    listing: &Listing<IoPair>,
-    text: &mut Vec<u8>,
-) -> Result<(), AllocError> {
-    let (word, pairs) = match listing {
-        Listing::Whole(pairs) => ("", pairs.as_slice()),
-        Listing::More(pairs) => ("more ", pairs.as_slice()),
-    };
-    add(text, word)?;
-    if all {
-        add_pairs(alloc, pairs, text)
-    } else {
-        add_number(pairs.len() as u64, text)
+/// Puts a partition, if there is one.
+fn put_made(alloc: Global, made: Option<Partition>, answer: &mut Answer) {
+    match made {
+        Some(p) => put_part(alloc, &p, answer),
+        None => answer.fail(),
     }
 }
 
-/// Adds pairs with a space between each two.
-fn add_pairs(alloc: Global, pairs: &[IoPair], text: &mut Vec<u8>) -> Result<(), AllocError> {
+/// Puts the pairs of a listing, if there is one, with a space between each two.
+fn put_pairs(alloc: Global, listing: Option<Listing<IoPair>>, answer: &mut Answer) {
+    match listing {
+        Some(listing) => {
+            let pairs = marked(&listing, answer);
+            put_each(alloc, pairs, answer);
+        }
+        None => answer.fail(),
+    }
+}
+
+/// Puts the number of pairs of a listing, if there is one.
+fn put_count(listing: Option<Listing<IoPair>>, answer: &mut Answer) {
+    match listing {
+        Some(listing) => {
+            let pairs = marked(&listing, answer);
+            answer.add_number(pairs.len() as u64);
+        }
+        None => answer.fail(),
+    }
+}
+
+/// The pairs of a listing. Puts `more` where it is not whole.
+fn marked<'a>(listing: &'a Listing<IoPair>, answer: &mut Answer) -> &'a [IoPair] {
+    match listing {
+        Listing::Whole(pairs) => pairs.as_slice(),
+        Listing::More(pairs) => {
+            answer.add(b"more ");
+            pairs.as_slice()
+        }
+    }
+}
+
+/// Puts pairs with a space between each two.
+fn put_each(alloc: Global, pairs: &[IoPair], answer: &mut Answer) {
     for (place, pair) in pairs.iter().enumerate() {
-        add_between(text, place)?;
-        add_pair(alloc, pair, text)?;
+        put_between(place, answer);
+        put_pair(alloc, pair, answer);
     }
-    Ok(())
 }
 
-/// Adds what is asked of the world of pairs of symbols and states.
-fn add_in_input_world(
-    alloc: Global,
-    call: &str,
-    words: &str,
-    m: &Machine,
-    text: &mut Vec<u8>,
-) -> Option<()>
+/// Puts what is asked of the world of pairs of symbols and states.
+fn put_in_input_world(alloc: Global, call: &str, words: &str, m: &Machine, answer: &mut Answer)
     requires { m.now.inputs ≤ 8 }
 {
     let world = InputWorld { machine: m };
     match input_pairs(alloc, m, 10000) {
-        Ok(listing) => add_in_listing(alloc, &world, call, words, &listing, text),
-        Err(_) => None,
+        Ok(listing) => put_in_listing(alloc, &world, call, words, &listing, answer),
+        Err(_) => answer.fail(),
     }
 }
 
-/// Adds what is asked of the world of pairs of states and outputs.
-fn add_in_output_world(
+/// Puts what is asked of the world of pairs of states and outputs.
+fn put_in_output_world(
     alloc: Global,
     call: &str,
     words: &str,
     m: &Machine,
     outs: &Outs,
-    text: &mut Vec<u8>,
-) -> Option<()>
+    answer: &mut Answer,
+)
     requires inputs { m.now.inputs ≤ 8 }
     requires outs { AreOutputs m.now outs.now }
 {
     let world = OutputWorld { machine: m, outs };
     match output_pairs(alloc, m, outs, 10000) {
-        Ok(listing) => add_in_listing(alloc, &world, call, words, &listing, text),
-        Err(_) => None,
+        Ok(listing) => put_in_listing(alloc, &world, call, words, &listing, answer),
+        Err(_) => answer.fail(),
     }
 }

@@ -1,52 +1,44 @@
 //! The calls of `shift_real`.
 
-ghost use Rattle.std.specs.Prelude.{◌≡◌, IfSome};
+ghost use Rattle.std.specs.Prelude.{◌≡◌, ℕ, IfSome};
 ghost use Rattle.kiss_file.specs.Lawful.{IsLawful};
 ghost use Rattle.shift_real.specs.Register.{HasShortOrder};
+ghost use Rattle.shift_real.specs.ShiftNetwork.{AreNamesFor};
 
-use crate::networks::add_network;
-use crate::words::{add, add_between, add_number, add_part};
+use crate::networks::put_network;
+use crate::words::{put_between, put_part};
+use case_lines::Answer;
 use kiss_file::KissFile;
 use machine_table::Machine;
+use net_core::SignalNames;
 use partition::Partition;
 use realise::{names, names_apart};
 use shift_real::{OrderFail, RegisterFail, chain, order, register, start};
-use std::alloc::{AllocError, Global};
+use std::alloc::Global;
 
-/// Adds the members of the chain.
-pub(crate) fn add_chain(alloc: Global, m: &Machine, text: &mut Vec<u8>) -> Result<(), AllocError> {
-    let members = chain(alloc, m)?;
-    add_partitions(alloc, members.as_slice(), text)
+/// Puts the members of the chain.
+pub(crate) fn put_chain(alloc: Global, m: &Machine, answer: &mut Answer) {
+    match chain(alloc, m) {
+        Ok(members) => put_partitions(alloc, members.as_slice(), answer),
+        Err(_) => answer.fail(),
+    }
 }
 
-/// Adds partitions with a space between each two.
-fn add_partitions(
-    alloc: Global,
-    members: &[Partition],
-    text: &mut Vec<u8>,
-) -> Result<(), AllocError> {
+/// Puts partitions with a space between each two.
+fn put_partitions(alloc: Global, members: &[Partition], answer: &mut Answer) {
     for (place, member) in members.iter().enumerate() {
-        add_between(text, place)?;
-        add_part(alloc, member, text)?;
+        put_between(place, answer);
+        put_part(alloc, member, answer);
     }
-    Ok(())
 }
 
-/// Adds the order, or the states that stay apart.
-pub(crate) fn add_order(alloc: Global, m: &Machine, text: &mut Vec<u8>) -> Option<()> {
+/// Puts the order, or the states that stay apart.
+pub(crate) fn put_order(alloc: Global, m: &Machine, answer: &mut Answer) {
     match order(alloc, m) {
-        Ok(order) => add_number(order as u64, text).ok(),
-        Err(OrderFail::NotDefinite { s, t }) => add_apart(s, t, text).ok(),
-        Err(OrderFail::NoMemory) => None,
+        Ok(order) => answer.add_number(order as u64),
+        Err(OrderFail::NotDefinite { s, t }) => answer.add_displayed(format_args!("apart {s} {t}")),
+        Err(OrderFail::NoMemory) => answer.fail(),
     }
-}
-
-/// Adds two states that stay apart.
-fn add_apart(s: u16, t: u16, text: &mut Vec<u8>) -> Result<(), AllocError> {
-    add(text, "apart ")?;
-    add_number(u64::from(s), text)?;
-    add(text, " ")?;
-    add_number(u64::from(t), text)
 }
 
 /// The order of a machine, if its register has at most 12 latches.
@@ -61,34 +53,46 @@ fn short_order(alloc: Global, m: &Machine) -> Option<usize>
     }
 }
 
-/// Adds what the latches of the register start at, as a number, or that the reset state is not reached.
-pub(crate) fn add_start(alloc: Global, m: &Machine, text: &mut Vec<u8>) -> Option<()> {
-    let _k = short_order(alloc, m)?;
+/// Puts what the latches of the register start at, as a number, or that the reset state is not reached.
+pub(crate) fn put_start(alloc: Global, m: &Machine, answer: &mut Answer) {
+    let Some(_k) = short_order(alloc, m) else {
+        return answer.fail();
+    };
     match start(alloc, m) {
-        Ok(number) => add_number(number, text).ok(),
-        Err(RegisterFail::NotReached) => add(text, "not reached").ok(),
-        Err(RegisterFail::NoMemory) => None,
+        Ok(number) => answer.add_number(number),
+        Err(fail) => put_fail(&fail, answer),
     }
 }
 
-/// Adds the statements of the register of a file's machine, or that the reset state is not reached.
-pub(crate) fn add_register(
-    alloc: Global,
-    file: &KissFile,
-    m: &Machine,
-    text: &mut Vec<u8>,
-) -> Option<()>
+/// Puts why there is no register.
+fn put_fail(fail: &RegisterFail, answer: &mut Answer) {
+    match fail {
+        RegisterFail::NotReached => answer.add(b"not reached"),
+        RegisterFail::NoMemory => answer.fail(),
+    }
+}
+
+/// Puts the statements of the register of a file's machine, or that the reset state is not reached.
+pub(crate) fn put_register(alloc: Global, file: &KissFile, m: &Machine, answer: &mut Answer)
     requires lawful { IsLawful file.now }
     requires machine { m.now ≡ file.now }
 {
-    let k = short_order(alloc, m)?;
-    names_apart();
-    let Ok(names) = names(alloc, file, k * usize::from(m.inputs())) else {
-        return None;
+    let Some(k) = short_order(alloc, m) else {
+        return answer.fail();
     };
-    match register(alloc, m, &names) {
-        Ok(net) => add_network(&net, text).ok(),
-        Err(RegisterFail::NotReached) => add(text, "not reached").ok(),
-        Err(RegisterFail::NoMemory) => None,
+    names_apart();
+    match names(alloc, file, k * usize::from(m.inputs())) {
+        Ok(names) => put_register_with(alloc, m, &names, answer),
+        Err(_) => answer.fail(),
+    }
+}
+
+/// Puts the statements of the register that has these names, or that the reset state is not reached.
+fn put_register_with(alloc: Global, m: &Machine, names: &SignalNames, answer: &mut Answer)
+    requires { (k : ℕ) × HasShortOrder m.now k × AreNamesFor m.now k names.now }
+{
+    match register(alloc, m, names) {
+        Ok(net) => put_network(&net, answer),
+        Err(fail) => put_fail(&fail, answer),
     }
 }

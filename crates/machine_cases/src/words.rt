@@ -3,10 +3,9 @@
 ghost use Rattle.std.specs.Prelude.{IfSome};
 ghost use Rattle.partition.specs.Partition.{IsPartition};
 
-use itoa::Buffer;
+use case_lines::Answer;
 use partition::Partition;
-use std::alloc::{AllocError, Global};
-use std::fmt::Debug;
+use std::alloc::Global;
 
 /// The first word, and the words after it.
 pub(crate) fn cut(words: &str) -> (&str, &str) {
@@ -31,37 +30,18 @@ pub(crate) fn part(alloc: Global, word: &str, n: usize) -> Option<Partition>
     }
 }
 
-/// Adds a piece of text.
-pub(crate) fn add(text: &mut Vec<u8>, piece: &str) -> Result<(), AllocError> {
-    text.extend_from_slice(piece.as_bytes())
+/// Puts nothing in the first place and a space in the others.
+pub(crate) fn put_between(place: usize, answer: &mut Answer) {
+    if place > 0 {
+        answer.add(b" ");
+    }
 }
 
-/// Adds bytes.
-pub(crate) fn add_bytes(text: &mut Vec<u8>, piece: &[u8]) -> Result<(), AllocError> {
-    text.extend_from_slice(piece)
-}
-
-/// Adds nothing in the first place and a space in the others.
-pub(crate) fn add_between(text: &mut Vec<u8>, place: usize) -> Result<(), AllocError> {
-    add(text, if place == 0 { "" } else { " " })
-}
-
-/// Adds a number.
-pub(crate) fn add_number(number: u64, text: &mut Vec<u8>) -> Result<(), AllocError> {
-    add(text, Buffer::new().format(number))
-}
-
-/// Adds a partition.
-pub(crate) fn add_part(alloc: Global, p: &Partition, text: &mut Vec<u8>) -> Result<(), AllocError> {
-    p.show(alloc, text)
-}
-
-/// Adds a value as it is written for debugging.
-pub(crate) fn add_debug<T: Debug>(
-    alloc: Global,
-    value: &T,
-    text: &mut Vec<u8>,
-) -> Result<(), AllocError> {
-    let words = format!(in alloc; "{value:?}")?;
-    add(text, words.as_str())
+/// Puts a partition.
+pub(crate) fn put_part(alloc: Global, p: &Partition, answer: &mut Answer) {
+    let mut text = Vec::new(alloc);
+    if p.show(alloc, &mut text).is_err() {
+        answer.fail();
+    }
+    answer.add(text.as_slice());
 }

@@ -3,13 +3,14 @@
 ghost use Rattle.std.specs.Prelude.{All};
 ghost use Rattle.hs_lattice.specs.Listing.{IfWhole};
 
-use crate::words::{add, add_debug, add_part, cut, number};
+use crate::words::{cut, number, put_part};
+use case_lines::Answer;
 use hs_lattice::{JoinWorld, Listing};
 use io_pairs::IoPair;
 use machine_table::Machine;
 use mm_lattice::{MmPair, MmWorld};
 use partition::Partition;
-use std::alloc::{AllocError, Global};
+use std::alloc::Global;
 
 /// A pair of two partitions.
 pub(crate) trait Sided {
@@ -40,93 +41,94 @@ impl Sided for MmPair {
     }
 }
 
-/// Adds the sides of a pair with a bar between them.
-pub(crate) fn add_pair<P: Sided>(
-    alloc: Global,
-    pair: &P,
-    text: &mut Vec<u8>,
-) -> Result<(), AllocError> {
-    add_part(alloc, pair.left(), text)?;
-    add(text, "|")?;
-    add_part(alloc, pair.right(), text)
+/// Puts the sides of a pair with a bar between them.
+pub(crate) fn put_pair<P: Sided>(alloc: Global, pair: &P, answer: &mut Answer) {
+    put_part(alloc, pair.left(), answer);
+    answer.add(b"|");
+    put_part(alloc, pair.right(), answer);
 }
 
-/// Adds what is asked of the world of Mm pairs.
-pub(crate) fn add_in_mm_world(
+/// Puts what is asked of the world of Mm pairs.
+pub(crate) fn put_in_mm_world(
     alloc: Global,
     call: &str,
     words: &str,
     m: &Machine,
-    text: &mut Vec<u8>,
-) -> Option<()> {
+    answer: &mut Answer,
+) {
     let world = MmWorld { machine: m };
     match mm_lattice::all(alloc, m, 10000) {
-        Ok(listing) => add_in_listing(alloc, &world, call, words, &listing, text),
-        Err(_) => None,
+        Ok(listing) => put_in_listing(alloc, &world, call, words, &listing, answer),
+        Err(_) => answer.fail(),
     }
 }
 
-/// Adds what is asked of a world with a whole listing.
-pub(crate) fn add_in_listing<P: Sided, W: JoinWorld<Item = P>>(
+/// Puts what is asked of a world with a whole listing.
+pub(crate) fn put_in_listing<P: Sided, W: JoinWorld<Item = P>>(
     alloc: Global,
     world: &W,
     call: &str,
     words: &str,
     listing: &Listing<P>,
-    text: &mut Vec<u8>,
-) -> Option<()>
+    answer: &mut Answer,
+)
     requires world { W.lawful world.now }
     requires listing { IfWhole listing.now (All (λ pair. W.fits world.now (W.meaning pair))) }
 {
     match listing {
-        Listing::Whole(pairs) => { add_in_world(alloc, world, call, words, pairs.as_slice(), text) }
-        Listing::More(_) => None,
+        Listing::Whole(pairs) => put_in_world(alloc, world, call, words, pairs.as_slice(), answer),
+        Listing::More(_) => answer.fail(),
     }
 }
 
-/// Adds what is asked of a world and of the pairs at two places of its listing.
-fn add_in_world<P: Sided, W: JoinWorld<Item = P>>(
+/// Puts what is asked of a world and of the pairs at two places of its listing.
+fn put_in_world<P: Sided, W: JoinWorld<Item = P>>(
     alloc: Global,
     world: &W,
     call: &str,
     words: &str,
     pairs: &[P],
-    text: &mut Vec<u8>,
-) -> Option<()>
+    answer: &mut Answer,
+)
     requires world { W.lawful world.now }
     requires pairs { All (λ pair. W.fits world.now (W.meaning pair)) pairs.now }
 {
     let (i, j) = cut(words);
-    let x = pairs.get(usize::from(number(i).unwrap_or(0)))?;
-    let y = pairs.get(usize::from(number(j).unwrap_or(0)))?;
-    add_of_two(alloc, world, call, x, y, text).ok()
+    let Some(x) = pairs.get(usize::from(number(i).unwrap_or(0))) else {
+        return answer.fail();
+    };
+    let Some(y) = pairs.get(usize::from(number(j).unwrap_or(0))) else {
+        return answer.fail();
+    };
+    put_of_two(alloc, world, call, x, y, answer);
 }
 
-/// Adds the least pair of a world, the join of two pairs, or whether the first comes before the second.
-fn add_of_two<P: Sided, W: JoinWorld<Item = P>>(
+/// Puts the least pair of a world, the join of two pairs, or whether the first comes before the second.
+fn put_of_two<P: Sided, W: JoinWorld<Item = P>>(
     alloc: Global,
     world: &W,
     call: &str,
     x: &P,
     y: &P,
-    text: &mut Vec<u8>,
-) -> Result<(), AllocError>
+    answer: &mut Answer,
+)
     requires world { W.lawful world.now }
     requires x { W.fits world.now (W.meaning x.now) }
     requires y { W.fits world.now (W.meaning y.now) }
 {
     match call {
-        "input_least" | "output_least" | "mm_least" => add_pair(alloc, &world.bottom(alloc)?, text),
-        "input_join" | "output_join" | "mm_join" => add_pair(
-            alloc,
-            &world.join(alloc, x, y)?,
-            text,
-        ),
-        "input_before" | "output_before" | "mm_before" => add_debug(
-            alloc,
-            &world.before(x, y),
-            text,
-        ),
-        _ => add(text, "no such call"),
+        "input_least" | "output_least" | "mm_least" => match world.bottom(alloc) {
+            Ok(pair) => put_pair(alloc, &pair, answer),
+            Err(_) => answer.fail(),
+        },
+        "input_join" | "output_join" | "mm_join" => match world.join(alloc, x, y) {
+            Ok(pair) => put_pair(alloc, &pair, answer),
+            Err(_) => answer.fail(),
+        },
+        "input_before" | "output_before" | "mm_before" => {
+            let before = world.before(x, y);
+            answer.add_displayed(format_args!("{before:?}"));
+        }
+        _ => answer.fail(),
     }
 }

@@ -1,8 +1,8 @@
 use Rattle.io_pairs.specs.Outputs.{IsOutMmPair}
 use Rattle.io_pairs.specs.Sides.{RightBefore, sides_of}
 use Rattle.machine_cases.proofs.Listed.{whole_has}
-use Rattle.machine_cases.proofs.pairs.add_in_output_world.Goals as goal
+use Rattle.machine_cases.proofs.pairs.put_in_output_world.Goals as goal
 
-pub add_in_listing-requires-clause-listing : goal.add_in_listing-requires-clause-listing
-add_in_listing-requires-clause-listing c =
+pub put_in_listing-requires-clause-listing : goal.put_in_listing-requires-clause-listing
+put_in_listing-requires-clause-listing c =
     whole_has RightBefore (IsOutMmPair c.args.m.now) sides_of c.in-Ok.listing c.in-Ok.ensures.whole
