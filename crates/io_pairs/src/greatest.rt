@@ -3,8 +3,9 @@
 //! At first all members are in one class. One function after another, the classes are split by the labels of
 //! the values, and numbered anew by first appearance.
 
-ghost use Rattle.std.specs.Prelude.{◌≡◌, ◌<◌, ◌+◌, ◌*◌, ℕ, IfOk, length, slice_index};
-ghost use Rattle.io_pairs.specs.Inner.Families.{IsFamily, IsParted, functions_of};
+ghost use Rattle.std.specs.Prelude.{◌≡◌, ◌<◌, ◌+◌, ◌*◌, ℕ, IfOk, OnOk, length, slice_index};
+ghost use Rattle.io_pairs.specs.Inner.Families.{IsFamily, IsParted, IsSplit, functions_of};
+ghost use Rattle.io_pairs.specs.Inner.Marks.{AreMarksBefore};
 ghost use Rattle.partition.specs.Partition.{IsPartition};
 
 use crate::family::Family;
@@ -36,6 +37,28 @@ fn splits(
     Ok(numbers)
 }
 
+/// The classes, split by the labels of the values and numbered by first appearance.
+fn split(
+    alloc: Global,
+    marks: &mut [Mark],
+    turn: u16,
+    classes: &[u16],
+    function: &[u16],
+    q: &Partition,
+) -> Result<Vec<u16>, AllocError>
+    requires lawful { IsPartition (length q.now) q.now }
+    requires classes { IsPartition (length classes.now) classes.now }
+    requires function { length function.now ≡ length classes.now }
+    requires values { (x : ℕ) → x < length classes.now → slice_index function.now x < length q.now }
+    requires marks { AreMarksBefore turn marks.old }
+    requires room { length marks.old ≡ length classes.now * length q.now }
+    ensures marks { OnOk result (AreMarksBefore (turn + 1) marks.new) }
+    ensures split { IfOk result (λ new. IsSplit classes.now function.now q.now new.items) }
+{
+    let numbers = splits(alloc, classes, function, q)?;
+    numbered(alloc, marks, turn, numbers.as_slice())
+}
+
 /// The greatest partition of the members that makes a pair with q: two are together exactly where they go together.
 pub(crate) fn greatest_partner(
     alloc: Global,
@@ -52,8 +75,7 @@ pub(crate) fn greatest_partner(
     let mut classes = vec![in alloc; 0; family.members]?;
     for k in 0..family.functions.len() {
         let function = family.functions[k].as_slice();
-        let numbers = splits(alloc, classes.as_slice(), function, q)?;
-        classes = numbered(alloc, marks, k as u16 + 1, numbers.as_slice())?;
+        classes = split(alloc, marks, k as u16 + 1, classes.as_slice(), function, q)?;
     }
     Partition::of_lawful(alloc, classes.as_slice())
 }

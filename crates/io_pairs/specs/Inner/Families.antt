@@ -54,6 +54,16 @@ pub record IsPartedBelow (members : ℕ) (functions : List (List ℕ)) (count : 
 abbrev pub IsParted : ℕ → List (List ℕ) → List ℕ → List ℕ → Type 0
 IsParted members functions q p = IsPartedBelow members functions (length functions) q p
 
+-- the two members were together in the classes, and the function puts them into values that are together in q
+pub record StayTogether (classes function q : List ℕ) (x y : ℕ) : Type 0 where
+  pub before : Together classes x y
+  pub going : Together q (slice_index function x) (slice_index function y)
+
+-- the classes, split by the values of a function in q
+pub record IsSplit (classes function q p : List ℕ) : Type 0 where
+  pub lawful : IsPartition (length classes) p
+  pub together : (x y : ℕ) → x < length classes → y < length classes → Together p x y ↔ StayTogether classes function q x y
+
 -- for each partition and each two members, the two relations say the same
 abbrev pub SameGoing : ℕ → (List ℕ → ℕ → ℕ → Type 0) → (List ℕ → ℕ → ℕ → Type 0) → Type 0
 SameGoing members One Other = (q : List ℕ) (x y : ℕ) → x < members → y < members → One q x y ↔ Other q x y
