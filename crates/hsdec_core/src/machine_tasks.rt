@@ -30,7 +30,7 @@ use machine_reports::{
     check, closed, definite, high, ispairs, low, output, pairs, reduce, sopairs,
 };
 use machine_table::Machine;
-use operands::{fill, open_machine};
+use operands::{OpenedMachine, fill, open_machine};
 use shift_texts::shift;
 use split_texts::decompose;
 use std::alloc::{AllocError, Global};
@@ -52,8 +52,8 @@ pub fn on_machine<F: Shelf>(
     ensures grants_the_same { (other : List ℕ) → F.grants shelf.new other ↔ F.grants shelf.old other }
     ensures never_falls { F.faults shelf.old ≤ F.faults shelf.new }
 {
-    let opened = open_machine(alloc, job, shelf)?;
-    report(alloc, job, task, &opened.file, opened.machine)
+    let OpenedMachine { file, machine } = open_machine(alloc, job, shelf)?;
+    report(alloc, job, task, &file, machine)
 }
 
 /// Makes what a task asks for of the machine of a file.

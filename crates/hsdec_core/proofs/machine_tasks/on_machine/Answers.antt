@@ -4,12 +4,12 @@ use Rattle.hsdec_core.specs.declared.tasks.Task.TheVariants.{OnMachine}
 use Rattle.hsdec_core.proofs.Making.{made_of_machine, no_machine}
 use Rattle.hsdec_core.proofs.machine_tasks.on_machine.Goals as goal
 
-pub returns-in_err-opened-clause-made : goal.returns-in_err-opened-clause-made
-returns-in_err-opened-clause-made g c =
+pub returns-in_err-file-clause-made : goal.returns-in_err-file-clause-made
+returns-in_err-file-clause-made g c =
     let p = err_from_is_err_and c.from_residual.result c.from_residual.ensures.1 in
-    rw (p.1, p.2) (no_machine c.args.job.now (g.F.Shelf.holds c.args.shelf.now) _ (OnMachine c.args.task) c.in_err-opened.field-0.0 c.requires.task refl (λ bytes h. inl h) c.in_err-opened.ensures.opened)
+    rw (p.1, p.2) (no_machine c.args.job.now (g.F.Shelf.holds c.args.shelf.now) _ (OnMachine c.args.task) c.in_err-file.field-0.0 c.requires.task refl (λ bytes h. inl h) c.in_err-file.ensures.opened)
 
 pub returns-clause-made : goal.returns-clause-made
 returns-clause-made g c =
-    let opened = c.in_ok-opened.ensures.opened in
-    made_of_machine c.args.job.now (g.F.Shelf.holds c.args.shelf.now) _ c.args.task c.in_ok-opened.opened.file c.requires.task opened.0.0 opened.0.1 c.report.result c.report.ensures
+    let opened = c.in_ok-file.ensures.opened in
+    made_of_machine c.args.job.now (g.F.Shelf.holds c.args.shelf.now) _ c.args.task c.in_ok-file.field-0.file c.requires.task opened.0.0 opened.0.1 c.report.result c.report.ensures
