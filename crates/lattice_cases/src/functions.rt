@@ -1,7 +1,52 @@
 //! Covers of functions of two columns, judged by trying all four values. A set of values is a number with value
 //! v at 2^v. The bits of v are its columns.
 
+use crate::gates::rows;
+use crate::terms::masked;
+use case_lines::Answer;
 use cover_logic::Term;
+use std::alloc::Global;
+
+/// Puts the number of the functions of two columns, with free values, that have a good cover. The answer fails where
+/// one of them has no cover.
+pub(crate) fn put_functions(alloc: Global, words: &str, answer: &mut Answer) {
+    if words != "of two columns" {
+        answer.fail();
+    }
+    let mut good = 0u64;
+    for pair in 0..256u32 {
+        match is_good(alloc, (pair % 16) as u8, (pair / 16) as u8) {
+            Some(true) => good = good.wrapping_add(1),
+            Some(false) => {}
+            None => answer.fail(),
+        }
+    }
+    answer.add_number(good);
+}
+
+/// Whether two sets of values are those that are on and those that are off in a function that has a good cover. Sets
+/// with a value in common are in no function.
+fn is_good(alloc: Global, on: u8, off: u8) -> Option<bool> {
+    if on & off != 0 {
+        return Some(false);
+    }
+    let mut ones = Vec::new(alloc);
+    let mut zeros = Vec::new(alloc);
+    add_values(on, &mut ones)?;
+    add_values(off, &mut zeros)?;
+    let rows = rows(alloc, &ones, &zeros, 2)?;
+    Some(are_good(rows.as_slice(), on, off))
+}
+
+/// Adds the values of a set.
+fn add_values(set: u8, list: &mut Vec<Term>) -> Option<()> {
+    for value in 0..4u32 {
+        if set >> value & 1 == 1 {
+            list.push(masked(3, u128::from(value))).ok()?;
+        }
+    }
+    Some(())
+}
 
 /// The values that the literal of a term at a column holds: all values if it has no literal there.
 fn held_at(term: Term, column: u8) -> u8 {
@@ -21,7 +66,7 @@ fn held_at(term: Term, column: u8) -> u8 {
 }
 
 /// The values that some term holds.
-pub(crate) fn held_by_any(terms: &[Term]) -> u8 {
+fn held_by_any(terms: &[Term]) -> u8 {
     let mut held = 0;
     for term in terms {
         held |= held_at(*term, 0) & held_at(*term, 1);
@@ -51,7 +96,7 @@ fn is_needed(row: Term, twice: u8, on: u8, off: u8) -> bool {
 }
 
 /// Whether rows hold each value of on and none of off, and each row and literal is needed.
-pub(crate) fn are_good(rows: &[Term], on: u8, off: u8) -> bool {
+fn are_good(rows: &[Term], on: u8, off: u8) -> bool {
     let held = held_by_any(rows);
     let twice = held_twice(rows);
     for row in rows {

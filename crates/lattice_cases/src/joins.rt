@@ -38,11 +38,10 @@ fn put_of_size(alloc: Global, kind: &str, world: &str, n: usize, words: &str, an
 fn put_in_world<W: Worded>(alloc: Global, world: &W, kind: &str, words: &str, answer: &mut Answer)
     requires { W.lawful world.now }
 {
-    match kind {
-        "joined" => put_joined(alloc, world, words, answer),
-        "collected" => put_collected(alloc, world, words, answer),
-        "join_of_three" => put_join_of_three(alloc, world, words, answer),
-        _ => answer.fail(),
+    if kind == "joined" {
+        put_joined(alloc, world, words, answer);
+    } else {
+        put_of_words(alloc, world, kind, words, answer);
     }
 }
 
@@ -139,17 +138,22 @@ fn put_listing<W: Worded>(
     put_values(alloc, world, items, answer);
 }
 
-/// Puts how many of the values came again in a collection, and the values of the collection in ascending order.
-fn put_collected<W: Worded>(alloc: Global, world: &W, words: &str, answer: &mut Answer)
+/// Puts what is asked of the values that words say.
+fn put_of_words<W: Worded>(alloc: Global, world: &W, kind: &str, words: &str, answer: &mut Answer)
     requires { W.lawful world.now }
 {
     match values(alloc, world, words) {
-        Some(values) => put_collection(alloc, world, values.as_slice(), answer),
-        None => answer.fail(),
+        Some(values) if kind == "collected" => {
+            put_collection(alloc, world, values.as_slice(), answer);
+        }
+        Some(values) if kind == "join_of_three" => {
+            put_join(alloc, world, values.as_slice(), answer);
+        }
+        _ => answer.fail(),
     }
 }
 
-/// Puts how many of these values came again in a collection, and its values in ascending order.
+/// Puts how many of the values came again in a collection, and the values of the collection in ascending order.
 fn put_collection<W: Worded>(alloc: Global, world: &W, values: &[W::Item], answer: &mut Answer)
     requires world { W.lawful world.now }
     requires values { All (λ x. W.fits world.now (W.meaning x)) values.now }
@@ -199,16 +203,6 @@ fn collect<W: Worded>(
         known.add(world, world.copy(alloc, item)?)?;
     }
     Ok(again)
-}
-
-/// Puts the join of three values, and whether it is the least value.
-fn put_join_of_three<W: Worded>(alloc: Global, world: &W, words: &str, answer: &mut Answer)
-    requires { W.lawful world.now }
-{
-    match values(alloc, world, words) {
-        Some(values) => put_join(alloc, world, values.as_slice(), answer),
-        None => answer.fail(),
-    }
 }
 
 /// Puts the join of three values, and whether it is the least value. The answer fails for another number of values.

@@ -4,7 +4,8 @@ ghost use Rattle.std.specs.Prelude.{◌≡◌, ◌<◌, length};
 ghost use Rattle.partition.specs.Partition.{IsStateCount};
 
 use crate::words::{
-    count, cut, labels, named, part, put_made, put_part, put_part_or_fault, put_truth, states,
+    count, cut, labels, named, number, part, put_made, put_part, put_part_or_fault, put_truth,
+    states,
 };
 use case_lines::Answer;
 use partition::{Partition, parse_of_show};
@@ -15,7 +16,11 @@ pub(crate) fn put_answer(alloc: Global, call: &str, words: &str, answer: &mut An
     let (first, rest) = cut(words);
     match call {
         "from_labels" => put_from_labels(alloc, words, answer),
-        "parse" | "hold" | "zero" | "one" => put_of_count(alloc, call, first, rest, answer),
+        "zero" | "one" => put_of_count(alloc, call, words, "", answer),
+        "parse" | "hold" => put_of_count(alloc, call, first, rest, answer),
+        "len" | "blocks" | "copy" | "parse_of_show" | "complement" => {
+            put_of_word(alloc, call, words, "", answer);
+        }
         _ => put_of_word(alloc, call, first, rest, answer),
     }
 }
@@ -39,7 +44,7 @@ fn put_of_count(alloc: Global, call: &str, n: &str, words: &str, answer: &mut An
     }
 }
 
-/// Puts the partition of n states that words say.
+/// Puts the partition of n states that a call and its further words say.
 fn put_of_size(alloc: Global, call: &str, n: usize, words: &str, answer: &mut Answer)
     requires { IsStateCount n }
 {
@@ -81,7 +86,8 @@ fn put_of_word(alloc: Global, call: &str, word: &str, words: &str, answer: &mut 
 /// Puts what is asked of a partition and of the words after it.
 fn put_of_part(alloc: Global, call: &str, p: &mut Partition, words: &str, answer: &mut Answer) {
     match call {
-        "label" | "same" | "merge" => put_of_states(alloc, call, p, words, answer),
+        "label" => put_label(p, words, answer),
+        "same" | "merge" => put_of_states(alloc, call, p, words, answer),
         "len" | "blocks" | "copy" | "parse_of_show" | "complement" => {
             put_of_one(alloc, call, p, answer);
         }
@@ -100,7 +106,15 @@ fn put_of_one(alloc: Global, call: &str, p: &Partition, answer: &mut Answer) {
     }
 }
 
-/// Puts what is asked of a partition and of one or two of its states, which words say.
+/// Puts the label of the state that a word says.
+fn put_label(p: &Partition, word: &str, answer: &mut Answer) {
+    match number(word) {
+        Some(s) if s < p.len() => answer.add_number(u64::from(p.label(s))),
+        _ => answer.fail(),
+    }
+}
+
+/// Puts what is asked of a partition and of two of its states, which words say.
 fn put_of_states(alloc: Global, call: &str, p: &mut Partition, words: &str, answer: &mut Answer) {
     match states(words) {
         Some((s, t)) if s < p.len() && t < p.len() => {
@@ -122,13 +136,11 @@ fn put_at_states(
     requires s { s < length p.old }
     requires t { t < length p.old }
 {
-    match call {
-        "label" => answer.add_number(u64::from(p.label(s))),
-        "same" => put_truth(p.same(s, t), answer),
-        _ => {
-            p.merge(s, t);
-            put_part(alloc, p, answer);
-        }
+    if call == "same" {
+        put_truth(p.same(s, t), answer);
+    } else {
+        p.merge(s, t);
+        put_part(alloc, p, answer);
     }
 }
 

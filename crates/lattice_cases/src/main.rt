@@ -2,8 +2,8 @@
 //! [`case_lines`]. The top of each file of `data/` says what the arguments and the answers of its calls are:
 //! `labels.cases` has the calls of `Partition`, `rows.cases` those of `BitPart`, `joins.cases` those of
 //! `hs_lattice` and of the worlds of partitions, and `covers.cases` those of `cover_logic`. `four_states.cases`
-//! and `four_states_rows.cases` have all pairs of the partitions of four states. A new case is a line, and
-//! needs no proof.
+//! and `four_states_rows.cases` have all pairs of the partitions of four states. A case with words left over after
+//! the arguments of its call differs. A new case is a line, and needs no proof.
 #![tactic(auto)]
 
 mod functions;

@@ -2,16 +2,26 @@
 
 ghost use Rattle.std.specs.Prelude.{◌≡◌, ◌<◌, length};
 
-use crate::words::{cut, part, put_made, put_truth, states};
+use crate::words::{cut, number, part, put_made, put_truth, states};
 use case_lines::Answer;
 use partition::BitPart;
 use std::alloc::{AllocError, Global};
 
 /// Puts what a call answers.
 pub(crate) fn put_answer(alloc: Global, call: &str, words: &str, answer: &mut Answer) {
-    let (p, rest) = cut(words);
-    match bit_part(alloc, p) {
-        Some(p) => put_of_part(alloc, call, &p, rest, answer),
+    let (first, rest) = cut(words);
+    match call {
+        "rows_of" | "rows_len" | "rows_blocks" | "rows_copy" => {
+            put_of_word(alloc, call, words, "", answer);
+        }
+        _ => put_of_word(alloc, call, first, rest, answer),
+    }
+}
+
+/// Puts what is asked of the partition that a word says and of the words after it.
+fn put_of_word(alloc: Global, call: &str, word: &str, words: &str, answer: &mut Answer) {
+    match bit_part(alloc, word) {
+        Some(p) => put_of_part(alloc, call, &p, words, answer),
         None => answer.fail(),
     }
 }
@@ -44,21 +54,24 @@ fn put_of_part(alloc: Global, call: &str, p: &BitPart, words: &str, answer: &mut
         "rows_len" => answer.add_number(p.len() as u64),
         "rows_blocks" => answer.add_number(p.blocks() as u64),
         "rows_copy" => put_made_rows(alloc, p.copy(alloc), answer),
-        "row" | "rows_same" => put_of_states(p, words, answer),
-        _ => put_of_word(alloc, call, p, words, answer),
+        "row" => put_of_state(p, words, answer),
+        "rows_same" => put_of_states(p, words, answer),
+        _ => put_of_second(alloc, call, p, words, answer),
     }
 }
 
-/// Puts the row of a state, or, if there are two states, whether they are together.
+/// Puts the row of the state that a word says.
+fn put_of_state(p: &BitPart, word: &str, answer: &mut Answer) {
+    match number(word) {
+        Some(s) if s < p.len() => put_row(p.row(s), answer),
+        _ => answer.fail(),
+    }
+}
+
+/// Puts whether the two states that words say are together.
 fn put_of_states(p: &BitPart, words: &str, answer: &mut Answer) {
     match states(words) {
-        Some((s, t)) if s < p.len() && t < p.len() => {
-            if words.contains(' ') {
-                put_truth(p.same(s, t), answer);
-            } else {
-                put_row(p.row(s), answer);
-            }
-        }
+        Some((s, t)) if s < p.len() && t < p.len() => put_truth(p.same(s, t), answer),
         _ => answer.fail(),
     }
 }
@@ -71,7 +84,7 @@ fn put_row(row: &[u64], answer: &mut Answer) {
 }
 
 /// Puts what is asked of a partition and of the one that a word says.
-fn put_of_word(alloc: Global, call: &str, p: &BitPart, word: &str, answer: &mut Answer) {
+fn put_of_second(alloc: Global, call: &str, p: &BitPart, word: &str, answer: &mut Answer) {
     match bit_part(alloc, word) {
         Some(q) => put_of_two(alloc, call, p, &q, answer),
         None => answer.fail(),

@@ -12,33 +12,36 @@ pub(crate) fn masked(care: u128, value: u128) -> Term {
     }
 }
 
-/// The term of a text.
-fn term(text: &str) -> Term {
+/// The term of a text of at most 128 characters.
+fn term(text: &[u8]) -> Option<Term> {
     let mut care: u128 = 0;
     let mut value: u128 = 0;
-    for (column, c) in text.bytes().enumerate() {
-        if column < 128 && (c == b'0' || c == b'1') {
-            care |= 1 << column;
-            if c == b'1' {
-                value |= 1 << column;
+    let mut bit: u128 = 1;
+    for character in text {
+        match *character {
+            b'0' if bit != 0 => care |= bit,
+            b'1' if bit != 0 => {
+                care |= bit;
+                value |= bit;
             }
+            b'-' | b'.' => {}
+            _ => return None,
         }
+        bit <<= 1;
     }
-    masked(care, value)
+    Some(masked(care, value))
 }
 
-/// The terms of texts that are separated by spaces.
-pub(crate) fn terms(alloc: Global, texts: &str) -> Result<Vec<Term>, AllocError> {
-    let mut list = Vec::new(alloc);
+/// Adds the terms of texts that are separated by spaces.
+pub(crate) fn add_terms(texts: &str, terms: &mut Vec<Term>) -> Option<()> {
     for text in texts.split_whitespace() {
-        list.push(term(text))?;
+        terms.push(term(text.as_bytes())?).ok()?;
     }
-    Ok(list)
+    Some(())
 }
 
-/// The character of a term at a column.
-fn character(term: Term, column: u8) -> u8 {
-    let bit = 1u128 << (column & 127);
+/// The character of a term at a column, which is that of the bit.
+fn character(term: Term, bit: u128) -> u8 {
     if term.care & bit == 0 {
         b'-'
     } else if term.value & bit == 0 {
@@ -50,12 +53,14 @@ fn character(term: Term, column: u8) -> u8 {
 
 /// The text of a term.
 fn text_of(alloc: Global, term: Term, width: u8) -> Result<Vec<u8>, AllocError> {
-    if width == 0 {
-        return Vec::from_slice(alloc, b".");
-    }
     let mut text = Vec::new(alloc);
-    for column in 0..width {
-        text.push(character(term, column))?;
+    if width == 0 {
+        text.push(b'.')?;
+    }
+    let mut bit: u128 = 1;
+    for _ in 0..width {
+        text.push(character(term, bit))?;
+        bit <<= 1;
     }
     Ok(text)
 }

@@ -25,16 +25,21 @@ pub(crate) fn count(word: &str) -> Option<usize>
     if n > 0 && n <= 256 { Some(n) } else { None }
 }
 
-/// The number of one state, or the numbers of two. The second number is 0 if there is only one.
+/// The numbers of two states.
 pub(crate) fn states(words: &str) -> Option<(usize, usize)> {
     let (s, t) = cut(words);
-    let t = number(t).unwrap_or(0);
-    Some((number(s)?, t))
+    match (number(s), number(t)) {
+        (Some(s), Some(t)) => Some((s, t)),
+        _ => None,
+    }
 }
 
 /// The label that a word says.
 fn label(word: &str) -> Option<u16> {
-    word.parse().ok()
+    match number(word) {
+        Some(label) if label <= 65535 => Some(label as u16),
+        _ => None,
+    }
 }
 
 /// The labels that a word says: `-` says none, and `0*300` says 0 three hundred times.
@@ -151,5 +156,9 @@ pub(crate) fn put_part_or_fault(
 
 /// Puts a truth.
 pub(crate) fn put_truth(holds: bool, answer: &mut Answer) {
-    answer.add(if holds { b"true".as_slice() } else { b"false" });
+    if holds {
+        answer.add(b"true");
+    } else {
+        answer.add(b"false");
+    }
 }
