@@ -8,7 +8,8 @@
 //! [`agree`] prints `CALL: N cases` if all of its cases agree. It prints each case that differs, with the
 //! number of bytes before the first difference. Where arguments or answers are bytes, [`unescaped`] reads them and
 //! [`escaped`] writes them. The library `case_scripts`, whose cases have more lines, takes numbers and escapes from
-//! here. This crate is only for programs of cases, and promises only what [`escaped`] writes and the range of [`limit`].
+//! here. This crate is only for programs of cases, and promises only what an [`Answer`] holds, what [`escaped`] writes
+//! and the range of [`limit`].
 #![tactic(auto)]
 
 ghost use Rattle.std.specs.Prelude.{◌≤◌, IfOk};
