@@ -1,6 +1,6 @@
 //! Cubes and gaps.
 
-ghost use Rattle.std.specs.Prelude.{◌<◌, ◌≤◌};
+ghost use Rattle.std.specs.Prelude.{◌≡◌, ◌<◌, ◌≤◌, All, OnOk};
 
 use crate::words::{cut, number, pieces, truth};
 use case_lines::Answer;
@@ -31,9 +31,15 @@ fn places(word: &[u8]) -> u8
 fn put_parsed(width: &[u8], text: &[u8], answer: &mut Answer) {
     match Cube::parse(text, places(width)) {
         Ok(cube) => put_cube(&cube, answer),
-        Err(CubeFail::BadWidth { found }) => answer.add_displayed(format_args!("width {found}")),
-        Err(CubeFail::BadChar { place }) => answer.add_displayed(format_args!("place {place}")),
+        Err(CubeFail::BadWidth { found }) => put_fault(b"width ", found, answer),
+        Err(CubeFail::BadChar { place }) => put_fault(b"place ", place, answer),
     }
+}
+
+/// Puts what is wrong with a text, and the number of it.
+fn put_fault(what: &[u8], number: usize, answer: &mut Answer) {
+    answer.add(what);
+    answer.add_number(number as u64);
 }
 
 /// Puts the bits of care and of value, and the width.
@@ -83,13 +89,15 @@ pub(crate) fn gap(alloc: Global, fields: &[Name], width: u8) -> Result<Option<u3
 {
     let mut cubes = Vec::new(alloc);
     add_cubes(fields, width, &mut cubes)?;
-    gap_between(alloc, cubes.as_slice(), width)
+    first_gap(alloc, cubes.as_slice(), width)
 }
 
 /// Adds the cubes of the fields that have a width.
 fn add_cubes(fields: &[Name], width: u8, cubes: &mut Vec<Cube>) -> Result<(), AllocError>
     requires positive { 0 < width }
     requires bound { width ≤ 32 }
+    requires old { All (λ cube. cube.width ≡ width) cubes.old.items }
+    ensures { OnOk result (All (λ cube. cube.width ≡ width) cubes.new.items) }
 {
     for field in fields {
         if let Ok(cube) = Cube::parse(field.bytes(), width) {
@@ -97,16 +105,4 @@ fn add_cubes(fields: &[Name], width: u8, cubes: &mut Vec<Cube>) -> Result<(), Al
         }
     }
     Ok(())
-}
-
-/// The least symbol that no cube holds, where each has a width.
-fn gap_between(alloc: Global, cubes: &[Cube], width: u8) -> Result<Option<u32>, AllocError>
-    requires positive { 0 < width }
-    requires bound { width ≤ 32 }
-{
-    if cubes.iter().all(|cube| cube.width == width) {
-        first_gap(alloc, cubes, width)
-    } else {
-        Ok(None)
-    }
 }

@@ -46,7 +46,8 @@ fn put_copies(alloc: Global, names: &[Name], answer: &mut Answer) {
 fn put_counted(names: &[Name], answer: &mut Answer) {
     answer.add_number(names.len() as u64);
     for name in names {
-        answer.add_all(&[b"/", name.bytes()]);
+        answer.add(b"/");
+        answer.add(name.bytes());
     }
 }
 

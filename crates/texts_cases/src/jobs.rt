@@ -1,6 +1,6 @@
 //! Jobs of words.
 
-use crate::words::truth;
+use crate::words::{pieces, truth};
 use case_lines::Answer;
 use job_words::{Form, Job, JobFail, Words, built_forms, job, judge};
 use std::alloc::{AllocError, Global};
@@ -17,19 +17,19 @@ pub(crate) fn put_answer(alloc: Global, call: &str, line: &[u8], answer: &mut An
 /// Puts the job of the words of a line, or the number of the refused word.
 fn put_judgement(alloc: Global, call: &str, line: &[u8], answer: &mut Answer) {
     let mut words = Words::new(alloc);
-    if add_words(line, &mut words).is_err() {
+    if add_words(alloc, line, &mut words).is_err() {
         answer.fail();
     }
     put_judged(&judged(alloc, call, &words), answer);
 }
 
 /// Adds the words of a line, cut at each space. An empty line has no words.
-fn add_words(line: &[u8], words: &mut Words) -> Result<(), AllocError> {
+fn add_words(alloc: Global, line: &[u8], words: &mut Words) -> Result<(), AllocError> {
     if line.is_empty() {
         return Ok(());
     }
-    for word in line.split(|byte| *byte == b' ') {
-        words.push(word)?;
+    for word in pieces(alloc, line, b' ')?.as_slice() {
+        words.push(word.bytes())?;
     }
     Ok(())
 }
@@ -49,7 +49,10 @@ fn judged(alloc: Global, call: &str, words: &Words) -> Result<Job, JobFail> {
 fn put_judged(judged: &Result<Job, JobFail>, answer: &mut Answer) {
     match judged {
         Ok(job) => put_job(job, answer),
-        Err(JobFail::Usage { word }) => answer.add_displayed(format_args!("word {word}")),
+        Err(JobFail::Usage { word }) => {
+            answer.add(b"word ");
+            answer.add_number(u64::from(*word));
+        }
         Err(JobFail::NoMemory) => answer.fail(),
     }
 }
@@ -57,25 +60,32 @@ fn put_judged(judged: &Result<Job, JobFail>, answer: &mut Answer) {
 /// Puts the command, the two names in brackets, the limit, the options, and the four numbers.
 fn put_job(job: &Job, answer: &mut Answer) {
     answer.add_displayed(format_args!("{:?}", job.command));
-    answer.add_all(&[b" [", job.file.bytes(), b"] [", job.second.bytes(), b"] "]);
+    put_in_brackets(job.file.bytes(), answer);
+    put_in_brackets(job.second.bytes(), answer);
+    answer.add(b" ");
     answer.add_number(job.limit as u64);
     put_options(job, answer);
     answer.add_displayed(format_args!(" {} {} {} {}", job.seed, job.a, job.b, job.k));
 }
 
-/// Puts the options.
-fn put_options(job: &Job, answer: &mut Answer) {
-    answer.add_all(&[b" reduce ", truth(job.reduce)]);
-    answer.add_all(&[b" start ", start_of(job)]);
-    answer.add_all(&[b" hold ", truth(job.hold)]);
+/// Puts a name in brackets after a space.
+fn put_in_brackets(name: &[u8], answer: &mut Answer) {
+    answer.add(b" [");
+    answer.add(name);
+    answer.add(b"]");
 }
 
-/// The word of the first values of the latches.
-fn start_of(job: &Job) -> &[u8] {
+/// Puts the options.
+fn put_options(job: &Job, answer: &mut Answer) {
+    answer.add(b" reduce ");
+    answer.add(truth(job.reduce));
+    answer.add(b" start ");
     match &job.start {
-        Some(name) => name.bytes(),
-        None => b"own",
+        Some(name) => answer.add(name.bytes()),
+        None => answer.add(b"own"),
     }
+    answer.add(b" hold ");
+    answer.add(truth(job.hold));
 }
 
 /// Puts the operands and options of a command that is built.

@@ -1,8 +1,9 @@
 //! KISS2 texts and names of states.
 
 use crate::cubes_and_gaps::put_cube;
-use crate::words::{cut, number, readable};
+use crate::words::{cut, number, pieces, readable};
 use case_lines::Answer;
+use hs_io::Name;
 use kiss_file::{KissFile, KissRow, StateNames};
 use kiss2::{KissFail, KissFault, read, write};
 use std::alloc::{AllocError, Global};
@@ -20,9 +21,17 @@ pub(crate) fn put_answer(alloc: Global, call: &str, words: &[u8], answer: &mut A
 
 /// Puts the number of each name, and then all names.
 fn put_numbered(alloc: Global, words: &[u8], answer: &mut Answer) {
+    match pieces(alloc, words, b' ') {
+        Ok(words) => put_numbers(alloc, words.as_slice(), answer),
+        Err(_) => answer.fail(),
+    }
+}
+
+/// Puts the number of each name, and then all names.
+fn put_numbers(alloc: Global, words: &[Name], answer: &mut Answer) {
     let mut names = StateNames::new(alloc);
-    for word in words.split(|byte| *byte == b' ') {
-        add_name(&mut names, word, answer);
+    for word in words {
+        add_name(&mut names, word.bytes(), answer);
     }
     put_state_names(&names, answer);
 }
@@ -31,17 +40,24 @@ fn put_numbered(alloc: Global, words: &[u8], answer: &mut Answer) {
 fn add_name(names: &mut StateNames, word: &[u8], answer: &mut Answer) {
     if names.count() < 1000 {
         match names.add(word) {
-            Ok(number) => answer.add_displayed(format_args!("{number} ")),
+            Ok(number) => put_number(number, answer),
             Err(_) => answer.fail(),
         }
     }
+}
+
+/// Puts a number and a space.
+fn put_number(number: u16, answer: &mut Answer) {
+    answer.add_number(u64::from(number));
+    answer.add(b" ");
 }
 
 /// Puts the names of states in order.
 fn put_state_names(names: &StateNames, answer: &mut Answer) {
     answer.add(b"/");
     for i in 0..names.count() {
-        answer.add_all(&[b" ", names.name(i)]);
+        answer.add(b" ");
+        answer.add(names.name(i));
     }
 }
 

@@ -11,14 +11,18 @@ pub(crate) fn put_lines(alloc: Global, text: &[u8], answer: &mut Answer) {
     put_in_turn(text, &mut in_turn);
     put_at_once(alloc, text, answer);
     if in_turn.bytes() != answer.bytes() {
-        answer.add_all(&[b"; in turn ", in_turn.bytes()]);
+        answer.add(b"; in turn ");
+        answer.add(in_turn.bytes());
     }
 }
 
 /// Puts the number of a line, and a mark if it is bad.
 fn put_number(number: u32, bad: bool, answer: &mut Answer) {
     answer.add_number(u64::from(number));
-    answer.add(if bad { b"!:".as_slice() } else { b":" });
+    if bad {
+        answer.add(b"!");
+    }
+    answer.add(b":");
 }
 
 /// Puts the lines as a list gives them.
@@ -40,7 +44,8 @@ fn put_each(lines: &[Line], answer: &mut Answer) {
 /// Puts the fields of a line.
 fn put_fields(line: &Line, answer: &mut Answer) {
     for field in line.fields.as_slice() {
-        answer.add_all(&[field.bytes(), b";"]);
+        answer.add(field.bytes());
+        answer.add(b";");
     }
 }
 
@@ -61,7 +66,8 @@ fn put_content(number: u32, content: &[u8], answer: &mut Answer) {
     put_number(number, !is_clean(content), answer);
     let (mut field, mut rest) = first_field(content);
     while !field.is_empty() {
-        answer.add_all(&[field, b";"]);
+        answer.add(field);
+        answer.add(b";");
         (field, rest) = first_field(rest);
     }
 }

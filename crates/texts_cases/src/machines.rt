@@ -22,7 +22,9 @@ pub(crate) fn put_answer(alloc: Global, call: &str, words: &[u8], answer: &mut A
 fn put_words(seed: u64, count: u64, answer: &mut Answer) {
     let mut generator = Lcg64Xsh32::new(seed, 54);
     for i in 0..count {
-        answer.add(if i == 0 { b"".as_slice() } else { b" " });
+        if i > 0 {
+            answer.add(b" ");
+        }
         answer.add_displayed(format_args!("{:08x}", generator.next_u32()));
     }
 }

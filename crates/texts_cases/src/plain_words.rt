@@ -1,31 +1,33 @@
 //! A judge of words that looks at each word on its own and counts the words before it.
 
 use crate::words::number;
-use job_words::{CommandOption, Form, OperandKind, built_forms};
+use job_words::{CommandOption, Form, OperandKind, Words, built_forms};
 
 /// The number of the refused word, counted from 1, or 0 where the words are a job.
-pub(crate) fn refused_word(words: &[&[u8]]) -> usize {
+pub(crate) fn refused_word(words: &Words) -> usize {
     let Some(form) = form_of(words) else {
         return 1;
     };
-    for place in 1..words.len() {
+    for place in 1..words.count() {
         if !can_stand(&form, words, place) {
             return place + 1;
         }
     }
-    if operands_before(words, words.len()) < form.operands.len() || is_taken(words, words.len()) {
-        return words.len().saturating_add(1);
+    if operands_before(words, words.count()) < form.operands.len()
+        || is_taken(words, words.count())
+    {
+        return words.count().saturating_add(1);
     }
     0
 }
 
 /// The form whose command is the first word.
-fn form_of(words: &[&[u8]]) -> Option<Form> {
-    if words.is_empty() {
+fn form_of(words: &Words) -> Option<Form> {
+    if words.count() == 0 {
         return None;
     }
     for form in built_forms() {
-        if form.command.word() == words[0] {
+        if form.command.word() == words.word(0) {
             return Some(*form);
         }
     }
@@ -33,13 +35,13 @@ fn form_of(words: &[&[u8]]) -> Option<Form> {
 }
 
 /// Whether a word can be at its place, after the words before it.
-fn can_stand(form: &Form, words: &[&[u8]], place: usize) -> bool {
-    if place == 0 || place >= words.len() {
+fn can_stand(form: &Form, words: &Words, place: usize) -> bool {
+    if place == 0 || place >= words.count() {
         return false;
     }
-    let word = words[place];
+    let word = words.word(place);
     if is_taken(words, place) {
-        return can_be_taken(words[place - 1], word);
+        return can_be_taken(words.word(place - 1), word);
     }
     if word.starts_with(b"--".as_slice()) {
         return has_option(form, word) && !stands_before(words, place);
@@ -51,10 +53,10 @@ fn can_stand(form: &Form, words: &[&[u8]], place: usize) -> bool {
 }
 
 /// Whether an option takes the word at a place.
-fn is_taken(words: &[&[u8]], place: usize) -> bool {
+fn is_taken(words: &Words, place: usize) -> bool {
     let mut taken = false;
-    for i in 1..place.min(words.len()) {
-        taken = !taken && takes_word(words[i]);
+    for i in 1..place.min(words.count()) {
+        taken = !taken && takes_word(words.word(i));
     }
     taken
 }
@@ -89,9 +91,9 @@ fn has_option(form: &Form, word: &[u8]) -> bool {
 }
 
 /// Whether the word at a place also comes before it, as an option.
-fn stands_before(words: &[&[u8]], place: usize) -> bool {
-    for i in 1..place.min(words.len()) {
-        if place < words.len() && words[i] == words[place] && !is_taken(words, i) {
+fn stands_before(words: &Words, place: usize) -> bool {
+    for i in 1..place.min(words.count()) {
+        if place < words.count() && words.word(i) == words.word(place) && !is_taken(words, i) {
             return true;
         }
     }
@@ -99,10 +101,10 @@ fn stands_before(words: &[&[u8]], place: usize) -> bool {
 }
 
 /// The number of operands before a place.
-fn operands_before(words: &[&[u8]], place: usize) -> usize {
+fn operands_before(words: &Words, place: usize) -> usize {
     let mut count = 0usize;
-    for i in 1..place.min(words.len()) {
-        if !is_taken(words, i) && !words[i].starts_with(b"--".as_slice()) {
+    for i in 1..place.min(words.count()) {
+        if !is_taken(words, i) && !words.word(i).starts_with(b"--".as_slice()) {
             count = count.saturating_add(1);
         }
     }
@@ -110,15 +112,17 @@ fn operands_before(words: &[&[u8]], place: usize) -> usize {
 }
 
 /// Whether the word at a place is an operand of a kind. Here B comes directly after A.
-fn is_of_kind(kind: OperandKind, words: &[&[u8]], place: usize) -> bool {
-    if place == 0 || place >= words.len() {
+fn is_of_kind(kind: OperandKind, words: &Words, place: usize) -> bool {
+    if place == 0 || place >= words.count() {
         return false;
     }
-    let word = words[place];
+    let word = words.word(place);
     match kind {
         OperandKind::Seed => is_between(0, 999_999_999, word),
         OperandKind::A => is_between(2, 128, word),
-        OperandKind::B => { is_between(2, 128, word) && product(words[place - 1], word) <= 256 }
+        OperandKind::B => {
+            is_between(2, 128, word) && product(words.word(place - 1), word) <= 256
+        }
         OperandKind::K => is_between(1, 8, word),
         _ => true,
     }

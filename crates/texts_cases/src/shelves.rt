@@ -1,27 +1,36 @@
 //! Shelves and sinks.
 
-use crate::words::{cut, number};
+use crate::words::{cut, number, pieces};
 use case_lines::Answer;
-use hs_io::{FileShelf, LoadFail, MemShelf, MemSink, Shelf, Sink, SinkFail, StdSink};
+use hs_io::{FileShelf, LoadFail, MemShelf, MemSink, Name, Shelf, Sink, SinkFail, StdSink};
 use std::alloc::Global;
 use std::io;
 use std::rt::Files;
 
-/// The word for the answer of a load.
-fn told(answer: Result<(), LoadFail>) -> &'static [u8] {
-    match answer {
-        Ok(()) => b"ok ",
-        Err(LoadFail::Failed) => b"failed ",
-        Err(LoadFail::TooLong) => b"too long ",
-        Err(LoadFail::NoMemory) => b"no memory ",
+/// Puts the answer of a load, and the bytes that it gave.
+fn put_loaded(loaded: Result<(), LoadFail>, bytes: &[u8], answer: &mut Answer) {
+    match loaded {
+        Ok(()) => answer.add(b"ok "),
+        Err(LoadFail::Failed) => answer.add(b"failed "),
+        Err(LoadFail::TooLong) => answer.add(b"too long "),
+        Err(LoadFail::NoMemory) => answer.add(b"no memory "),
     }
+    answer.add(bytes);
 }
 
 /// Puts the answer of each load from a shelf in memory, and the bytes that it gives.
 pub(crate) fn load_all(alloc: Global, words: &[u8], answer: &mut Answer) {
+    match pieces(alloc, words, b';') {
+        Ok(steps) => take_steps(alloc, steps.as_slice(), answer),
+        Err(_) => answer.fail(),
+    }
+}
+
+/// Takes the steps of a shelf.
+fn take_steps(alloc: Global, steps: &[Name], answer: &mut Answer) {
     let mut shelf = MemShelf::new(alloc);
-    for step in words.split(|byte| *byte == b';') {
-        take_step(alloc, &mut shelf, step, answer);
+    for step in steps {
+        take_step(alloc, &mut shelf, step.bytes(), answer);
     }
 }
 
@@ -56,7 +65,8 @@ fn fail_at(shelf: &mut MemShelf, load: &[u8], answer: &mut Answer) {
 fn load(alloc: Global, shelf: &mut MemShelf, name: &[u8], limit: u64, answer: &mut Answer) {
     let mut bytes = Vec::new(alloc);
     let loaded = shelf.load(name, limit.min(1000) as usize, &mut bytes);
-    answer.add_all(&[told(loaded), bytes.as_slice(), b";"]);
+    put_loaded(loaded, bytes.as_slice(), answer);
+    answer.add(b";");
 }
 
 /// Puts the answer of a load of a file with a limit of ten bytes, and the bytes that it gives.
@@ -64,22 +74,30 @@ pub(crate) fn load_file<R: Files + AllocGlobal>(rt: &R, name: &[u8], answer: &mu
     let mut shelf = FileShelf::new(rt);
     let mut bytes = Vec::new(rt.alloc());
     let loaded = shelf.load(name, 10, &mut bytes);
-    answer.add_all(&[told(loaded), bytes.as_slice()]);
+    put_loaded(loaded, bytes.as_slice(), answer);
 }
 
 /// Puts the answer of each put to a sink in memory, and the bytes that the sink was given so far.
 pub(crate) fn put_pieces(alloc: Global, words: &[u8], answer: &mut Answer) {
     let (room, steps) = cut(words, b';');
-    match MemSink::new(alloc, number(room).min(1000) as usize) {
-        Ok(mut sink) => put_steps(&mut sink, steps, answer),
+    match pieces(alloc, steps, b';') {
+        Ok(steps) => put_steps(alloc, number(room), steps.as_slice(), answer),
+        Err(_) => answer.fail(),
+    }
+}
+
+/// Takes the steps of a sink with this room.
+fn put_steps(alloc: Global, room: u64, steps: &[Name], answer: &mut Answer) {
+    match MemSink::new(alloc, room.min(1000) as usize) {
+        Ok(mut sink) => put_each(&mut sink, steps, answer),
         Err(_) => answer.fail(),
     }
 }
 
 /// Takes the steps of a sink.
-fn put_steps(sink: &mut MemSink, steps: &[u8], answer: &mut Answer) {
-    for step in steps.split(|byte| *byte == b';') {
-        put_step(sink, step, answer);
+fn put_each(sink: &mut MemSink, steps: &[Name], answer: &mut Answer) {
+    for step in steps {
+        put_step(sink, step.bytes(), answer);
     }
 }
 
@@ -90,18 +108,12 @@ fn put_step(sink: &mut MemSink, step: &[u8], answer: &mut Answer) {
         let (call, take) = cut(rest, b' ');
         sink.fail_at(number(call).clamp(1, 1000), number(take).min(1000) as usize);
     } else {
-        let put = sink.put(rest);
-        answer.add(taken(put));
+        match sink.put(rest) {
+            Ok(()) => answer.add(b"ok "),
+            Err(SinkFail::Failed) => answer.add(b"failed "),
+        }
         answer.add(sink.bytes());
         answer.add(b";");
-    }
-}
-
-/// The word for the answer of a put.
-fn taken(answer: Result<(), SinkFail>) -> &'static [u8] {
-    match answer {
-        Ok(()) => b"ok ",
-        Err(SinkFail::Failed) => b"failed ",
     }
 }
 

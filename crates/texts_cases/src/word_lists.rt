@@ -80,27 +80,12 @@ fn agrees(
     count: u32,
     number: usize,
 ) -> Result<bool, AllocError> {
-    let mut plain = Vec::new(alloc);
-    if let Some(word) = first {
-        plain.push(word)?;
-    }
-    add_words(alphabet, count, number, &mut plain)?;
-    agrees_on(alloc, plain.as_slice())
-}
-
-/// Whether the plain judge refuses the same word of these, or also accepts them.
-fn agrees_on(alloc: Global, plain: &[&'static [u8]]) -> Result<bool, AllocError> {
     let mut words = Words::new(alloc);
-    copy_words(plain, &mut words)?;
-    Ok(refused(alloc, &words)? == refused_word(plain))
-}
-
-/// Adds the words of a list.
-fn copy_words(plain: &[&'static [u8]], words: &mut Words) -> Result<(), AllocError> {
-    for word in plain {
+    if let Some(word) = first {
         words.push(word)?;
     }
-    Ok(())
+    add_words(alphabet, count, number, &mut words)?;
+    Ok(refused(alloc, &words)? == refused_word(&words))
 }
 
 /// Adds the words of the alphabet that the digits of the number select.
@@ -108,14 +93,14 @@ fn add_words(
     alphabet: &[&'static [u8]],
     count: u32,
     number: usize,
-    plain: &mut Vec<&'static [u8]>,
+    words: &mut Words,
 ) -> Result<(), AllocError> {
     if alphabet.is_empty() {
         return Ok(());
     }
     let mut left = number;
     for _ in 0..count {
-        plain.push(alphabet[left % alphabet.len()])?;
+        words.push(alphabet[left % alphabet.len()])?;
         left /= alphabet.len();
     }
     Ok(())
