@@ -11,3 +11,4 @@ pub mod Shared
 pub mod Said
 pub mod Showing
 pub mod Gathered
+pub mod FilledRows

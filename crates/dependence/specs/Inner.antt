@@ -3,4 +3,5 @@ pub mod Asking
 pub mod Judging
 pub mod Said
 pub mod Effects
+pub mod Filled
 pub mod Sets

@@ -7,7 +7,7 @@ use machine_table::Machine;
 
 /// A bit that a network computes at each step, and so the gate that gives it: the next value of a latch, which
 /// is that bit of the code of the next state, or an output. Latches and outputs are counted from 0.
-#[derive(Clone, Copy, Debug, PartialEq, Eq)]
+#[derive(Clone, Copy, PartialEq, Eq)]
 pub enum Bit {
     Latch(usize),
     Output(u8),

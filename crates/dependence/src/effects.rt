@@ -9,8 +9,8 @@ ghost use Rattle.dependence.specs.Inner.Effects.{Adds, AreApart, AreEffects, Dif
 ghost use Rattle.dependence.specs.Inner.Said.{next_bit};
 
 use crate::bit::Bit;
+use crate::filled::filled_rows;
 use crate::judging::{has, with_bit};
-use filled_rows::filled_rows;
 use kiss_file::KissRow;
 use machine_table::Machine;
 use std::alloc::{AllocError, Global};

@@ -8,7 +8,8 @@
 //! [`reads`] gives each gate a [`ReadSet`]. A candidate is read exactly where the candidates below it and the
 //! read ones above it do not permit, so that none can be left out. An input is read where some state and two
 //! symbols that differ in it alone give different values. [`add_effects`] gathers this state by state, and
-//! [`inputs_of`] gives the inputs that matter for a gate.
+//! [`inputs_of`] gives the inputs that matter for a gate. Both go through the rows of each state, with what they
+//! leave open filled in: [`filled_rows`] gives them, also to the crates that make covers of gates.
 //!
 //! The definitions are in `specs/`: `Permits` has what a set permits, `Bit` what the gate of a bit gives,
 //! `Candidates` which bits a gate may read, `ReadRule` which of them it reads and that it can spare none, and
@@ -19,6 +20,7 @@
 mod asking;
 mod bit;
 mod effects;
+mod filled;
 mod judging;
 mod laws;
 mod numbers;
@@ -28,6 +30,7 @@ mod sets;
 pub use asking::{permits, permits_output};
 pub use bit::Bit;
 pub use effects::{Effect, add_effects, inputs_of, no_effects};
+pub use filled::filled_rows;
 pub use judging::{numbers_of, with_bit};
 pub use laws::rule_is_irredundant;
 pub use numbers::Numbers;

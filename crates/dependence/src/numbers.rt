@@ -7,7 +7,7 @@ use std::alloc::{AllocError, Global};
 use std::marker::Model;
 
 /// Numbers of inputs or of state bits in order. A list of up to eight takes no memory.
-#[derive(Debug, Drop)]
+#[derive(Drop)]
 pub struct Numbers {
     items: SmallVec<u8, 8>,
 }

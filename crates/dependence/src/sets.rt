@@ -5,7 +5,7 @@ use hs_list::Items;
 
 /// What one gate reads: the numbers of inputs, and the numbers of latches, which are those of the state bits.
 /// Both lists are ascending. Input 0 is the first character of a symbol.
-#[derive(Debug, Drop)]
+#[derive(Drop)]
 pub struct ReadSet {
     pub inputs: Numbers,
     pub latches: Numbers,
@@ -15,7 +15,7 @@ pub struct ReadSet {
 pub type ReadSets = Items<ReadSet>;
 
 /// What the gate of each latch and of each output reads.
-#[derive(Debug, Drop)]
+#[derive(Drop)]
 pub struct Reads {
     pub latches: ReadSets,
     pub outputs: ReadSets,

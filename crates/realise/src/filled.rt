@@ -3,7 +3,7 @@
 ghost use Rattle.std.specs.Prelude.{◌+◌, ◌<◌, IfOk, OnOk, length};
 ghost use Rattle.realise.specs.Inner.Filled.{AreFilled, AreFilledBelow};
 
-use filled_rows::filled_rows;
+use dependence::filled_rows;
 use kiss_file::KissRow;
 use machine_table::Machine;
 use std::alloc::{AllocError, Global};

@@ -5,7 +5,7 @@ ghost use Rattle.std.specs.List.{filter_map};
 ghost use Rattle.shift_real.specs.Inner.ContentDemands.{AreClassDemands, IsOfClassBelow, IsWithinMask, asked_by};
 
 use crate::tables::is_among;
-use filled_rows::filled_rows;
+use dependence::filled_rows;
 use gate_rows::{Demand, bit};
 use kiss_file::KissRow;
 use machine_table::Machine;
