@@ -1,5 +1,5 @@
 //! Builds the network, statement after statement.
-ghost use Rattle.std.specs.Prelude.{◌≡◌, ℕ, ◌∷◌, ◌++◌, [], IfOk, List, OnOk};
+ghost use Rattle.std.specs.Prelude.{◌≡◌, ℕ, ◌∷◌, ◌++◌, [], IfOk, List, None, OnOk};
 ghost use Rattle.std.specs.Option.{option_to_list};
 ghost use Rattle.net_core.specs.Statements as said;
 ghost use Rattle.blif_in.specs.Text as text;
@@ -50,26 +50,29 @@ impl Draft {
     pub fn add(&mut self, alloc: Global, statement: Statement<'_>) -> Result<(), AllocError>
         ensures { OnOk result (Adds (said_by statement.entry) self.old self.new) }
     {
+        if let Statement::Row(fields) = statement {
+            return add_row(alloc, &mut self.open_gate, fields);
+        }
+        self.close()?;
+        self.begin(alloc, statement)
+    }
+
+    /// Adds what a statement says while no gate is open.
+    fn begin(&mut self, alloc: Global, statement: Statement<'_>) -> Result<(), AllocError>
+        requires { self.old.open_gate ≡ None }
+        ensures { OnOk result (Adds (said_by statement.entry) self.old self.new) }
+    {
         match statement {
-            Statement::Row(fields) => add_row(alloc, &mut self.open_gate, fields),
-            Statement::Inputs(names) => {
-                self.close()?;
-                add_names(alloc, &mut self.inputs, names)
-            }
-            Statement::Outputs(names) => {
-                self.close()?;
-                add_names(alloc, &mut self.outputs, names)
-            }
-            Statement::Latch(operands) => {
-                self.close()?;
-                add_latch(alloc, &mut self.latches, operands)
-            }
+            Statement::Inputs(names) => add_names(alloc, &mut self.inputs, names),
+            Statement::Outputs(names) => add_names(alloc, &mut self.outputs, names),
+            Statement::Latch(operands) => add_latch(alloc, &mut self.latches, operands),
             Statement::Names(names) => {
-                self.close()?;
                 self.open_gate = Some(gate_of(alloc, names)?);
                 Ok(())
             }
-            Statement::Model(_) | Statement::Clock(_) | Statement::Other => self.close(),
+            Statement::Row(_) | Statement::Model(_) | Statement::Clock(_) | Statement::Other => {
+                Ok(())
+            }
         }
     }
 

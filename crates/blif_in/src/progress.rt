@@ -1,5 +1,5 @@
 //! What is kept of the lines so far to judge the next one.
-ghost use Rattle.std.specs.Prelude.{◌≡◌, ◌∷◌, [], IfOk, List, None};
+ghost use Rattle.std.specs.Prelude.{◌≡◌, ◌∷◌, [], IfOk, List, None, OnOk};
 ghost use Rattle.std.specs.Option.{option_copied, option_map, option_or};
 ghost use Rattle.hs_io.specs.declared.lines.Line.{Line};
 ghost use Rattle.blif_in.specs.Text as text;
@@ -38,29 +38,28 @@ impl Progress {
             clock: None,
         }
     }
-}
 
-/// What is kept after one line more, or the fault of that line.
-pub(crate) fn after_line(alloc: Global, before: Progress, line: &Line) -> Result<Progress, BlifFail>
-    requires measurable { AreMeasurable line.now.fields }
-    requires small { IsSmall before.summary }
-    ensures read { (lines rest : List Line) → IsReadTo lines (line.now ∷ rest) before → Tells result (text.first_fault [] (numbered lines)) (IsReadTo lines rest) }
-    ensures small { IfOk result (λ next. IsSmall next.summary) }
-{
-    let standing = Standing {
-        summary: before.summary,
-        clock: name_of(&before.clock),
-    };
-    let next = match standing.after_line(line) {
-        Ok(next) => next,
-        Err(kind) => return Err(fault_at(line.number, kind)),
-    };
-    let summary = next.summary;
-    let named = newly_named(alloc, &before.clock, next.clock)?;
-    Ok(Progress {
-        summary,
-        clock: first_clock(before.clock, named, line.number),
-    })
+    /// Takes up one line more, or gives the fault of that line.
+    pub fn take(&mut self, alloc: Global, line: &Line) -> Result<(), BlifFail>
+        requires measurable { AreMeasurable line.now.fields }
+        requires small { IsSmall self.old.summary }
+        ensures read { (lines rest : List Line) → IsReadTo lines (line.now ∷ rest) self.old → Tells result (text.first_fault [] (numbered lines)) (λ _. IsReadTo lines rest self.new) }
+        ensures small { OnOk result (IsSmall self.new.summary) }
+    {
+        let standing = Standing {
+            summary: self.summary,
+            clock: name_of(&self.clock),
+        };
+        let next = match standing.after_line(line) {
+            Ok(next) => next,
+            Err(kind) => return Err(fault_at(line.number, kind)),
+        };
+        let summary = next.summary;
+        let named = newly_named(alloc, &self.clock, next.clock)?;
+        self.summary = summary;
+        self.clock = first_clock(self.clock.take(), named, line.number);
+        Ok(())
+    }
 }
 
 /// The name of the clock, if there is one.

@@ -7,17 +7,20 @@ ghost use Rattle.net_core.specs.declared.Network.{Network};
 ghost use Rattle.net_core.specs.Blif.{Blif};
 ghost use Rattle.net_core.specs.Order.{IsOrderOf};
 ghost use Rattle.net_core.specs.Sound.{Sound};
+ghost use Rattle.net_core.specs.Statements as said;
 ghost use Rattle.blif_in.specs.declared.fault.BlifFault.{BlifFault};
 ghost use Rattle.blif_in.specs.Text.{IsBlifFault, IsFaultOf, IsStructureFault, TellsOf, driven_within, text_fault};
 ghost use Rattle.blif_in.specs.Text as text;
+ghost use Rattle.blif_in.specs.Inner.Building.{network_by};
 ghost use Rattle.blif_in.specs.Inner.Joining.{lines_read};
+ghost use Rattle.blif_in.specs.Inner.Judging.{IsSmall};
 ghost use Rattle.blif_in.specs.Inner.Progressing.{IsReadTo, Tells, fault_of};
 ghost use Rattle.blif_in.specs.Inner.Saying.{numbered, says};
 
 use crate::building::Draft;
 use crate::fault::{BlifFail, BlifFault, BlifKind};
 use crate::joining::next_statement;
-use crate::progress::{FirstClock, Progress, after_line};
+use crate::progress::{FirstClock, Progress};
 use crate::statement::statement_of;
 use hs_io::LineReader;
 use net_core::{Gate, Latch, NetFail, Network, Order, check};
@@ -83,15 +86,33 @@ fn judged_statements(alloc: Global, bytes: &[u8]) -> Result<Reading, BlifFail>
     ensures read { Tells result (text.first_fault [] (numbered (lines_read bytes.now))) (λ reading. IsReadTo (lines_read bytes.now) [] reading.progress) }
     ensures said { IfOk result (λ reading. reading.net ≡ text.network_of (map says (lines_read bytes.now))) }
 {
-    let mut lines = LineReader::new(bytes);
     let mut progress = Progress::new();
     let mut draft = Draft::new(alloc);
-    while let Some(line) = next_statement(alloc, &mut lines)? {
-        progress = after_line(alloc, progress, &line)?;
-        draft.add(alloc, statement_of(&line))?;
-    }
+    take_lines(alloc, bytes, &mut progress, &mut draft)?;
     let net = draft.finish()?;
     Ok(Reading { progress, net })
+}
+
+/// Takes up the lines of a text, up to the first fault of a statement.
+fn take_lines(
+    alloc: Global,
+    bytes: &[u8],
+    progress: &mut Progress,
+    draft: &mut Draft,
+) -> Result<(), BlifFail>
+    requires short { length bytes.now < 2 ^ 32 }
+    requires none { (lines : List Line) → IsReadTo lines lines progress.old }
+    requires small { IsSmall progress.old.summary }
+    requires empty { (statements : List said.Statement) → network_by draft.old statements ≡ text.network_of statements }
+    ensures read { Tells result (text.first_fault [] (numbered (lines_read bytes.now))) (λ _. IsReadTo (lines_read bytes.now) [] progress.new) }
+    ensures said { OnOk result (network_by draft.new [] ≡ text.network_of (map says (lines_read bytes.now))) }
+{
+    let mut lines = LineReader::new(bytes);
+    while let Some(line) = next_statement(alloc, &mut lines)? {
+        progress.take(alloc, &line)?;
+        draft.add(alloc, statement_of(&line))?;
+    }
+    Ok(())
 }
 
 /// The network with an order of its gates, if it is sound.
@@ -101,8 +122,18 @@ fn put_in_order(alloc: Global, net: Network) -> Result<OrderedNetwork, BlifFail>
     ensures order { IfOk result (λ ordered. IsOrderOf ordered.net ordered.order) }
     ensures refused { (fault : BlifFault) → result ≡ Err (BlifFail.Refused fault) → IsStructureFault net fault }
 {
-    match check(alloc, &net) {
-        Ok(order) => Ok(OrderedNetwork { net, order }),
+    let order = order_of(alloc, &net)?;
+    Ok(OrderedNetwork { net, order })
+}
+
+/// An order of the gates of a network, if it is sound.
+fn order_of(alloc: Global, net: &Network) -> Result<Order, BlifFail>
+    ensures sound { OnOk result (Sound net.now) }
+    ensures order { IfOk result (IsOrderOf net.now) }
+    ensures refused { (fault : BlifFault) → result ≡ Err (BlifFail.Refused fault) → IsStructureFault net.now fault }
+{
+    match check(alloc, net) {
+        Ok(order) => Ok(order),
         Err(NetFail::NoMemory) => Err(BlifFail::NoMemory),
         Err(fail) => Err(BlifFail::Refused(BlifFault {
             line: 0,
