@@ -8,8 +8,8 @@
 //! [`reads`] gives each gate a [`ReadSet`]. A candidate is read exactly where the candidates below it and the
 //! read ones above it do not permit, so that none can be left out. An input is read where some state and two
 //! symbols that differ in it alone give different values. [`add_effects`] gathers this state by state, and
-//! [`inputs_of`] gives the inputs that matter for a gate. Both go through the rows of each state, with what they
-//! leave open filled in: [`filled_rows`] gives them, also to the crates that make covers of gates.
+//! [`inputs_of`] gives the inputs that matter for a gate. What a state does is said by its [`filled_rows`], from
+//! which covers of gates are made too.
 //!
 //! The definitions are in `specs/`: `Permits` has what a set permits, `Bit` what the gate of a bit gives,
 //! `Candidates` which bits a gate may read, `ReadRule` which of them it reads and that it can spare none, and
