@@ -6,7 +6,7 @@ use hs_list::Items;
 pub type Bytes = Items<u8>;
 
 /// What a command gives out: its whole text, or evidence that there are more than its limit.
-#[derive(Debug, Drop)]
+#[derive(Drop)]
 pub enum Report {
     /// The whole text.
     Whole(Bytes),

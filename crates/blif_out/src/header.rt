@@ -7,7 +7,7 @@ use state_codes::{CodeWords, Kind, Parts};
 
 /// The note of a latch: the number of its part, the partition of the states by the bits that its gate reads,
 /// and the partition of the states by the latch's own bit.
-#[derive(Debug, Drop)]
+#[derive(Drop)]
 pub struct LatchNote {
     pub part: u16,
     pub from: Partition,

@@ -5,7 +5,7 @@ use std::alloc::{AllocError, Global};
 
 /// The values that have the bits of `value` at the columns of `care`. Column c is bit c of both, that of 2^c.
 /// A column of `care` is a literal, and any other is a dash, at which `value` has no bit.
-#[derive(Clone, Copy, Debug, PartialEq, Eq)]
+#[derive(Clone, Copy, PartialEq, Eq)]
 pub struct Term {
     pub care: u128,
     pub value: u128,

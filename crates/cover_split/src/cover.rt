@@ -12,7 +12,7 @@ pub type Block = Items<u16>;
 pub type Blocks = Items<Block>;
 
 /// Blocks of states that may overlap, numbered from 0.
-#[derive(Debug, Drop)]
+#[derive(Drop)]
 pub struct Cover {
     pub blocks: Blocks,
 }

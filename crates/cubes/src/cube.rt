@@ -59,7 +59,7 @@ pub enum CubeFail {
 /// The input field of a row: as many characters `0`, `1` or `-` as a symbol has bits. The first character
 /// belongs to the highest of the `width` lowest bits of `care` and `value`, the last to the lowest. A character
 /// is a dash where the bit of `care` is 0, and otherwise the bit of `value`.
-#[derive(Clone, Copy, Debug, PartialEq, Eq)]
+#[derive(Clone, Copy, PartialEq, Eq)]
 pub struct Cube {
     /// The places that have no dash.
     pub care: u32,

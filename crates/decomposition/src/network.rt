@@ -19,7 +19,7 @@ use state_codes::{Codes, Split};
 use std::alloc::{AllocError, Global};
 
 /// A network, and for each of its latches the part of its bit and its partition pair.
-#[derive(Debug, Drop)]
+#[derive(Drop)]
 pub struct SplitNetwork {
     pub network: Network,
     pub notes: LatchNotes,

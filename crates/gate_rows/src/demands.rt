@@ -17,7 +17,7 @@ use hs_io::Names;
 use std::alloc::{AllocError, Global};
 
 /// What is asked of a gate at the symbols of a cube and a word: the bit that it gives there.
-#[derive(Clone, Copy, Debug)]
+#[derive(Clone, Copy)]
 pub struct Demand {
     pub cube: Cube,
     pub word: u64,

@@ -1,14 +1,11 @@
-ghost use Rattle.std.specs.Prelude.{◌≡◌, ◌≢◌, ℕ, ◌+◌, ◌-◌, ◌^◌, ◌<◌, ◌≤◌, List, [], None, Err, IfOk, IsErrOf, OnOk, vec_len, ⊤};
+ghost use Rattle.std.specs.Prelude.{◌≡◌, ℕ, ◌+◌, ◌^◌, ◌<◌, ◌≤◌, [], None, IsErrOf, OnOk, vec_len, ⊤};
 ghost use Rattle.hs_io.specs.Counts.{next_count};
 
+use crate::reader::load_from;
 use crate::{LoadFail, Shelf};
-use std::io::Read;
 use std::marker::Model;
 use std::rt::Files;
 use std::{fs, str};
-
-/// The greatest number of bytes that one read asks for.
-const PIECE: usize = 4096;
 
 /// The files of the system, each under its path. Contracts do not know the bytes of any file, and every name is
 /// granted. They see only the count of faults, which rises at each error of the system and at a name that is no
@@ -72,29 +69,11 @@ fn load_file<R: Files>(
     ensures within { OnOk result (vec_len into.new ≤ limit) }
     ensures one_more { IsErrOf result LoadFail.TooLong → vec_len into.new ≡ limit + 1 }
 {
-    let path = str::from_utf8(name).map_err(|_| LoadFail::Failed)?;
-    let mut file = fs::open(files, path).map_err(|_| LoadFail::Failed)?;
-    for _ in 0..limit + 1 {
-        if read_piece(&mut file, limit + 1, into)? == 0 {
-            return Ok(());
-        }
-        if into.len() > limit {
-            return Err(LoadFail::TooLong);
-        }
+    let Ok(path) = str::from_utf8(name) else {
+        return Err(LoadFail::Failed);
+    };
+    match fs::open(files, path) {
+        Ok(mut file) => load_from(&mut file, limit, into),
+        Err(_) => Err(LoadFail::Failed),
     }
-    unreachable!("each turn takes a byte")
-}
-
-/// Appends some of the bytes that are left, and gives their number, which is 0 only at the end.
-fn read_piece(file: &mut impl Read, most: usize, into: &mut Vec<u8>) -> Result<usize, LoadFail>
-    requires { vec_len into.old < most }
-    ensures ok { IfOk result (λ n. vec_len into.new ≡ vec_len into.old + n) }
-    ensures most { OnOk result (vec_len into.new ≤ most) }
-    ensures err { result ≢ Err LoadFail.TooLong }
-{
-    let mut piece = [0u8; PIECE];
-    let room = PIECE.min(most - into.len());
-    let count = file.read(&mut piece[..room]).map_err(|_| LoadFail::Failed)?;
-    into.extend_from_slice(&piece[..count])?;
-    Ok(count)
 }

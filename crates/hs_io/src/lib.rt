@@ -7,6 +7,7 @@
 //!
 //! Contracts know the bytes of [`MemShelf`] and [`MemSink`], which serve tests and fail only where they are
 //! made to. [`FileShelf`] and [`StdSink`] are built on the system, and contracts do not know their bytes.
+//! [`load_from`] loads from any reader within a limit, for shelves.
 //!
 //! Three forms of text are read as lines of fields. [`cut_lines`] gives all lines of a text at once, and a
 //! [`LineReader`] one after another. [`first_line`], [`content_of`], [`is_clean`] and [`first_field`] read them
@@ -21,6 +22,7 @@ mod lines;
 mod memory_shelf;
 mod memory_sink;
 mod name;
+mod reader;
 mod shelf;
 mod sink;
 mod std_sink;
@@ -33,6 +35,7 @@ pub use lines::{
 pub use memory_shelf::MemShelf;
 pub use memory_sink::MemSink;
 pub use name::{Name, Names, copied_names};
+pub use reader::load_from;
 pub use shelf::{LoadFail, Shelf};
 pub use sink::{Sink, SinkFail};
 pub use std_sink::StdSink;

@@ -11,7 +11,7 @@ pub use line_reader::LineReader;
 pub use line_text::{content_of, first_field, first_line, is_clean};
 
 /// A line of a text.
-#[derive(Debug, Drop)]
+#[derive(Drop)]
 pub struct Line {
     /// The number of the line, from 1.
     pub number: u32,

@@ -46,7 +46,7 @@ use hs_list::Items;
 pub use world::JoinWorld;
 
 /// The members of a set in ascending order, or more of them than were asked for.
-#[derive(Debug, Drop)]
+#[derive(Drop)]
 pub enum Listing<T> {
     /// All members.
     Whole(Items<T>),

@@ -9,7 +9,7 @@ use hs_list::Items;
 use std::alloc::{AllocError, Global};
 
 /// The figures of a trial of a machine that was made from a seed.
-#[derive(Debug, Drop)]
+#[derive(Drop)]
 pub struct TrialFigures {
     /// The number that the machine was made from.
     pub seed: u64,

@@ -1,18 +1,15 @@
 //! Files, and standard input under the name `-`.
 
-ghost use Rattle.std.specs.Prelude.{◌≡◌, ◌≢◌, ℕ, ◌+◌, ◌^◌, ◌<◌, ◌≤◌, [], None, Err, IfOk, IsErrOf, OnOk, vec_len, ⊤};
+ghost use Rattle.std.specs.Prelude.{◌≡◌, ℕ, ◌+◌, ◌^◌, ◌<◌, ◌≤◌, [], None, IsErrOf, OnOk, vec_len, ⊤};
 ghost use Rattle.hs_io.specs.Counts.{next_count};
 
-use hs_io::{FileShelf, LoadFail, Shelf};
+use hs_io::{FileShelf, LoadFail, Shelf, load_from};
 use std::io::Read;
 use std::marker::Model;
 use std::rt::Files;
 
 /// The name of standard input.
 const INPUT: &[u8] = b"-";
-
-/// The greatest number of bytes that one read asks for.
-const PIECE: usize = 4096;
 
 /// The files of the system, each under its path, and standard input under the name `-`. The first load of `-`
 /// reads the input to its end, and later loads find nothing more there. Contracts do not know the bytes of any
@@ -86,41 +83,7 @@ fn load_input<I: Read + Drop>(
     ensures one_more { IsErrOf result LoadFail.TooLong → vec_len into.new ≡ limit + 1 }
 {
     match input.take() {
-        Some(mut reader) => read_to_end(&mut reader, limit, into),
+        Some(mut reader) => load_from(&mut reader, limit, into),
         None => Ok(()),
     }
-}
-
-/// Reads to the end, or until there is one byte more than the limit.
-fn read_to_end(reader: &mut impl Read, limit: usize, into: &mut Vec<u8>) -> Result<(), LoadFail>
-    requires empty { into.old.items ≡ [] }
-    requires limited { limit < 2 ^ 32 }
-    ensures within { OnOk result (vec_len into.new ≤ limit) }
-    ensures one_more { IsErrOf result LoadFail.TooLong → vec_len into.new ≡ limit + 1 }
-{
-    for _ in 0..limit + 1 {
-        if read_piece(reader, limit + 1, into)? == 0 {
-            return Ok(());
-        }
-        if into.len() > limit {
-            return Err(LoadFail::TooLong);
-        }
-    }
-    unreachable!("each turn takes a byte")
-}
-
-/// Appends some of the bytes that are left, and gives their number, which is 0 only at the end.
-fn read_piece(reader: &mut impl Read, most: usize, into: &mut Vec<u8>) -> Result<usize, LoadFail>
-    requires { vec_len into.old < most }
-    ensures ok { IfOk result (λ n. vec_len into.new ≡ vec_len into.old + n) }
-    ensures most { OnOk result (vec_len into.new ≤ most) }
-    ensures err { result ≢ Err LoadFail.TooLong }
-{
-    let mut piece = [0u8; PIECE];
-    let room = PIECE.min(most - into.len());
-    let count = reader
-        .read(&mut piece[..room])
-        .map_err(|_| LoadFail::Failed)?;
-    into.extend_from_slice(&piece[..count])?;
-    Ok(count)
 }

@@ -16,7 +16,7 @@ use std::alloc::{AllocError, Global};
 
 /// A left and a right partition, meant to be an Mm pair: the right side is the least partner of the left one,
 /// and the left side is the greatest partner of the right one.
-#[derive(Debug, Drop)]
+#[derive(Drop)]
 pub struct IoPair {
     pub left: Partition,
     pub right: Partition,

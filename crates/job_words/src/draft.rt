@@ -15,7 +15,7 @@ use hs_io::Name;
 use std::alloc::{AllocError, Global};
 
 /// Why an item is refused.
-#[derive(Clone, Copy, Debug)]
+#[derive(Clone, Copy)]
 pub enum Refusal {
     /// For its first word.
     Word,
@@ -34,7 +34,7 @@ impl From<AllocError> for Refusal {
 }
 
 /// The options that occur.
-#[derive(Clone, Copy, Debug)]
+#[derive(Clone, Copy)]
 pub struct Stood {
     pub limit: bool,
     pub reduce: bool,

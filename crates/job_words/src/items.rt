@@ -7,7 +7,7 @@ ghost use Rattle.job_words.specs.Item.{items_of, option_named, takes_word, width
 use crate::{CommandOption, Words};
 
 /// An operand, or an option with the word that it takes.
-#[derive(Clone, Copy, Debug)]
+#[derive(Clone, Copy)]
 pub enum Entry<'a> {
     /// A word that does not begin as an option.
     Operand(&'a [u8]),

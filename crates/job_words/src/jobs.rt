@@ -9,7 +9,7 @@ use std::alloc::AllocError;
 
 /// What the words ask for. A field that the command does not have is empty, `None`, false or 0; `limit` is then
 /// 1,000.
-#[derive(Debug, Drop)]
+#[derive(Drop)]
 pub struct Job {
     /// The command.
     pub command: Command,

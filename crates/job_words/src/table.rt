@@ -44,7 +44,7 @@ pub enum CommandOption {
 }
 
 /// A row of the table: a command with its operands in order and its options.
-#[derive(Clone, Copy, Debug)]
+#[derive(Clone, Copy)]
 pub struct Form {
     pub command: Command,
     pub operands: &'static [OperandKind],

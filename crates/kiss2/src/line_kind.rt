@@ -6,7 +6,7 @@ ghost use Rattle.kiss2.specs.Inner.Kinds.{kind_of_later_word};
 use hs_io::Line;
 
 /// What a line of a KISS2 text is, by its first field.
-#[derive(Clone, Copy, Debug, PartialEq, Eq)]
+#[derive(Clone, Copy, PartialEq, Eq)]
 pub enum LineKind {
     /// It has no fields.
     Blank,

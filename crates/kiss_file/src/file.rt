@@ -4,7 +4,7 @@ use hs_io::Names;
 use hs_list::Items;
 
 /// A row: the next state and the outputs in one state at the symbols of one cube.
-#[derive(Clone, Copy, Debug, PartialEq, Eq)]
+#[derive(Clone, Copy, PartialEq, Eq)]
 pub struct KissRow {
     /// The symbols of the row.
     pub cube: Cube,

@@ -1,5 +1,5 @@
 /// What becomes of a next state or an output that no row specifies.
-#[derive(Clone, Copy, Debug, PartialEq, Eq)]
+#[derive(Clone, Copy, PartialEq, Eq)]
 pub enum Fill {
     /// The file is refused.
     Refuse,

@@ -1,5 +1,5 @@
 //! Building a machine, and the reasons why a file has none.
-ghost use Rattle.std.specs.Prelude.{◌≡◌, ◌^◌, ◌<◌, IfOk, IfErr, length};
+ghost use Rattle.std.specs.Prelude.{◌≡◌, ◌^◌, ◌<◌, IfOk, IfErr, OnOk, length};
 ghost use Rattle.kiss_file.specs.Machine.{Accepted, Conflicting};
 ghost use Rattle.machine_table.specs.Cause.{Caused, IsConflictOf};
 ghost use Rattle.machine_table.specs.Table.{IsTable};
@@ -53,17 +53,28 @@ impl Machine {
         ensures accepted { IfOk result (λ machine. Accepted file.now fill) }
         ensures caused { IfErr result (Caused file.now fill) }
     {
-        let machine = Machine::of_rows(alloc, file)?;
-        match machine.first_open(alloc)? {
-            None => Ok(machine.completed()),
-            Some(entry) => match fill {
-                Fill::Hold => Ok(machine),
-                Fill::Refuse => Err(BuildFail::Unspecified {
-                    state: entry.state,
-                    symbol: entry.symbol,
-                    part: entry.part,
-                }),
-            },
+        let mut machine = Machine::of_rows(alloc, file)?;
+        machine.judge_open(alloc, fill)?;
+        Ok(machine)
+    }
+
+    /// Refuses open entries, unless they are allowed. Marks the machine if it leaves nothing open.
+    fn judge_open(&mut self, alloc: Global, fill: Fill) -> Result<(), BuildFail>
+        ensures same { self.new ≡ self.old }
+        ensures accepted { OnOk result (Accepted self.old fill) }
+        ensures caused { IfErr result (Caused self.old fill) }
+    {
+        let Some(entry) = self.first_open(alloc)? else {
+            self.complete = true;
+            return Ok(());
+        };
+        match fill {
+            Fill::Hold => Ok(()),
+            Fill::Refuse => Err(BuildFail::Unspecified {
+                state: entry.state,
+                symbol: entry.symbol,
+                part: entry.part,
+            }),
         }
     }
 
@@ -86,7 +97,6 @@ impl Machine {
         requires table { IsTable file.now }
         requires numbered { Conflicting file.now → length file.now.rows < 2 ^ 32 }
         ensures machine { IfOk result (λ machine. machine ≡ file.now) }
-        ensures no_conflict { IfOk result (λ machine. Conflicting file.now → ⊥) }
         ensures caused { IfErr result (IsConflictOf file.now) }
     {
         let rows = file.rows.as_slice();

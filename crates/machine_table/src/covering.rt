@@ -18,7 +18,7 @@ use kiss_file::KissRow;
 use std::alloc::{AllocError, Global};
 
 /// Symbols at which a state has the same next state and the same outputs.
-#[derive(Clone, Copy, Debug, PartialEq, Eq)]
+#[derive(Clone, Copy, PartialEq, Eq)]
 pub struct Piece {
     /// The symbols.
     pub cube: Cube,

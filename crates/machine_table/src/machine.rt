@@ -139,21 +139,6 @@ impl Machine {
         false
     }
 
-    /// The same machine, marked as leaving nothing open.
-    pub(crate) fn completed(self) -> Machine
-        requires { Specified self }
-        ensures { result ≡ self }
-    {
-        Machine {
-            file: self.file,
-            places: self.places,
-            bundles: self.bundles,
-            leaders: self.leaders,
-            columns: self.columns,
-            complete: true,
-        }
-    }
-
     /// Whether the rows are known to leave nothing open.
     pub fn is_complete(&self) -> bool
         ensures specified { IsTrue result → Specified self.now }

@@ -15,7 +15,7 @@ use std::alloc::{AllocError, Global};
 
 /// Two partitions of a machine's states, meant to be an Mm pair: the right side is m of the left one, and the
 /// left side is M of the right one.
-#[derive(Debug, Drop)]
+#[derive(Drop)]
 pub struct MmPair {
     pub left: Partition,
     pub right: Partition,

@@ -47,7 +47,7 @@ pub use worked::{
 };
 
 /// The value of a latch before the first symbol.
-#[derive(Clone, Copy, Debug, PartialEq, Eq)]
+#[derive(Clone, Copy, PartialEq, Eq)]
 pub enum Start {
     Zero,
     One,
@@ -73,7 +73,7 @@ impl Start {
 
 /// A latch. At each symbol it takes the value of its input signal, which is the value of its output signal at
 /// the next symbol.
-#[derive(Debug, Drop)]
+#[derive(Drop)]
 pub struct Latch {
     pub input: Name,
     pub output: Name,
@@ -85,7 +85,7 @@ pub type Latches = Items<Latch>;
 
 /// A gate. Each row is a text over `0`, `1` and `-`, with a character for each input. The value of the
 /// gate is `on` where some row holds its inputs, and the opposite elsewhere.
-#[derive(Debug, Drop)]
+#[derive(Drop)]
 pub struct Gate {
     pub inputs: Names,
     pub output: Name,
@@ -97,7 +97,7 @@ pub struct Gate {
 pub type Gates = Items<Gate>;
 
 /// A network.
-#[derive(Debug, Drop)]
+#[derive(Drop)]
 pub struct Network {
     pub inputs: Names,
     pub outputs: Names,
@@ -106,7 +106,7 @@ pub struct Network {
 }
 
 /// The names of a network's signals. The last two lists have one name for each latch, in order.
-#[derive(Debug, Drop)]
+#[derive(Drop)]
 pub struct SignalNames {
     pub inputs: Names,
     pub outputs: Names,

@@ -3,7 +3,7 @@ ghost use Rattle.std.specs.Prelude.{◌≡◌, ◌+◌, ◌<◌, length, All};
 use hs_io::Names;
 
 /// A gate whose inputs are numbers of signals. Its place tells the signal that it drives: see [`Order`].
-#[derive(Debug, Drop)]
+#[derive(Drop)]
 pub struct NumberedGate {
     pub inputs: Vec<usize>,
     pub rows: Names,
@@ -16,7 +16,7 @@ pub struct NumberedGate {
 /// the order of the network. So the gate at place `g` of `gates` drives the signal `input_count + latch_count +
 /// g`. If the inputs and the latch outputs have their bits, and the gates are evaluated in the order of
 /// `sequence`, then each gate finds the bits of its inputs.
-#[derive(Debug, Drop)]
+#[derive(Drop)]
 pub struct Order {
     pub signal_count: usize,
     pub input_count: usize,

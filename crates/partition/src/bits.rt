@@ -24,7 +24,7 @@ use std::marker::Model;
 /// Bit t of row s is 1 exactly where s and t are together. States of one block have one row, which is kept if
 /// the block has two states or more; the row of a state that is alone in its block is not kept. The rows are in
 /// one vector, one after another, each in as many words as n bits need.
-#[derive(Debug, Drop)]
+#[derive(Drop)]
 pub struct BitPart {
     partition: Partition,
     rows: Vec<u64>,

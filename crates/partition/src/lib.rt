@@ -43,7 +43,7 @@ const MOST_LABEL: usize = 255;
 /// A partition of the states 0 to n - 1, n from 1 to 256, seen by contracts as its list of labels.
 ///
 /// States with equal labels are in one block, and blocks are numbered by first appearance.
-#[derive(Debug, Drop)]
+#[derive(Drop)]
 pub struct Partition {
     labels: Vec<u16>,
     blocks: usize,

@@ -7,7 +7,7 @@ ghost use Rattle.partition.specs.Inner.Rows.{Has, four_of};
 use std::marker::Model;
 
 /// A set of states below 256, a bit for each.
-#[derive(Clone, Copy, Debug)]
+#[derive(Clone, Copy)]
 pub struct StateSet {
     words: [u64; 4],
 }

@@ -11,7 +11,7 @@ use hs_lattice::JoinWorld;
 use std::alloc::{AllocError, Global};
 
 /// The partitions of n states, n from 1 to 256, kept as labels.
-#[derive(Clone, Copy, Debug)]
+#[derive(Clone, Copy)]
 pub struct PartWorld {
     pub n: usize,
 }
@@ -77,7 +77,7 @@ impl JoinWorld for PartWorld {
 }
 
 /// The partitions of n states, n from 1 to 256, kept as labels and rows of bits.
-#[derive(Clone, Copy, Debug)]
+#[derive(Clone, Copy)]
 pub struct BitWorld {
     pub n: usize,
 }

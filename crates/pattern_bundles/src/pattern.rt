@@ -2,7 +2,7 @@
 
 /// At most 64 places, each with a 0, a 1 or a dash. Place k has a dash where bit k of `care` is 0, and otherwise bit k
 /// of `value`.
-#[derive(Clone, Copy, Debug, PartialEq, Eq)]
+#[derive(Clone, Copy, PartialEq, Eq)]
 pub struct Pattern {
     /// The places without a dash.
     pub care: u64,

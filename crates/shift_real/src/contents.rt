@@ -9,7 +9,7 @@ use machine_table::Machine;
 use std::alloc::{AllocError, Global};
 
 /// A content of the register: the values of the latches, latch i at 2^i, and the state after its symbols.
-#[derive(Clone, Copy, Debug)]
+#[derive(Clone, Copy)]
 pub struct Content {
     pub latches: u64,
     pub state: u16,

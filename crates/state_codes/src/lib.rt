@@ -37,7 +37,7 @@ pub type BitOwners = Items<u16>;
 pub type CarrierMarks = Items<bool>;
 
 /// The codes of the states: bit i of a code is at 2^i in the word of its state.
-#[derive(Debug, Drop)]
+#[derive(Drop)]
 pub struct Codes {
     pub bits: usize,
     pub words: CodeWords,

@@ -9,7 +9,7 @@ use partition::Partition;
 use std::alloc::{AllocError, Global};
 
 /// How the parts of a split came to be, which says what each may read.
-#[derive(Clone, Copy, Debug, PartialEq, Eq)]
+#[derive(Clone, Copy, PartialEq, Eq)]
 pub enum Kind {
     /// One part, which distinguishes all states.
     Code,
@@ -35,7 +35,7 @@ pub type Parts = Items<Part>;
 
 /// One part of a split. Its carrier is a partition at or above its own; `reads` are the numbers of the
 /// other parts whose carriers its gates may read.
-#[derive(Debug, Drop)]
+#[derive(Drop)]
 pub struct Part {
     pub partition: Partition,
     pub carrier: Partition,
@@ -60,7 +60,7 @@ impl Part {
 }
 
 /// The parts into which the state of a machine is split, numbered from 0.
-#[derive(Debug, Drop)]
+#[derive(Drop)]
 pub struct Split {
     pub kind: Kind,
     pub parts: Parts,

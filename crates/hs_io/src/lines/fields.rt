@@ -6,7 +6,7 @@ use std::alloc::{AllocError, Global};
 use std::marker::Model;
 
 /// The fields of a line in order. A list of up to four fields takes no memory besides that of the names.
-#[derive(Debug, Drop)]
+#[derive(Drop)]
 pub struct Fields {
     names: SmallVec<Name, 4>,
 }

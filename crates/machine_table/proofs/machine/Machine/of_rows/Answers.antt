@@ -60,8 +60,3 @@ invariant_of-result c =
     × AreColumns G.rows c.in_ok-ordered.ordered.items c.in_ok-leaders.leaders.items c.in_ok-columns.columns.items
     × ListBundles G.rows (length G.states) c.in_ok-bundles.bundles.items)
     (sym c.in_ok-file.ensures) (c.requires.table, none, stand, (λ complete. absurd (false≢true complete)), columns, bundles)
-
-pub returns-clause-no_conflict : goal.returns-clause-no_conflict
-returns-clause-no_conflict c =
-    none_conflicting c.args.file.now
-    (subst (λ (list : List KissRow). (i j : ℕ) → i < j → ContradictAt list i j → ⊥) c.as_slice-rows.ensures c.in_default.ensures.none)
