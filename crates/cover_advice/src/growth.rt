@@ -1,6 +1,10 @@
 //! How far a row can be widened in a gate of at most 16 columns, by a cell for each value.
 
-ghost use Rattle.std.specs.Prelude.{◌≤◌};
+ghost use Rattle.std.specs.Prelude.{◌≡◌, ◌≤◌, ◌^◌, IfOk, bit_and, length, set};
+ghost use Rattle.cover_advice.specs.declared.growth.Cell.TheVariants.{Free};
+ghost use Rattle.cover_advice.specs.declared.pattern.Pattern.{Pattern};
+ghost use Rattle.cover_advice.specs.Cells.{AreOf, ArePut, IsPut, pattern_of};
+ghost use Rattle.cover_advice.specs.Widening.{IsLawful, IsWidened};
 
 use crate::pattern::Pattern;
 use std::alloc::{AllocError, Global};
@@ -21,7 +25,11 @@ struct Block {
 }
 
 impl Block {
-    fn of(term: Pattern) -> Block {
+    /// The values with the literals of the term at the columns below 16.
+    fn of(term: Pattern) -> Block
+        ensures care { result.care ≡ bit_and term.care 65535 }
+        ensures value { result.value ≡ bit_and term.value 65535 }
+    {
         Block {
             care: (term.care & 0xffff) as usize,
             value: (term.value & 0xffff) as usize,
@@ -37,7 +45,10 @@ impl Block {
     }
 
     /// The block with a dash at a column.
-    fn without(self, bit: usize) -> Block {
+    fn without(self, bit: usize) -> Block
+        ensures widened { (row : Pattern) → IsWidened (pattern_of self) row → IsWidened (pattern_of result) row }
+        ensures lawful { IsLawful (pattern_of self) → IsLawful (pattern_of result) }
+    {
         Block {
             care: self.care & !bit,
             value: self.value & !bit,
@@ -60,26 +71,29 @@ impl Ground {
         width: u8,
     ) -> Result<Ground, AllocError>
         requires { width ≤ 16 }
+        ensures size { IfOk result (λ ground. length ground.cells.items ≡ 2 ^ width) }
+        ensures of_lists { IfOk result (λ ground. AreOf on.now off.now ground.cells.items) }
     {
         let mut ground = Ground {
             cells: vec![in alloc; Cell::Free; 1usize << width]?,
         };
-        for term in on {
-            ground.put(*term, Cell::Open);
-        }
-        for term in off {
-            ground.put(*term, Cell::Off);
-        }
+        ground.put_each(on, Cell::Open);
+        ground.put_each(off, Cell::Off);
         Ok(ground)
     }
 
     /// Makes the values of the row free.
-    pub fn take(&mut self, row: Pattern) {
+    pub fn take(&mut self, row: Pattern)
+        ensures { IsPut row Free self.old.cells.items self.new.cells.items }
+    {
         self.put(row, Cell::Free);
     }
 
     /// The row with dashes, put one by one at the column that brings the most values of on that are in no row yet.
-    pub fn grown(&self, row: Pattern) -> Pattern {
+    pub fn grown(&self, row: Pattern) -> Pattern
+        ensures widened { IsWidened result row }
+        ensures lawful { IsLawful row → IsLawful result }
+    {
         let mut block = Block::of(row);
         for _ in 0..16 {
             let Some(bit) = self.best(block) else {
@@ -129,19 +143,37 @@ impl Ground {
         gain
     }
 
+    /// Gives each value of the rows this cell.
+    fn put_each(&mut self, rows: &[Pattern], cell: Cell)
+        ensures { ArePut rows.now cell self.old.cells.items self.new.cells.items }
+    {
+        for row in rows {
+            self.put(*row, cell);
+        }
+    }
+
     /// Gives each value of the row this cell.
-    fn put(&mut self, row: Pattern, cell: Cell) {
+    fn put(&mut self, row: Pattern, cell: Cell)
+        ensures { IsPut row cell self.old.cells.items self.new.cells.items }
+    {
         let block = Block::of(row);
         let dashes = self.cells.len().saturating_sub(1) & !block.care;
         let mut part = 0;
         for _ in 0..1usize << 16 {
-            if let Some(old) = self.cells.get_mut(block.value | part) {
-                *old = cell;
-            }
+            self.put_at(block.value | part, cell);
             part = part.wrapping_sub(dashes) & dashes;
             if part == 0 {
                 break;
             }
+        }
+    }
+
+    /// Gives the value this cell, if it has one.
+    fn put_at(&mut self, value: usize, cell: Cell)
+        ensures { self.new.cells.items ≡ set self.old.cells.items value cell }
+    {
+        if let Some(old) = self.cells.get_mut(value) {
+            *old = cell;
         }
     }
 }

@@ -2,8 +2,12 @@
 //!
 //! A row is widened as long as it holds no value that the gate has to leave out. The best steps are found here, by
 //! marks of all values in a gate of few columns (`Ground`), and by the columns of all terms in any other gate
-//! (`Slices`). No clause speaks of the answers: the caller asks a table or an index of its own before it changes
-//! a row, so a wrong answer costs time and no more.
+//! (`Slices`). `specs/Widening.antt` says what a widened row is, `specs/Limits.antt` what a row has to keep, and
+//! `specs/Sliced.antt` and `specs/Cells.antt` what is known of the lists.
+//!
+//! An advised row has literals of the row alone, and a named term is one of the list. No clause says that the advice
+//! is right: the caller asks a table or an index of its own before it changes a row, so a wrong answer costs time and
+//! no more.
 #![tactic(auto)]
 
 mod growth;

@@ -1,9 +1,12 @@
-//! What a row has to keep while it is widened.
+//! What a row has to keep as it is widened.
+
+ghost use Rattle.std.specs.Prelude.{◌≡◌, ◌≢◌, ◌==◌, ◌↔◌, ℕ, IsTrue, OnOk, bit_and, filter};
+ghost use Rattle.cover_advice.specs.Limits.{AreAmong, AreOfRow, IsAllowed, IsSingle};
 
 use std::alloc::{AllocError, Global};
 
-/// What a row that is widened from a seed has to keep, so that it touches no term that is known: its literals at the
-/// columns of `literals`, and at one column at least of each set.
+/// What a row has to keep so as to share no value with the terms that were met: the literals at the columns of
+/// `literals`, and at least one literal at the columns of each set. No set has a column of `literals`.
 #[derive(Drop)]
 pub struct Limits {
     literals: u128,
@@ -12,14 +15,19 @@ pub struct Limits {
 
 impl Limits {
     /// The limits that keep the literals at these columns, and no more.
-    pub fn new(alloc: Global, literals: u128) -> Limits {
+    pub fn new(alloc: Global, literals: u128) -> Limits
+        ensures allowed { (columns : ℕ) → IsAllowed result columns ↔ AreAmong literals columns }
+        ensures of_row { (columns : ℕ) → AreOfRow result columns ↔ AreAmong literals columns }
+    {
         Limits {
             literals,
             sets: Vec::new(alloc),
         }
     }
 
-    pub(crate) fn literals(&self) -> u128 {
+    pub(crate) fn literals(&self) -> u128
+        ensures { result ≡ self.now.literals }
+    {
         self.literals
     }
 
@@ -28,15 +36,20 @@ impl Limits {
     }
 
     /// Whether a row with literals at these columns alone is within the limits.
-    pub fn allow(&self, care: u128) -> bool {
-        care & self.literals == self.literals && self.sets.iter().all(|set| care & *set != 0)
+    pub fn allow(&self, care: u128) -> bool
+        ensures { IsTrue result ↔ IsAllowed self.now care }
+    {
+        self.literals & care == self.literals && self.sets.iter().all(|set| *set & care != 0)
     }
 
     /// Adds the columns at which a term has the other literal than the seed. A row with literals at the columns of
     /// `care` has one there.
-    pub fn add(&mut self, set: u128, care: u128) -> Result<(), AllocError> {
+    pub fn add(&mut self, set: u128, care: u128) -> Result<(), AllocError>
+        ensures allowed { OnOk result ((columns : ℕ) → AreAmong columns care → IsAllowed self.new columns ↔ (IsAllowed self.old columns × (bit_and set columns ≢ 0))) }
+        ensures of_row { OnOk result ((columns : ℕ) → AreAmong set columns → AreOfRow self.old columns → AreOfRow self.new columns) }
+    {
         let left = set & care;
-        if left.is_power_of_two() {
+        if is_single(left) {
             self.literals |= left;
             return Ok(());
         }
@@ -45,15 +58,51 @@ impl Limits {
     }
 
     /// The limits of a row that has literals at these columns alone: it keeps the last that is left of a set.
-    pub fn narrow(&mut self, care: u128) {
-        let mut literals = self.literals;
-        for set in &self.sets {
-            let left = *set & care;
-            if left.is_power_of_two() {
-                literals |= left;
-            }
-        }
-        self.sets.retain(|set| *set & literals == 0);
+    pub fn narrow(&mut self, care: u128)
+        ensures { (columns : ℕ) → AreAmong columns care → IsAllowed self.new columns ↔ IsAllowed self.old columns }
+    {
+        let literals = self.kept(care);
+        drop_sharing(&mut self.sets, literals);
         self.literals = literals;
     }
+
+    /// The columns of the literals that such a row has to keep.
+    fn kept(&self, care: u128) -> u128
+        ensures more { (columns : ℕ) → AreAmong result columns → AreAmong self.now.literals columns }
+        ensures kept { (columns : ℕ) → AreAmong columns care → IsAllowed self.now columns → AreAmong result columns }
+    {
+        let mut kept = self.literals;
+        for set in &self.sets {
+            kept = with_last(kept, *set, care);
+        }
+        kept
+    }
+}
+
+/// The columns, and the one that is left of a set if one alone is left.
+fn with_last(columns: u128, set: u128, care: u128) -> u128
+    ensures more { (others : ℕ) → AreAmong result others → AreAmong columns others }
+    ensures last { (others : ℕ) → AreAmong others care → AreAmong columns others → bit_and set others ≢ 0 → AreAmong result others }
+{
+    let left = set & care;
+    if is_single(left) {
+        columns | left
+    } else {
+        columns
+    }
+}
+
+/// Whether there is one column alone.
+fn is_single(columns: u128) -> bool
+    ensures { IsTrue result → IsSingle columns }
+{
+    let column = columns.trailing_zeros();
+    column < 128 && columns == 1 << column
+}
+
+/// Drops each set that has one of the columns.
+fn drop_sharing(sets: &mut Vec<u128>, columns: u128)
+    ensures { sets.new.items ≡ filter (λ set. bit_and set columns == 0) sets.old.items }
+{
+    sets.retain(|set| *set & columns == 0);
 }

@@ -1,5 +1,9 @@
 //! Which terms of on a row may be able to hold.
 
+ghost use Rattle.std.specs.Prelude.{All, IfOk};
+ghost use Rattle.cover_advice.specs.Limits.{AreOfRow};
+ghost use Rattle.cover_advice.specs.Sliced.{IsTermOf};
+
 use crate::limits::Limits;
 use crate::pattern::Pattern;
 use crate::slices::Slices;
@@ -23,7 +27,10 @@ impl Prospects {
         row: Pattern,
         on: &Slices,
         off: &Slices,
-    ) -> Result<Prospects, AllocError> {
+    ) -> Result<Prospects, AllocError>
+        ensures others { IfOk result (λ found. All (IsTermOf on.now) found.others.items) }
+        ensures limits { IfOk result (λ found. AreOfRow found.limits row.care) }
+    {
         let mut limits = off.limits(alloc, row)?;
         let mut left = on.having(alloc, row, limits.literals())?;
         if count(&left) > FEW {

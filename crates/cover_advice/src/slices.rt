@@ -1,10 +1,15 @@
 //! How far a row can be widened in a gate of many terms, by the columns of the terms: one step asks 128 terms at once.
 
-ghost use Rattle.std.specs.Prelude.{◌≤◌};
+ghost use Rattle.std.specs.Prelude.{◌≡◌, ◌≢◌, ℕ, ◌+◌, ◌*◌, ◌<◌, ◌≤◌, ◌^◌, ◌↔◌, IfOk, IfSome, IsTrue, bit_and, length, slice_index};
+ghost use Rattle.std.specs.Int.{trailing_zeros, w128};
+ghost use Rattle.cover_advice.specs.Inner.Words.{AreBelow, AreParts, HoldAll, IsOpenPlace, IsPart, IsPlaceIn};
+ghost use Rattle.cover_advice.specs.Limits.{AreOfRow};
+ghost use Rattle.cover_advice.specs.Inner.Columns.{AreAtLiterals, AreNamed, HaveTerms};
 
 use crate::limits::Limits;
 use crate::pattern::Pattern;
 use std::alloc::{AllocError, Global};
+use std::marker::Model;
 
 /// A column, as the number with its bit alone, and which terms have a literal 0 and a literal 1 there: term 128 * i +
 /// k of the list is bit k of word i.
@@ -16,7 +21,9 @@ struct Column {
 }
 
 impl Column {
-    fn is_literal_of(&self, row: Pattern) -> bool {
+    fn is_literal_of(&self, row: Pattern) -> bool
+        ensures { IsTrue result ↔ (bit_and row.care self.now.bit ≢ 0) }
+    {
         row.care & self.bit != 0
     }
 
@@ -36,6 +43,21 @@ impl Column {
         } else {
             &self.zeros
         }
+    }
+
+    /// The number of the first of these terms of the word of that number that has the other literal.
+    fn first_against(&self, row: Pattern, number: usize, terms: u128) -> Option<usize>
+        ensures place { IfSome result (IsPlaceIn number terms) }
+        ensures literal { IfSome result (λ _. bit_and row.care self.now.bit ≢ 0) }
+    {
+        if !self.is_literal_of(row) {
+            return None;
+        }
+        let found = word_at(self.against(row), number) & terms;
+        if found == 0 {
+            return None;
+        }
+        Some(place(number, found))
     }
 }
 
@@ -98,6 +120,21 @@ struct Step {
     later: Vec<u128>,
 }
 
+impl Step {
+    /// The number of the first term in neither `kept` nor the later terms. If there is one, the column stays, and
+    /// `kept` gets the terms with the other literal there.
+    fn reason(&self, kept: &mut [u128], near: &[usize]) -> Option<usize>
+        ensures kept { AreParts kept.old kept.new }
+        ensures open { IfSome result (IsOpenPlace kept.old near.now) }
+    {
+        let reason = first_open(kept, &self.later, near);
+        if reason.is_some() {
+            unite(kept, &self.against);
+        }
+        reason
+    }
+}
+
 /// The number of sets that are asked of all terms: the terms that are left are few enough to be asked one by one.
 const ASKED_SETS: usize = 32;
 
@@ -112,10 +149,31 @@ pub struct Slices {
     live: Vec<u128>,
 }
 
+impl Model for Slices {
+    ghost use Rattle.std.specs.Prelude.{length};
+    ghost use Rattle.cover_advice.specs.Sliced.{Sliced};
+    ghost use Rattle.cover_advice.specs.Inner.Columns.{AreColumns};
+    ghost use Rattle.cover_advice.specs.Inner.Words.{AreBelow};
+
+    ghost Value = { Sliced };
+
+    ghost view = { λ s. record { terms = s.terms.items; width = length s.columns.items; live = s.live.items } };
+
+    ghost invariant = { λ s. AreColumns s.columns.items × AreBelow (length s.terms.items) s.live.items };
+}
+
 impl Slices {
+    ghost use Rattle.std.specs.Prelude.{All, OnOk};
+    ghost use Rattle.cover_advice.specs.Sliced.{Counts, IsTermOf};
+    ghost use Rattle.cover_advice.specs.Widening.{IsLawful, IsWidened};
+    ghost use Rattle.cover_advice.specs.Inner.Words.{AreOutside, IsOutside};
+
     /// All terms of the list, by the columns below the width.
     pub fn new(alloc: Global, terms: &[Pattern], width: u8) -> Result<Slices, AllocError>
         requires { width ≤ 128 }
+        ensures terms { IfOk result (λ all. all.terms ≡ terms.now) }
+        ensures width { IfOk result (λ all. all.width ≡ width) }
+        ensures all { IfOk result (λ all. (number : ℕ) → number < length terms.now → Counts all number) }
     {
         let mut columns = Vec::new(alloc);
         for column in 0..u32::from(width) {
@@ -130,12 +188,16 @@ impl Slices {
             terms: Vec::from_slice(alloc, terms)?,
             columns,
             hulls: hulls(alloc, terms)?,
-            live: places(alloc, terms, 0, 0)?,
+            live: all_places(alloc, terms.len())?,
         })
     }
 
     /// Leaves out the terms that the row holds whole.
-    pub fn drop_included(&mut self, alloc: Global, row: Pattern) -> Result<(), AllocError> {
+    pub fn drop_included(&mut self, alloc: Global, row: Pattern) -> Result<(), AllocError>
+        ensures terms { self.new.terms ≡ self.old.terms }
+        ensures width { self.new.width ≡ self.old.width }
+        ensures fewer { (number : ℕ) → Counts self.new number → Counts self.old number }
+    {
         let inside = self.having(alloc, row, row.care)?;
         remove(&mut self.live, &inside);
         Ok(())
@@ -147,7 +209,9 @@ impl Slices {
         alloc: Global,
         row: Pattern,
         columns: u128,
-    ) -> Result<Vec<u128>, AllocError> {
+    ) -> Result<Vec<u128>, AllocError>
+        ensures { IfOk result (λ words. AreParts words.items self.now.live) }
+    {
         let sets = self.with(alloc, row, columns)?;
         let mut having = Vec::new(alloc);
         for (number, hull) in self.hulls.iter().enumerate() {
@@ -190,7 +254,9 @@ impl Slices {
     }
 
     /// The terms in the word of that number that are in each of the sets.
-    fn having_at(&self, number: usize, sets: &[&[u128]]) -> u128 {
+    fn having_at(&self, number: usize, sets: &[&[u128]]) -> u128
+        ensures { IsPart result (slice_index self.now.live number) }
+    {
         let mut having = word_at(&self.live, number);
         for set in sets {
             if having == 0 {
@@ -202,7 +268,9 @@ impl Slices {
     }
 
     /// The terms in the word of that number that no longer count, and those that are in one of the sets.
-    fn gone_at(&self, number: usize, sets: &[&[u128]]) -> u128 {
+    fn gone_at(&self, number: usize, sets: &[&[u128]]) -> u128
+        ensures { IsOutside result (slice_index self.now.live number) }
+    {
         let mut gone = !word_at(&self.live, number);
         for set in sets {
             gone |= word_at(set, number);
@@ -211,7 +279,9 @@ impl Slices {
     }
 
     /// The terms in the word of that number that are in one of the sets alone.
-    fn sole_at(&self, number: usize, sets: &[&[u128]]) -> u128 {
+    fn sole_at(&self, number: usize, sets: &[&[u128]]) -> u128
+        ensures { IsPart result (slice_index self.now.live number) }
+    {
         let mut once = 0;
         let mut gone = !word_at(&self.live, number);
         for set in sets {
@@ -225,20 +295,30 @@ impl Slices {
         once & !gone
     }
 
+    /// The terms in the word of that number that are in one of the sets alone, where its hull differs from a row at
+    /// the columns `apart`. There are none where each of its terms is in two sets, or in that of a known column.
+    fn sole_near(&self, number: usize, sets: &[&[u128]], apart: u128, known: u128) -> u128
+        ensures { IsPart result (slice_index self.now.live number) }
+    {
+        if apart == 0 || apart.is_power_of_two() && apart & known == 0 {
+            return self.sole_at(number, sets);
+        }
+        0
+    }
+
     /// For each column the number of a term that has the other literal than the row there and at no other column. A
     /// word is passed over where each of its terms has it at two columns, or at one that is known.
-    fn soles(&self, alloc: Global, row: Pattern) -> Result<Vec<Option<usize>>, AllocError> {
+    fn soles(&self, alloc: Global, row: Pattern) -> Result<Vec<Option<usize>>, AllocError>
+        ensures columns { IfOk result (λ soles. length soles.items ≡ self.now.width) }
+        ensures named { IfOk result (λ soles. AreNamed self.now soles.items) }
+        ensures literals { IfOk result (λ soles. AreAtLiterals row.care soles.items) }
+    {
         let sets = self.against(alloc, row, row.care)?;
         let mut soles = vec![in alloc; None; self.columns.len()]?;
         let mut known = 0;
         for (number, hull) in self.hulls.iter().enumerate() {
-            let apart = row.apart(*hull);
-            if apart == 0 || apart.is_power_of_two() && apart & known == 0 {
-                let sole = self.sole_at(number, &sets);
-                if sole != 0 {
-                    known |= self.put_soles(&mut soles, row, number, sole);
-                }
-            }
+            let sole = self.sole_near(number, &sets, row.apart(*hull), known);
+            known |= self.put_soles(&mut soles, row, number, sole);
         }
         Ok(soles)
     }
@@ -250,25 +330,34 @@ impl Slices {
         row: Pattern,
         number: usize,
         sole: u128,
-    ) -> u128 {
+    ) -> u128
+        requires columns { length soles.old ≡ self.now.width }
+        requires live { IsPart sole (slice_index self.now.live number) }
+        ensures named { AreNamed self.now soles.old → AreNamed self.now soles.new }
+        ensures literals { AreAtLiterals row.care soles.old → AreAtLiterals row.care soles.new }
+    {
         let mut found = 0;
-        for (column, place_of) in self.columns.iter().zip(soles.iter_mut()) {
-            if column.is_literal_of(row) {
-                let open = word_at(column.against(row), number) & sole;
-                if open != 0 {
-                    *place_of = Some(place(number, open));
-                    found |= column.bit;
-                }
+        if sole == 0 {
+            return found;
+        }
+        for (c, column) in self.columns.iter().enumerate() {
+            let first = column.first_against(row, number, sole);
+            if first.is_some() {
+                soles[c] = first;
+                found |= column.bit;
             }
         }
         found
     }
 
     /// The columns for which a term is there.
-    fn columns_with(&self, soles: &[Option<usize>]) -> u128 {
+    fn columns_with(&self, soles: &[Option<usize>]) -> u128
+        requires { length soles.now ≡ self.now.width }
+        ensures { HaveTerms soles.now result }
+    {
         let mut columns = 0;
-        for (column, sole) in self.columns.iter().zip(soles) {
-            if sole.is_some() {
+        for (c, column) in self.columns.iter().enumerate() {
+            if soles[c].is_some() {
                 columns |= column.bit;
             }
         }
@@ -276,7 +365,9 @@ impl Slices {
     }
 
     /// The literals that each wider row has to keep: some term has the other literal there and nowhere else.
-    pub(crate) fn limits(&self, alloc: Global, row: Pattern) -> Result<Limits, AllocError> {
+    pub(crate) fn limits(&self, alloc: Global, row: Pattern) -> Result<Limits, AllocError>
+        ensures { IfOk result (λ limits. AreOfRow limits row.care) }
+    {
         let soles = self.soles(alloc, row)?;
         Ok(Limits::new(alloc, self.columns_with(&soles)))
     }
@@ -289,15 +380,33 @@ impl Slices {
         row: Pattern,
         most: usize,
         limits: &mut Limits,
-    ) -> Result<(), AllocError> {
+    ) -> Result<(), AllocError>
+        ensures { OnOk result (AreOfRow limits.old row.care → AreOfRow limits.new row.care) }
+    {
         let counts = self.counts(alloc, row, limits.literals())?;
         let mut room = most;
         for number in 2..8 {
-            for (i, count) in counts.iter().enumerate() {
-                room = self.add_sets(limits, row, i, count.at(number), room)?;
-            }
+            room = self.add_at(limits, row, &counts, number, room)?;
         }
         Ok(())
+    }
+
+    /// Adds the columns of the terms with that count, for `room` terms at most, and gives the room that is left.
+    fn add_at(
+        &self,
+        limits: &mut Limits,
+        row: Pattern,
+        counts: &[Count],
+        number: u32,
+        room: usize,
+    ) -> Result<usize, AllocError>
+        ensures { OnOk result (AreOfRow limits.old row.care → AreOfRow limits.new row.care) }
+    {
+        let mut left = room;
+        for (i, count) in counts.iter().enumerate() {
+            left = self.add_sets(limits, row, i, count.at(number), left)?;
+        }
+        Ok(left)
     }
 
     /// The counts of the terms that do not have the other literal at one of those columns.
@@ -328,7 +437,9 @@ impl Slices {
         word: usize,
         found: u128,
         room: usize,
-    ) -> Result<usize, AllocError> {
+    ) -> Result<usize, AllocError>
+        ensures { OnOk result (AreOfRow limits.old row.care → AreOfRow limits.new row.care) }
+    {
         let mut found = found;
         let mut left = room;
         for _ in 0..room {
@@ -345,8 +456,14 @@ impl Slices {
     }
 
     /// The term at the lowest bit of the word of that number.
-    fn term_at(&self, word: usize, found: u128) -> Option<Pattern> {
-        self.terms.get(place(word, found)).copied()
+    fn term_at(&self, word: usize, found: u128) -> Option<Pattern>
+        ensures { found ≢ 0 → IsPart found (slice_index self.now.live word) → IfSome result (IsTermOf self.now) }
+    {
+        let number = place(word, found);
+        if number >= self.terms.len() {
+            return None;
+        }
+        Some(self.terms[number])
     }
 
     /// Keeps the terms that have the literal of the row at a column of each of the first sets.
@@ -355,7 +472,9 @@ impl Slices {
         left: &mut Vec<u128>,
         row: Pattern,
         limits: &Limits,
-    ) -> Result<(), AllocError> {
+    ) -> Result<(), AllocError>
+        ensures { OnOk result (AreParts left.new.items left.old.items) }
+    {
         let mut any = left.clone()?;
         for set in limits.sets().iter().take(ASKED_SETS) {
             self.gather(&mut any, row, *set);
@@ -377,11 +496,10 @@ impl Slices {
     }
 
     /// The terms of those words.
-    pub(crate) fn terms_of(
-        &self,
-        alloc: Global,
-        words: &[u128],
-    ) -> Result<Vec<Pattern>, AllocError> {
+    pub(crate) fn terms_of(&self, alloc: Global, words: &[u128]) -> Result<Vec<Pattern>, AllocError>
+        requires { AreParts words.now self.now.live }
+        ensures { IfOk result (λ terms. All (IsTermOf self.now) terms.items) }
+    {
         let mut terms = Vec::new(alloc);
         for (i, word) in words.iter().enumerate() {
             self.put_terms(&mut terms, i, *word)?;
@@ -395,7 +513,10 @@ impl Slices {
         terms: &mut Vec<Pattern>,
         word: usize,
         found: u128,
-    ) -> Result<(), AllocError> {
+    ) -> Result<(), AllocError>
+        requires { IsPart found (slice_index self.now.live word) }
+        ensures { OnOk result (All (IsTermOf self.now) terms.old.items → All (IsTermOf self.now) terms.new.items) }
+    {
         let mut found = found;
         for _ in 0..128 {
             if found == 0 {
@@ -411,33 +532,51 @@ impl Slices {
 
     /// How far the row is widened when each literal in turn becomes a dash where the row then touches no term. Terms
     /// with the other literal at a column that surely stays are left out.
-    pub fn advice(&self, alloc: Global, row: Pattern) -> Result<Advice, AllocError> {
+    pub fn advice(&self, alloc: Global, row: Pattern) -> Result<Advice, AllocError>
+        ensures widened { IfOk result (λ advice. IsWidened advice.wide row) }
+        ensures lawful { IfOk result (λ advice. IsLawful row → IsLawful advice.wide) }
+        ensures columns { IfOk result (λ advice. length advice.reasons.items ≡ self.now.width) }
+        ensures named { IfOk result (λ advice. All (λ reason. IfSome reason (Counts self.now)) advice.reasons.items) }
+    {
         let mut reasons = self.soles(alloc, row)?;
         let literals = self.columns_with(&reasons);
         let open = row.care & !literals;
         let near = self.near(alloc, row, literals)?;
         let mut kept = self.gone(alloc, row, literals, &near)?;
         let mut steps = self.steps(alloc, row, open, &near)?;
+        let dashes = self.put_reasons(&mut reasons, &mut kept, &mut steps, &near, open);
+        Ok(Advice {
+            wide: row.without(dashes),
+            reasons,
+        })
+    }
+
+    /// Takes the steps for the open columns in turn. Puts a reason at each that stays, and gives the others.
+    fn put_reasons(
+        &self,
+        reasons: &mut [Option<usize>],
+        kept: &mut [u128],
+        steps: &mut Vec<Step>,
+        near: &[usize],
+        open: u128,
+    ) -> u128
+        requires columns { length reasons.old ≡ self.now.width }
+        requires kept { AreOutside kept.old near.now self.now.live }
+        ensures { AreNamed self.now reasons.old → AreNamed self.now reasons.new }
+    {
         let mut dashes = 0;
-        for (column, reason) in self.columns.iter().zip(reasons.iter_mut()) {
+        for (c, column) in self.columns.iter().enumerate() {
             if open & column.bit != 0 {
                 if let Some(step) = steps.pop() {
-                    *reason = first_open(&kept, &step.later, &near);
-                    if reason.is_some() {
-                        unite(&mut kept, &step.against);
-                    } else {
+                    let reason = step.reason(kept, near);
+                    reasons[c] = reason;
+                    if reason.is_none() {
                         dashes |= column.bit;
                     }
                 }
             }
         }
-        Ok(Advice {
-            wide: Pattern {
-                care: row.care & !dashes,
-                value: row.value & !dashes,
-            },
-            reasons,
-        })
+        dashes
     }
 
     /// The numbers of the words of which not every term has the other literal than the row at one of the columns.
@@ -459,7 +598,9 @@ impl Slices {
         row: Pattern,
         columns: u128,
         near: &[usize],
-    ) -> Result<Vec<u128>, AllocError> {
+    ) -> Result<Vec<u128>, AllocError>
+        ensures { IfOk result (λ gone. AreOutside gone.items near.now self.now.live) }
+    {
         let sets = self.against(alloc, row, columns)?;
         let mut gone = Vec::new(alloc);
         for number in near {
@@ -500,7 +641,9 @@ fn picked(alloc: Global, words: &[u128], numbers: &[usize]) -> Result<Vec<u128>,
 }
 
 /// The word of that number, or an empty one.
-fn word_at(words: &[u128], number: usize) -> u128 {
+fn word_at(words: &[u128], number: usize) -> u128
+    ensures { result ≡ slice_index words.now number }
+{
     words.get(number).copied().unwrap_or(0)
 }
 
@@ -526,20 +669,38 @@ fn hull(terms: &[Pattern]) -> Pattern {
 }
 
 /// The number of the first term in neither set. The words of both have those numbers.
-fn first_open(kept: &[u128], later: &[u128], near: &[usize]) -> Option<usize> {
-    for ((a, b), number) in kept.iter().zip(later).zip(near) {
-        let open = !(*a | *b);
+fn first_open(kept: &[u128], later: &[u128], near: &[usize]) -> Option<usize>
+    ensures { IfSome result (IsOpenPlace kept.now near.now) }
+{
+    let count = kept.len().min(later.len()).min(near.len());
+    for i in 0..count {
+        let open = !(kept[i] | later[i]);
         if open != 0 {
-            return Some(place(*number, open));
+            return Some(place(near[i], open));
         }
     }
     None
 }
 
 /// The number of the term at the lowest bit of a word.
-fn place(word: usize, found: u128) -> usize {
+fn place(word: usize, found: u128) -> usize
+    ensures { word * 128 + trailing_zeros w128 found < 2 ^ 64 → result ≡ word * 128 + trailing_zeros w128 found }
+{
     word.saturating_mul(128)
         .saturating_add(found.trailing_zeros() as usize)
+}
+
+/// A bit for each of that many terms.
+fn all_places(alloc: Global, count: usize) -> Result<Vec<u128>, AllocError>
+    ensures below { IfOk result (λ words. AreBelow count words.items) }
+    ensures all { IfOk result (λ words. HoldAll count words.items) }
+{
+    let mut words = vec![in alloc; u128::MAX; count / 128]?;
+    let rest = count % 128;
+    if rest > 0 {
+        words.push((1u128 << rest) - 1)?;
+    }
+    Ok(words)
 }
 
 /// A bit for each term that has at the columns of `mask` the literals of `value`.
@@ -563,23 +724,32 @@ fn places(
 }
 
 /// Adds the set.
-fn unite(all: &mut [u128], set: &[u128]) {
-    for (word, more) in all.iter_mut().zip(set) {
-        *word |= *more;
+fn unite(all: &mut [u128], set: &[u128])
+    ensures { AreParts all.old all.new }
+{
+    let count = all.len().min(set.len());
+    for i in 0..count {
+        all[i] |= set[i];
     }
 }
 
 /// Keeps what is in the set.
-fn keep(all: &mut [u128], set: &[u128]) {
-    for (word, more) in all.iter_mut().zip(set) {
-        *word &= *more;
+fn keep(all: &mut [u128], set: &[u128])
+    ensures { AreParts all.new all.old }
+{
+    let count = all.len().min(set.len());
+    for i in 0..count {
+        all[i] &= set[i];
     }
 }
 
 /// Leaves out what is in the set.
-fn remove(all: &mut [u128], set: &[u128]) {
-    for (word, less) in all.iter_mut().zip(set) {
-        *word &= !*less;
+fn remove(all: &mut [u128], set: &[u128])
+    ensures { AreParts all.new all.old }
+{
+    let count = all.len().min(set.len());
+    for i in 0..count {
+        all[i] &= !set[i];
     }
 }
 

@@ -1,0 +1,5 @@
+pub mod Widening
+pub mod Limits
+pub mod Cells
+pub mod Sliced
+pub mod Inner
