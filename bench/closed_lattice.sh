@@ -7,18 +7,18 @@
 set -eu
 words="closed pairs consistent"
 . "$(dirname "$0")/timing.sh"
-use_program bench_machines
+use_program benchmarks
 works=("$@")
 [ $# -gt 0 ] || works=($words)
 
 printf '%-10s %8s %-10s %6s %10s %10s %8s\n' machine states listing listed 'time (ms)' 'ask (ms)' ratio
 while read -r kind size; do
-    states=$("$program" "$kind $size build 1" | awk '{ print $NF }')
-    none=$(least_of 5 "$program" "$kind $size build 1")
-    ask=$(least_of 5 "$program" "$kind $size equal 1")
+    states=$("$program" "machines $kind $size build 1" | awk '{ print $NF }')
+    none=$(least_of 5 "$program" "machines $kind $size build 1")
+    ask=$(least_of 5 "$program" "machines $kind $size equal 1")
     for work in "${works[@]}"; do
-        listed=$("$program" "$kind $size $work 1" | awk '{ print $NF }')
-        time=$(least_of 5 "$program" "$kind $size $work 1")
+        listed=$("$program" "machines $kind $size $work 1" | awk '{ print $NF }')
+        time=$(least_of 5 "$program" "machines $kind $size $work 1")
         awk -v machine="$kind $size" -v states="$states" -v work="$work" -v listed="$listed" -v time="$((time - none))" -v ask="$((ask - none))" \
             'BEGIN { printf "%-10s %8d %-10s %6d %10.1f %10.1f %8s\n", machine, states, work, listed, time / 1000, ask / 1000, ask < 2000 ? "-" : sprintf("%.1f", time / ask) }'
     done

@@ -2,16 +2,16 @@
 # Times what the gates of a code read from outside, beside a plain way in the same run. It asks each state about the
 # first one like it, which is searched, for each bit that is judged, and compares each two pieces of a state. A time is
 # processor time, the least of three runs without that of a run that only makes the case, for one call. The cases are
-# those of crates/bench_machines.
+# those of crates/benchmarks.
 set -eu
 . "$(dirname "$0")/timing.sh"
-use_program bench_machines
+use_program benchmarks
 TIMEFORMAT='%U %S'
 
 # the processor time of the program in milliseconds, the least of three runs: case, size, work, calls
 spent() {
     for _ in 1 2 3; do
-        { time "$program" "$*" >/dev/null; } 2>&1 | awk '{ print 1000 * ($1 + $2) }'
+        { time "$program" "machines $*" >/dev/null; } 2>&1 | awk '{ print 1000 * ($1 + $2) }'
     done | sort -n | head -n 1
 }
 
@@ -22,8 +22,8 @@ call() {
 
 printf '%-7s %5s %11s %12s %9s  %s\n' case size 'reads (ms)' 'search (ms)' 'to search' 'bits and inputs'
 while read -r kind size calls plain_calls; do
-    answer=$("$program" "$kind $size reads 1" | awk '{ print $NF }')
-    if [ "$answer" != "$("$program" "$kind $size search 1" | awk '{ print $NF }')" ]; then
+    answer=$("$program" "machines $kind $size reads 1" | awk '{ print $NF }')
+    if [ "$answer" != "$("$program" "machines $kind $size search 1" | awk '{ print $NF }')" ]; then
         echo "$kind $size: reads and search differ"
         exit 1
     fi

@@ -7,7 +7,7 @@
 # to count them.
 set -eu
 . "$(dirname "$0")/timing.sh"
-use_program bench_sets
+use_program benchmarks
 
 # the least of five runs of a case, in microseconds
 least() {

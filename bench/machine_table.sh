@@ -1,22 +1,21 @@
 #!/usr/bin/env bash
 # Times machines of large files from outside: the building, beside the reading of the same text, and the questions
 # about two states, beside a plain comparison of the two at each symbol by itself in the same run. What reading and
-# building take is subtracted from the questions. The machines are those of
-# crates/bench_machines.
+# building take is subtracted from the questions. The machines are those of crates/benchmarks.
 set -eu
 . "$(dirname "$0")/timing.sh"
-use_program bench_machines
+use_program benchmarks
 
 # the time of the program, in microseconds: kind, size, work, pairs
 run() {
-    least_of 5 "$program" "$1 $2 $3 $4"
+    least_of 5 "$program" "machines $1 $2 $3 $4"
 }
 
 printf '%-7s %5s %7s %12s %12s %7s\n' kind size rows 'read (ms)' 'build (ms)' ratio
 while read -r kind size; do
     read=$(run "$kind" "$size" read 0)
     build=$(run "$kind" "$size" build 0)
-    rows=$("$program" "$kind $size read 0" | awk '{ print $5 }')
+    rows=$("$program" "machines $kind $size read 0" | awk '{ print $6 }')
     awk -v kind="$kind" -v size="$size" -v rows="$rows" -v read="$read" -v both="$build" \
         'BEGIN { build = both - read; printf "%-7s %5s %7s %12.1f %12.1f %7.2f\n", kind, size, rows, read / 1000, build / 1000, build / read }'
 done <<'CASES'
