@@ -10,7 +10,8 @@ use Rattle.cover_advice.specs.declared.growth.Block.{Block}
 use Rattle.cover_advice.specs.declared.growth.Cell.{Cell}
 use Rattle.cover_advice.specs.declared.growth.Cell.TheVariants.{Free, Off, Open}
 use Rattle.cover_advice.specs.declared.pattern.Pattern.{Pattern}
-use Rattle.cover_advice.specs.Cells.{AreOf, ArePut, HasLiterals, IsPut, pattern_of}
+use Rattle.cover_advice.specs.Cells.{AreOf, HasLiterals, IsChangedWithin}
+use Rattle.cover_advice.specs.Inner.Cells.{IsChangedByEach, pattern_of}
 use Rattle.cover_advice.specs.Limits.{AreAmong}
 use Rattle.cover_advice.specs.Widening.{IsLawful, IsWidened}
 use Rattle.cover_advice.proofs.Sets.{below, from_below}
@@ -57,11 +58,11 @@ get_of_set (c ∷ cells) (suc i) cell zero = inl refl
 get_of_set (c ∷ cells) (suc i) cell (suc x) =
     ⊎_elim (λ same. inl same) (λ put. inr (ap suc put.0, put.1)) (get_of_set cells i cell x)
 
-pub put_none : (p : Pattern) (cell : Cell) (cells : List Cell) → IsPut p cell cells cells
+pub put_none : (p : Pattern) (cell : Cell) (cells : List Cell) → IsChangedWithin p cell cells cells
 put_none p cell cells = record { size = refl; same = λ x. inl refl }
 
-pub put_more : (p : Pattern) (cell : Cell) (before mid after : List Cell) (i : ℕ) → HasLiterals p i → after ≡ set mid i cell → IsPut p cell before mid → IsPut p cell before after
-put_more p cell before mid after i has e put = subst (IsPut p cell before) (sym e) (record {
+pub put_more : (p : Pattern) (cell : Cell) (before mid after : List Cell) (i : ℕ) → HasLiterals p i → after ≡ set mid i cell → IsChangedWithin p cell before mid → IsChangedWithin p cell before after
+put_more p cell before mid after i has e put = subst (IsChangedWithin p cell before) (sym e) (record {
   size = length-set mid i cell ∙ put.size;
   same = λ x. ⊎_elim
       (λ kept. ⊎_elim (λ same. inl (kept ∙ same)) (λ own. inr (own.0, kept ∙ own.1)) (put.same x))
@@ -105,10 +106,10 @@ has_literals p care value all part c v among = same_from_bits _ _ (λ i. ⊎_eli
         let s4 = bit_at-lt 65535 i in
         omega (arith, l, r, e, d, f, g, h, k, s1, s2, s3, s4)
 
-pub each_none : (list : List Pattern) (cell : Cell) (cells : List Cell) → ArePut list cell cells cells
+pub each_none : (list : List Pattern) (cell : Cell) (cells : List Cell) → IsChangedByEach list cell cells cells
 each_none list cell cells = record { size = refl; same = λ x. inl refl }
 
-pub each_more : (list : List Pattern) (cell : Cell) (before mid after : List Cell) (p : Pattern) → Contains list p → ArePut list cell before mid → IsPut p cell mid after → ArePut list cell before after
+pub each_more : (list : List Pattern) (cell : Cell) (before mid after : List Cell) (p : Pattern) → Contains list p → IsChangedByEach list cell before mid → IsChangedWithin p cell mid after → IsChangedByEach list cell before after
 each_more list cell before mid after p in' earlier last = record {
   size = last.size ∙ earlier.size;
   same = λ x. ⊎_elim
@@ -136,7 +137,7 @@ all_free (suc n) zero cell e = some_same cell Free (sym e)
 all_free (suc n) (suc x) cell e = all_free n x cell e
 
 -- free cells, of which those of on are opened, and then those of off are closed
-pub of_lists : (on off : List Pattern) (free mid cells : List Cell) → ((x : ℕ) (cell : Cell) → slice_get free x ≡ Some cell → cell ≡ Free) → ArePut on Open free mid → ArePut off Off mid cells → AreOf on off cells
+pub of_lists : (on off : List Pattern) (free mid cells : List Cell) → ((x : ℕ) (cell : Cell) → slice_get free x ≡ Some cell → cell ≡ Free) → IsChangedByEach on Open free mid → IsChangedByEach off Off mid cells → AreOf on off cells
 unfolding is_open is_off
 of_lists on off free mid cells are_free opened closed = record {
   open_on = λ x e. ⊎_elim

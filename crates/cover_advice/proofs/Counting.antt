@@ -2,7 +2,7 @@ use Rattle.std.proofs.Common.{◌≡◌, ℕ, ◌+◌, ◌*◌, ◌/◌, ◌%◌
 use Rattle.std.specs.Int.{bit_at}
 use Rattle.std.proofs.lemmas.Option.{slice_get_read}
 use Rattle.cover_advice.specs.declared.pattern.Pattern.{Pattern}
-use Rattle.cover_advice.specs.Sliced.{Counts, IsTermOf, Sliced}
+use Rattle.cover_advice.specs.Sliced.{Counts, IsCountedTerm, Sliced}
 use Rattle.cover_advice.specs.Inner.Words.{AreBelow, AreOutside, AreParts, HoldAll, IsOpenPlace, IsPart, IsPlaceIn}
 
 pub divided : (i k : ℕ) → k < 128 → (i * 128 + k) / 128 ≡ i
@@ -39,7 +39,7 @@ open_counts all kept near found below few out p =
     subst (Counts all) (sym (p.counted (omega arith))) (counts_at all (get_or near p.at 0) p.place p.low below one)
 
 -- the term with the number of one that counts
-pub term_read : (all : Sliced) (number : ℕ) (t : Pattern) → Counts all number → number < length all.terms → t ≡ get_or all.terms number t → IsTermOf all t
+pub term_read : (all : Sliced) (number : ℕ) (t : Pattern) → Counts all number → number < length all.terms → t ≡ get_or all.terms number t → IsCountedTerm all t
 term_read all number t c below is = (number, c, slice_get_read all.terms (length all.terms) number t refl below is)
 
 pub some_counts : (all : Sliced) (number word : ℕ) (found : Option ℕ) → AreBelow (length all.terms) all.live → length all.terms < 2 ^ 64 → IsPart word (get_or all.live number 0) → IfSome found (IsPlaceIn number word) → IfSome found (Counts all)

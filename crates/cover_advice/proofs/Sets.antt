@@ -7,7 +7,8 @@ use Rattle.std.proofs.lemmas.Nat.{and_assoc, and_comm, one_shl, pow_pos}
 use Rattle.std.proofs.lemmas.Nat.Bits.{bit_at-lt, bit_at-zero, bit_at_and, bit_at_or, and_pow, same_from_bits}
 use Rattle.std.proofs.lemmas.Bool.{false≢true}
 use Rattle.std.proofs.lemmas.Bool.Decides.{nat_tests}
-use Rattle.cover_advice.specs.Limits.{AreAmong, IsSingle}
+use Rattle.cover_advice.specs.Limits.{AreAmong}
+use Rattle.cover_advice.specs.Inner.Single.{IsSingle}
 
 -- column by column
 pub below : (a b : ℕ) → AreAmong a b → (i : ℕ) → bit_at a i ≤ bit_at b i

@@ -1,2 +1,4 @@
 pub mod Columns
 pub mod Words
+pub mod Single
+pub mod Cells

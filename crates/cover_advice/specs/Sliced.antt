@@ -14,5 +14,5 @@ unfoldable pub Counts : Sliced → ℕ → Type 0
 Counts all number = (number < length all.terms) × (bit_at (get_or all.live (number / 128) 0) (number % 128) ≡ 1)
 
 -- the pattern is a term that still counts
-abbrev pub IsTermOf : Sliced → Pattern → Type 0
-IsTermOf all t = (number : ℕ) × Counts all number × (slice_get all.terms number ≡ Some t)
+abbrev pub IsCountedTerm : Sliced → Pattern → Type 0
+IsCountedTerm all t = (number : ℕ) × Counts all number × (slice_get all.terms number ≡ Some t)

@@ -3,17 +3,21 @@
 ghost use Rattle.std.specs.Prelude.{◌≡◌, ◌≤◌, ◌^◌, IfOk, bit_and, length, set};
 ghost use Rattle.cover_advice.specs.declared.growth.Cell.TheVariants.{Free};
 ghost use Rattle.cover_advice.specs.declared.pattern.Pattern.{Pattern};
-ghost use Rattle.cover_advice.specs.Cells.{AreOf, ArePut, IsPut, pattern_of};
+ghost use Rattle.cover_advice.specs.Cells.{AreOf, IsChangedWithin};
+ghost use Rattle.cover_advice.specs.Inner.Cells.{IsChangedByEach, pattern_of};
 ghost use Rattle.cover_advice.specs.Widening.{IsLawful, IsWidened};
 
 use crate::pattern::Pattern;
 use std::alloc::{AllocError, Global};
 
-/// What a value is: of off, of on and in no row yet, or free. A value of on that a row holds is free as well.
+/// What a value is.
 #[derive(Clone, Copy, PartialEq, Eq)]
-enum Cell {
+pub enum Cell {
+    /// Of neither list, or of on and in a row already.
     Free,
+    /// Of off.
     Off,
+    /// Of on, and in no row yet.
     Open,
 }
 
@@ -56,10 +60,10 @@ impl Block {
     }
 }
 
-/// A cell for each value of the columns.
+/// A cell for each value of the columns, value x at place x. Column c is bit c.
 #[derive(Drop)]
 pub struct Ground {
-    cells: Vec<Cell>,
+    pub cells: Vec<Cell>,
 }
 
 impl Ground {
@@ -84,12 +88,13 @@ impl Ground {
 
     /// Makes the values of the row free.
     pub fn take(&mut self, row: Pattern)
-        ensures { IsPut row Free self.old.cells.items self.new.cells.items }
+        ensures { IsChangedWithin row Free self.old.cells.items self.new.cells.items }
     {
         self.put(row, Cell::Free);
     }
 
-    /// The row with dashes, put one by one at the column that brings the most values of on that are in no row yet.
+    /// The row with dashes, put one by one at the column that brings the most values of on that are in no row yet. There
+    /// are dashes at all columns from 16 on.
     pub fn grown(&self, row: Pattern) -> Pattern
         ensures widened { IsWidened result row }
         ensures lawful { IsLawful row → IsLawful result }
@@ -124,7 +129,8 @@ impl Ground {
         best
     }
 
-    /// One more than the number of values of the block that are of on and in no row yet; 0 where one is of off.
+    /// One more than the number of values of the block that are of on and in no row yet; 0 where one is of off or has no
+    /// cell.
     fn gain(&self, block: Block) -> usize {
         let dashes = self.cells.len().saturating_sub(1) & !block.care;
         let mut part = 0;
@@ -145,7 +151,7 @@ impl Ground {
 
     /// Gives each value of the rows this cell.
     fn put_each(&mut self, rows: &[Pattern], cell: Cell)
-        ensures { ArePut rows.now cell self.old.cells.items self.new.cells.items }
+        ensures { IsChangedByEach rows.now cell self.old.cells.items self.new.cells.items }
     {
         for row in rows {
             self.put(*row, cell);
@@ -154,7 +160,7 @@ impl Ground {
 
     /// Gives each value of the row this cell.
     fn put(&mut self, row: Pattern, cell: Cell)
-        ensures { IsPut row cell self.old.cells.items self.new.cells.items }
+        ensures { IsChangedWithin row cell self.old.cells.items self.new.cells.items }
     {
         let block = Block::of(row);
         let dashes = self.cells.len().saturating_sub(1) & !block.care;

@@ -3,7 +3,7 @@ ghost use Rattle.cover_advice.specs.Limits.{AreAmong};
 ghost use Rattle.cover_advice.specs.Widening.{IsLawful, IsWidened};
 
 /// The values that have the bits of `value` at the columns of `care`, where column c is bit c of both. A column of
-/// `care` is a literal, and `value` has no bit at any other column.
+/// `care` is a literal. In a lawful pattern, `value` has no bit at any other column.
 #[derive(Clone, Copy)]
 pub struct Pattern {
     pub care: u128,

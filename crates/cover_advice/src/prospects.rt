@@ -2,7 +2,7 @@
 
 ghost use Rattle.std.specs.Prelude.{All, IfOk};
 ghost use Rattle.cover_advice.specs.Limits.{AreOfRow};
-ghost use Rattle.cover_advice.specs.Sliced.{IsTermOf};
+ghost use Rattle.cover_advice.specs.Sliced.{IsCountedTerm};
 
 use crate::limits::Limits;
 use crate::pattern::Pattern;
@@ -28,11 +28,11 @@ impl Prospects {
         on: &Slices,
         off: &Slices,
     ) -> Result<Prospects, AllocError>
-        ensures others { IfOk result (λ found. All (IsTermOf on.now) found.others.items) }
+        ensures others { IfOk result (λ found. All (IsCountedTerm on.now) found.others.items) }
         ensures limits { IfOk result (λ found. AreOfRow found.limits row.care) }
     {
         let mut limits = off.limits(alloc, row)?;
-        let mut left = on.having(alloc, row, limits.literals())?;
+        let mut left = on.having(alloc, row, limits.literals)?;
         if count(&left) > FEW {
             off.add_nearest(alloc, row, FEW, &mut limits)?;
             on.keep_allowed(&mut left, row, &limits)?;

@@ -61,8 +61,8 @@ impl Column {
     }
 }
 
-/// For each of 128 terms, the number of columns at which it has the other literal than a row: its bits, up to 7, or
-/// `more`.
+/// For each of 128 terms, the number of columns at which it has the opposite literal to a row's: as three bits, up to
+/// 7, or else `more`.
 #[derive(Clone, Copy)]
 struct Count {
     ones: u128,
@@ -164,7 +164,7 @@ impl Model for Slices {
 
 impl Slices {
     ghost use Rattle.std.specs.Prelude.{All, OnOk};
-    ghost use Rattle.cover_advice.specs.Sliced.{Counts, IsTermOf};
+    ghost use Rattle.cover_advice.specs.Sliced.{Counts, IsCountedTerm};
     ghost use Rattle.cover_advice.specs.Widening.{IsLawful, IsWidened};
     ghost use Rattle.cover_advice.specs.Inner.Words.{AreOutside, IsOutside};
 
@@ -372,8 +372,8 @@ impl Slices {
         Ok(Limits::new(alloc, self.columns_with(&soles)))
     }
 
-    /// Adds the columns at which terms have the other literal than the row, for at most `most` terms that have the
-    /// literals of the limits: terms with the fewest such columns first, and none with more than 7.
+    /// Adds the columns at which terms have the opposite literals to the row's, for at most `most` terms that have none
+    /// at a required column: terms with the fewest such columns first, and none with more than 7.
     pub(crate) fn add_nearest(
         &self,
         alloc: Global,
@@ -383,7 +383,7 @@ impl Slices {
     ) -> Result<(), AllocError>
         ensures { OnOk result (AreOfRow limits.old row.care → AreOfRow limits.new row.care) }
     {
-        let counts = self.counts(alloc, row, limits.literals())?;
+        let counts = self.counts(alloc, row, limits.literals)?;
         let mut room = most;
         for number in 2..8 {
             room = self.add_at(limits, row, &counts, number, room)?;
@@ -457,7 +457,7 @@ impl Slices {
 
     /// The term at the lowest bit of the word of that number.
     fn term_at(&self, word: usize, found: u128) -> Option<Pattern>
-        ensures { found ≢ 0 → IsPart found (slice_index self.now.live word) → IfSome result (IsTermOf self.now) }
+        ensures { found ≢ 0 → IsPart found (slice_index self.now.live word) → IfSome result (IsCountedTerm self.now) }
     {
         let number = place(word, found);
         if number >= self.terms.len() {
@@ -476,7 +476,7 @@ impl Slices {
         ensures { OnOk result (AreParts left.new.items left.old.items) }
     {
         let mut any = left.clone()?;
-        for set in limits.sets().iter().take(ASKED_SETS) {
+        for set in limits.sets.iter().take(ASKED_SETS) {
             self.gather(&mut any, row, *set);
             keep(left, &any);
         }
@@ -498,7 +498,7 @@ impl Slices {
     /// The terms of those words.
     pub(crate) fn terms_of(&self, alloc: Global, words: &[u128]) -> Result<Vec<Pattern>, AllocError>
         requires { AreParts words.now self.now.live }
-        ensures { IfOk result (λ terms. All (IsTermOf self.now) terms.items) }
+        ensures { IfOk result (λ terms. All (IsCountedTerm self.now) terms.items) }
     {
         let mut terms = Vec::new(alloc);
         for (i, word) in words.iter().enumerate() {
@@ -515,7 +515,7 @@ impl Slices {
         found: u128,
     ) -> Result<(), AllocError>
         requires { IsPart found (slice_index self.now.live word) }
-        ensures { OnOk result (All (IsTermOf self.now) terms.old.items → All (IsTermOf self.now) terms.new.items) }
+        ensures { OnOk result (All (IsCountedTerm self.now) terms.old.items → All (IsCountedTerm self.now) terms.new.items) }
     {
         let mut found = found;
         for _ in 0..128 {

@@ -29,8 +29,8 @@
 //! touch the part, the one with the fewest literals outside it either holds the part whole, or has such a literal,
 //! and the part is split there in two.
 //!
-//! Either way the crate `cover_advice` says how a row is best widened, and the table or the index is asked before its
-//! advice is followed.
+//! Either way the crate `cover_advice` says how far a row may be widened, and the table or the index is asked before
+//! its advice is followed.
 #![tactic(auto)]
 
 ghost use Rattle.std.specs.Prelude.{◌≤◌, ◌↔◌, All, IfOk, IsTrue};

@@ -1,4 +1,4 @@
-use Rattle.cover_advice.specs.Cells.{pattern_of}
+use Rattle.cover_advice.specs.Inner.Cells.{pattern_of}
 use Rattle.cover_advice.specs.Widening.{IsLawful, IsWidened}
 use Rattle.cover_advice.proofs.growth.Ground.grown.Given as goal
 

@@ -1,6 +1,6 @@
 use Rattle.std.proofs.Common.{◌-◌, get_or}
 use Rattle.std.proofs.lemmas.List.Elements.{All-push}
-use Rattle.cover_advice.specs.Sliced.{IsTermOf}
+use Rattle.cover_advice.specs.Sliced.{IsCountedTerm}
 use Rattle.cover_advice.proofs.Words.{part_and}
 use Rattle.cover_advice.proofs.slices.Slices.put_terms.Goals as goal
 use Rattle.cover_advice.proofs.slices.Slices.put_terms.Goals.{in-Some+in_ok-push, in_default}
@@ -17,7 +17,7 @@ loop-preserved c =
         part,
         λ h.
             rw (w.terms-is, w.in_ok-push.ensures.items)
-            (All-push (IsTermOf all) c.loop.terms.items w.in-Some.term (c.loop.invariant.1 h) (w.in-Some.ensures c.if-found-eq0.false c.loop.invariant.0)),
+            (All-push (IsCountedTerm all) c.loop.terms.items w.in-Some.term (c.loop.invariant.1 h) (w.in-Some.ensures c.if-found-eq0.false c.loop.invariant.0)),
       )
       | in_default w ↦ (part, λ h. rw w.terms-is (c.loop.invariant.1 h))
     ]
