@@ -7,7 +7,7 @@ use job_words::Command;
 use state_codes::Kind;
 
 /// What a command works on, and what it does there.
-#[derive(Clone, Copy, PartialEq, Eq)]
+#[derive(Clone, Copy)]
 pub enum Task {
     /// The machine of FILE.
     OnMachine(MachineTask),
@@ -22,7 +22,7 @@ pub enum Task {
 }
 
 /// What a command does with the machine of FILE.
-#[derive(Clone, Copy, PartialEq, Eq)]
+#[derive(Clone, Copy)]
 pub enum MachineTask {
     /// A list of partitions or of pairs of them, up to a limit.
     Listing(ListTask),
@@ -33,7 +33,7 @@ pub enum MachineTask {
 }
 
 /// What a command lists.
-#[derive(Clone, Copy, PartialEq, Eq)]
+#[derive(Clone, Copy)]
 pub enum ListTask {
     /// The closed partitions.
     Closed,
@@ -48,7 +48,7 @@ pub enum ListTask {
 }
 
 /// What a command tells of the machine of FILE itself.
-#[derive(Clone, Copy, PartialEq, Eq)]
+#[derive(Clone, Copy)]
 pub enum FileTask {
     Check,
     Reduce,
@@ -59,7 +59,7 @@ pub enum FileTask {
 }
 
 /// What a command tells of the machine that the job works on.
-#[derive(Clone, Copy, PartialEq, Eq)]
+#[derive(Clone, Copy)]
 pub enum WorkTask {
     Definite,
     /// The shift register of a definite machine.
