@@ -1,6 +1,6 @@
 //! Words of cases.
 
-ghost use Rattle.std.specs.Prelude.{◌<◌, ◌≤◌, length};
+ghost use Rattle.std.specs.Prelude.{◌≡◌, ◌<◌, ◌≤◌, codes, if◌then◌else◌, length};
 
 use hs_io::{Name, Names};
 use std::alloc::{AllocError, Global};
@@ -54,6 +54,8 @@ pub fn readable(text: &[u8]) -> &[u8]
 }
 
 /// The word of a truth value.
-pub fn truth(value: bool) -> &'static [u8] {
+pub fn truth(value: bool) -> &'static [u8]
+    ensures { result.now ≡ (if value then codes "true" else codes "false") }
+{
     if value { b"true" } else { b"false" }
 }
