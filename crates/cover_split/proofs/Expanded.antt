@@ -22,8 +22,8 @@ use Rattle.machine_table.specs.Staying.{NeverLeaves}
 use Rattle.machine_table.specs.Table.{IsTable}
 use Rattle.machine_table.specs.Walk.{outputs_of}
 use Rattle.machine_table.proofs.OutputWords.{same_map, same_values}
-use Rattle.numbered_names.proofs.ByState.{IsByState, lawful_by_state, numbered_by_state}
-use Rattle.numbered_names.proofs.NumberedNames.{length-numbered_names}
+use Rattle.kiss_file.proofs.ByState.{IsByState, lawful_by_state, numbered_by_state}
+use Rattle.kiss_file.proofs.NumberedNames.{length-numbered_names}
 use Rattle.cover_split.specs.Cover.{IsCover}
 use Rattle.cover_split.specs.Expansion.{AnswersAlike, AnswersAsStates, IsExpansion, IsNextPair, IsPair, IsTarget, pairs_of}
 use Rattle.cover_split.specs.Inner.Rows.{IsBuilt, IsPairRow}

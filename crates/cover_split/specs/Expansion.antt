@@ -4,7 +4,7 @@ use Rattle.cubes.specs.Symbol.{symbol_of}
 use Rattle.kiss_file.specs.declared.file.KissFile.{KissFile}
 use Rattle.kiss_file.specs.Machine.{answers, next, out}
 use Rattle.machine_table.specs.Pairs.{AtEachSymbol, IsFirstWithout}
-use Rattle.numbered_names.specs.NumberedNames.{numbered_names}
+use Rattle.kiss_file.specs.NumberedNames.{numbered_names}
 use Rattle.cover_split.specs.Cover.{Has, places_of}
 use Rattle.cover_split.specs.declared.expansion.ExpandFail.{ExpandFail}
 use Rattle.cover_split.specs.declared.expansion.ExpandFail.TheVariants.{NotClosed, NoMemory}

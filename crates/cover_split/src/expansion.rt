@@ -13,9 +13,8 @@ use crate::cover::{Block, Cover, states_at};
 use crate::joint::{Joint, Joints, joints};
 use crate::pairs::{first_with, number_of, pairs_of};
 use crate::rows::rows_of_pairs;
-use kiss_file::KissFile;
+use kiss_file::{KissFile, numbered_names};
 use machine_table::Machine;
-use numbered_names::names;
 use std::alloc::{AllocError, AllocFailed, Global};
 
 /// Why a cover gives no machine.
@@ -90,7 +89,7 @@ fn file_of_pairs(alloc: Global, m: &Machine, blocks: &[Block]) -> Result<KissFil
         inputs: m.inputs(),
         outputs: m.outputs(),
         reset: number_of(pairs, first_with(blocks, reset), reset),
-        states: names(alloc, pairs.len() as u16)?,
+        states: numbered_names(alloc, pairs.len() as u16)?,
         rows,
         input_names: None,
         output_names: None,

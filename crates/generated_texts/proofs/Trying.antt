@@ -15,7 +15,7 @@ use Rattle.machine_gen.specs.MachineOf.{AreSizes}
 use Rattle.net_core.specs.declared.Network.{Network}
 use Rattle.net_core.specs.Denotes.{Denotes}
 use Rattle.net_core.proofs.Determined.{denotes_one}
-use Rattle.split_plans.specs.Splits.{HasNoPlan, IsPlanned, IsSplitOf, LacksSplit, Refuses}
+use Rattle.split_texts.specs.Splits.{HasNoPlan, IsPlanned, IsSplitOf, LacksSplit, Refuses}
 use Rattle.split_texts.specs.Causes.{HasLongCode, HasNoCode, OfParts}
 use Rattle.split_texts.specs.Written.{AreCodes, IsTextOfParts}
 use Rattle.split_texts.specs.Laws.Causes.{apart_leaves_none, of_parts_none, short_has_none}

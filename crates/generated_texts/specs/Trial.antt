@@ -7,7 +7,7 @@ use Rattle.hs_texts.specs.Reports.{trial_text}
 use Rattle.kiss_file.specs.declared.file.KissFile.{KissFile}
 use Rattle.net_core.specs.declared.Network.{Network}
 use Rattle.net_core.specs.Denotes.{Denotes}
-use Rattle.split_plans.specs.Splits.{IsSplitOf}
+use Rattle.split_texts.specs.Splits.{IsSplitOf}
 use Rattle.split_texts.specs.Causes.{HasLongCode, OfParts}
 use Rattle.state_codes.specs.declared.split.Kind.TheVariants.{Parallel}
 use Rattle.state_codes.specs.declared.split.Part.{Part}

@@ -27,14 +27,14 @@ use Rattle.kiss_file.specs.declared.file.KissFile.{KissFile}
 use Rattle.machine_reports.specs.Laws.Causes.{definite_has_one_answer, input_pairs_have_one_answer, list_has_one_answer, more_than_is_of, not_definite_is_of, output_pairs_have_one_answer, too_many_inputs_is_of, too_many_outputs_is_of}
 use Rattle.mm_lattice.specs.MmPairs.{IsMmPair, RightBefore}
 use Rattle.output_consistent.specs.Outputs.{IsClosedAndConsistent}
-use Rattle.part_texts.specs.Faults.{BadPart}
-use Rattle.part_texts.specs.Laws.Parts.{bad_part_is_of, bad_parts_is_of}
+use Rattle.operands.specs.PartFaults.{BadPart}
+use Rattle.operands.specs.Laws.Parts.{bad_part_is_of, bad_parts_is_of}
 use Rattle.partition.specs.Before.{Before}
 use Rattle.shift_texts.specs.Causes.{RefusesShift}
 use Rattle.shift_texts.specs.Laws.Causes.{has_long_register_is_of, keeps_apart_is_of, never_in_reset_is_of, shift_has_one_answer}
-use Rattle.split_plans.specs.Splits.{Refuses}
-use Rattle.split_plans.specs.Laws.Causes.{lacks_split_is_of}
-use Rattle.split_plans.specs.Laws.Least.{other_count_is_of}
+use Rattle.split_texts.specs.Splits.{Refuses}
+use Rattle.split_texts.specs.Laws.Plans.{lacks_split_is_of}
+use Rattle.split_texts.specs.Laws.Least.{other_count_is_of}
 use Rattle.split_texts.specs.Causes.{HasLongCode, IsNotWritten, LeavesTogether}
 use Rattle.split_texts.specs.Laws.Causes.{has_long_code_is_of, leaves_together_is_of, not_written_one, of_parts_is_of}
 use Rattle.state_codes.specs.declared.split.Kind.{Kind}

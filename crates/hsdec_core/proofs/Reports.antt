@@ -16,7 +16,7 @@ use Rattle.operands.specs.Causes.{Never}
 use Rattle.hsdec_core.specs.Inner.Made.{IsPlain}
 use Rattle.job_words.specs.Job.{HasFewSlashes}
 use Rattle.kiss_file.specs.declared.file.KissFile.{KissFile}
-use Rattle.split_plans.specs.Given.{HasFewParts}
+use Rattle.split_texts.specs.Given.{HasFewParts}
 
 -- what is reported for one task of a machine, where the task is that one and the machine that of the file
 pub reported_as : {T : Type 0} (cause : T → KissFile → Cause) (IsWhole IsEvidence : T → KissFile → List ℕ → Type 0) (task done : T) (F M : KissFile) (result : Result Report Refusal) → task ≡ done → M ≡ F

@@ -24,7 +24,7 @@ use Rattle.kiss_file.specs.declared.file.KissFile.{KissFile}
 use Rattle.machine_reports.specs.Causes.{MoreThan, NotDefiniteRow, RefusesInputPairs, RefusesOutputPairs}
 use Rattle.mm_lattice.specs.MmPairs.{IsMmPair, RightBefore}
 use Rattle.output_consistent.specs.Outputs.{IsClosedAndConsistent}
-use Rattle.part_texts.specs.Faults.{BadPart}
+use Rattle.operands.specs.PartFaults.{BadPart}
 use Rattle.partition.specs.Before.{Before}
 use Rattle.shift_texts.specs.Causes.{RefusesShift}
 use Rattle.split_texts.specs.Causes.{IsNotWritten}

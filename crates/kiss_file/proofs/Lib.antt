@@ -1,2 +1,4 @@
 pub mod Copying
 pub mod Machine
+pub mod NumberedNames
+pub mod ByState

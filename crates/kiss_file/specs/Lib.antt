@@ -1,3 +1,4 @@
 pub mod Names
+pub mod NumberedNames
 pub mod Lawful
 pub mod Machine

@@ -5,7 +5,7 @@ use Rattle.cubes.specs.Cube.{field_of}
 use Rattle.cubes.specs.Symbol.{symbol_of}
 use Rattle.kiss_file.specs.declared.file.KissFile.{KissFile}
 use Rattle.kiss_file.specs.declared.file.KissRow.{KissRow}
-use Rattle.numbered_names.specs.NumberedNames.{numbered_names}
+use Rattle.kiss_file.specs.NumberedNames.{numbered_names}
 
 -- the numbers of first parts, of second parts and of inputs of a machine that can be made
 pub record AreSizes (a b k : ℕ) : Type 0 where

@@ -7,8 +7,7 @@ ghost use Rattle.machine_gen.specs.MachineOf.{AreSizes, IsMachineOf};
 ghost use Rattle.machine_gen.specs.Words.{word};
 
 use crate::rows::rows;
-use kiss_file::{Fill, KissFile};
-use numbered_names::names;
+use kiss_file::{Fill, KissFile, numbered_names};
 use std::alloc::{AllocError, Global};
 
 /// The machine of a seed with a times b states and k inputs. The same numbers give the same file everywhere.
@@ -22,7 +21,7 @@ pub fn make(alloc: Global, seed: u64, a: u16, b: u16, k: u8) -> Result<KissFile,
         inputs: k,
         outputs: 2,
         reset: 0,
-        states: names(alloc, a * b)?,
+        states: numbered_names(alloc, a * b)?,
         rows: rows(alloc, seed, a, b, k)?,
         input_names: None,
         output_names: None,

@@ -2,7 +2,7 @@
 use Rattle.std.specs.Prelude.{◌≡◌, ℕ, List, length}
 use Rattle.kiss_file.specs.declared.file.KissFile.{KissFile}
 use Rattle.pair_operators.specs.Extremes.{IsHigh, IsLow}
-use Rattle.part_texts.specs.Texts.{IsTextOfPartition}
+use Rattle.operands.specs.PartTexts.{IsTextOfPartition}
 use Rattle.machine_reports.specs.ListTexts.{partition_line}
 
 -- the line of m(p), the least partition that the partition p of a text makes a pair with

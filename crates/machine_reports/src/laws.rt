@@ -12,7 +12,7 @@ ghost use Rattle.kiss_file.specs.Machine.{out};
 ghost use Rattle.kiss_file.specs.declared.file.KissFile.{KissFile};
 ghost use Rattle.mm_lattice.specs.MmPairs.{IsMmPair, RightBefore};
 ghost use Rattle.output_consistent.specs.Outputs.{IsClosedAndConsistent};
-ghost use Rattle.part_texts.specs.Faults.{BadPart};
+ghost use Rattle.operands.specs.PartFaults.{BadPart};
 ghost use Rattle.partition.specs.Before.{Before};
 ghost use Rattle.shift_real.specs.Definite.{Definite};
 ghost use Rattle.machine_reports.specs.Causes.{KeepsApart, MoreThan, NotDefiniteRow, RefusesInputPairs, RefusesOutputPairs};

@@ -2,13 +2,13 @@
 
 ghost use Rattle.std.specs.Prelude.{length};
 ghost use Rattle.answers.specs.Judged.{IsJudged};
-ghost use Rattle.part_texts.specs.Faults.{BadPart};
+ghost use Rattle.operands.specs.PartFaults.{BadPart};
 ghost use Rattle.machine_reports.specs.PartnerTexts.{IsHighText, IsLowText};
 
 use crate::lines::line_of;
 use answers::Refusal;
 use machine_table::Machine;
-use part_texts::read_part;
+use operands::read_part;
 use std::alloc::Global;
 
 /// The least partner of the partition of a text.

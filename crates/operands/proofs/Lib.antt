@@ -1,2 +1,4 @@
 mod Loads
 mod Opened
+mod PartRefusals
+mod PartsRead

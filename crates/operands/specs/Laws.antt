@@ -1,3 +1,4 @@
 -- What follows from the definitions.
 pub mod Causes
 pub mod Loads
+pub mod Parts

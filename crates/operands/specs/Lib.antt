@@ -5,3 +5,5 @@ pub mod Laws
 pub mod Load
 pub mod Loading
 pub mod Opened
+pub mod PartFaults
+pub mod PartTexts

@@ -12,9 +12,9 @@ use Rattle.state_reduce.specs.Work.{IsWork, IsWorkOf}
 use Rattle.kiss_file.specs.declared.file.KissFile.{KissFile}
 use Rattle.kiss_file.specs.Lawful.{IsLawful}
 use Rattle.kiss_file.specs.Machine.{Conflicting}
-use Rattle.split_plans.specs.Splits.{AreParts, HasNoPlan, IsPlanned, LacksSplit, Refuses}
-use Rattle.split_plans.specs.Laws.Causes.{lacking_is_apart}
-use Rattle.split_plans.specs.Laws.Kinds.{promises_kept}
+use Rattle.split_texts.specs.Splits.{AreParts, HasNoPlan, IsPlanned, LacksSplit, Refuses}
+use Rattle.split_texts.specs.Laws.Plans.{lacking_is_apart}
+use Rattle.split_texts.specs.Laws.Kinds.{promises_kept}
 use Rattle.state_codes.specs.declared.Codes.{Codes}
 use Rattle.state_codes.specs.declared.split.Kind.{Kind}
 use Rattle.state_codes.specs.declared.split.Part.{Part}

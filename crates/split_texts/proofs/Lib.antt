@@ -1,3 +1,4 @@
+pub mod Planning
 pub mod Coding
 pub mod Listing
 pub mod Judging

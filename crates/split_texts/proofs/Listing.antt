@@ -20,7 +20,7 @@ use Rattle.realise.specs.Laws.{ArePairwiseDistinct}
 use Rattle.realise.specs.Realised.{AreCounted, HasGate, IsGateFor, IsWithin, name_at}
 use Rattle.state_codes.specs.declared.Codes.{Codes}
 use Rattle.state_codes.specs.declared.split.Part.{Part}
-use Rattle.split_plans.specs.Inner.ByRule.{HasReads, ReadByRule}
+use Rattle.split_texts.specs.Inner.ByRule.{HasReads, ReadByRule}
 
 -- a set by the rule has inputs of the machine and bits of the code
 set_within : (W : KissFile) (words : List ℕ) (bits : ℕ) (Candidate : ℕ → Type 0) (value : ℕ → List Bool → Bool) (set : ReadSet) → ((c : ℕ) → Candidate c → c < bits) → IsReadSet W words Candidate value set → IsWithin W.inputs bits set

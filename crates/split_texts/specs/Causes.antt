@@ -4,7 +4,7 @@ use Rattle.answers.specs.declared.refusals.Refusal.TheVariants.{CodeTooLong, Not
 use Rattle.answers.specs.Cause.{Cause, FirstOf}
 use Rattle.state_reduce.specs.Work.{OnWork}
 use Rattle.kiss_file.specs.declared.file.KissFile.{KissFile}
-use Rattle.split_plans.specs.Splits.{AreParts, LacksSplit, Refuses}
+use Rattle.split_texts.specs.Splits.{AreParts, LacksSplit, Refuses}
 use Rattle.state_codes.specs.declared.split.Kind.{Kind}
 use Rattle.state_codes.specs.declared.split.Part.{Part}
 use Rattle.state_codes.specs.Code.{IsLength}

@@ -1,3 +1,8 @@
 -- What follows from the definitions.
+pub mod Parts
+pub mod Flows
+pub mod Least
+pub mod Kinds
+pub mod Plans
 pub mod Codes
 pub mod Causes

@@ -6,8 +6,8 @@ use Rattle.decomposition.specs.Decomposition.{IsDecomposition, IsTextOf}
 use Rattle.state_reduce.specs.Work.{IsWork}
 use Rattle.kiss_file.specs.declared.file.KissFile.{KissFile}
 use Rattle.net_core.specs.declared.Network.{Network}
-use Rattle.split_plans.specs.Kinds.{row_of}
-use Rattle.split_plans.specs.Splits.{IsSplitOf}
+use Rattle.split_texts.specs.Kinds.{row_of}
+use Rattle.split_texts.specs.Splits.{IsSplitOf}
 use Rattle.state_codes.specs.declared.Codes.{Codes}
 use Rattle.state_codes.specs.declared.split.Kind.{Kind}
 use Rattle.state_codes.specs.declared.split.Part.{Part}

@@ -1,13 +1,26 @@
-//! The texts of decompositions, of every kind.
+//! The decompositions of a machine, of every kind: the split, its codes, and the text of its network.
 //!
-//! [`decompose`] makes the machine that a command works on, plans its split (`split_plans`), and writes it.
-//! [`codes_of`] gives the codes of a split, or the refusal that says why it has none, and [`text_of_codes`]
-//! gives the text of its network. `specs/Causes` says which refusals a machine without a text calls for, in
-//! their order. `specs/Written` says what holds of a written text; it is the headline.
+//! `specs/Kinds` is the one table of the kinds. Its row for a kind says:
+//!
+//! - what the kind refuses before a split is sought;
+//! - what it asks of its parts, what makes them best, and which of several right lists of parts it takes;
+//! - for which machines there are no parts;
+//! - what it promises of codes and gates, besides what holds for every kind.
+//!
+//! [`plan`] follows this table for every kind, so that a new kind is one row there, the proof that the row is
+//! sound (`specs/Laws/Kinds`), and one call. `specs/Splits` says what a plan is, and why there may be none. A plan
+//! does not know yet whether its parts distinguish all states: given parts may not. The codes show it.
+//!
+//! [`decompose`] makes the machine that a command works on, plans its split, and writes it. [`codes_of`] gives the
+//! codes of a split, or the refusal that says why it has none, and [`text_of_codes`] gives the text of its network.
+//! `specs/Causes` says which refusals a machine without a text calls for, in their order. `specs/Written` says what
+//! holds of a written text; it is the headline. `specs/LeastNetwork` has the promises of the least code.
 #![tactic(auto)]
 
 mod decompositions;
+mod plans;
 mod writing;
 
 pub use decompositions::decompose;
+pub use plans::plan;
 pub use writing::{codes_of, text_of_codes, write};

@@ -5,7 +5,7 @@ ghost use Rattle.answers.specs.Judged.{IsJudged};
 ghost use Rattle.state_reduce.specs.Work.{IsWork};
 ghost use Rattle.kiss_file.specs.Lawful.{IsLawful};
 ghost use Rattle.kiss_file.specs.Machine.{Conflicting};
-ghost use Rattle.split_plans.specs.Splits.{IsPlanned};
+ghost use Rattle.split_texts.specs.Splits.{IsPlanned};
 ghost use Rattle.split_texts.specs.Causes.{HasNoCode};
 ghost use Rattle.split_texts.specs.Inner.Named.{NamesStates};
 ghost use Rattle.split_texts.specs.Written.{AreCodes, IsTextOfParts};

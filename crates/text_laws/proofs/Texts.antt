@@ -11,8 +11,8 @@ use Rattle.kiss_file.specs.declared.file.KissFile.{KissFile}
 use Rattle.net_core.specs.declared.Network.{Network}
 use Rattle.net_core.specs.declared.SignalNames.{SignalNames}
 use Rattle.realise.specs.Realised.{IsRealised}
-use Rattle.split_plans.specs.Splits.{AreParts}
-use Rattle.split_plans.specs.Laws.Kinds.{parts_once}
+use Rattle.split_texts.specs.Splits.{AreParts}
+use Rattle.split_texts.specs.Laws.Kinds.{parts_once}
 use Rattle.state_codes.specs.declared.Codes.{Codes}
 use Rattle.state_codes.specs.declared.split.Kind.{Kind}
 use Rattle.state_codes.specs.declared.split.Part.{Part}

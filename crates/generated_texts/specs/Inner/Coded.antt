@@ -3,7 +3,7 @@ use Rattle.std.specs.Prelude.{◌≡◌, ℕ, List, [], length}
 use Rattle.hs_texts.specs.declared.reports.TrialFigures.{TrialFigures}
 use Rattle.hs_texts.specs.Reports.{trial_text}
 use Rattle.kiss_file.specs.declared.file.KissFile.{KissFile}
-use Rattle.split_plans.specs.Splits.{IsPlanned}
+use Rattle.split_texts.specs.Splits.{IsPlanned}
 use Rattle.split_texts.specs.Written.{AreCodes}
 use Rattle.state_codes.specs.declared.split.Kind.TheVariants.{Parallel}
 use Rattle.state_codes.specs.declared.split.Split.{Split}

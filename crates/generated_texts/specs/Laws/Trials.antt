@@ -13,8 +13,8 @@ use Rattle.machine_gen.specs.Words.{word}
 use Rattle.machine_gen.proofs.OneMachine.{one_machine}
 use Rattle.machine_gen.proofs.Sides.{sides}
 use Rattle.parallel_split.specs.Kind.{HasNoneInParallel}
-use Rattle.split_plans.specs.Splits.{AreParts}
-use Rattle.split_plans.specs.Laws.Kinds.{parts_once}
+use Rattle.split_texts.specs.Splits.{AreParts}
+use Rattle.split_texts.specs.Laws.Kinds.{parts_once}
 use Rattle.split_texts.specs.Causes.{HasLongCode}
 use Rattle.split_texts.specs.Laws.Causes.{has_long_code_is_of, of_parts_is_of}
 use Rattle.split_texts.specs.Laws.Codes.{length_once}

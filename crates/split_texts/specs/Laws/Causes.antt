@@ -8,9 +8,9 @@ use Rattle.answers.specs.Refusal.{answer_of}
 use Rattle.state_reduce.specs.Laws.Works.{one_work}
 use Rattle.state_reduce.specs.Work.{IsWorkOf}
 use Rattle.kiss_file.specs.declared.file.KissFile.{KissFile}
-use Rattle.split_plans.specs.Splits.{AreParts, LacksSplit, Refuses}
-use Rattle.split_plans.specs.Laws.Causes.{lacks_split_is_of, refuses_one}
-use Rattle.split_plans.specs.Laws.Kinds.{parts_once}
+use Rattle.split_texts.specs.Splits.{AreParts, LacksSplit, Refuses}
+use Rattle.split_texts.specs.Laws.Plans.{lacks_split_is_of, refuses_one}
+use Rattle.split_texts.specs.Laws.Kinds.{parts_once}
 use Rattle.state_codes.specs.declared.Codes.{Codes}
 use Rattle.state_codes.specs.declared.split.Kind.{Kind}
 use Rattle.state_codes.specs.declared.split.Part.{Part}

@@ -1,6 +1,6 @@
 use Rattle.std.proofs.Common.{ℕ, ◌≡◌, List, Contains, Some, length, slice_get, refl, subst, sym, ap, ◌∙◌, arith}
 use Rattle.std.proofs.lemmas.Result.{err_from_is_err_and}
-use Rattle.numbered_names.specs.NumberedNames.{numbered_names}
+use Rattle.kiss_file.specs.NumberedNames.{numbered_names}
 use Rattle.cover_split.specs.Expansion.{IsFirstCopy, IsFirstWith, pairs_of}
 use Rattle.cover_split.specs.Inner.Rows.{AreRowsBelow}
 use Rattle.cover_split.proofs.PairLemmas.{few_blocks, length-pairs_of}
@@ -32,8 +32,8 @@ returns-in_err-pairs-clause-caused c = let p = err_from_is_err_and c.from_residu
 pub returns-in_err-rows-clause-caused : goal.returns-in_err-rows-clause-caused
 returns-in_err-rows-clause-caused c = let p = err_from_is_err_and c.from_residual-in_err-rows.result c.from_residual-in_err-rows.ensures.1 in rw (p.1, p.2) tt
 
-pub returns-in_err-names-clause-caused : goal.returns-in_err-names-clause-caused
-returns-in_err-names-clause-caused c = let p = err_from_is_err_and c.from_residual-in_err-names.result c.from_residual-in_err-names.ensures.1 in rw (p.1, p.2) tt
+pub returns-in_err-numbered_names-clause-caused : goal.returns-in_err-numbered_names-clause-caused
+returns-in_err-numbered_names-clause-caused c = let p = err_from_is_err_and c.from_residual-in_err-numbered_names.result c.from_residual-in_err-numbered_names.ensures.1 in rw (p.1, p.2) tt
 
 -- the reset pair
 first_copy : (blocks : List (List ℕ)) (pairs read : List (ℕ × ℕ)) (s reset j i : ℕ) → read ≡ pairs → pairs ≡ pairs_of blocks → s ≡ reset → IsFirstWith blocks s j → slice_get read i ≡ Some (j, s) → IsFirstCopy blocks reset i
@@ -46,7 +46,7 @@ returns-clause-built c =
     record {
       inputs = c.inputs.ensures.count;
       outputs = c.outputs.ensures.count;
-      states = c.in_ok-names.ensures.names ∙ ap numbered_names (ap length read);
+      states = c.in_ok-numbered_names.ensures.names ∙ ap numbered_names (ap length read);
       rows = subst (λ (n : ℕ). AreRowsBelow c.args.m.now c.args.blocks.now n c.in_ok-rows.rows) (ap length read) c.in_ok-rows.ensures;
       reset = first_copy c.args.blocks.now c.in_ok-pairs.pairs.items c.as_slice-pairs.result.now c.reset-reset.result c.args.m.now.reset c.first_with.result c.number_of.result c.as_slice-pairs.ensures.value c.in_ok-pairs.ensures
           c.reset-reset.ensures.number c.first_with.ensures c.number_of.ensures;

@@ -11,8 +11,8 @@ use Rattle.hsdec_core.proofs.Reports.{few_of, judged_reported, reported_as, whol
 use Rattle.hsdec_core.proofs.machine_tasks.on_file.Goals as goal
 use Rattle.machine_reports.specs.PartnerTexts.{IsHighText, IsLowText}
 use Rattle.machine_reports.specs.ReducedText.{IsReducedText}
-use Rattle.part_texts.specs.Faults.{BadPart}
-use Rattle.part_texts.specs.Laws.Parts.{bad_part_is_of}
+use Rattle.operands.specs.PartFaults.{BadPart}
+use Rattle.operands.specs.Laws.Parts.{bad_part_is_of}
 
 pub returns-in-Check : goal.returns-in-Check
 returns-in-Check c =

@@ -1,7 +1,7 @@
 use Rattle.std.proofs.Common.{ℕ, subst}
 use Rattle.answers.specs.Cause.{CallsForNone}
-use Rattle.part_texts.specs.Faults.{BadPart}
-use Rattle.part_texts.specs.Texts.{IsTextOfPartition}
+use Rattle.operands.specs.PartFaults.{BadPart}
+use Rattle.operands.specs.PartTexts.{IsTextOfPartition}
 use Rattle.machine_reports.proofs.partners.low.Goals as goal
 
 pub returns : goal.returns

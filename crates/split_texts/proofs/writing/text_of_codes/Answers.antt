@@ -1,4 +1,4 @@
-use Rattle.split_plans.specs.Laws.Kinds.{parts_flow}
+use Rattle.split_texts.specs.Laws.Kinds.{parts_flow}
 use Rattle.split_texts.proofs.Coding.{text_of_parts}
 use Rattle.split_texts.proofs.writing.text_of_codes.Goals as goal
 

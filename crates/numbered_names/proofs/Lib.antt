@@ -1,2 +1,0 @@
-pub mod NumberedNames
-pub mod ByState

@@ -1,2 +1,0 @@
--- What follows from the definitions of the operands PART and PARTS.
-pub mod Parts

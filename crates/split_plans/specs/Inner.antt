@@ -1,3 +1,0 @@
--- Definitions that only private functions and proofs need.
-pub mod Found
-pub mod ByRule

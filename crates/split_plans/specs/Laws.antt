@@ -1,6 +1,0 @@
--- What follows from the definitions.
-pub mod Parts
-pub mod Flows
-pub mod Least
-pub mod Kinds
-pub mod Causes

@@ -1,6 +1,0 @@
-pub mod Given
-pub mod LeastNetwork
-pub mod Kinds
-pub mod Splits
-pub mod Inner
-pub mod Laws
