@@ -1,7 +1,10 @@
 -- Bytes that are too long, where those of the shelf are known and where they are not.
-use Rattle.std.proofs.Common.{◌≡◌, ℕ, ◌<◌, List, Option, Some, None, IfSome, length, inr, refl, ap, arith, replicate}
+use Rattle.std.proofs.Common.{◌≡◌, ℕ, ◌<◌, List, Option, Some, None, IfSome, length, inl, inr, refl, arith, replicate}
 use Rattle.std.proofs.lemmas.List.{length-replicate}
-use Rattle.answers.specs.declared.refusals.Refusal.TheVariants.{TooLong}
+use Rattle.answers.specs.declared.refusals.Refusal.{Refusal}
+use Rattle.hs_io.specs.declared.shelf.LoadFail.{LoadFail}
+use Rattle.hs_io.specs.declared.shelf.LoadFail.TheVariants as fails
+use Rattle.operands.specs.Inner.Failing.{IsRefusalOf}
 use Rattle.operands.specs.Load.{IsStopAt}
 use Rattle.operands.specs.Loading.{Lengthy, MayBe, most_bytes}
 
@@ -14,5 +17,9 @@ long_bytes : (held : Option (List ℕ)) → IfSome held (λ told. most_bytes < l
 long_bytes (Some told) long = (told, refl, long)
 long_bytes None long = let (bytes, count) = some_of 4194305 in (bytes, tt, omega (arith, count))
 
-pub too_long : (held : Option (List ℕ)) (Faulted : Type 0) (name copy : List ℕ) → copy ≡ name → IfSome held (λ told. most_bytes < length told) → IsStopAt held Faulted name (Lengthy name) (TooLong copy)
-too_long held Faulted name copy same long = let (bytes, may, more) = long_bytes held long in inr (inr (bytes, may, (ap TooLong same, more)))
+-- an operand that was not loaded is refused with its cause
+pub stop_of_fail : (held : Option (List ℕ)) (Faulted : Type 0) (name : List ℕ) (fail : LoadFail) (refusal : Refusal) → IsRefusalOf name fail refusal → (fail ≡ fails.Failed → Faulted)
+    → (fail ≡ fails.TooLong → IfSome held (λ told. most_bytes < length told)) → IsStopAt held Faulted name (Lengthy name) refusal
+stop_of_fail held Faulted name fail refusal (inl none) failed long = inl none
+stop_of_fail held Faulted name fail refusal (inr (inl (is, unreadable))) failed long = inr (inl (unreadable, failed is))
+stop_of_fail held Faulted name fail refusal (inr (inr (is, lengthy))) failed long = let (bytes, may, more) = long_bytes held (long is) in inr (inr (bytes, may, (lengthy, more)))

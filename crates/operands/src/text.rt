@@ -2,6 +2,7 @@
 
 ghost use Rattle.std.specs.Prelude.{◌≡◌, ◌≤◌, ◌↔◌, ℕ, List};
 ghost use Rattle.hs_io.specs.Counts.{Rose};
+ghost use Rattle.operands.specs.Inner.Failing.{IsRefusalOf};
 ghost use Rattle.operands.specs.Load.{IsLoaded};
 
 use answers::{Bytes, Refusal};
@@ -23,14 +24,20 @@ pub fn load_operand<F: Shelf>(alloc: Global, name: &[u8], shelf: &mut F) -> Resu
     let mut bytes = Vec::new(alloc);
     match shelf.load(name, TEXT_LIMIT, &mut bytes) {
         Ok(()) => Ok(Bytes::from(bytes)),
-        Err(LoadFail::Failed) => {
-            let name = Name::new(alloc, name)?;
-            Err(Refusal::Unreadable { name })
-        }
-        Err(LoadFail::TooLong) => {
-            let name = Name::new(alloc, name)?;
-            Err(Refusal::TooLong { name })
-        }
-        Err(LoadFail::NoMemory) => Err(Refusal::NoMemory),
+        Err(fail) => Err(refusal_of(alloc, name, fail)),
+    }
+}
+
+/// The refusal of an operand that was not loaded.
+fn refusal_of(alloc: Global, name: &[u8], fail: LoadFail) -> Refusal
+    ensures { IsRefusalOf name.now fail result }
+{
+    let Ok(name) = Name::new(alloc, name) else {
+        return Refusal::NoMemory;
+    };
+    match fail {
+        LoadFail::Failed => Refusal::Unreadable { name },
+        LoadFail::TooLong => Refusal::TooLong { name },
+        LoadFail::NoMemory => Refusal::NoMemory,
     }
 }
