@@ -9,7 +9,7 @@ use hsdec_program::{InputShelf, SystemArguments, status};
 use std::process::ExitCode;
 
 fn main(rt: HostRuntime) -> ExitCode {
-    let arguments = SystemArguments::new(&rt);
+    let arguments = SystemArguments { environment: &rt };
     let mut shelf = InputShelf::new(&rt, rt.stdin());
     let mut out = StdSink::new(rt.stdout());
     let mut err = StdSink::new(rt.stderr());

@@ -50,7 +50,9 @@ impl Calls for Program {
         out: &mut MemSink,
         err: &mut MemSink,
     ) -> u8 {
-        let arguments = SystemArguments::new(GivenArguments { words });
+        let arguments = SystemArguments {
+            environment: GivenArguments { words },
+        };
         status(alloc, &arguments, shelf, out, err)
     }
 

@@ -21,17 +21,10 @@ pub trait Arguments {
         ensures { IfOk result (λ argument. IfSome (given self.now) (λ all. argument ≡ slice_get all number)) };
 }
 
-/// The arguments of the system. Contracts know none of them.
+/// The arguments that the environment has after the program's name. Contracts know none of them.
 #[derive(Drop)]
 pub struct SystemArguments<R: Env> {
-    environment: R,
-}
-
-impl<R: Env> SystemArguments<R> {
-    /// The arguments that this environment has after the program's name.
-    pub fn new(environment: R) -> SystemArguments<R> {
-        SystemArguments { environment }
-    }
+    pub environment: R,
 }
 
 impl<R: Env> Arguments for SystemArguments<R> {
