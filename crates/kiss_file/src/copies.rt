@@ -10,19 +10,18 @@ pub fn copied_file(alloc: Global, file: &KissFile) -> Result<KissFile, AllocErro
     requires { length file.now.states < 65536 }
     ensures { IfOk result (λ copy. copy ≡ file.now) }
 {
-    let mut copy = KissFile {
+    let rows = file.rows.as_slice().to_vec(alloc)?;
+    let input_names = copied_given(alloc, &file.input_names)?;
+    let output_names = copied_given(alloc, &file.output_names)?;
+    Ok(KissFile {
         inputs: file.inputs,
         outputs: file.outputs,
         reset: file.reset,
         states: copied_states(alloc, &file.states)?,
-        rows: Rows::new(alloc),
-        input_names: None,
-        output_names: None,
-    };
-    copy.rows = Rows::from(file.rows.as_slice().to_vec(alloc)?);
-    copy.input_names = copied_given(alloc, &file.input_names)?;
-    copy.output_names = copied_given(alloc, &file.output_names)?;
-    Ok(copy)
+        rows: Rows::from(rows),
+        input_names,
+        output_names,
+    })
 }
 
 /// A copy of the names of states.

@@ -1,6 +1,7 @@
-use Rattle.std.proofs.Common.{◌≡◌, ℕ, List, sym, subst, ◌∙◌}
+use Rattle.std.proofs.Common.{◌≡◌, ℕ, List, length, sym, ap, subst, ◌∙◌}
 use Rattle.partition.specs.Laws.Chains.{join_is_least}
 use Rattle.partition.specs.MeetAndJoin.{IsJoin}
+use Rattle.partition.specs.Partition.{IsPartition}
 use Rattle.partition.specs.Inner.Rows.{AreRowsOf}
 use Rattle.partition.proofs.Gathering.{rows_within, joined_in_row}
 use Rattle.partition.proofs.bits.BitPart.join_onto.Goals as goal
@@ -36,3 +37,21 @@ gathered_rows-requires-clause-all c =
     let of_q : AreRowsOf q c.q.inside.rows.items = rw (← c.q.view_is) c.q.invariant.1 in
     let joined : IsJoin p q r = joined_labels p c.in_ok-partition.partition q c.join_into.new.partition r (c.in_ok-partition.ensures.same ∙ c.self.view_is) c.labels.ensures.labels c.join_into.ensures.join in
     joined_in_row p q r c.self.inside.rows.items c.q.inside.rows.items c.as_slice-front.result.now c.as_slice-back.result.now joined of_p of_q c.as_slice-front.ensures.value c.as_slice-back.ensures.value joined.lawful.length (joined.lawful.length ∙ sym c.requires)
+
+pub join_into-requires-clause-lawful : goal.join_into-requires-clause-lawful
+join_into-requires-clause-lawful c = subst (λ (n : ℕ). IsPartition n c.in_ok-partition.partition) (ap length (sym c.in_ok-partition.ensures.same)) c.in_ok-partition.ensures.lawful
+
+pub join_into-requires-clause-length : goal.join_into-requires-clause-length
+join_into-requires-clause-length c = ap length (c.in_ok-partition.ensures.same ∙ c.self.view_is) ∙ sym c.requires
+
+pub gathered_rows-requires-clause-lawful : goal.gathered_rows-requires-clause-lawful
+gathered_rows-requires-clause-lawful c =
+    let r : List ℕ = c.labels.result.now in
+    let joined : IsJoin c.args.self.now c.args.q.now r = joined_labels c.args.self.now c.in_ok-partition.partition c.args.q.now c.join_into.new.partition r (c.in_ok-partition.ensures.same ∙ c.self.view_is) c.labels.ensures.labels c.join_into.ensures.join in
+    subst (λ (n : ℕ). IsPartition n r) (sym joined.lawful.length) joined.lawful
+
+pub returns-then-join_into : goal.returns-then-join_into
+returns-then-join_into c = subst (λ (left : List ℕ). IsJoin left c.args.q.now c.join_into.new.partition) (c.in_ok-partition.ensures.same ∙ c.self.view_is) c.join_into.ensures.join
+
+pub returns : goal.returns
+returns c = subst (λ (left : List ℕ). IsJoin left c.args.q.now c.join_into.new.partition) (c.in_ok-partition.ensures.same ∙ c.self.view_is) c.join_into.ensures.join

@@ -26,6 +26,27 @@ gather-requires-clause-labels c s within = omega (arith, label-le c.args.labels.
 pub gather-requires-2-clause-labels : goal.gather-requires-2-clause-labels
 gather-requires-2-clause-labels c s within = omega (arith, label-le c.args.labels.now c.requires.lawful.numbered s within, c.requires.lawful.count.1, within)
 
+pub number_labels-some-requires-clause-rows : goal.number_labels-some-requires-clause-rows
+number_labels-some-requires-clause-rows c = subst (λ (w : ℕ). AreWithin c.args.labels.now c.args.front.now w (length c.args.front.now / w)) (sym c.word_count-width.ensures.count) c.requires.front
+
+pub number_labels-count-requires-clause-rows : goal.number_labels-count-requires-clause-rows
+number_labels-count-requires-clause-rows c = subst (λ (w : ℕ). AreWithin c.args.labels.now c.args.back.now w (length c.args.back.now / w)) (sym c.word_count-width.ensures.count) c.requires.back
+
+pub number_labels-count-requires-clause-numbered : goal.number_labels-count-requires-clause-numbered
+number_labels-count-requires-clause-numbered c = c.number_labels-some.ensures.numbered
+
+pub gather-requires-clause-rows : goal.gather-requires-clause-rows
+gather-requires-clause-rows c = subst (λ (w : ℕ). AreWithin c.args.labels.now c.args.front.now w (length c.args.front.now / w)) (sym c.word_count-width.ensures.count) c.requires.front
+
+pub gather-requires-2-clause-rows : goal.gather-requires-2-clause-rows
+gather-requires-2-clause-rows c = subst (λ (w : ℕ). AreWithin c.args.labels.now c.args.back.now w (length c.args.back.now / w)) (sym c.word_count-width.ensures.count) c.requires.back
+
+pub gather-requires-clause-numbered : goal.gather-requires-clause-numbered
+gather-requires-clause-numbered c i s within inside on = c.number_labels-count.ensures.kept (get_or c.args.labels.now s 0) (c.number_labels-some.ensures.all i s within inside on)
+
+pub gather-requires-2-clause-numbered : goal.gather-requires-2-clause-numbered
+gather-requires-2-clause-numbered c = c.number_labels-count.ensures.all
+
 pub returns : goal.returns
 returns c =
     let p : List ℕ = c.args.labels.now in
