@@ -62,23 +62,41 @@ fn file_of_blocks(alloc: Global, file: &KissFile, p: &Partition) -> Result<KissF
     requires each { AreAllNamed file.now p.now }
     ensures { IfOk result (IsQuotient file.now p.now) }
 {
+    let input_names = copied_given(alloc, &file.input_names)?;
+    let output_names = copied_given(alloc, &file.output_names)?;
     let mut states = StateNames::new(alloc);
-    add_currents(&mut states, file, p)?;
-    add_nexts(&mut states, file, p)?;
-    let reset = number_of(&mut states, file, p, file.reset)?;
-    let rows = rows_of_blocks(alloc, &mut states, file, p)?;
-    let mut blocks = KissFile {
+    let (reset, rows) = name_blocks(alloc, &mut states, file, p)?;
+    Ok(KissFile {
         inputs: file.inputs,
         outputs: file.outputs,
         reset,
         states,
         rows,
-        input_names: None,
-        output_names: None,
-    };
-    blocks.input_names = copied_given(alloc, &file.input_names)?;
-    blocks.output_names = copied_given(alloc, &file.output_names)?;
-    Ok(blocks)
+        input_names,
+        output_names,
+    })
+}
+
+/// Names the blocks. Returns the number of the block of the reset state, and the rows of the blocks.
+fn name_blocks(
+    alloc: Global,
+    states: &mut StateNames,
+    file: &KissFile,
+    p: &Partition,
+) -> Result<(u16, Rows), AllocError>
+    requires table { IsTable file.now }
+    requires p { length p.now ≡ length file.now.states }
+    requires each { AreAllNamed file.now p.now }
+    requires empty { states.old ≡ [] }
+    ensures reset { IfOk result (λ made. made.0 ≡ block_number file.now p.now file.now.reset) }
+    ensures rows { IfOk result (λ made. made.1 ≡ map (row_of_blocks file.now p.now) (kept_rows file.now p.now)) }
+    ensures names { OnOk result (states.new ≡ block_names file.now p.now) }
+{
+    add_currents(states, file, p)?;
+    add_nexts(states, file, p)?;
+    let reset = number_of(states, file, p, file.reset)?;
+    let rows = rows_of_blocks(alloc, states, file, p)?;
+    Ok((reset, rows))
 }
 
 /// Adds the names of the blocks of current states.
