@@ -1,4 +1,5 @@
-use Rattle.std.proofs.Common.{◌≡◌, false, Some, refl, ap, sym, ◌∙◌}
+use Rattle.std.proofs.Common.{◌≡◌, ◌<◌, ◌^◌, false, Some, List, ℕ, All, length, refl, ap, subst, sym, ◌∙◌}
+use Rattle.std.proofs.lemmas.List.Elements.{All-drop}
 use Rattle.std.proofs.lemmas.Result.{err_from_is_err_and}
 use Rattle.std.specs.Option.{is_some, option_map}
 use Rattle.kiss2.specs.declared.line_kind.LineKind.TheVariants.{OutputNames}
@@ -40,3 +41,16 @@ returns-clause-judged c before stands =
         states = stands.states ∙ kept.states refl;
       },
     )
+
+pub names_said-requires-clause-short : goal.names_said-requires-clause-short
+names_said-requires-clause-short c =
+    subst (λ (names : List (List ℕ)). All (λ name. length name < 2 ^ 32) names) (sym c.operands_of.ensures) (All-drop (λ name. length name < 2 ^ 32) 1 c.args.line.now.fields c.requires.short)
+
+pub names_said-requires-clause-others : goal.names_said-requires-clause-others
+names_said-requires-clause-others c = subst (λ (names : List (List ℕ)). length names < 2 ^ 8) (sym c.given-others.ensures) c.requires.small.input_names
+
+pub returns-clause-small : goal.returns-clause-small
+returns-clause-small c = record { states = c.requires.small.states; input_names = c.requires.small.input_names; output_names = c.in_ok-names.ensures.few }
+
+pub returns-in_err-names-clause-small : goal.returns-in_err-names-clause-small
+returns-in_err-names-clause-small c = let p = err_from_is_err_and c.from_residual.result c.from_residual.ensures.1 in rw p.1 tt
