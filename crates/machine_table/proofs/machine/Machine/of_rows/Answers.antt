@@ -1,5 +1,6 @@
 use Rattle.std.proofs.Common.{ℕ, ◌<◌, All, List, IsTrue, false, length, sym, ap, ◌∙◌, subst, arith}
 use Rattle.std.proofs.lemmas.Bool.{false≢true}
+use Rattle.std.proofs.lemmas.Result.{IfOk-from_err, err_from_is_err_and}
 use Rattle.kiss_file.specs.declared.file.KissFile.{KissFile}
 use Rattle.kiss_file.specs.declared.file.KissRow.{KissRow}
 use Rattle.kiss_file.specs.Machine.{Conflicting, Specified}
@@ -60,3 +61,48 @@ invariant_of-result c =
     × AreColumns G.rows c.in_ok-ordered.ordered.items c.in_ok-leaders.leaders.items c.in_ok-columns.columns.items
     × ListBundles G.rows (length G.states) c.in_ok-bundles.bundles.items)
     (sym c.in_ok-file.ensures) (c.requires.table, none, stand, (λ complete. absurd (false≢true complete)), columns, bundles)
+
+pub returns-in_err-places-clause-machine : goal.returns-in_err-places-clause-machine
+returns-in_err-places-clause-machine c = IfOk-from_err c.from_residual.result _ c.from_residual.ensures.0
+
+pub returns-in_err-places-clause-caused : goal.returns-in_err-places-clause-caused
+returns-in_err-places-clause-caused c = let p = err_from_is_err_and c.from_residual.result c.from_residual.ensures.1 in rw (p.1, p.2) tt
+
+pub returns-in_err-bundles-clause-machine : goal.returns-in_err-bundles-clause-machine
+returns-in_err-bundles-clause-machine c = IfOk-from_err c.from_residual-in_err-bundles.result _ c.from_residual-in_err-bundles.ensures.0
+
+pub returns-in_err-bundles-clause-caused : goal.returns-in_err-bundles-clause-caused
+returns-in_err-bundles-clause-caused c = let p = err_from_is_err_and c.from_residual-in_err-bundles.result c.from_residual-in_err-bundles.ensures.1 in rw (p.1, p.2) tt
+
+pub returns-in_err-ordered-clause-machine : goal.returns-in_err-ordered-clause-machine
+returns-in_err-ordered-clause-machine c = IfOk-from_err c.from_residual-in_err-ordered.result _ c.from_residual-in_err-ordered.ensures.0
+
+pub returns-in_err-ordered-clause-caused : goal.returns-in_err-ordered-clause-caused
+returns-in_err-ordered-clause-caused c = let p = err_from_is_err_and c.from_residual-in_err-ordered.result c.from_residual-in_err-ordered.ensures.1 in rw (p.1, p.2) tt
+
+pub returns-in_err-leaders-clause-machine : goal.returns-in_err-leaders-clause-machine
+returns-in_err-leaders-clause-machine c = IfOk-from_err c.from_residual-in_err-leaders.result _ c.from_residual-in_err-leaders.ensures.0
+
+pub returns-in_err-leaders-clause-caused : goal.returns-in_err-leaders-clause-caused
+returns-in_err-leaders-clause-caused c = let p = err_from_is_err_and c.from_residual-in_err-leaders.result c.from_residual-in_err-leaders.ensures.1 in rw (p.1, p.2) tt
+
+pub returns-in_err-columns-clause-machine : goal.returns-in_err-columns-clause-machine
+returns-in_err-columns-clause-machine c = IfOk-from_err c.from_residual-in_err-columns.result _ c.from_residual-in_err-columns.ensures.0
+
+pub returns-in_err-columns-clause-caused : goal.returns-in_err-columns-clause-caused
+returns-in_err-columns-clause-caused c = let p = err_from_is_err_and c.from_residual-in_err-columns.result c.from_residual-in_err-columns.ensures.1 in rw (p.1, p.2) tt
+
+pub returns-in_err-file-clause-machine : goal.returns-in_err-file-clause-machine
+returns-in_err-file-clause-machine c = IfOk-from_err c.from_residual-in_err-file.result _ c.from_residual-in_err-file.ensures.0
+
+pub returns-in_err-file-clause-caused : goal.returns-in_err-file-clause-caused
+returns-in_err-file-clause-caused c = let p = err_from_is_err_and c.from_residual-in_err-file.result c.from_residual-in_err-file.ensures.1 in rw (p.1, p.2) tt
+
+pub columns_of_states-requires-clause-size : goal.columns_of_states-requires-clause-size
+columns_of_states-requires-clause-size c = rw (c.deref-5.ensures.value, c.deref-6.ensures.value) (rw c.deref-4.ensures.value at c.in_ok-leaders.ensures.size)
+
+pub columns_of_states-requires-clause-inside : goal.columns_of_states-requires-clause-inside
+columns_of_states-requires-clause-inside c = rw (c.deref-5.ensures.value, c.deref-6.ensures.value) (rw c.deref-4.ensures.value at c.in_ok-leaders.ensures.inside)
+
+pub columns_of_states-requires-clause-alike : goal.columns_of_states-requires-clause-alike
+columns_of_states-requires-clause-alike c = rw (c.deref-5.ensures.value, c.deref-6.ensures.value) (rw c.deref-4.ensures.value at c.in_ok-leaders.ensures.cubes)
