@@ -1,4 +1,5 @@
-use Rattle.std.proofs.Common.{◌<◌, ◌+◌, ℕ, List, length, sym, subst, arith}
+use Rattle.std.proofs.Common.{◌<◌, ◌+◌, ◌≡◌, ◌∙◌, ℕ, List, ap, length, sym, subst, arith}
+use Rattle.std.proofs.lemmas.Result.{IfOk-from_err, err_from_is_err_and}
 use Rattle.kiss_file.specs.declared.file.KissFile.{KissFile}
 use Rattle.partition.specs.Inner.Splitting.{IsSplitUpTo}
 use Rattle.partition.specs.Laws.Labels.{IsPartition-of}
@@ -54,3 +55,65 @@ returns-clause-high c =
     let q : List ℕ = c.args.q.now in
     high_all F q c.loop-s.p c.states.ensures.inside c.requires.states
     (split_all (Goes F q) (length F.states) c.loop-s.s c.loop-s.p (omega (arith, c.states-s-end.ensures.count, c.loop-s-test.false)) c.loop-s.invariant.split)
+
+pub keys-requires-clause-asked : goal.keys-requires-clause-asked
+keys-requires-clause-asked c = c.requires.asked
+
+pub goes_with-requires-clause-left : goal.goes_with-requires-clause-left
+goes_with-requires-clause-left c = c.loop-s.invariant.split.lawful
+
+pub goes_with-requires-clause-related : goal.goes_with-requires-clause-related
+goes_with-requires-clause-related c = c.loop-s.invariant.split.related
+
+pub goes_with-requires-clause-keys : goal.goes_with-requires-clause-keys
+goes_with-requires-clause-keys c = c.loop-s.invariant.keys
+
+pub merge-requires-clause-s : goal.merge-requires-clause-s
+merge-requires-clause-s c = omega (arith, c.in-Some.ensures.below, c.loop-s-test.true, c.states-s-end.ensures.count, c.loop-s.invariant.split.lawful.length)
+
+pub merge-requires-clause-t : goal.merge-requires-clause-t
+merge-requires-clause-t c = omega (arith, c.loop-s-test.true, c.states-s-end.ensures.count, c.loop-s.invariant.split.lawful.length)
+
+size_now : (c : goal.After-keys-in-loop-s-2-1) → length c.match-goes_with.p ≡ length c.args.m.now.states
+size_now c =
+    let so_far = c.loop-s.invariant.split.lawful.length in
+    elim c.match-goes_with.branch [
+      | in-Some w ↦ ap (λ (list : List ℕ). length list) w.p-is ∙ w.merge.ensures.lawful.length ∙ so_far
+      | in_default w ↦ ap (λ (list : List ℕ). length list) w.p-is ∙ so_far
+    ]
+
+pub alike_by_keys-requires-clause-s : goal.alike_by_keys-requires-clause-s
+alike_by_keys-requires-clause-s c = omega (arith, size_now c, c.loop-s-test.true, c.states-s-end.ensures.count)
+
+pub alike_by_keys-requires-clause-size : goal.alike_by_keys-requires-clause-size
+alike_by_keys-requires-clause-size c = c.loop-s.invariant.keys.size ∙ sym (size_now c)
+
+pub learn-requires-clause-s : goal.learn-requires-clause-s
+learn-requires-clause-s c = omega (arith, c.in-Some-alike_by_keys.ensures, c.loop-s-test.true, c.states-s-end.ensures.count)
+
+pub learn-requires-clause-t : goal.learn-requires-clause-t
+learn-requires-clause-t c = omega (arith, c.loop-s-test.true, c.states-s-end.ensures.count)
+
+pub learn-requires-clause-asked : goal.learn-requires-clause-asked
+learn-requires-clause-asked c = c.loop-s.invariant.asked
+
+pub learn-requires-clause-keys : goal.learn-requires-clause-keys
+learn-requires-clause-keys c = c.loop-s.invariant.keys
+
+pub returns-in_err-keys-clause-asked : goal.returns-in_err-keys-clause-asked
+returns-in_err-keys-clause-asked c = let p = err_from_is_err_and c.from_residual.result c.from_residual.ensures.1 in rw p.1 tt
+
+pub returns-in_err-p-clause-asked : goal.returns-in_err-p-clause-asked
+returns-in_err-p-clause-asked c = let p = err_from_is_err_and c.from_residual-in_err-p.result c.from_residual-in_err-p.ensures.1 in rw p.1 tt
+
+pub returns-in_err-p-clause-high : goal.returns-in_err-p-clause-high
+returns-in_err-p-clause-high c = IfOk-from_err _ _ c.from_residual-in_err-p.ensures.0
+
+pub returns-in_err-keys-2-clause-asked : goal.returns-in_err-keys-2-clause-asked
+returns-in_err-keys-2-clause-asked c = let p = err_from_is_err_and c.from_residual-in_err-keys-2.result c.from_residual-in_err-keys-2.ensures.1 in rw p.1 tt
+
+pub returns-in_err-keys-2-clause-high : goal.returns-in_err-keys-2-clause-high
+returns-in_err-keys-2-clause-high c = IfOk-from_err _ _ c.from_residual-in_err-keys-2.ensures.0
+
+pub returns-clause-asked : goal.returns-clause-asked
+returns-clause-asked c = c.loop-s.invariant.asked
