@@ -1,5 +1,5 @@
 -- One, a meet and a list in order have one value.
-use Rattle.std.proofs.Common.{◌≡◌, ℕ, zero, suc, ◌<◌, ◌⊎◌, inl, inr, All, AllPairs, Contains, List, [], ◌∷◌, length, refl, sym, ap, ◌∙◌, subst, arith}
+use Rattle.std.proofs.Common.{◌≡◌, ℕ, zero, suc, ◌⊎◌, inl, inr, All, AllPairs, Contains, List, [], ◌∷◌, refl, sym, ap, ◌∙◌, subst, arith}
 use Rattle.std.proofs.lemmas.List.Elements.{All-contains, Contains-append_right}
 use Rattle.partition.specs.Partition.{IsOne, IsPartition}
 use Rattle.partition.specs.MeetAndJoin.{IsMeet}

@@ -1,7 +1,7 @@
-use Rattle.std.proofs.Common.{◌≡◌, ℕ, ◌<◌, All, List, [], ◌∷◌, length, map, vec_len, refl, sym, ap, ◌∙◌, subst, arith}
+use Rattle.std.proofs.Common.{◌≡◌, ℕ, ◌<◌, All, List, [], ◌∷◌, length, get_or, map, vec_len, refl, sym, ap, ◌∙◌, subst, arith}
 use Rattle.std.proofs.lemmas.Bool.{eq-eqb, eqb-true, false≢true}
 use Rattle.kiss_file.specs.declared.file.KissFile.{KissFile}
-use Rattle.partition.specs.Partition.{IsZero}
+use Rattle.partition.specs.Partition.{IsPartition, IsZero}
 use Rattle.state_codes.specs.declared.split.Part.{Part}
 use Rattle.state_codes.specs.Split.{IsPart, lone_part}
 use Rattle.parallel_split.specs.Kind.{IsParallel}
@@ -75,3 +75,14 @@ returns-clause-few c =
 
 pub returns-clause-lawful : goal.returns-clause-lawful
 returns-clause-lawful c = subst (All (IsPart (length c.args.m.now.states))) (sym (known c).made) (parts_lawful c.args.m.now (known c).remaining (known c).left)
+
+pub leave_out-requires-clause-lawful : goal.leave_out-requires-clause-lawful
+leave_out-requires-clause-lawful c k d within =
+    let some = rw c.in-Some.is at c.in_ok-list.ensures.some in
+    subst (λ (n : ℕ). IsPartition n (get_or c.in-Some.list.items k d)) (sym c.states.ensures.count) (some.2.members k d within).greatest.closed.0
+
+pub leave_out-requires-clause-count : goal.leave_out-requires-clause-count
+leave_out-requires-clause-count c = (c.states.ensures.some, c.states.ensures.limit)
+
+pub returns-in_default-clause-none : goal.returns-in_default-clause-none
+returns-in_default-clause-none c = let none = rw c.in_default.is at c.in_ok-list.ensures.none in ((λ _. none), (λ _. refl))

@@ -1,6 +1,7 @@
 use Rattle.std.proofs.Common.{◌≡◌, ℕ, suc, ◌+◌, ◌-◌, ◌↔◌, All, List, length, length-drop, take, drop, add-one, sym, ap, ◌∙◌, subst, arith}
 use Rattle.std.proofs.lemmas.Bool.{eq-eqb, eqb-true}
 use Rattle.std.proofs.lemmas.List.{take_all}
+use Rattle.std.proofs.lemmas.List.Elements.{All-drop, All-take}
 use Rattle.partition.specs.Partition.{IsPartition, Together}
 use Rattle.partition.specs.Laws.Labels.{IsPartition-of}
 use Rattle.parallel_split.proofs.Spared.{blocks_where_spared, spared_by_blocks}
@@ -20,3 +21,21 @@ returns c =
       (λ spared. spared_by_blocks c.args.n c.args.place c.args.list.now c.in_ok-one.one c.in_ok-before.before c.in_ok-others.others c.in_ok-one.ensures.lawful c.in_ok-one.ensures.one others first second (sym c.blocks-2.ensures ∙ eqb-true c.blocks-2.result c.args.n spared)),
       (λ zero. eq-eqb c.blocks-2.result c.args.n (c.blocks-2.ensures ∙ blocks_where_spared c.args.n c.args.place c.args.list.now c.in_ok-one.one c.in_ok-before.before c.in_ok-others.others c.in_ok-one.ensures.lawful c.in_ok-one.ensures.one others first second zero)),
     )
+
+pub meet_with_all-requires-clause-lawful : goal.meet_with_all-requires-clause-lawful
+meet_with_all-requires-clause-lawful c = subst (λ (n : ℕ). IsPartition n c.in_ok-one.one) (sym c.in_ok-one.ensures.lawful.length) c.in_ok-one.ensures.lawful
+
+pub meet_with_all-requires-clause-all : goal.meet_with_all-requires-clause-all
+meet_with_all-requires-clause-all c =
+    let list : List (List ℕ) = take c.args.place c.args.list.now in
+    subst (λ (n : ℕ). All (IsPartition n) list) (sym c.in_ok-one.ensures.lawful.length) (All-take (IsPartition c.args.n) c.args.place c.args.list.now c.requires.lawful)
+
+pub meet_with_all-requires-2-clause-lawful : goal.meet_with_all-requires-2-clause-lawful
+meet_with_all-requires-2-clause-lawful c = subst (λ (n : ℕ). IsPartition n c.in_ok-before.before) (sym c.in_ok-before.ensures.lawful.length) c.in_ok-before.ensures.lawful
+
+pub meet_with_all-requires-2-clause-all : goal.meet_with_all-requires-2-clause-all
+meet_with_all-requires-2-clause-all c =
+    let count = length c.args.list.now - (c.args.place + 1) in
+    let rest : List (List ℕ) = drop (c.args.place + 1) c.args.list.now in
+    subst (λ (n : ℕ). All (IsPartition n) (take count rest)) (sym (c.in_ok-before.ensures.lawful.length ∙ c.in_ok-one.ensures.lawful.length))
+    (All-take (IsPartition c.args.n) count rest (All-drop (IsPartition c.args.n) (c.args.place + 1) c.args.list.now c.requires.lawful))
