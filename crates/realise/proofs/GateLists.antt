@@ -1,9 +1,9 @@
 -- Gates that are added one by one, and the network of them.
-use Rattle.std.proofs.Common.{◌≡◌, ℕ, zero, suc, ◌+◌, ◌<◌, inl, inr, Bool, true, false, Some, List, [], ◌∷◌, ◌++◌, length, map, get_or, slice_get, slice_index, take, All, ap, sym, ◌∙◌, subst, arith, length-append}
+use Rattle.std.proofs.Common.{◌≡◌, ℕ, zero, suc, ◌+◌, ◌<◌, ◌≤◌, inl, inr, Bool, true, false, Some, List, [], ◌∷◌, ◌++◌, length, map, get_or, slice_get, slice_index, take, All, ap, sym, ◌∙◌, subst, arith, length-append}
 use Rattle.std.specs.Cmp.Lexicographic.{slice_cmp}
 use Rattle.std.specs.List.Sorted.{IsSorted}
 use Rattle.std.specs.Ordering.{nat_cmp}
-use Rattle.std.proofs.lemmas.List.{length-take-le, take_more}
+use Rattle.std.proofs.lemmas.List.{length-take-le, take_all, take_more}
 use Rattle.std.proofs.lemmas.Option.{get_or_from_slice_get, slice_get-get_or, slice_get_within}
 use Rattle.list_facts.specs.Laws.Places.{get_behind, get_cases, get_first}
 use Rattle.dependence.specs.declared.sets.ReadSet.{ReadSet}
@@ -52,6 +52,20 @@ module _ (F : KissFile) (words : List ℕ) (names : SignalNames) (value : ℕ �
     kept = λ k kept at. get_first new (gate ∷ []) k kept (before.kept k kept at);
     each = gate_each;
   }
+
+-- no gate yet
+pub gates_none : (F : KissFile) (words : List ℕ) (names : SignalNames) (value : ℕ → ℕ → List Bool → Bool) (outputs : List (List ℕ)) (old : List Gate) → AddsGates F words names value outputs [] old old
+gates_none F words names value outputs old = record {
+  count = omega arith;
+  kept = λ k gate at. at;
+  each = λ i set at. absurd (omega (arith, slice_get_within [] i set at));
+}
+
+-- a gate for each of the first sets, and these are all
+pub gates_all : (F : KissFile) (words : List ℕ) (names : SignalNames) (value : ℕ → ℕ → List Bool → Bool) (outputs : List (List ℕ)) (sets : List ReadSet) (old new : List Gate) (count : ℕ) → length sets ≤ count
+    → AddsGates F words names value outputs (take count sets) old new → AddsGates F words names value outputs sets old new
+gates_all F words names value outputs sets old new count all added =
+    subst (λ (list : List ReadSet). AddsGates F words names value outputs list old new) (take_all count sets all) added
 
 pub gates_more : (F : KissFile) (words : List ℕ) (names : SignalNames) (value : ℕ → ℕ → List Bool → Bool) (outputs : List (List ℕ)) (sets more : List ReadSet) (set : ReadSet) (old new pushed : List Gate) (gate : Gate) (i : ℕ) → more ≡ sets ++ set ∷ [] → length sets ≡ i
     → AddsGates F words names value outputs sets old new → IsGateFor F words names set (value i) (name_at outputs i) gate → pushed ≡ new ++ gate ∷ [] → AddsGates F words names value outputs more old pushed

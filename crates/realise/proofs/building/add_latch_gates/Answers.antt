@@ -1,8 +1,8 @@
-use Rattle.std.proofs.Common.{◌≡◌, Some, slice_get, subst, take}
+use Rattle.std.proofs.Common.{◌≡◌, Some, length, slice_get, ap, subst, take, arith}
 use Rattle.list_facts.specs.Laws.Everywhere.{all_at}
 use Rattle.dependence.specs.Permits.{next_value}
 use Rattle.realise.specs.Realised.{IsGateFor, IsWithin}
-use Rattle.realise.proofs.GateLists.{gates_more, item_there, items_count, items_more}
+use Rattle.realise.proofs.GateLists.{gates_all, gates_more, gates_none, item_there, items_count, items_more}
 use Rattle.realise.proofs.building.add_latch_gates.Goals as goal
 
 pub gate-requires-clause-within : goal.gate-requires-clause-within
@@ -24,3 +24,11 @@ loop-i-preserved c =
     (items_more sets c.loop-i.i c.set-item.result at) (items_count sets c.loop-i.i c.set-item.result at) c.loop-i.invariant
     (subst (λ name. IsGateFor c.args.m.now c.args.codes.now.words c.args.names.now c.set-item.result (next_value c.args.m.now c.args.codes.now.words c.loop-i.i) name c.in_ok-gate.field-0) c.in_ok-name.ensures c.in_ok-gate.ensures)
     c.in_ok-push.ensures.ok
+
+pub loop-i-init : goal.loop-i-init
+loop-i-init c = gates_none c.args.m.now c.args.codes.now.words c.args.names.now (next_value c.args.m.now c.args.codes.now.words) c.args.names.now.latch_inputs c.args.gates.now
+
+pub returns : goal.returns
+returns c =
+    gates_all c.args.m.now c.args.codes.now.words c.args.names.now (next_value c.args.m.now c.args.codes.now.words) c.args.names.now.latch_inputs c.args.reads.now.latches c.args.gates.now c.loop-i.gates c.loop-i.i
+    (omega (arith, c.loop-i-test.false, ap length c.as_slice-set-items.ensures)) c.loop-i.invariant

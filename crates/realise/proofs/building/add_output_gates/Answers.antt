@@ -2,7 +2,7 @@ use Rattle.std.proofs.Common.{◌≡◌, ◌∙◌, Some, slice_get, ap, subst, 
 use Rattle.list_facts.specs.Laws.Everywhere.{all_at}
 use Rattle.dependence.specs.Permits.{output_value}
 use Rattle.realise.specs.Realised.{IsGateFor, IsWithin, name_at}
-use Rattle.realise.proofs.GateLists.{gates_more, item_numbered, items_count, items_more}
+use Rattle.realise.proofs.GateLists.{gates_all, gates_more, gates_none, item_numbered, items_count, items_more}
 use Rattle.realise.proofs.building.add_output_gates.Goals as goal
 
 pub gate-requires-clause-within : goal.gate-requires-clause-within
@@ -31,3 +31,11 @@ loop-b-preserved c =
     (subst (λ name. IsGateFor c.args.m.now c.args.codes.now.words c.args.names.now set (output_value c.args.m.now c.loop-b.b) name c.in_ok-gate.field-0)
     (c.in_ok-name.ensures ∙ ap (name_at c.args.names.now.outputs) c.from-in-loop-b.ensures) c.in_ok-gate.ensures)
     c.in_ok-push.ensures.ok
+
+pub loop-b-init : goal.loop-b-init
+loop-b-init c = gates_none c.args.m.now c.args.codes.now.words c.args.names.now (output_value c.args.m.now) c.args.names.now.outputs c.args.gates.now
+
+pub returns : goal.returns
+returns c =
+    gates_all c.args.m.now c.args.codes.now.words c.args.names.now (output_value c.args.m.now) c.args.names.now.outputs c.args.reads.now.outputs c.args.gates.now c.loop-b.gates c.loop-b.b
+    (omega (arith, c.loop-b-test.false, c.outputs-b-end.ensures.count, c.requires.reads.output_count)) c.loop-b.invariant
