@@ -1,4 +1,5 @@
 use Rattle.std.proofs.Common.{ℕ, ◌<◌, List, length, get_or, sym, ◌∙◌, subst, arith}
+use Rattle.std.proofs.lemmas.Result.{IfOk-from_err}
 use Rattle.partition.specs.Partition.{IsPartition, IsZero, blocks_of}
 use Rattle.partition.specs.MeetAndJoin.{IsMeet}
 use Rattle.partition.specs.Laws.Labels.{blocks_of-le, IsPartition-of}
@@ -71,3 +72,41 @@ loop-s-preserved c =
 
 pub returns-clause-some : goal.returns-clause-some
 returns-clause-some c = (c.loop-s.common, c.in_default.ensures.none, c.loop-s.invariant.members)
+
+pub one-requires : goal.one-requires
+one-requires c = (c.states-n.ensures.some, c.states-n.ensures.limit)
+
+pub separating-requires-clause-kept : goal.separating-requires-clause-kept
+separating-requires-clause-kept c = c.loop-s.invariant.kept
+
+pub separating-requires-clause-order : goal.separating-requires-clause-order
+separating-requires-clause-order c = c.in-Some.ensures.some.order
+
+pub put_in_order-requires-clause-lawful : goal.put_in_order-requires-clause-lawful
+put_in_order-requires-clause-lawful c =
+    let lawful = c.in_ok-member.ensures.greatest.closed.0 in
+    subst (λ (n : ℕ). IsPartition n c.in_ok-member.member) (sym lawful.length) lawful
+
+pub returns-in_err-common-clause-some : goal.returns-in_err-common-clause-some
+returns-in_err-common-clause-some c = IfOk-from_err _ _ c.from_residual.ensures.0
+
+pub returns-in_err-common-clause-none : goal.returns-in_err-common-clause-none
+returns-in_err-common-clause-none c = IfOk-from_err _ _ c.from_residual.ensures.0
+
+pub returns-in_err-kept-clause-some : goal.returns-in_err-kept-clause-some
+returns-in_err-kept-clause-some c = IfOk-from_err _ _ c.from_residual-in_err-kept.ensures.0
+
+pub returns-in_err-kept-clause-none : goal.returns-in_err-kept-clause-none
+returns-in_err-kept-clause-none c = IfOk-from_err _ _ c.from_residual-in_err-kept.ensures.0
+
+pub returns-in_err-common-2-clause-some : goal.returns-in_err-common-2-clause-some
+returns-in_err-common-2-clause-some c = IfOk-from_err _ _ c.from_residual-in_err-common-2.ensures.0
+
+pub returns-in_err-common-2-clause-none : goal.returns-in_err-common-2-clause-none
+returns-in_err-common-2-clause-none c = IfOk-from_err _ _ c.from_residual-in_err-common-2.ensures.0
+
+pub returns-in_err-put_in_order-clause-some : goal.returns-in_err-put_in_order-clause-some
+returns-in_err-put_in_order-clause-some c = IfOk-from_err _ _ c.from_residual-in_err-put_in_order.ensures.0
+
+pub returns-in_err-put_in_order-clause-none : goal.returns-in_err-put_in_order-clause-none
+returns-in_err-put_in_order-clause-none c = IfOk-from_err _ _ c.from_residual-in_err-put_in_order.ensures.0
