@@ -20,21 +20,21 @@ pub fn usage(alloc: Global, word: u32) -> Result<Vec<u8>, AllocError>
     ensures { IfOk result (λ line. line.items ≡ usage_line word) }
 {
     let number = word.to_string(alloc)?;
-    line_of(alloc, b"hsdec: usage word ", number.as_bytes())
+    line_of(alloc, &[b"hsdec: usage word ", number.as_bytes()])
 }
 
 /// The line of a file that cannot be read.
 pub fn cannot_read(alloc: Global, name: &[u8]) -> Result<Vec<u8>, AllocError>
     ensures { IfOk result (λ line. line.items ≡ cannot_read_line name.now) }
 {
-    line_of(alloc, b"hsdec: cannot read ", name)
+    line_of(alloc, &[b"hsdec: cannot read ", name])
 }
 
 /// The line of a file that is too long.
 pub fn too_long(alloc: Global, name: &[u8]) -> Result<Vec<u8>, AllocError>
     ensures { IfOk result (λ line. line.items ≡ too_long_line name.now) }
 {
-    line_of(alloc, b"hsdec: too long ", name)
+    line_of(alloc, &[b"hsdec: too long ", name])
 }
 
 /// The line of a refused text of a machine: the number of its line, and what is wrong there.
@@ -55,14 +55,14 @@ pub fn net(alloc: Global, line: u32, fault: &[u8]) -> Result<Vec<u8>, AllocError
 pub fn two_drivers(alloc: Global, name: &[u8]) -> Result<Vec<u8>, AllocError>
     ensures { IfOk result (λ line. line.items ≡ two_drivers_line name.now) }
 {
-    line_of(alloc, b"hsdec: net two drivers ", name)
+    line_of(alloc, &[b"hsdec: net two drivers ", name])
 }
 
 /// The line of a signal that nothing drives.
 pub fn undriven(alloc: Global, name: &[u8]) -> Result<Vec<u8>, AllocError>
     ensures { IfOk result (λ line. line.items ≡ undriven_line name.now) }
 {
-    line_of(alloc, b"hsdec: net undriven ", name)
+    line_of(alloc, &[b"hsdec: net undriven ", name])
 }
 
 /// The line of a cycle of gates, by the names of their outputs in order.
@@ -71,21 +71,21 @@ pub fn cycle(alloc: Global, names: &[Name]) -> Result<Vec<u8>, AllocError>
 {
     let mut spaced_names = Vec::new(alloc);
     append_names(&mut spaced_names, names)?;
-    line_of(alloc, b"hsdec: net cycle", spaced_names.as_slice())
+    line_of(alloc, &[b"hsdec: net cycle", spaced_names.as_slice()])
 }
 
 /// The line of a start that is not a text of a bit for each latch.
 pub fn bad_start(alloc: Global) -> Result<Vec<u8>, AllocError>
     ensures { IfOk result (λ line. line.items ≡ bad_start_line) }
 {
-    line_of(alloc, b"hsdec: bad start", b"")
+    line_of(alloc, &[b"hsdec: bad start"])
 }
 
 /// The line of a latch whose first value is not known.
 pub fn start_unknown(alloc: Global, name: &[u8]) -> Result<Vec<u8>, AllocError>
     ensures { IfOk result (λ line. line.items ≡ start_unknown_line name.now) }
 {
-    line_of(alloc, b"hsdec: start unknown ", name)
+    line_of(alloc, &[b"hsdec: start unknown ", name])
 }
 
 /// The line of a refused text of symbols, with the number of the first line that is wrong.
@@ -93,18 +93,21 @@ pub fn symbols(alloc: Global, line: u32) -> Result<Vec<u8>, AllocError>
     ensures { IfOk result (λ text. text.items ≡ symbol_line line) }
 {
     let number = line.to_string(alloc)?;
-    line_of(alloc, b"hsdec: symbols line ", number.as_bytes())
+    line_of(alloc, &[b"hsdec: symbols line ", number.as_bytes()])
 }
 
 /// The line of two rows that conflict, counted from 1.
 pub fn conflict(alloc: Global, row: u32, other: u32) -> Result<Vec<u8>, AllocError>
     ensures { IfOk result (λ line. line.items ≡ conflict_line row other) }
 {
-    let mut line = Vec::new(alloc);
-    append_number(alloc, &mut line, b"hsdec: conflict rows ", u64::from(row))?;
-    append_number(alloc, &mut line, b" and ", u64::from(other))?;
-    line.push(b'\n')?;
-    Ok(line)
+    numbered_line(
+        alloc,
+        &[
+            (b"hsdec: conflict rows ", u64::from(row)),
+            (b" and ", u64::from(other)),
+        ],
+        b"",
+    )
 }
 
 /// The line of what a machine leaves open: a part, for a state and a symbol.
@@ -116,14 +119,17 @@ pub fn unspecified(
 ) -> Result<Vec<u8>, AllocError>
     ensures { IfOk result (λ line. line.items ≡ unspecified_line state.now symbol.now part.now) }
 {
-    let mut line = Vec::from_slice(alloc, b"hsdec: unspecified state ")?;
-    line.extend_from_slice(state)?;
-    line.extend_from_slice(b" symbol ")?;
-    line.extend_from_slice(symbol)?;
-    line.push(b' ')?;
-    line.extend_from_slice(part)?;
-    line.push(b'\n')?;
-    Ok(line)
+    line_of(
+        alloc,
+        &[
+            b"hsdec: unspecified state ",
+            state,
+            b" symbol ",
+            symbol,
+            b" ",
+            part,
+        ],
+    )
 }
 
 /// The line of a listing that exceeds its limit.
@@ -131,18 +137,18 @@ pub fn more(alloc: Global, limit: usize) -> Result<Vec<u8>, AllocError>
     ensures { IfOk result (λ line. line.items ≡ more_line limit) }
 {
     let number = limit.to_string(alloc)?;
-    line_of(alloc, b"hsdec: more than ", number.as_bytes())
+    line_of(alloc, &[b"hsdec: more than ", number.as_bytes()])
 }
 
 /// The line of a text of a part with a bad label: the number of the part, and the place of the first such label.
 pub fn part_place(alloc: Global, part: usize, place: usize) -> Result<Vec<u8>, AllocError>
     ensures { IfOk result (λ line. line.items ≡ part_place_line part place) }
 {
-    let mut line = Vec::new(alloc);
-    append_number(alloc, &mut line, b"hsdec: part ", part as u64)?;
-    append_number(alloc, &mut line, b" place ", place as u64)?;
-    line.push(b'\n')?;
-    Ok(line)
+    numbered_line(
+        alloc,
+        &[(b"hsdec: part ", part as u64), (b" place ", place as u64)],
+        b"",
+    )
 }
 
 /// The line of a text of a part that has `found` labels, and not as many as there are states.
@@ -154,44 +160,39 @@ pub fn part_length(
 ) -> Result<Vec<u8>, AllocError>
     ensures { IfOk result (λ line. line.items ≡ part_length_line part found states) }
 {
-    let mut line = Vec::new(alloc);
-    append_number(alloc, &mut line, b"hsdec: part ", part as u64)?;
-    append_number(alloc, &mut line, b" has ", found as u64)?;
-    append_number(alloc, &mut line, b" labels, not ", states as u64)?;
-    line.push(b'\n')?;
-    Ok(line)
+    numbered_line(
+        alloc,
+        &[
+            (b"hsdec: part ", part as u64),
+            (b" has ", found as u64),
+            (b" labels, not ", states as u64),
+        ],
+        b"",
+    )
 }
 
 /// The line of two states, by their names, that are together in all parts.
 pub fn not_apart(alloc: Global, state: &[u8], other: &[u8]) -> Result<Vec<u8>, AllocError>
     ensures { IfOk result (λ line. line.items ≡ not_apart_line state.now other.now) }
 {
-    let mut line = Vec::from_slice(alloc, b"hsdec: states ")?;
-    line.extend_from_slice(state)?;
-    line.extend_from_slice(b" and ")?;
-    line.extend_from_slice(other)?;
-    line.extend_from_slice(b" not apart\n")?;
-    Ok(line)
+    line_of(
+        alloc,
+        &[b"hsdec: states ", state, b" and ", other, b" not apart"],
+    )
 }
 
 /// The line of codes that have too many bits.
 pub fn code_bits(alloc: Global, bits: usize) -> Result<Vec<u8>, AllocError>
     ensures { IfOk result (λ line. line.items ≡ code_bits_line bits) }
 {
-    let mut line = Vec::new(alloc);
-    append_number(alloc, &mut line, b"hsdec: code has ", bits as u64)?;
-    line.extend_from_slice(b" bits\n")?;
-    Ok(line)
+    numbered_line(alloc, &[(b"hsdec: code has ", bits as u64)], b" bits")
 }
 
 /// The line of a machine that has no decomposition of a kind.
 pub fn no_split(alloc: Global, kind: &[u8]) -> Result<Vec<u8>, AllocError>
     ensures { IfOk result (λ line. line.items ≡ no_split_line kind.now) }
 {
-    let mut line = Vec::from_slice(alloc, b"hsdec: no ")?;
-    line.extend_from_slice(kind)?;
-    line.extend_from_slice(b" decomposition\n")?;
-    Ok(line)
+    line_of(alloc, &[b"hsdec: no ", kind, b" decomposition"])
 }
 
 /// The line of a machine that is not definite, by the names of two states that, for every length, some word of
@@ -199,22 +200,17 @@ pub fn no_split(alloc: Global, kind: &[u8]) -> Result<Vec<u8>, AllocError>
 pub fn not_definite(alloc: Global, state: &[u8], other: &[u8]) -> Result<Vec<u8>, AllocError>
     ensures { IfOk result (λ line. line.items ≡ not_definite_line state.now other.now) }
 {
-    let mut line = Vec::from_slice(alloc, b"hsdec: not definite, states ")?;
-    line.extend_from_slice(state)?;
-    line.extend_from_slice(b" and ")?;
-    line.extend_from_slice(other)?;
-    line.push(b'\n')?;
-    Ok(line)
+    line_of(
+        alloc,
+        &[b"hsdec: not definite, states ", state, b" and ", other],
+    )
 }
 
 /// The line of a definite machine in whose reset state no word of as many symbols as its order ends.
 pub fn not_reached(alloc: Global, reset: &[u8]) -> Result<Vec<u8>, AllocError>
     ensures { IfOk result (λ line. line.items ≡ not_reached_line reset.now) }
 {
-    let mut line = Vec::from_slice(alloc, b"hsdec: reset ")?;
-    line.extend_from_slice(reset)?;
-    line.extend_from_slice(b" not reached\n")?;
-    Ok(line)
+    line_of(alloc, &[b"hsdec: reset ", reset, b" not reached"])
 }
 
 /// The line of a machine for which no least code is sought, by the number of its states.
@@ -224,8 +220,7 @@ pub fn state_count(alloc: Global, states: usize) -> Result<Vec<u8>, AllocError>
     let number = states.to_string(alloc)?;
     line_of(
         alloc,
-        b"hsdec: least needs 3 to 8 states, not ",
-        number.as_bytes(),
+        &[b"hsdec: least needs 3 to 8 states, not ", number.as_bytes()],
     )
 }
 
@@ -233,87 +228,91 @@ pub fn state_count(alloc: Global, states: usize) -> Result<Vec<u8>, AllocError>
 pub fn inputs(alloc: Global, inputs: u8) -> Result<Vec<u8>, AllocError>
     ensures { IfOk result (λ line. line.items ≡ inputs_line inputs) }
 {
-    let mut line = Vec::new(alloc);
-    append_number(alloc, &mut line, b"hsdec: inputs ", u64::from(inputs))?;
-    line.extend_from_slice(b" above 8\n")?;
-    Ok(line)
+    numbered_line(
+        alloc,
+        &[(b"hsdec: inputs ", u64::from(inputs))],
+        b" above 8",
+    )
 }
 
 /// The line of a machine with too many outputs that occur.
 pub fn outputs(alloc: Global) -> Result<Vec<u8>, AllocError>
     ensures { IfOk result (λ line. line.items ≡ outputs_line) }
 {
-    line_of(alloc, b"hsdec: more than 256 outputs", b"")
+    line_of(alloc, &[b"hsdec: more than 256 outputs"])
 }
 
 /// The line of a refused text of a cover, by the block and the place of its first bad number.
 pub fn cover_place(alloc: Global, block: usize, place: usize) -> Result<Vec<u8>, AllocError>
     ensures { IfOk result (λ line. line.items ≡ cover_place_line block place) }
 {
-    let mut line = Vec::new(alloc);
-    append_number(alloc, &mut line, b"hsdec: cover block ", block as u64)?;
-    append_number(alloc, &mut line, b" place ", place as u64)?;
-    line.push(b'\n')?;
-    Ok(line)
+    numbered_line(
+        alloc,
+        &[
+            (b"hsdec: cover block ", block as u64),
+            (b" place ", place as u64),
+        ],
+        b"",
+    )
 }
 
 /// The line of a block all of whose states are in another block.
 pub fn cover_within(alloc: Global, block: usize, other: usize) -> Result<Vec<u8>, AllocError>
     ensures { IfOk result (λ line. line.items ≡ cover_within_line block other) }
 {
-    let mut line = Vec::new(alloc);
-    append_number(alloc, &mut line, b"hsdec: cover block ", block as u64)?;
-    append_number(alloc, &mut line, b" within block ", other as u64)?;
-    line.push(b'\n')?;
-    Ok(line)
+    numbered_line(
+        alloc,
+        &[
+            (b"hsdec: cover block ", block as u64),
+            (b" within block ", other as u64),
+        ],
+        b"",
+    )
 }
 
 /// The line of a state that is in no block of a cover.
 pub fn cover_lacks(alloc: Global, state: &[u8]) -> Result<Vec<u8>, AllocError>
     ensures { IfOk result (λ line. line.items ≡ cover_lacks_line state.now) }
 {
-    line_of(alloc, b"hsdec: cover lacks ", state)
+    line_of(alloc, &[b"hsdec: cover lacks ", state])
 }
 
 /// The line of a cover whose blocks have too many places in all.
 pub fn cover_places(alloc: Global, found: usize) -> Result<Vec<u8>, AllocError>
     ensures { IfOk result (λ line. line.items ≡ cover_places_line found) }
 {
-    let mut line = Vec::new(alloc);
-    append_number(alloc, &mut line, b"hsdec: cover has ", found as u64)?;
-    line.extend_from_slice(b" places\n")?;
-    Ok(line)
+    numbered_line(alloc, &[(b"hsdec: cover has ", found as u64)], b" places")
 }
 
 /// The line of a cover that splits nothing.
 pub fn cover_trivial(alloc: Global) -> Result<Vec<u8>, AllocError>
     ensures { IfOk result (λ line. line.items ≡ cover_trivial_line) }
 {
-    line_of(alloc, b"hsdec: cover is trivial", b"")
+    line_of(alloc, &[b"hsdec: cover is trivial"])
 }
 
 /// The line of a block whose next states are in no one block, with the digits of the symbol.
 pub fn cover_leaves(alloc: Global, block: usize, symbol: &[u8]) -> Result<Vec<u8>, AllocError>
     ensures { IfOk result (λ line. line.items ≡ cover_leaves_line block symbol.now) }
 {
-    let mut line = Vec::new(alloc);
-    append_number(alloc, &mut line, b"hsdec: cover block ", block as u64)?;
-    line.extend_from_slice(b" leaves at symbol ")?;
-    line.extend_from_slice(symbol)?;
-    line.push(b'\n')?;
-    Ok(line)
+    let block = block.to_string(alloc)?;
+    line_of(
+        alloc,
+        &[
+            b"hsdec: cover block ",
+            block.as_bytes(),
+            b" leaves at symbol ",
+            symbol,
+        ],
+    )
 }
 
 /// A line of words, the number of a line, and what is wrong there.
 fn fault_line(alloc: Global, words: &[u8], number: u32, fault: &[u8]) -> Result<Vec<u8>, AllocError>
     ensures { IfOk result (λ line. line.items ≡ as_line (words.now ++ decimal number ++ codes ": " ++ fault.now)) }
 {
-    let mut text = Vec::new(alloc);
-    append_number(alloc, &mut text, words, u64::from(number))?;
-    text.extend_from_slice(b": ")?;
-    text.extend_from_slice(fault)?;
-    text.push(b'\n')?;
-    Ok(text)
+    let number = number.to_string(alloc)?;
+    line_of(alloc, &[words, number.as_bytes(), b": ", fault])
 }
 
 /// Appends names, each after a space.
@@ -347,12 +346,31 @@ fn append_number(
     line.extend_from_slice(number.to_string(alloc)?.as_bytes())
 }
 
-/// A line of words and a name or a number.
-fn line_of(alloc: Global, words: &[u8], value: &[u8]) -> Result<Vec<u8>, AllocError>
-    ensures { IfOk result (λ line. line.items ≡ as_line (words.now ++ value.now)) }
+/// A line of numbers, each after its words, and of words that end it.
+fn numbered_line(
+    alloc: Global,
+    numbers: &[(&[u8], u64)],
+    rest: &[u8],
+) -> Result<Vec<u8>, AllocError>
+    ensures { IfOk result (λ line. line.items ≡ as_line (flat_map (λ pair. pair.0.now ++ decimal pair.1) numbers.now ++ rest.now)) }
 {
-    let mut line = Vec::from_slice(alloc, words)?;
-    line.extend_from_slice(value)?;
+    let mut line = Vec::new(alloc);
+    for (words, number) in numbers {
+        append_number(alloc, &mut line, words, *number)?;
+    }
+    line.extend_from_slice(rest)?;
     line.push(b'\n')?;
     Ok(line)
+}
+
+/// A line of pieces.
+fn line_of(alloc: Global, pieces: &[&[u8]]) -> Result<Vec<u8>, AllocError>
+    ensures { IfOk result (λ line. line.items ≡ as_line (flat_map (λ piece. piece.now) pieces.now)) }
+{
+    let mut text = Vec::new(alloc);
+    for piece in pieces {
+        text.extend_from_slice(piece)?;
+    }
+    text.push(b'\n')?;
+    Ok(text)
 }
