@@ -1,5 +1,10 @@
 -- Pieces one after another, as a list of them gives them and as a sum gives them.
-use Rattle.std.proofs.Common.{◌≡◌, ℕ, List, [], ◌++◌, sym, ap, ◌∙◌, append_assoc, append-nil}
+use Rattle.std.proofs.Common.{◌≡◌, ℕ, List, [], ◌∷◌, ◌++◌, refl, sym, ap, ◌∙◌, append_assoc, append-nil}
+use Rattle.std.proofs.lemmas.List.{flat_map_more}
+use Rattle.std.specs.Fmt.{decimal}
+use Rattle.std.specs.List.{flat_map}
+use Rattle.hs_io.specs.Spelling.{ended, spaced}
+use Rattle.hs_texts.specs.Reports.{spaced_numbers}
 
 -- words and a text after a text
 pub pair_more : (text words number rest : List ℕ) → text ++ ((words ++ number) ++ rest) ≡ text ++ words ++ number ++ rest
@@ -25,3 +30,13 @@ four_pieces a b c d =
     ∙ ap (λ (t : List ℕ). a ++ t) (sym (append_assoc b c d))
     ∙ sym (append_assoc a (b ++ c) d)
     ∙ ap (λ (t : List ℕ). t ++ d) (sym (append_assoc a b c))
+
+-- numbers, each after a space, one by one
+pub spaced-is : (numbers : List ℕ) → spaced_numbers numbers ≡ flat_map (λ number. spaced (decimal number)) numbers
+spaced-is [] = refl
+spaced-is (number ∷ numbers) = ap (λ (t : List ℕ). spaced (decimal number) ++ t) (spaced-is numbers)
+
+-- a text of lines, with one line more
+pub line_more : (text new : List ℕ) (lines : List (List ℕ)) (line : List ℕ) → text ≡ flat_map ended lines → new ≡ text ++ ended line → new ≡ flat_map ended (lines ++ line ∷ [])
+line_more text new lines line before pushed =
+    pushed ∙ ap (λ (t : List ℕ). t ++ ended line) before ∙ flat_map_more ended [] lines line

@@ -334,7 +334,7 @@ fn append_name(text: &mut Vec<u8>, name: &[u8]) -> Result<(), AllocError>
 }
 
 /// Appends words and a number.
-fn append_number(
+pub(crate) fn append_number(
     alloc: Global,
     line: &mut Vec<u8>,
     words: &[u8],

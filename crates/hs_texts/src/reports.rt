@@ -5,6 +5,7 @@ ghost use Rattle.std.specs.Fmt.{decimal};
 ghost use Rattle.hs_io.specs.Spelling.{spaced};
 ghost use Rattle.hs_texts.specs.Reports.{count_within, counts_text, named_line, spaced_numbers, trial_text};
 
+use crate::err_lines::append_number;
 use hs_list::Items;
 use std::alloc::{AllocError, Global};
 
@@ -70,12 +71,13 @@ fn append_seed(alloc: Global, text: &mut Vec<u8>, figures: &TrialFigures) -> Res
     ensures { OnOk result (text.new.items ≡ text.old.items ++ named_line (codes "# trial")
         (spaced_numbers (figures.now.seed ∷ figures.now.a ∷ figures.now.b ∷ figures.now.k ∷ []))) }
 {
-    text.extend_from_slice(b"# trial")?;
-    append_number(alloc, text, figures.seed)?;
-    append_number(alloc, text, u64::from(figures.a))?;
-    append_number(alloc, text, u64::from(figures.b))?;
-    append_number(alloc, text, u64::from(figures.k))?;
-    Ok(text.push(b'\n')?)
+    let numbers = [
+        figures.seed as usize,
+        usize::from(figures.a),
+        usize::from(figures.b),
+        usize::from(figures.k),
+    ];
+    append_numbers_line(alloc, text, b"# trial", &numbers)
 }
 
 /// Appends the line of the closed partitions.
@@ -119,18 +121,9 @@ fn append_numbers(alloc: Global, text: &mut Vec<u8>, numbers: &[usize]) -> Resul
     ensures { OnOk result (text.new.items ≡ text.old.items ++ spaced_numbers numbers.now) }
 {
     for number in numbers {
-        append_number(alloc, text, *number as u64)?;
+        append_number(alloc, text, b" ", *number as u64)?;
     }
     Ok(())
-}
-
-/// Appends a number after a space.
-fn append_number(alloc: Global, text: &mut Vec<u8>, number: u64) -> Result<(), AllocError>
-    ensures { OnOk result (text.new.items ≡ text.old.items ++ spaced (decimal number)) }
-{
-    let digits = number.to_string(alloc)?;
-    text.push(b' ')?;
-    text.extend_from_slice(digits.as_bytes())
 }
 
 /// Appends a line of a word and what it names.
