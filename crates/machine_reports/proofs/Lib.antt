@@ -1,3 +1,4 @@
 pub mod Defining
 mod Digits
 mod Reducing
+mod Listing
