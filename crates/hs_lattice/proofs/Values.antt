@@ -1,5 +1,5 @@
 -- What is known of items, and what they stand for.
-use Rattle.std.proofs.Common.{◌<◌, List, [], ◌∷◌, length, map, get_or, All, AllPairs, Contains, subst, sym, ◌∙◌, refl, ap, arith}
+use Rattle.std.proofs.Common.{◌≡◌, ℕ, ◌<◌, List, [], ◌∷◌, length, map, get_or, All, AllPairs, Contains, subst, sym, ◌∙◌, refl, ap, arith}
 use Rattle.std.specs.List.{AllByRecursion}
 use Rattle.std.proofs.lemmas.List.{get_or_default, get_or-map, length-map}
 use Rattle.hs_lattice.specs.Collection.{Knows}
@@ -35,3 +35,7 @@ AllPairs-map meaning R (x ∷ xs) pairs i j d lt inside =
 pub each_weaker : {M : Type 0} (P Q : M → Type 0) (chosen : List M) → ((m : M) → P m → Q m) → AllByRecursion P chosen → AllByRecursion Q chosen
 each_weaker P Q [] weaker each = tt
 each_weaker P Q (m ∷ chosen) weaker (has, each) = (weaker m has, each_weaker P Q chosen weaker each)
+
+-- an item that was read fits
+pub read_fits : {X M : Type 0} (meaning : X → M) (fits : M → Type 0) (items : List X) (k : ℕ) (x : X) → All (λ y. fits (meaning y)) items → k < length items → x ≡ get_or items k x → fits (meaning x)
+read_fits {X} meaning fits items k x all lt read = subst (λ (y : X). fits (meaning y)) (sym read) (all k x lt)

@@ -1,5 +1,6 @@
-use Rattle.std.proofs.Common.{arith}
+use Rattle.std.proofs.Common.{sym, arith}
 use Rattle.hs_lattice.proofs.Collections.{TotalOrder, narrowed_up, narrowed_down, place_met, other_at}
+use Rattle.hs_lattice.proofs.Values.{read_fits}
 use Rattle.hs_lattice.proofs.collection.place_for.Goals as goal
 use Rattle.hs_lattice.proofs.collection.place_for.Goals.{else-low-order-via-then-low-order+else-same, else-low-order-via-else-low-order}
 
@@ -53,3 +54,32 @@ returns-else-low-order-clause-new g c =
           (λ equal. let t = w2.same.ensures.1 equal in cc) d
       | else-low-order-via-else-low-order w2 ↦ absurd (omega arith)
     ])
+
+pub bounds-items-order : goal.bounds-items-order
+bounds-items-order g c = c.requires.order.places _ 0 (omega arith)
+
+pub offset_bounds-items-order : goal.offset_bounds-items-order
+offset_bounds-items-order g c = omega (arith, bounds-items-order g c)
+
+pub before-requires-clause-left : goal.before-requires-clause-left
+before-requires-clause-left g c =
+    let w = g.W.JoinWorld in
+    read_fits w.meaning (w.fits c.args.world.now) c.args.items.now _ c.index-items-order.result c.requires.items_fit (c.requires.order.places _ 0 (omega arith)) c.index-items-order.is
+
+pub bounds-items-order-then-low-order : goal.bounds-items-order-then-low-order
+bounds-items-order-then-low-order g c = c.requires.order.places c.loop-low.low 0 (omega arith)
+
+pub same-requires-clause-left : goal.same-requires-clause-left
+same-requires-clause-left g c =
+    let w = g.W.JoinWorld in
+    read_fits w.meaning (w.fits c.args.world.now) c.args.items.now _ c.index-items-order-then-low-order.result c.requires.items_fit
+    (c.requires.order.places c.loop-low.low 0 (omega arith)) c.index-items-order-then-low-order.is
+
+pub returns-then-same-clause-known : goal.returns-then-same-clause-known
+returns-then-same-clause-known g c = (
+  _,
+  c.index-items-order-then-low-order.result,
+  c.requires.order.places c.loop-low.low 0 (omega arith),
+  sym c.index-items-order-then-low-order.is,
+  c.same.ensures.0 c.if-same.true,
+)
