@@ -1,5 +1,6 @@
-use Rattle.std.proofs.Common.{◌≡◌, length, sym, ◌∙◌}
-use Rattle.hs_lattice.proofs.Collections.{TotalOrder, adds_item, different_more}
+use Rattle.std.proofs.Common.{◌≡◌, length, sym, ◌∙◌, arith}
+use Rattle.hs_lattice.proofs.Collections.{TotalOrder, adds_item, adds_nothing, different_more}
+use Rattle.hs_lattice.proofs.Outcomes.{if_ok_at_err}
 use Rattle.hs_lattice.proofs.collection.Collection.add.Goals as goal
 
 pub place_for-requires-clause-order : goal.place_for-requires-clause-order
@@ -23,3 +24,29 @@ returns-in_ok-insert-clause-collection g c =
 
 pub returns-in_ok-insert-clause-adds : goal.returns-in_ok-insert-clause-adds
 returns-in_ok-insert-clause-adds g c = rw c.in_ok-push.ensures.items (adds_item g.W.JoinWorld.meaning c.args.self.now.items.items c.args.item)
+
+pub place_for-requires-clause-items_fit : goal.place_for-requires-clause-items_fit
+place_for-requires-clause-items_fit g c = rw c.as_slice.ensures.value c.requires.collection.fit
+
+pub insert-requires : goal.insert-requires
+insert-requires g c = omega (arith, c.in-Some.ensures.new.within, c.as_slice-2.ensures.len)
+
+pub returns-in_err-push-clause-collection : goal.returns-in_err-push-clause-collection
+returns-in_err-push-clause-collection g c = if_ok_at_err c.from_residual.result _ _ c.from_residual.ensures.1
+
+pub returns-in_err-push-clause-adds : goal.returns-in_err-push-clause-adds
+returns-in_err-push-clause-adds g c = if_ok_at_err c.from_residual.result _ _ c.from_residual.ensures.1
+
+pub returns-in_err-insert-clause-collection : goal.returns-in_err-insert-clause-collection
+returns-in_err-insert-clause-collection g c = if_ok_at_err c.from_residual-in_err-insert.result _ _ c.from_residual-in_err-insert.ensures.1
+
+pub returns-in_err-insert-clause-adds : goal.returns-in_err-insert-clause-adds
+returns-in_err-insert-clause-adds g c = if_ok_at_err c.from_residual-in_err-insert.result _ _ c.from_residual-in_err-insert.ensures.1
+
+pub returns-in_default-clause-collection : goal.returns-in_default-clause-collection
+returns-in_default-clause-collection g c = c.requires.collection
+
+pub returns-in_default-clause-adds : goal.returns-in_default-clause-adds
+returns-in_default-clause-adds g c =
+    let w = g.W.JoinWorld in
+    adds_nothing w.meaning c.args.self.now.items.items (w.meaning c.args.item) (rw c.as_slice.ensures.value at c.in_default.ensures.known)
