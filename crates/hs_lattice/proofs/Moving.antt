@@ -108,3 +108,19 @@ arranging_read items order i from other now new standing places size inside once
     let read_from : get_or places (get_or order i 0) 0 ≡ from = get_or_default places (get_or order i 0) 0 from wanted ∙ sym from_is in
     let read_other : get_or standing i 0 ≡ other = get_or_default standing i 0 other (omega (arith, size, before.all_standing)) ∙ sym other_is in
     rw (read_from, read_other) at (arranging_more items order i now new standing places size once before within (rw (← read_from) at swapped))
+
+-- the place of the item that is to stand next, and the item that stands there, are among the items
+pub from_within :
+    {X : Type 0} (items : List X) (order : List ℕ) (i from : ℕ) (now : List X) (standing places : List ℕ) → All (λ k. k < length items) order →
+    IsArranging items order i now standing places → i < length order → from ≡ get_or places (get_or order i 0) from → from < length items
+from_within items order i from now standing places inside before within from_is =
+    let wanted : get_or order i 0 < length places = omega (arith, inside i 0 within, before.all_places) in
+    let read_from : get_or places (get_or order i 0) 0 ≡ from = get_or_default places (get_or order i 0) 0 from wanted ∙ sym from_is in
+    rw read_from at (before.there i (omega arith) within).1
+
+pub other_within :
+    {X : Type 0} (items : List X) (order : List ℕ) (i other : ℕ) (now : List X) (standing places : List ℕ) →
+    IsArranging items order i now standing places → i < length items → other ≡ get_or standing i other → other < length items
+other_within items order i other now standing places before within other_is =
+    let read_other : get_or standing i 0 ≡ other = get_or_default standing i 0 other (omega (arith, before.all_standing)) ∙ sym other_is in
+    rw read_other at (before.here i (omega arith) within).0
