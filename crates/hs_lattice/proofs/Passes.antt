@@ -5,7 +5,7 @@ use Rattle.std.proofs.lemmas.Bool.{cases_lt}
 use Rattle.std.proofs.lemmas.List.{get_or_default, get_or_append_left, get_or_read, get_or-take, length-map, length-take, length_push, take_all, take_more}
 use Rattle.std.proofs.lemmas.List.Elements.{All-map}
 use Rattle.std.proofs.lemmas.List.Quantifiers.{Any-push}
-use Rattle.hs_lattice.specs.Collection.{IsAscending, Knows}
+use Rattle.hs_lattice.specs.Collection.{Adds, IsAscending, Knows}
 use Rattle.hs_lattice.specs.JoinWorld.{IsGenerated, IsJoinOf, HaveJoins}
 use Rattle.hs_lattice.specs.Laws.{IsJoinOf-has}
 use Rattle.hs_lattice.specs.Listing.{Lists, Evidence}
@@ -271,6 +271,14 @@ pub record IsPassing {X M : Type 0} (meaning : X → M) (joins : M → M → M �
   pub no_fewer : length known ≤ length new_known
   pub done : KnowsFirstJoins meaning joins known g new_known n
 
+pub passing_none : {X M : Type 0} (meaning : X → M) (joins : M → M → M → Type 0) (known : List X) (g : M) → IsPassing meaning joins known g known 0
+passing_none meaning joins known g = record {
+  extends = record { kept = λ z h. h; only = λ z h. inl h };
+  places = λ k d lt. refl;
+  no_fewer = omega arith;
+  done = λ k d lt. absurd (omega arith);
+}
+
 pub passing_more :
     {X M : Type 0} (meaning : X → M) (joins : M → M → M → Type 0) (known : List X) (g : M) (items : List X) (n : ℕ) (e : X) (new_items : List X) →
     IsPassing meaning joins known g items n → n < length known → AddsJoin meaning joins items g (meaning (get_or items n e)) new_items → IsPassing meaning joins known g new_items (n + 1)
@@ -309,3 +317,9 @@ pub adds_known_join :
     joins (meaning g) (meaning x) z → z ≡ meaning x → AddsJoin meaning joins items (meaning g) (meaning (get_or items place g)) items
 adds_known_join meaning joins items place x g z lt read joined same =
     (z, subst (λ v. joins (meaning g) (meaning v) z) (get_or_read items place x lt read g) joined, adds_nothing meaning items z (place, x, lt, sym read, sym same))
+
+-- and where it is added
+pub adds_new_join :
+    {X M : Type 0} (meaning : X → M) (joins : M → M → M → Type 0) (items : List X) (place : ℕ) (x g : X) (z : M) (new_items : List X) → place < length items → x ≡ get_or items place x →
+    joins (meaning g) (meaning x) z → Adds meaning items z new_items → AddsJoin meaning joins items (meaning g) (meaning (get_or items place g)) new_items
+adds_new_join meaning joins items place x g z new_items lt read joined adds = (z, subst (λ v. joins (meaning g) (meaning v) z) (get_or_read items place x lt read g) joined, adds)
