@@ -1,6 +1,5 @@
 -- From what is known of a listing, if there is one, to what follows of it.
 use Rattle.std.proofs.Common.{ℕ, List, Result, Ok, Err, IfOk, get_or}
-use Rattle.std.specs.Result.{IsErrAnd}
 use Rattle.hs_lattice.specs.declared.Listing.{Listing}
 use Rattle.hs_lattice.specs.declared.Listing.TheVariants.{Whole, More}
 use Rattle.hs_lattice.specs.Listing.{Evidence, IfMore, IfWhole, Lists, items_of}
@@ -36,8 +35,3 @@ evidence_as precedes P Q limit xs to evidence = record {
   members = λ k d within. to (get_or xs k d) (evidence.members k d within);
   more = evidence.more;
 }
-
--- a failure says nothing of a listing
-pub if_ok_at_err : {X E : Type 0} (r : Result X E) (P : X → Type 0) (Q : E → Type 0) → IsErrAnd r Q → IfOk r P
-if_ok_at_err (Ok x) P Q h = absurd h
-if_ok_at_err (Err e) P Q h = tt

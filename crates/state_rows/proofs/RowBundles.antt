@@ -1,6 +1,7 @@
 -- Rows in bundles, and the words that mark them.
 use Rattle.std.proofs.Common.{◌≡◌, ℕ, ◌+◌, ◌-◌, ◌<◌, ◌≤◌, ◌^◌, ◌↔◌, ◌++◌, ◌∷◌, [], min, List, All, AllPairs, length, get_or, take, drop, Some, Contains, slice_get, inl, inr, ap, sym, ◌∙◌, subst, arith, bit_and, length-append, length-take, length-drop, get_or-take, get_or-drop}
 use Rattle.std.specs.Int.{bit_at, bit_not, w64}
+use Rattle.std.proofs.Math.Nat.{min-le_left}
 use Rattle.std.proofs.lemmas.Bool.{cases_eq, cases_lt}
 use Rattle.std.proofs.lemmas.List.{get_or_append_left, get_or_default, get_or_past, get_or_push}
 use Rattle.std.proofs.lemmas.List.Elements.{Contains-append_left, Contains-get_or, Contains-push, Contains-push_cases}
@@ -152,6 +153,13 @@ module _ (numbers : List ℕ) (start count : ℕ) (within : start + count ≤ le
         part_at (k - start) (get_or numbers k d) low ∙ ap (λ (n : ℕ). get_or numbers n (get_or numbers k d)) at
             ∙ get_or_default numbers k (get_or numbers k d) d (omega (arith, below)),
       )
+
+-- the next part of the numbers, of 64 at most
+pub part_within : (numbers : List ℕ) (start count : ℕ) → start ≤ length numbers → count ≡ min (length numbers - start) 64 → start + count ≤ length numbers
+part_within numbers start count from is = omega (arith, is, min-le_left (length numbers - start) 64)
+
+pub part_few : (numbers : List ℕ) (start count : ℕ) → count ≤ 64 → length (take count (drop start numbers)) ≤ 64
+part_few numbers start count few = omega (arith, length-take count (drop start numbers), min-le_left count (length (drop start numbers)))
 
 -- the bundles hold the rows with the numbers at the first places
 pub record AreBundlesBelow (rows : List KissRow) (numbers : List ℕ) (count : ℕ) (bundles : List RowBundle) : Type 0 where

@@ -1,7 +1,7 @@
 use Rattle.std.proofs.Common.{◌≡◌, ◌<◌, length, subst, arith}
+use Rattle.std.proofs.lemmas.Result.{IfOk-from_err}
 use Rattle.hs_lattice.specs.Inner.Arranging.{IsArranged}
 use Rattle.hs_lattice.proofs.Moving.{arranging_none, arranging_read, from_within, other_within}
-use Rattle.hs_lattice.proofs.Outcomes.{if_ok_at_err}
 use Rattle.hs_lattice.proofs.arranging.arrange.Goals as goal
 
 pub loop-i-preserved : goal.loop-i-preserved
@@ -10,10 +10,10 @@ loop-i-preserved g c =
     c.requires.count c.requires.within c.requires.once c.loop-i.invariant c.loop-i-test.true c.index-from.ensures c.index-other.ensures c.swap.ensures.after
 
 pub returns-in_err-standing : goal.returns-in_err-standing
-returns-in_err-standing g c = if_ok_at_err c.from_residual.result _ _ c.from_residual.ensures.1
+returns-in_err-standing g c = IfOk-from_err c.from_residual.result _ c.from_residual.ensures.0
 
 pub returns-in_err-places : goal.returns-in_err-places
-returns-in_err-places g c = if_ok_at_err c.from_residual-in_err-places.result _ _ c.from_residual-in_err-places.ensures.1
+returns-in_err-places g c = IfOk-from_err c.from_residual-in_err-places.result _ c.from_residual-in_err-places.ensures.0
 
 pub loop-i-init : goal.loop-i-init
 loop-i-init g c = arranging_none c.args.items.now c.args.order.now c.in_ok-standing.standing.items c.in_ok-places.places.items c.requires.within c.in_ok-standing.ensures c.in_ok-places.ensures

@@ -1,14 +1,14 @@
 use Rattle.std.proofs.Common.{◌≡◌, subst, arith}
+use Rattle.std.proofs.lemmas.Result.{IfOk-from_err}
 use Rattle.hs_lattice.specs.Inner.Arranging.{AreNumbers}
 use Rattle.hs_lattice.proofs.Moving.{numbers_none, numbers_more}
-use Rattle.hs_lattice.proofs.Outcomes.{if_ok_at_err}
 use Rattle.hs_lattice.proofs.arranging.numbers.Goals as goal
 
 pub returns-in_err-numbers : goal.returns-in_err-numbers
-returns-in_err-numbers c = if_ok_at_err c.from_residual.result _ _ c.from_residual.ensures.1
+returns-in_err-numbers c = IfOk-from_err c.from_residual.result _ c.from_residual.ensures.0
 
 pub returns-in_err-push : goal.returns-in_err-push
-returns-in_err-push c = if_ok_at_err c.from_residual-in_err-push.result _ _ c.from_residual-in_err-push.ensures.1
+returns-in_err-push c = IfOk-from_err c.from_residual-in_err-push.result _ c.from_residual-in_err-push.ensures.0
 
 pub loop-number-init : goal.loop-number-init
 loop-number-init c = rw c.in_ok-numbers.ensures.items numbers_none

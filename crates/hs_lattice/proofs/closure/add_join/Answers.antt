@@ -1,6 +1,6 @@
+use Rattle.std.proofs.lemmas.Result.{IfOk-from_err}
 use Rattle.hs_lattice.proofs.Passes.{adds_known_join, adds_new_join}
 use Rattle.hs_lattice.proofs.Values.{read_fits}
-use Rattle.hs_lattice.proofs.Outcomes.{if_ok_at_err}
 use Rattle.hs_lattice.proofs.closure.add_join.Goals as goal
 
 pub returns-else-not-same-clause-adds : goal.returns-else-not-same-clause-adds
@@ -15,10 +15,10 @@ join-requires-clause-right g c =
     read_fits w.meaning (w.fits c.args.world.now) c.args.known.now.items.items c.args.place c.index-as_slice-place.result c.requires.known.fit c.requires.place (rw c.as_slice.ensures at c.index-as_slice-place.is)
 
 pub returns-in_err-joined-clause-known : goal.returns-in_err-joined-clause-known
-returns-in_err-joined-clause-known g c = if_ok_at_err c.from_residual.result _ _ c.from_residual.ensures.1
+returns-in_err-joined-clause-known g c = IfOk-from_err c.from_residual.result _ c.from_residual.ensures.0
 
 pub returns-in_err-joined-clause-adds : goal.returns-in_err-joined-clause-adds
-returns-in_err-joined-clause-adds g c = if_ok_at_err c.from_residual.result _ _ c.from_residual.ensures.1
+returns-in_err-joined-clause-adds g c = IfOk-from_err c.from_residual.result _ c.from_residual.ensures.0
 
 pub same-requires-clause-left : goal.same-requires-clause-left
 same-requires-clause-left g c =
@@ -40,10 +40,10 @@ add-requires-clause-item g c =
     c.in_ok-joined.ensures
 
 pub returns-in_err-add-clause-known : goal.returns-in_err-add-clause-known
-returns-in_err-add-clause-known g c = if_ok_at_err c.from_residual-in_err-add.result _ _ c.from_residual-in_err-add.ensures.1
+returns-in_err-add-clause-known g c = IfOk-from_err c.from_residual-in_err-add.result _ c.from_residual-in_err-add.ensures.0
 
 pub returns-in_err-add-clause-adds : goal.returns-in_err-add-clause-adds
-returns-in_err-add-clause-adds g c = if_ok_at_err c.from_residual-in_err-add.result _ _ c.from_residual-in_err-add.ensures.1
+returns-in_err-add-clause-adds g c = IfOk-from_err c.from_residual-in_err-add.result _ c.from_residual-in_err-add.ensures.0
 
 pub returns-in_ok-add-clause-adds : goal.returns-in_ok-add-clause-adds
 returns-in_ok-add-clause-adds g c =

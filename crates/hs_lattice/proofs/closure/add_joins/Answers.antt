@@ -1,7 +1,7 @@
 use Rattle.std.proofs.Common.{◌≡◌, ◌<◌, length, subst, arith}
+use Rattle.std.proofs.lemmas.Result.{IfOk-from_err}
 use Rattle.hs_lattice.specs.Collection.{items_in}
 use Rattle.hs_lattice.proofs.Passes.{IsPassing, passing_none, passing_more, passed_all}
-use Rattle.hs_lattice.proofs.Outcomes.{if_ok_at_err}
 use Rattle.hs_lattice.proofs.closure.add_joins.Goals as goal
 
 pub returns-then-len-limit-clause-extends : goal.returns-then-len-limit-clause-extends
@@ -45,16 +45,16 @@ pub add_join-requires-clause-place : goal.add_join-requires-clause-place
 add_join-requires-clause-place g c = omega (arith, c.loop-place.invariant.passing.no_fewer)
 
 pub returns-in_err-add_join-clause-known : goal.returns-in_err-add_join-clause-known
-returns-in_err-add_join-clause-known g c = if_ok_at_err c.from_residual.result _ _ c.from_residual.ensures.1
+returns-in_err-add_join-clause-known g c = IfOk-from_err c.from_residual.result _ c.from_residual.ensures.0
 
 pub returns-in_err-add_join-clause-extends : goal.returns-in_err-add_join-clause-extends
-returns-in_err-add_join-clause-extends g c = if_ok_at_err c.from_residual.result _ _ c.from_residual.ensures.1
+returns-in_err-add_join-clause-extends g c = IfOk-from_err c.from_residual.result _ c.from_residual.ensures.0
 
 pub returns-in_err-add_join-clause-all : goal.returns-in_err-add_join-clause-all
-returns-in_err-add_join-clause-all g c = if_ok_at_err c.from_residual.result _ _ c.from_residual.ensures.1
+returns-in_err-add_join-clause-all g c = IfOk-from_err c.from_residual.result _ c.from_residual.ensures.0
 
 pub returns-in_err-add_join-clause-few : goal.returns-in_err-add_join-clause-few
-returns-in_err-add_join-clause-few g c = if_ok_at_err c.from_residual.result _ _ c.from_residual.ensures.1
+returns-in_err-add_join-clause-few g c = IfOk-from_err c.from_residual.result _ c.from_residual.ensures.0
 
 pub returns-then-len-limit-clause-all : goal.returns-then-len-limit-clause-all
 returns-then-len-limit-clause-all g c = λ small. absurd (omega arith)

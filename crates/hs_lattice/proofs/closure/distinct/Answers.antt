@@ -1,8 +1,8 @@
 use Rattle.std.proofs.Common.{◌≡◌, length, subst, arith}
+use Rattle.std.proofs.lemmas.Result.{IfOk-from_err}
 use Rattle.hs_lattice.specs.Collection.{items_in}
 use Rattle.hs_lattice.proofs.Distinct.{KeepsFirst, from_more, keeps_more, keeps_all}
 use Rattle.hs_lattice.proofs.Values.{read_fits}
-use Rattle.hs_lattice.proofs.Outcomes.{if_ok_at_err}
 use Rattle.hs_lattice.proofs.closure.distinct.Goals as goal
 
 pub returns-then-len-limit-clause-picked : goal.returns-then-len-limit-clause-picked
@@ -44,31 +44,31 @@ returns-clause-all g c =
     λ z h. (c.in_ok-ascending-2.ensures.values z).1 (keeps_all meaning generators kept keeps z h)
 
 pub returns-in_err-keep-clause-picked : goal.returns-in_err-keep-clause-picked
-returns-in_err-keep-clause-picked g c = if_ok_at_err c.from_residual.result _ _ c.from_residual.ensures.1
+returns-in_err-keep-clause-picked g c = IfOk-from_err c.from_residual.result _ c.from_residual.ensures.0
 
 pub returns-in_err-keep-clause-all : goal.returns-in_err-keep-clause-all
-returns-in_err-keep-clause-all g c = if_ok_at_err c.from_residual.result _ _ c.from_residual.ensures.1
+returns-in_err-keep-clause-all g c = IfOk-from_err c.from_residual.result _ c.from_residual.ensures.0
 
 pub returns-in_err-keep-clause-more : goal.returns-in_err-keep-clause-more
-returns-in_err-keep-clause-more g c = if_ok_at_err c.from_residual.result _ _ c.from_residual.ensures.1
+returns-in_err-keep-clause-more g c = IfOk-from_err c.from_residual.result _ c.from_residual.ensures.0
 
 pub returns-in_err-ascending-clause-picked : goal.returns-in_err-ascending-clause-picked
-returns-in_err-ascending-clause-picked g c = if_ok_at_err c.from_residual-in_err-ascending.result _ _ c.from_residual-in_err-ascending.ensures.1
+returns-in_err-ascending-clause-picked g c = IfOk-from_err c.from_residual-in_err-ascending.result _ c.from_residual-in_err-ascending.ensures.0
 
 pub returns-in_err-ascending-clause-all : goal.returns-in_err-ascending-clause-all
-returns-in_err-ascending-clause-all g c = if_ok_at_err c.from_residual-in_err-ascending.result _ _ c.from_residual-in_err-ascending.ensures.1
+returns-in_err-ascending-clause-all g c = IfOk-from_err c.from_residual-in_err-ascending.result _ c.from_residual-in_err-ascending.ensures.0
 
 pub returns-in_err-ascending-clause-more : goal.returns-in_err-ascending-clause-more
-returns-in_err-ascending-clause-more g c = if_ok_at_err c.from_residual-in_err-ascending.result _ _ c.from_residual-in_err-ascending.ensures.1
+returns-in_err-ascending-clause-more g c = IfOk-from_err c.from_residual-in_err-ascending.result _ c.from_residual-in_err-ascending.ensures.0
 
 pub returns-in_err-ascending-2-clause-picked : goal.returns-in_err-ascending-2-clause-picked
-returns-in_err-ascending-2-clause-picked g c = if_ok_at_err c.from_residual-in_err-ascending-2.result _ _ c.from_residual-in_err-ascending-2.ensures.1
+returns-in_err-ascending-2-clause-picked g c = IfOk-from_err c.from_residual-in_err-ascending-2.result _ c.from_residual-in_err-ascending-2.ensures.0
 
 pub returns-in_err-ascending-2-clause-all : goal.returns-in_err-ascending-2-clause-all
-returns-in_err-ascending-2-clause-all g c = if_ok_at_err c.from_residual-in_err-ascending-2.result _ _ c.from_residual-in_err-ascending-2.ensures.1
+returns-in_err-ascending-2-clause-all g c = IfOk-from_err c.from_residual-in_err-ascending-2.result _ c.from_residual-in_err-ascending-2.ensures.0
 
 pub returns-in_err-ascending-2-clause-more : goal.returns-in_err-ascending-2-clause-more
-returns-in_err-ascending-2-clause-more g c = if_ok_at_err c.from_residual-in_err-ascending-2.result _ _ c.from_residual-in_err-ascending-2.ensures.1
+returns-in_err-ascending-2-clause-more g c = IfOk-from_err c.from_residual-in_err-ascending-2.result _ c.from_residual-in_err-ascending-2.ensures.0
 
 pub keep-requires-clause-item : goal.keep-requires-clause-item
 keep-requires-clause-item g c =

@@ -1,8 +1,8 @@
 use Rattle.std.proofs.Common.{◌≡◌, ◌≤◌, ◌+◌, length, subst, arith}
+use Rattle.std.proofs.lemmas.Result.{IfOk-from_err}
 use Rattle.hs_lattice.specs.Collection.{items_in}
 use Rattle.hs_lattice.proofs.Passes.{Joining, IsReached, generated_more, have_joins, is_evidence, lists_all, reached_more, reached_skip}
 use Rattle.hs_lattice.proofs.Values.{All-from_known, known_fit}
-use Rattle.hs_lattice.proofs.Outcomes.{if_ok_at_err}
 use Rattle.hs_lattice.proofs.closure.joins_of.Goals as goal
 
 pub loop-generator-preserved-then-holds : goal.loop-generator-preserved-then-holds
@@ -111,61 +111,61 @@ returns-clause-fit g c =
     All-from_known w.meaning fits c.in_ok-ascending-2.field-0 (λ z h. known_fit w.meaning fits (items_in c.loop-generator.known) c.loop-generator.invariant.known.fit z ((c.in_ok-ascending-2.ensures.values z).0 h))
 
 pub returns-in_err-add-clause-whole : goal.returns-in_err-add-clause-whole
-returns-in_err-add-clause-whole g c = if_ok_at_err c.from_residual.result _ _ c.from_residual.ensures.1
+returns-in_err-add-clause-whole g c = IfOk-from_err c.from_residual.result _ c.from_residual.ensures.0
 
 pub returns-in_err-add-clause-joined : goal.returns-in_err-add-clause-joined
-returns-in_err-add-clause-joined g c = if_ok_at_err c.from_residual.result _ _ c.from_residual.ensures.1
+returns-in_err-add-clause-joined g c = IfOk-from_err c.from_residual.result _ c.from_residual.ensures.0
 
 pub returns-in_err-add-clause-within : goal.returns-in_err-add-clause-within
-returns-in_err-add-clause-within g c = if_ok_at_err c.from_residual.result _ _ c.from_residual.ensures.1
+returns-in_err-add-clause-within g c = IfOk-from_err c.from_residual.result _ c.from_residual.ensures.0
 
 pub returns-in_err-add-clause-more : goal.returns-in_err-add-clause-more
-returns-in_err-add-clause-more g c = if_ok_at_err c.from_residual.result _ _ c.from_residual.ensures.1
+returns-in_err-add-clause-more g c = IfOk-from_err c.from_residual.result _ c.from_residual.ensures.0
 
 pub returns-in_err-add-clause-fit : goal.returns-in_err-add-clause-fit
-returns-in_err-add-clause-fit g c = if_ok_at_err c.from_residual.result _ _ c.from_residual.ensures.1
+returns-in_err-add-clause-fit g c = IfOk-from_err c.from_residual.result _ c.from_residual.ensures.0
 
 pub returns-in_err-add_joins-clause-whole : goal.returns-in_err-add_joins-clause-whole
-returns-in_err-add_joins-clause-whole g c = if_ok_at_err c.from_residual-in_err-add_joins.result _ _ c.from_residual-in_err-add_joins.ensures.1
+returns-in_err-add_joins-clause-whole g c = IfOk-from_err c.from_residual-in_err-add_joins.result _ c.from_residual-in_err-add_joins.ensures.0
 
 pub returns-in_err-add_joins-clause-joined : goal.returns-in_err-add_joins-clause-joined
-returns-in_err-add_joins-clause-joined g c = if_ok_at_err c.from_residual-in_err-add_joins.result _ _ c.from_residual-in_err-add_joins.ensures.1
+returns-in_err-add_joins-clause-joined g c = IfOk-from_err c.from_residual-in_err-add_joins.result _ c.from_residual-in_err-add_joins.ensures.0
 
 pub returns-in_err-add_joins-clause-within : goal.returns-in_err-add_joins-clause-within
-returns-in_err-add_joins-clause-within g c = if_ok_at_err c.from_residual-in_err-add_joins.result _ _ c.from_residual-in_err-add_joins.ensures.1
+returns-in_err-add_joins-clause-within g c = IfOk-from_err c.from_residual-in_err-add_joins.result _ c.from_residual-in_err-add_joins.ensures.0
 
 pub returns-in_err-add_joins-clause-more : goal.returns-in_err-add_joins-clause-more
-returns-in_err-add_joins-clause-more g c = if_ok_at_err c.from_residual-in_err-add_joins.result _ _ c.from_residual-in_err-add_joins.ensures.1
+returns-in_err-add_joins-clause-more g c = IfOk-from_err c.from_residual-in_err-add_joins.result _ c.from_residual-in_err-add_joins.ensures.0
 
 pub returns-in_err-add_joins-clause-fit : goal.returns-in_err-add_joins-clause-fit
-returns-in_err-add_joins-clause-fit g c = if_ok_at_err c.from_residual-in_err-add_joins.result _ _ c.from_residual-in_err-add_joins.ensures.1
+returns-in_err-add_joins-clause-fit g c = IfOk-from_err c.from_residual-in_err-add_joins.result _ c.from_residual-in_err-add_joins.ensures.0
 
 pub returns-in_err-ascending-clause-whole : goal.returns-in_err-ascending-clause-whole
-returns-in_err-ascending-clause-whole g c = if_ok_at_err c.from_residual-in_err-ascending.result _ _ c.from_residual-in_err-ascending.ensures.1
+returns-in_err-ascending-clause-whole g c = IfOk-from_err c.from_residual-in_err-ascending.result _ c.from_residual-in_err-ascending.ensures.0
 
 pub returns-in_err-ascending-clause-joined : goal.returns-in_err-ascending-clause-joined
-returns-in_err-ascending-clause-joined g c = if_ok_at_err c.from_residual-in_err-ascending.result _ _ c.from_residual-in_err-ascending.ensures.1
+returns-in_err-ascending-clause-joined g c = IfOk-from_err c.from_residual-in_err-ascending.result _ c.from_residual-in_err-ascending.ensures.0
 
 pub returns-in_err-ascending-clause-within : goal.returns-in_err-ascending-clause-within
-returns-in_err-ascending-clause-within g c = if_ok_at_err c.from_residual-in_err-ascending.result _ _ c.from_residual-in_err-ascending.ensures.1
+returns-in_err-ascending-clause-within g c = IfOk-from_err c.from_residual-in_err-ascending.result _ c.from_residual-in_err-ascending.ensures.0
 
 pub returns-in_err-ascending-clause-more : goal.returns-in_err-ascending-clause-more
-returns-in_err-ascending-clause-more g c = if_ok_at_err c.from_residual-in_err-ascending.result _ _ c.from_residual-in_err-ascending.ensures.1
+returns-in_err-ascending-clause-more g c = IfOk-from_err c.from_residual-in_err-ascending.result _ c.from_residual-in_err-ascending.ensures.0
 
 pub returns-in_err-ascending-clause-fit : goal.returns-in_err-ascending-clause-fit
-returns-in_err-ascending-clause-fit g c = if_ok_at_err c.from_residual-in_err-ascending.result _ _ c.from_residual-in_err-ascending.ensures.1
+returns-in_err-ascending-clause-fit g c = IfOk-from_err c.from_residual-in_err-ascending.result _ c.from_residual-in_err-ascending.ensures.0
 
 pub returns-in_err-ascending-2-clause-whole : goal.returns-in_err-ascending-2-clause-whole
-returns-in_err-ascending-2-clause-whole g c = if_ok_at_err c.from_residual-in_err-ascending-2.result _ _ c.from_residual-in_err-ascending-2.ensures.1
+returns-in_err-ascending-2-clause-whole g c = IfOk-from_err c.from_residual-in_err-ascending-2.result _ c.from_residual-in_err-ascending-2.ensures.0
 
 pub returns-in_err-ascending-2-clause-joined : goal.returns-in_err-ascending-2-clause-joined
-returns-in_err-ascending-2-clause-joined g c = if_ok_at_err c.from_residual-in_err-ascending-2.result _ _ c.from_residual-in_err-ascending-2.ensures.1
+returns-in_err-ascending-2-clause-joined g c = IfOk-from_err c.from_residual-in_err-ascending-2.result _ c.from_residual-in_err-ascending-2.ensures.0
 
 pub returns-in_err-ascending-2-clause-within : goal.returns-in_err-ascending-2-clause-within
-returns-in_err-ascending-2-clause-within g c = if_ok_at_err c.from_residual-in_err-ascending-2.result _ _ c.from_residual-in_err-ascending-2.ensures.1
+returns-in_err-ascending-2-clause-within g c = IfOk-from_err c.from_residual-in_err-ascending-2.result _ c.from_residual-in_err-ascending-2.ensures.0
 
 pub returns-in_err-ascending-2-clause-more : goal.returns-in_err-ascending-2-clause-more
-returns-in_err-ascending-2-clause-more g c = if_ok_at_err c.from_residual-in_err-ascending-2.result _ _ c.from_residual-in_err-ascending-2.ensures.1
+returns-in_err-ascending-2-clause-more g c = IfOk-from_err c.from_residual-in_err-ascending-2.result _ c.from_residual-in_err-ascending-2.ensures.0
 
 pub returns-in_err-ascending-2-clause-fit : goal.returns-in_err-ascending-2-clause-fit
-returns-in_err-ascending-2-clause-fit g c = if_ok_at_err c.from_residual-in_err-ascending-2.result _ _ c.from_residual-in_err-ascending-2.ensures.1
+returns-in_err-ascending-2-clause-fit g c = IfOk-from_err c.from_residual-in_err-ascending-2.result _ c.from_residual-in_err-ascending-2.ensures.0

@@ -1,20 +1,20 @@
 use Rattle.std.proofs.Common.{sym, subst}
+use Rattle.std.proofs.lemmas.Result.{IfOk-from_err}
 use Rattle.hs_lattice.specs.Collection.{Adds, items_in}
 use Rattle.hs_lattice.proofs.Collections.{adds_nothing}
-use Rattle.hs_lattice.proofs.Outcomes.{if_ok_at_err}
 use Rattle.hs_lattice.proofs.closure.keep.Goals as goal
 
 pub returns-in_err-copy-clause-kept : goal.returns-in_err-copy-clause-kept
-returns-in_err-copy-clause-kept g c = if_ok_at_err c.from_residual.result _ _ c.from_residual.ensures.1
+returns-in_err-copy-clause-kept g c = IfOk-from_err c.from_residual.result _ c.from_residual.ensures.0
 
 pub returns-in_err-copy-clause-adds : goal.returns-in_err-copy-clause-adds
-returns-in_err-copy-clause-adds g c = if_ok_at_err c.from_residual.result _ _ c.from_residual.ensures.1
+returns-in_err-copy-clause-adds g c = IfOk-from_err c.from_residual.result _ c.from_residual.ensures.0
 
 pub returns-in_err-add-clause-kept : goal.returns-in_err-add-clause-kept
-returns-in_err-add-clause-kept g c = if_ok_at_err c.from_residual-in_err-add.result _ _ c.from_residual-in_err-add.ensures.1
+returns-in_err-add-clause-kept g c = IfOk-from_err c.from_residual-in_err-add.result _ c.from_residual-in_err-add.ensures.0
 
 pub returns-in_err-add-clause-adds : goal.returns-in_err-add-clause-adds
-returns-in_err-add-clause-adds g c = if_ok_at_err c.from_residual-in_err-add.result _ _ c.from_residual-in_err-add.ensures.1
+returns-in_err-add-clause-adds g c = IfOk-from_err c.from_residual-in_err-add.result _ c.from_residual-in_err-add.ensures.0
 
 pub add-requires-clause-item : goal.add-requires-clause-item
 add-requires-clause-item g c = subst (g.W.JoinWorld.fits c.args.world.now) (sym c.in_ok-copy.ensures) c.requires.item

@@ -1,6 +1,6 @@
 use Rattle.std.proofs.Common.{◌≡◌, length, sym, ◌∙◌, arith}
+use Rattle.std.proofs.lemmas.Result.{IfOk-from_err}
 use Rattle.hs_lattice.proofs.Collections.{TotalOrder, adds_item, adds_nothing, different_more}
-use Rattle.hs_lattice.proofs.Outcomes.{if_ok_at_err}
 use Rattle.hs_lattice.proofs.collection.Collection.add.Goals as goal
 
 pub place_for-requires-clause-order : goal.place_for-requires-clause-order
@@ -32,16 +32,16 @@ pub insert-requires : goal.insert-requires
 insert-requires g c = omega (arith, c.in-Some.ensures.new.within, c.as_slice-2.ensures.len)
 
 pub returns-in_err-push-clause-collection : goal.returns-in_err-push-clause-collection
-returns-in_err-push-clause-collection g c = if_ok_at_err c.from_residual.result _ _ c.from_residual.ensures.1
+returns-in_err-push-clause-collection g c = IfOk-from_err c.from_residual.result _ c.from_residual.ensures.0
 
 pub returns-in_err-push-clause-adds : goal.returns-in_err-push-clause-adds
-returns-in_err-push-clause-adds g c = if_ok_at_err c.from_residual.result _ _ c.from_residual.ensures.1
+returns-in_err-push-clause-adds g c = IfOk-from_err c.from_residual.result _ c.from_residual.ensures.0
 
 pub returns-in_err-insert-clause-collection : goal.returns-in_err-insert-clause-collection
-returns-in_err-insert-clause-collection g c = if_ok_at_err c.from_residual-in_err-insert.result _ _ c.from_residual-in_err-insert.ensures.1
+returns-in_err-insert-clause-collection g c = IfOk-from_err c.from_residual-in_err-insert.result _ c.from_residual-in_err-insert.ensures.0
 
 pub returns-in_err-insert-clause-adds : goal.returns-in_err-insert-clause-adds
-returns-in_err-insert-clause-adds g c = if_ok_at_err c.from_residual-in_err-insert.result _ _ c.from_residual-in_err-insert.ensures.1
+returns-in_err-insert-clause-adds g c = IfOk-from_err c.from_residual-in_err-insert.result _ c.from_residual-in_err-insert.ensures.0
 
 pub returns-in_default-clause-collection : goal.returns-in_default-clause-collection
 returns-in_default-clause-collection g c = c.requires.collection
