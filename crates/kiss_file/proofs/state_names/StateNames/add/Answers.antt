@@ -1,7 +1,8 @@
-use Rattle.std.proofs.Common.{◌≡◌, ◌≢◌, ◌++◌, ◌∷◌, [], sym, ◌∙◌, ap, subst, List, ℕ, map, slice_get, length, Some, Contains, Vec, Global}
+use Rattle.std.proofs.Common.{◌≡◌, ◌≢◌, ◌++◌, ◌∷◌, [], refl, sym, ◌∙◌, ap, subst, List, ℕ, map, slice_get, length, Some, Contains, Vec, Global, arith}
 use Rattle.std.proofs.lemmas.List.{length-map}
 use Rattle.std.proofs.lemmas.List.Elements.{Contains-get_or}
 use Rattle.std.proofs.lemmas.List.Quantifiers.{all_pairs_push}
+use Rattle.std.proofs.lemmas.Result.{IfOk-from_err}
 use Rattle.kiss_file.specs.Names.{AreDistinct}
 use Rattle.hs_io.proofs.Known.{last_at, names_with}
 use Rattle.kiss_file.proofs.state_names.StateNames.add.Goals as goal
@@ -50,3 +51,40 @@ returns-clause-last c new = names_after c
 pub returns-clause-distinct : goal.returns-clause-distinct
 unfolding items_of
 returns-clause-distinct c = distinct_after c
+
+pub returns-in-Some-clause-known : goal.returns-in-Some-clause-known
+returns-in-Some-clause-known c known = refl
+
+pub returns-in-Some-clause-distinct : goal.returns-in-Some-clause-distinct
+returns-in-Some-clause-distinct c = subst AreDistinct c.self.view_is c.self.invariant
+
+pub returns-in_err-name-clause-distinct : goal.returns-in_err-name-clause-distinct
+returns-in_err-name-clause-distinct c = subst AreDistinct c.self.view_is c.self.invariant
+
+pub returns-clause-known : goal.returns-clause-known
+returns-clause-known c known = absurd (c.in_default.ensures.none known)
+
+pub overflow_cast-number : goal.overflow_cast-number
+unfolding items_of
+overflow_cast-number c =
+    let place : length c.args.self.now ≡ c.len-number.result =
+    ap length (sym c.self.view_is) ∙ length-map c.self.inside.names.keys items_of ∙ sym c.len-number.ensures.len in
+    omega (arith, place, c.requires)
+
+pub returns-in_err-name-clause-number : goal.returns-in_err-name-clause-number
+returns-in_err-name-clause-number c = IfOk-from_err c.from_residual.result _ c.from_residual.ensures.0
+
+pub returns-in_err-name-clause-known : goal.returns-in_err-name-clause-known
+returns-in_err-name-clause-known c known = IfOk-from_err c.from_residual.result _ c.from_residual.ensures.0
+
+pub returns-in_err-name-clause-last : goal.returns-in_err-name-clause-last
+returns-in_err-name-clause-last c new = IfOk-from_err c.from_residual.result _ c.from_residual.ensures.0
+
+pub returns-in_err-insert_full-clause-number : goal.returns-in_err-insert_full-clause-number
+returns-in_err-insert_full-clause-number c = IfOk-from_err c.from_residual-in_err-insert_full.result _ c.from_residual-in_err-insert_full.ensures.0
+
+pub returns-in_err-insert_full-clause-known : goal.returns-in_err-insert_full-clause-known
+returns-in_err-insert_full-clause-known c known = IfOk-from_err c.from_residual-in_err-insert_full.result _ c.from_residual-in_err-insert_full.ensures.0
+
+pub returns-in_err-insert_full-clause-last : goal.returns-in_err-insert_full-clause-last
+returns-in_err-insert_full-clause-last c new = IfOk-from_err c.from_residual-in_err-insert_full.result _ c.from_residual-in_err-insert_full.ensures.0
