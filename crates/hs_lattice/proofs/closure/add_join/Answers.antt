@@ -9,11 +9,6 @@ returns-else-not-same-clause-adds g c =
     adds_known_join w.meaning (w.joins c.args.world.now) c.args.known.now.items.items c.args.place c.index-as_slice-place.result c.args.generator.now (w.meaning c.in_ok-joined.joined)
     c.requires.place (rw c.as_slice.ensures at c.index-as_slice-place.is) c.in_ok-joined.ensures (c.same.ensures.0 c.if-not-same.false)
 
-pub join-requires-clause-right : goal.join-requires-clause-right
-join-requires-clause-right g c =
-    let w = g.W.JoinWorld in
-    read_fits w.meaning (w.fits c.args.world.now) c.args.known.now.items.items c.args.place c.index-as_slice-place.result c.requires.known.fit c.requires.place (rw c.as_slice.ensures at c.index-as_slice-place.is)
-
 pub returns-in_err-joined-clause-known : goal.returns-in_err-joined-clause-known
 returns-in_err-joined-clause-known g c = IfOk-from_err c.from_residual.result _ c.from_residual.ensures.0
 

@@ -1,4 +1,4 @@
-use Rattle.std.proofs.Common.{sym, arith}
+use Rattle.std.proofs.Common.{arith}
 use Rattle.hs_lattice.proofs.Collections.{TotalOrder, narrowed_up, narrowed_down, place_met, other_at}
 use Rattle.hs_lattice.proofs.Values.{read_fits}
 use Rattle.hs_lattice.proofs.collection.place_for.Goals as goal
@@ -74,12 +74,3 @@ same-requires-clause-left g c =
     let w = g.W.JoinWorld in
     read_fits w.meaning (w.fits c.args.world.now) c.args.items.now _ c.index-items-order-then-low-order.result c.requires.items_fit
     (c.requires.order.places c.loop-low.low 0 (omega arith)) c.index-items-order-then-low-order.is
-
-pub returns-then-same-clause-known : goal.returns-then-same-clause-known
-returns-then-same-clause-known g c = (
-  _,
-  c.index-items-order-then-low-order.result,
-  c.requires.order.places c.loop-low.low 0 (omega arith),
-  sym c.index-items-order-then-low-order.is,
-  c.same.ensures.0 c.if-same.true,
-)
