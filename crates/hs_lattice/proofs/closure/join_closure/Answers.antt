@@ -1,6 +1,7 @@
 use Rattle.std.proofs.Common.{map, All}
 use Rattle.std.proofs.lemmas.List.{length-map}
 use Rattle.std.proofs.lemmas.List.Elements.{All-map}
+use Rattle.std.proofs.lemmas.Result.{IfOk-from_err}
 use Rattle.hs_lattice.specs.JoinWorld.{IsGenerated}
 use Rattle.hs_lattice.specs.Inner.Passes.{IsPicked}
 use Rattle.hs_lattice.proofs.Distinct.{picked_fit, picked_is_evidence, lists_picked, joins_picked, evidence_picked}
@@ -68,3 +69,39 @@ pub returns-in-More-clause-fit : goal.returns-in-More-clause-fit
 returns-in-More-clause-fit g c =
     let w = g.W.JoinWorld in
     picked_fit w.meaning (w.precedes c.args.world.now) (w.fits c.args.world.now) c.args.generators.now c.in-More.some (rw c.in-More.is at c.in_ok-kept.ensures.picked) c.requires.generators
+
+pub returns-in_err-bottom-clause-whole : goal.returns-in_err-bottom-clause-whole
+returns-in_err-bottom-clause-whole g c = IfOk-from_err c.from_residual.result _ c.from_residual.ensures.0
+
+pub returns-in_err-bottom-clause-joined : goal.returns-in_err-bottom-clause-joined
+returns-in_err-bottom-clause-joined g c = IfOk-from_err c.from_residual.result _ c.from_residual.ensures.0
+
+pub returns-in_err-bottom-clause-within : goal.returns-in_err-bottom-clause-within
+returns-in_err-bottom-clause-within g c = IfOk-from_err c.from_residual.result _ c.from_residual.ensures.0
+
+pub returns-in_err-bottom-clause-no_more : goal.returns-in_err-bottom-clause-no_more
+returns-in_err-bottom-clause-no_more g c = IfOk-from_err c.from_residual.result _ c.from_residual.ensures.0
+
+pub returns-in_err-bottom-clause-more : goal.returns-in_err-bottom-clause-more
+returns-in_err-bottom-clause-more g c = IfOk-from_err c.from_residual.result _ c.from_residual.ensures.0
+
+pub returns-in_err-bottom-clause-fit : goal.returns-in_err-bottom-clause-fit
+returns-in_err-bottom-clause-fit g c = IfOk-from_err c.from_residual.result _ c.from_residual.ensures.0
+
+pub returns-in_err-kept-clause-whole : goal.returns-in_err-kept-clause-whole
+returns-in_err-kept-clause-whole g c = IfOk-from_err c.from_residual-in_err-kept.result _ c.from_residual-in_err-kept.ensures.0
+
+pub returns-in_err-kept-clause-joined : goal.returns-in_err-kept-clause-joined
+returns-in_err-kept-clause-joined g c = IfOk-from_err c.from_residual-in_err-kept.result _ c.from_residual-in_err-kept.ensures.0
+
+pub returns-in_err-kept-clause-within : goal.returns-in_err-kept-clause-within
+returns-in_err-kept-clause-within g c = IfOk-from_err c.from_residual-in_err-kept.result _ c.from_residual-in_err-kept.ensures.0
+
+pub returns-in_err-kept-clause-no_more : goal.returns-in_err-kept-clause-no_more
+returns-in_err-kept-clause-no_more g c = IfOk-from_err c.from_residual-in_err-kept.result _ c.from_residual-in_err-kept.ensures.0
+
+pub returns-in_err-kept-clause-more : goal.returns-in_err-kept-clause-more
+returns-in_err-kept-clause-more g c = IfOk-from_err c.from_residual-in_err-kept.result _ c.from_residual-in_err-kept.ensures.0
+
+pub returns-in_err-kept-clause-fit : goal.returns-in_err-kept-clause-fit
+returns-in_err-kept-clause-fit g c = IfOk-from_err c.from_residual-in_err-kept.result _ c.from_residual-in_err-kept.ensures.0
