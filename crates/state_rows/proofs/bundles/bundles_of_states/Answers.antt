@@ -1,5 +1,6 @@
 use Rattle.std.proofs.Common.{ℕ, ◌≡◌, ◌+◌, ◌<◌, ◌∷◌, [], ◌++◌, All, AllPairs, List, length, sym, ◌∙◌, subst, arith, length-append}
 use Rattle.std.proofs.lemmas.List.{get_or_default}
+use Rattle.std.proofs.lemmas.Result.{IfOk-from_err}
 use Rattle.state_rows.specs.declared.bundles.RowBundle.{RowBundle}
 use Rattle.state_rows.specs.Bundles.{AreBundles, bundles_of}
 use Rattle.state_rows.specs.Places.{places_of}
@@ -41,3 +42,12 @@ returns c =
     let all : c.loop-list.list-index ≡ length c.args.places.now = omega (arith, c.loop-list-test.false, c.loop-list.auto.list-index-end) in
     list_bundles c.args.rows.now c.args.places.now c.loop-list.bundles.items c.requires (c.loop-list.invariant.count ∙ all)
     (λ s below. c.loop-list.invariant.each s (omega (arith, below, all)))
+
+pub returns-in_err-bundles : goal.returns-in_err-bundles
+returns-in_err-bundles c = IfOk-from_err c.from_residual.result _ c.from_residual.ensures.0
+
+pub returns-in_err-own : goal.returns-in_err-own
+returns-in_err-own c = IfOk-from_err c.from_residual-in_err-own.result _ c.from_residual-in_err-own.ensures.0
+
+pub returns-in_err-push : goal.returns-in_err-push
+returns-in_err-push c = IfOk-from_err c.from_residual-in_err-push.result _ c.from_residual-in_err-push.ensures.0

@@ -1,5 +1,6 @@
 use Rattle.std.proofs.Common.{ℕ, ◌≡◌, ◌+◌, ◌<◌, List, [], ◌∷◌, ◌++◌, All, length, slice_index, sym, subst, arith, length-append}
 use Rattle.std.proofs.lemmas.List.Elements.{All-push}
+use Rattle.std.proofs.lemmas.Result.{IfOk-from_err}
 use Rattle.state_rows.specs.Columns.{HaveSameCubes}
 use Rattle.state_rows.specs.Places.{places_of}
 use Rattle.state_rows.proofs.KeptColumns.{each_pushed}
@@ -20,3 +21,21 @@ loop-s-preserved c =
           (each_pushed leaders one 0 c.loop-s.s (λ t leader. HaveSameCubes rows (places_of places leader) (places_of places t)) c.loop-s.invariant.size
           c.loop-s.invariant.cubes c.leader_of.ensures.cubes);
     }
+
+pub returns-in_err-leaders-clause-size : goal.returns-in_err-leaders-clause-size
+returns-in_err-leaders-clause-size c = IfOk-from_err c.from_residual.result _ c.from_residual.ensures.0
+
+pub returns-in_err-leaders-clause-inside : goal.returns-in_err-leaders-clause-inside
+returns-in_err-leaders-clause-inside c = IfOk-from_err c.from_residual.result _ c.from_residual.ensures.0
+
+pub returns-in_err-leaders-clause-cubes : goal.returns-in_err-leaders-clause-cubes
+returns-in_err-leaders-clause-cubes c = IfOk-from_err c.from_residual.result _ c.from_residual.ensures.0
+
+pub returns-in_err-push-clause-size : goal.returns-in_err-push-clause-size
+returns-in_err-push-clause-size c = IfOk-from_err c.from_residual-in_err-push.result _ c.from_residual-in_err-push.ensures.0
+
+pub returns-in_err-push-clause-inside : goal.returns-in_err-push-clause-inside
+returns-in_err-push-clause-inside c = IfOk-from_err c.from_residual-in_err-push.result _ c.from_residual-in_err-push.ensures.0
+
+pub returns-in_err-push-clause-cubes : goal.returns-in_err-push-clause-cubes
+returns-in_err-push-clause-cubes c = IfOk-from_err c.from_residual-in_err-push.result _ c.from_residual-in_err-push.ensures.0

@@ -1,5 +1,6 @@
 use Rattle.std.proofs.Common.{ℕ, ◌≡◌, ◌+◌, List, [], ◌∷◌, ◌++◌, Contains, length, get_or, sym, ◌∙◌, subst, ap, arith}
 use Rattle.std.proofs.lemmas.List.Elements.{Contains-get_or}
+use Rattle.std.proofs.lemmas.Result.{IfOk-from_err}
 use Rattle.state_rows.specs.Columns.{AreKept, IsLedBy, RepresentColumns}
 use Rattle.state_rows.proofs.KeptColumns.{kept_more, represent_fewer}
 use Rattle.state_rows.proofs.columns.kept_of_leaders.Goals as goal
@@ -27,3 +28,15 @@ loop-leader-preserved c =
     subst (λ (all : List (List ℕ)). AreKept rows places leaders (n + 1) all) (sym pushed)
     (kept_more rows places leaders n kept list c.loop-leader.invariant
     (subst (λ (numbers : List ℕ). RepresentColumns rows places (IsLedBy leaders n) (length numbers) list) c.list_of-count.ensures narrow))
+
+pub returns-in_err-kept : goal.returns-in_err-kept
+returns-in_err-kept c = IfOk-from_err c.from_residual.result _ c.from_residual.ensures.0
+
+pub returns-in_err-states : goal.returns-in_err-states
+returns-in_err-states c = IfOk-from_err c.from_residual-in_err-states.result _ c.from_residual-in_err-states.ensures.0
+
+pub returns-in_err-kept_places : goal.returns-in_err-kept_places
+returns-in_err-kept_places c = IfOk-from_err c.from_residual-in_err-kept_places.result _ c.from_residual-in_err-kept_places.ensures.0
+
+pub returns-in_err-push : goal.returns-in_err-push
+returns-in_err-push c = IfOk-from_err c.from_residual-in_err-push.result _ c.from_residual-in_err-push.ensures.0

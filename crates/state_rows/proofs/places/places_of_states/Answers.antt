@@ -1,5 +1,6 @@
 use Rattle.std.proofs.Common.{ℕ, ◌≡◌, ◌<◌, ◌+◌, [], ◌∷◌, ◌++◌, List, length, set, slice_get, Some, refl, sym, ap, ◌∙◌, subst, arith}
 use Rattle.std.proofs.lemmas.Option.{get_or_from_slice_get, slice_get_read}
+use Rattle.std.proofs.lemmas.Result.{IfOk-from_err}
 use Rattle.kiss_file.specs.declared.file.KissRow.{KissRow}
 use Rattle.state_rows.specs.Places.{ArePlaces, places_of}
 use Rattle.state_rows.proofs.RowNumbers.{places_with_row}
@@ -26,3 +27,9 @@ loop-number-preserved c =
 
 pub returns : goal.returns
 returns c = subst (λ (n : ℕ). ArePlaces c.args.rows.now c.args.states n c.loop-number.places.items) (omega arith) c.loop-number.invariant
+
+pub returns-in_err-places : goal.returns-in_err-places
+returns-in_err-places c = IfOk-from_err c.from_residual.result _ c.from_residual.ensures.0
+
+pub returns-in_err-push : goal.returns-in_err-push
+returns-in_err-push c = IfOk-from_err c.from_residual-in_err-push.result _ c.from_residual-in_err-push.ensures.0
