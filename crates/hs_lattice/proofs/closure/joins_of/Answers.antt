@@ -2,7 +2,7 @@ use Rattle.std.proofs.Common.{◌≡◌, ◌≤◌, ◌+◌, length, subst, arit
 use Rattle.std.proofs.lemmas.Result.{IfOk-from_err}
 use Rattle.hs_lattice.specs.Collection.{items_in}
 use Rattle.hs_lattice.proofs.Passes.{Joining, IsReached, generated_more, have_joins, is_evidence, lists_all, reached_more, reached_skip}
-use Rattle.hs_lattice.proofs.Values.{All-from_known, known_fit}
+use Rattle.hs_lattice.proofs.Values.{All-from_known, known_fit, read_fits}
 use Rattle.hs_lattice.proofs.closure.joins_of.Goals as goal
 
 pub loop-generator-preserved-then-holds : goal.loop-generator-preserved-then-holds
@@ -169,3 +169,19 @@ returns-in_err-ascending-2-clause-more g c = IfOk-from_err c.from_residual-in_er
 
 pub returns-in_err-ascending-2-clause-fit : goal.returns-in_err-ascending-2-clause-fit
 returns-in_err-ascending-2-clause-fit g c = IfOk-from_err c.from_residual-in_err-ascending-2.result _ c.from_residual-in_err-ascending-2.ensures.0
+
+pub holds-requires-clause-item : goal.holds-requires-clause-item
+holds-requires-clause-item g c =
+    let w = g.W.JoinWorld in
+    read_fits w.meaning (w.fits c.args.world.now) c.args.generators.now c.loop-generator.generator-index c.generator-item.result c.requires.generators c.loop-generator-test.true c.generator-item.is
+
+pub add_joins-requires-clause-generator : goal.add_joins-requires-clause-generator
+add_joins-requires-clause-generator g c =
+    let w = g.W.JoinWorld in
+    read_fits w.meaning (w.fits c.args.world.now) c.args.generators.now c.loop-generator.generator-index c.generator-item.result c.requires.generators c.loop-generator-test.true c.generator-item.is
+
+pub add-requires-clause-item : goal.add-requires-clause-item
+add-requires-clause-item g c = g.met.W.JoinWorld.least_fits c.args.world.now _ c.requires.world c.requires.bottom
+
+pub returns-clause-within : goal.returns-clause-within
+returns-clause-within g c = omega (arith, c.in_ok-ascending-2.ensures.count, c.loop-generator.invariant.small)
