@@ -156,6 +156,16 @@ pub record IsReached {X M : Type 0} (meaning : X → M) (least : M → Type 0) (
   pub least_known : (z : M) → least z → Knows meaning items z
   pub closed : IsClosed joins (AmongFirst meaning generators n) (Knows meaning items)
 
+-- before the first pass the least value alone is known
+pub reached_none :
+    {X M : Type 0} (meaning : X → M) (least : M → Type 0) (joins : M → M → M → Type 0) (generators items new_items : List X) (value : M) → least value →
+    ((z : M) → least z → value ≡ z) → items ≡ [] → Adds meaning items value new_items → IsReached meaning least joins generators 0 new_items
+reached_none {X} {M} meaning least joins generators items new_items value is once none adds = record {
+  generated = λ z h. elim (adds.only z h) [ inl old ↦ absurd (omega (arith, old.2, ap length none)) | inr same ↦ ([], tt, subst least same is) ];
+  least_known = λ z least_too. subst (Knows meaning new_items) (once z least_too) adds.added;
+  closed = λ m v among. absurd (omega (arith, among.2));
+}
+
 -- the first generators are some of all, and all where there are no more
 first_known : {X M : Type 0} (meaning : X → M) (generators : List X) (n : ℕ) (m : M) → AmongFirst meaning generators n m → Knows meaning generators m
 first_known meaning generators n m (k, x, lt, read, is) =

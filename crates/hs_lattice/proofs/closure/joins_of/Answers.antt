@@ -1,7 +1,7 @@
-use Rattle.std.proofs.Common.{◌≡◌, ◌≤◌, ◌+◌, length, subst, arith}
+use Rattle.std.proofs.Common.{◌≡◌, ◌≤◌, ◌+◌, length, subst, ap, arith}
 use Rattle.std.proofs.lemmas.Result.{IfOk-from_err}
 use Rattle.hs_lattice.specs.Collection.{items_in}
-use Rattle.hs_lattice.proofs.Passes.{Joining, IsReached, generated_more, have_joins, is_evidence, lists_all, reached_more, reached_skip}
+use Rattle.hs_lattice.proofs.Passes.{Joining, IsReached, generated_more, have_joins, is_evidence, lists_all, reached_more, reached_none, reached_skip}
 use Rattle.hs_lattice.proofs.Values.{All-from_known, known_fit, read_fits}
 use Rattle.hs_lattice.proofs.closure.joins_of.Goals as goal
 
@@ -185,3 +185,15 @@ add-requires-clause-item g c = g.met.W.JoinWorld.least_fits c.args.world.now _ c
 
 pub returns-clause-within : goal.returns-clause-within
 returns-clause-within g c = omega (arith, c.in_ok-ascending-2.ensures.count, c.loop-generator.invariant.small)
+
+pub loop-generator-init : goal.loop-generator-init
+loop-generator-init g c =
+    let w = g.W.JoinWorld in
+    let world = c.args.world.now in
+    let bottom = w.meaning c.args.bottom in
+    record {
+      known = c.in_ok-add.ensures.collection;
+      reached = reached_none w.meaning (w.least world) (w.joins world) c.args.generators.now (items_in c.new-known.result) (items_in c.add.new.self) bottom c.requires.bottom
+          (λ z is. g.met.W.JoinWorld.least_once world bottom z c.requires.world c.requires.bottom is) c.new-known.ensures.items c.in_ok-add.ensures.adds;
+      small = omega (arith, c.in_ok-add.ensures.adds.at_most_one, ap length c.new-known.ensures.items, c.requires.positive);
+    }
