@@ -1,5 +1,5 @@
 -- Bits of words.
-use Rattle.std.proofs.Common.{◌≡◌, ◌↔◌, ◌⊎◌, ◌∙◌, ℕ, ◌*◌, ◌%◌, ◌^◌, ◌<◌, min, inl, inr, sym, subst, arith, bit_and, bit_or}
+use Rattle.std.proofs.Common.{◌≡◌, ◌↔◌, ◌⊎◌, ◌∙◌, ℕ, ◌+◌, ◌*◌, ◌%◌, ◌^◌, ◌<◌, min, inl, inr, sym, subst, arith, bit_and, bit_or}
 use Rattle.std.proofs.lemmas.Bool.{cases_eq, cases_lt}
 use Rattle.std.proofs.lemmas.Nat.Bits.{bit_at_and, bit_at_above, bit_at_set_same, bit_at_set_other, bit_at_clear_same, bit_at_clear_other}
 use Rattle.std.specs.Int.{bit_at, bit_not}
@@ -47,3 +47,26 @@ bit_within set c small is =
 -- a bit is in the word or not
 pub in_or_out : (set c : ℕ) → InWord set c ⊎ (InWord set c → ⊥)
 in_or_out set c = cases_eq (bit_at set c) 1
+
+-- the set of the numbers below a of which P holds, with a as well
+pub set_more : (P : ℕ → Type 0) (set new a : ℕ) → ((d : ℕ) → InWord set d ↔ (d < a × P d)) → ((d : ℕ) → InWord new d ↔ (InWord set d ⊎ (d ≡ a))) → P a → (d : ℕ) → InWord new d ↔ (d < a + 1 × P d)
+set_more P set new a before added holds d = (
+  (λ is. elim ((added d).0 is) [
+    | inl in_set ↦ (omega (arith, ((before d).0 in_set).0), ((before d).0 in_set).1)
+    | inr at ↦ (omega (arith, at), subst P (sym at) holds)
+  ]),
+  (λ both. elim (cases_eq d a) [
+    | inl at ↦ (added d).1 (inr at)
+    | inr other ↦ (added d).1 (inl ((before d).1 (omega (arith, both.0, other), both.1)))
+  ]),
+)
+
+-- the same set, where P does not hold of a
+pub set_same : (P : ℕ → Type 0) (set a : ℕ) → ((d : ℕ) → InWord set d ↔ (d < a × P d)) → (P a → ⊥) → (d : ℕ) → InWord set d ↔ (d < a + 1 × P d)
+set_same P set a before fails d = (
+  (λ is. (omega (arith, ((before d).0 is).0), ((before d).0 is).1)),
+  (λ both. elim (cases_eq d a) [
+    | inl at ↦ absurd (fails (subst P at both.1))
+    | inr other ↦ (before d).1 (omega (arith, both.0, other), both.1)
+  ]),
+)
