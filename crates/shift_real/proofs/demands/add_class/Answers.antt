@@ -1,4 +1,4 @@
-use Rattle.std.proofs.Common.{ap, sym, ◌∙◌}
+use Rattle.std.proofs.Common.{ap, sym, ◌∙◌, arith, inl, inr}
 use Rattle.shift_real.proofs.ClassDemands.{class_done, class_more, class_skip}
 use Rattle.shift_real.proofs.demands.add_class.Goals as goal
 use Rattle.shift_real.proofs.demands.add_class.Goals.{then-from-class+then-number-mask+in_ok-add_rows, else-from-class, else-from-class-via-then-from-class+else-number-mask, else-from-class-via-else-from-class}
@@ -20,3 +20,15 @@ loop-number-preserved c = elim c.if-from-class.branch [
 
 pub returns : goal.returns
 returns c = class_done c.args.m.now c.args.b c.args.classes.now c.args.mask c.args.class c.loop-number.number c.loop-number.demands.items c.loop-number-test.false c.loop-number.invariant
+
+pub loop-number-init : goal.loop-number-init
+loop-number-init c = record {
+  right = c.requires.before.right;
+  each = λ number x low either small. elim either [
+    | inl before ↦ c.requires.before.each number x low before small
+    | inr far ↦ absurd (omega (arith, far.before))
+  ];
+}
+
+pub add_rows-requires : goal.add_rows-requires
+add_rows-requires c = omega (arith, c.requires.output, c.outputs-outputs.ensures.count, c.outputs-outputs.ensures.limit)

@@ -1,5 +1,5 @@
-use Rattle.std.proofs.Common.{◌≡◌, arith}
-use Rattle.shift_real.proofs.LastMember.{apart_found, last_lawful, order_found}
+use Rattle.std.proofs.Common.{◌≡◌, arith, length, ap}
+use Rattle.shift_real.proofs.LastMember.{apart_found, last_lawful, order_found, some_member}
 use Rattle.shift_real.proofs.orders.order.Goals as goal
 
 pub returns-in-None-clause-order : goal.returns-in-None-clause-order
@@ -18,3 +18,15 @@ returns-clause-refused c =
     let same : c.as_slice-members.result.now ≡ c.in_ok-chain.chain = cc in
     apart_found c.args.m.now c.in_ok-chain.chain c.as_slice-members.result.now c.index-members-last.result c.in_ok-chain.ensures.chain c.in_ok-chain.ensures.together same c.index-members-last.is
     c.in-Some.t c.states-states.ensures.inside c.in-Some.ensures.within c.in-Some.ensures.apart c.in-Some.ensures.first
+
+pub overflow_sub-last : goal.overflow_sub-last
+overflow_sub-last c = omega (arith, ap length c.as_slice-members.ensures, some_member c.args.m.now c.in_ok-chain.chain c.in_ok-chain.ensures.chain)
+
+pub first_apart-requires : goal.first_apart-requires
+first_apart-requires c =
+    let same : c.as_slice-members.result.now ≡ c.in_ok-chain.chain = cc in
+    let lawful = last_lawful c.args.m.now c.in_ok-chain.chain c.as_slice-members.result.now c.index-members-last.result c.in_ok-chain.ensures.chain c.in_ok-chain.ensures.together same c.index-members-last.is in
+    omega (arith, lawful.length, c.states-states.ensures.count, c.states-states.ensures.some)
+
+pub returns-in-None-clause-few : goal.returns-in-None-clause-few
+returns-in-None-clause-few c = omega (arith, ap length c.as_slice-members.ensures, c.in_ok-chain.ensures.few, some_member c.args.m.now c.in_ok-chain.chain c.in_ok-chain.ensures.chain)
