@@ -74,3 +74,8 @@ returns c =
     let all : places_of 0 (take c.loop-j.j c.args.parts.now) (take c.loop-j.j c.args.inners.now) ≡ places_of 0 c.args.parts.now c.args.inners.now =
     ap (λ (list : List Part). places_of 0 list (take c.loop-j.j c.args.inners.now)) parts ∙ ap (λ (list : List (List ℕ)). places_of 0 c.args.parts.now list) inners in
     rw c.from.ensures (subst (λ (list : List Place). IsLaidOut c.args.n list c.loop-j.draft.bits c.loop-j.draft.words.items c.loop-j.draft.owner c.loop-j.draft.carried) all c.loop-j.invariant)
+
+pub put_label-requires-clause-length : goal.put_label-requires-clause-length
+put_label-requires-clause-length c =
+    let lawful : IsPart c.args.n c.index-parts-j.result = subst (IsPart c.args.n) (sym c.index-parts-j.is) (c.requires.parts c.loop-j.j c.index-parts-j.result c.loop-j-test.true) in
+    c.loop-j.invariant.states ∙ sym lawful.carrier.length
