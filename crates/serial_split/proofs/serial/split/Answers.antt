@@ -100,3 +100,18 @@ returns-clause-choice c = record {
   complement = c.in_ok-second.ensures.inside;
   partitions = ap partitions_of (two c.new-parts.result c.push.new.self c.push-2.new.self _ _ c.in_ok-first.first c.in_ok-second.second c.new-parts.ensures c.in_ok-push.ensures.ok c.in_ok-push-2.ensures.ok c.in_ok-part_after.ensures c.in_ok-part_after-2.ensures);
 }
+
+pub below-requires : goal.below-requires
+below-requires c = c.in_ok-one.ensures.lawful.length ∙ c.states.ensures.count
+
+pub returns-clause-kind : goal.returns-clause-kind
+returns-clause-kind c = refl
+
+pub returns-clause-few : goal.returns-clause-few
+returns-clause-few c = omega (arith, ap length (two c.new-parts.result c.push.new.self c.push-2.new.self _ _ c.in_ok-first.first c.in_ok-second.second c.new-parts.ensures c.in_ok-push.ensures.ok c.in_ok-push-2.ensures.ok c.in_ok-part_after.ensures c.in_ok-part_after-2.ensures))
+
+pub part_after-requires : goal.part_after-requires
+part_after-requires c = omega arith
+
+pub part_after-requires-2 : goal.part_after-requires-2
+part_after-requires-2 c = omega arith
