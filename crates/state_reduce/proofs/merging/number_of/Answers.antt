@@ -1,4 +1,4 @@
-use Rattle.std.proofs.Common.{ℕ, ◌≡◌, ◌∙◌, ◌++◌, ◌∷◌, [], List, Contains, OnOk, ap, get_or, subst, sym}
+use Rattle.std.proofs.Common.{ℕ, ◌≡◌, ◌∙◌, ◌++◌, ◌∷◌, [], List, Contains, OnOk, ap, get_or, subst, sym, IfOk, Some, slice_get, arith}
 use Rattle.std.proofs.lemmas.Option.{get_or_from_slice_get}
 use Rattle.partition.specs.Inside.{least_of}
 use Rattle.state_reduce.specs.Quotient.{block_name}
@@ -17,3 +17,18 @@ pub returns-clause-last : goal.returns-clause-last
 returns-clause-last c absent =
     subst (λ (name : List ℕ). OnOk c.add.result (c.add.new.self ≡ c.args.states.now ++ name ∷ [])) (added c)
     (c.add.ensures.last (λ there. absent (subst (Contains c.args.states.now) (added c) there)))
+
+pub returns-clause-number : goal.returns-clause-number
+returns-clause-number c = subst (λ (name : List ℕ). IfOk c.add.result (λ number. slice_get c.add.new.self number ≡ Some name)) (added c) c.add.ensures.number
+
+pub returns-clause-distinct : goal.returns-clause-distinct
+returns-clause-distinct c = c.add.ensures.distinct
+
+pub add-requires : goal.add-requires
+add-requires c = c.requires.few
+
+pub name-requires : goal.name-requires
+name-requires c = omega (arith, c.least_of.ensures.below, c.from.ensures, c.requires.s)
+
+pub least_of-requires : goal.least_of-requires
+least_of-requires c = omega (arith, c.from.ensures, c.requires.s, c.requires.p)
