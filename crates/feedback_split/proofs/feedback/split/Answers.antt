@@ -1,4 +1,5 @@
-use Rattle.std.proofs.Common.{◌≡◌, ℕ, List, length, refl, sym, ◌∙◌, subst}
+use Rattle.std.proofs.Common.{◌≡◌, ℕ, List, length, refl, sym, ◌∙◌, subst, ap, arith, map}
+use Rattle.state_codes.specs.declared.split.Part.{Part}
 use Rattle.std.proofs.lemmas.Bool.{false≢true}
 use Rattle.kiss_file.specs.declared.file.KissFile.{KissFile}
 use Rattle.partition.specs.Partition.{IsPartition, IsZero}
@@ -35,3 +36,25 @@ returns-clause-best c =
 
 pub returns-clause-lawful : goal.returns-clause-lawful
 returns-clause-lawful c = halves_lawful c.args.m.now c.in_ok-first.first c.in_ok-two_parts.field-0 c.in_ok-first.ensures.greatest.right.1.low.lawful c.in_ok-two_parts.ensures
+
+pub two_parts-requires : goal.two_parts-requires
+two_parts-requires c = c.in_ok-first.ensures.greatest.right.1.low.lawful
+
+pub returns-clause-few : goal.returns-clause-few
+returns-clause-few c = omega (arith, ap length c.in_ok-two_parts.ensures.two)
+
+pub returns-clause-choice : goal.returns-clause-choice
+returns-clause-choice c =
+    let halves = c.in_ok-two_parts.ensures in
+    record {
+      first = c.in_ok-first.first;
+      grown = c.in_ok-first.ensures.growth;
+      second = halves.second;
+      complement = halves.complement;
+      partitions = ap (λ (parts : List Part). map (λ part. part.partition) parts) halves.two;
+      first_carrier = halves.first_carrier;
+      first_grown = halves.first_grown;
+      second_carrier = halves.second_carrier;
+      second_grown = halves.second_grown;
+      carriers = ap (λ (parts : List Part). map (λ part. part.carrier) parts) halves.two;
+    }
