@@ -1,6 +1,7 @@
 //! Runs the cases of machines: `pairs.cases` has the calls of `io_pairs` and of the world of Mm pairs,
-//! `registers.cases` those of `shift_real`, `covers.cases` those of `cover_split`, and `codes.cases` those of
-//! `least_codes`. The form of a line is that of [`case_lines`]. Its first argument is the file of a machine; what the
+//! `registers.cases` those of `shift_real`, `covers.cases` those of `cover_split`, `codes.cases` those of
+//! `least_codes`, and `partitions.cases` those of `pair_operators`, `output_consistent`, `closed_lattice` and
+//! `state_reduce` that no command has. The form of a line is that of [`case_lines`]. Its first argument is the file of a machine; what the
 //! others and the answers of a call are is told at the top of each file. A new case is a line, and takes no proof.
 #![tactic(auto)]
 
@@ -11,6 +12,7 @@ mod codes;
 mod covers;
 mod networks;
 mod pairs;
+mod partitions;
 mod registers;
 mod words;
 mod worlds;
@@ -27,11 +29,12 @@ use std::rt::Files;
 use words::cut;
 
 /// The files of cases.
-static FILES: [&str; 4] = [
+static FILES: [&str; 5] = [
     "pairs.cases",
     "registers.cases",
     "covers.cases",
     "codes.cases",
+    "partitions.cases",
 ];
 
 /// The calls of machines.
@@ -103,6 +106,12 @@ fn put_answer(
         "mm_least" | "mm_join" | "mm_before" => {
             worlds::put_in_mm_world(alloc, call, words, m, answer);
         }
+        "is_pair" | "is_consistent" => partitions::put_decided(alloc, call, words, m, answer),
+        "apart" | "below" | "bit_partition" | "principal" | "separating" => {
+            partitions::put_found(alloc, call, words, m, answer);
+        }
+        "atoms" => partitions::put_atoms(alloc, m, answer),
+        "quotient" => partitions::put_quotient(alloc, words, file, m, answer),
         _ => pairs::put_answer(alloc, call, words, m, answer),
     }
 }

@@ -6,12 +6,11 @@ ghost use Rattle.shift_real.specs.Register.{HasShortOrder};
 ghost use Rattle.shift_real.specs.ShiftNetwork.{AreNamesFor};
 
 use crate::networks::put_network;
-use crate::words::{put_between, put_part};
+use crate::words::put_partitions;
 use case_lines::Answer;
 use kiss_file::KissFile;
 use machine_table::Machine;
 use net_core::SignalNames;
-use partition::Partition;
 use realise::{names, names_apart};
 use shift_real::{OrderFail, RegisterFail, chain, order, register, start};
 use std::alloc::Global;
@@ -21,14 +20,6 @@ pub(crate) fn put_chain(alloc: Global, m: &Machine, answer: &mut Answer) {
     match chain(alloc, m) {
         Ok(members) => put_partitions(alloc, members.as_slice(), answer),
         Err(_) => answer.fail(),
-    }
-}
-
-/// Puts partitions with a space between each two.
-fn put_partitions(alloc: Global, members: &[Partition], answer: &mut Answer) {
-    for (place, member) in members.iter().enumerate() {
-        put_between(place, answer);
-        put_part(alloc, member, answer);
     }
 }
 

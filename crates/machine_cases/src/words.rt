@@ -45,3 +45,11 @@ pub(crate) fn put_part(alloc: Global, p: &Partition, answer: &mut Answer) {
     }
     answer.add(text.as_slice());
 }
+
+/// Puts partitions with a space between each two.
+pub(crate) fn put_partitions(alloc: Global, list: &[Partition], answer: &mut Answer) {
+    for (place, p) in list.iter().enumerate() {
+        put_between(place, answer);
+        put_part(alloc, p, answer);
+    }
+}
