@@ -1,8 +1,9 @@
 //! Runs the cases of machines: `pairs.cases` has the calls of `io_pairs` and of the world of Mm pairs,
-//! `registers.cases` those of `shift_real`, `covers.cases` those of `cover_split`, `codes.cases` those of
-//! `least_codes`, and `partitions.cases` those of `pair_operators`, `output_consistent`, `closed_lattice` and
-//! `state_reduce` that no command has. The form of a line is that of [`case_lines`]. Its first argument is the file of a machine; what the
-//! others and the answers of a call are is told at the top of each file. A new case is a line, and takes no proof.
+//! `registers.cases` those of `shift_real`, `covers.cases` those of `cover_split`, and `codes.cases` those of
+//! `least_codes`. `partitions.cases` has calls of `pair_operators`, `output_consistent`, `closed_lattice` and
+//! `state_reduce` on given states and partitions. The form of a line is that of [`case_lines`]. Its first argument is
+//! the file of a machine; what the others and the answers of a call are is told at the top of each file. A new case is
+//! a line, and takes no proof.
 #![tactic(auto)]
 
 ghost use Rattle.std.specs.Prelude.{◌≡◌};
