@@ -1,7 +1,8 @@
-use Rattle.std.proofs.Common.{◌≡◌, ℕ, ◌<◌, ◌∙◌, Bool, true, false, List, [], ◌∷◌, ◌++◌, length, get_or, cond, ap, sym, refl, inl, inr, ◌⊎◌, ⊎_elim, subst, arith}
+use Rattle.std.proofs.Common.{◌≡◌, ℕ, ◌+◌, ◌<◌, ◌≤◌, ◌∙◌, Bool, true, false, List, [], ◌∷◌, ◌++◌, length, take, get_or, cond, ap, sym, refl, inl, inr, ◌⊎◌, ⊎_elim, subst, arith}
 use Rattle.std.specs.List.{filter, items_where_true}
 use Rattle.std.specs.List.Retain.{IsFiltered, ReturnsInTurn}
-use Rattle.std.proofs.lemmas.List.Elements.{Contains-append_cases, Contains-append_left, Contains-append_right, Contains-push, Contains-push_cases, Contains-get_or}
+use Rattle.std.proofs.lemmas.List.{append-nil, take_more}
+use Rattle.std.proofs.lemmas.List.Elements.{filter_more, Contains-append_cases, Contains-append_left, Contains-append_right, Contains-push, Contains-push_cases, Contains-get_or}
 use Rattle.list_facts.specs.Laws.Members.{Contains-cons, Contains-none}
 use Rattle.cover_logic.specs.declared.term.Term.{Term}
 use Rattle.cover_logic.specs.Term.{Holds, IsCovered}
@@ -32,6 +33,24 @@ held_cons_cases t xs x h =
 
 pub held_none : (x : ℕ) → IsCovered [] x → ⊥
 held_none x h = Contains-none h.0 h.1
+
+-- the first elements, of which x is the last
+pub take_with_last : {X : Type 0} (xs : List X) (n m : ℕ) (x : X) → m + 1 ≡ n → n ≤ length xs → x ≡ get_or xs m x → take n xs ≡ take m xs ++ x ∷ []
+take_with_last {X} xs n m x next within is =
+    ap (λ k. take k xs) (sym next) ∙ (take_more xs m x (omega arith) ∙ ap (λ (y : X). take m xs ++ y ∷ []) (sym is))
+
+-- what passes among the first elements, with one element more that passes
+pub filter_pushed : {X : Type 0} (p : X → Bool) (xs : List X) (i : ℕ) (x : X) → i < length xs → x ≡ get_or xs i x → p x ≡ true → filter p (take (i + 1) xs) ≡ filter p (take i xs) ++ x ∷ []
+filter_pushed {X} p xs i x below is passes =
+    filter_more p xs i x below
+    ∙ ap (λ (ys : List X). filter p (take i xs) ++ ys) (subst (λ (y : X). cond (p y) (y ∷ []) [] ≡ x ∷ []) is (ap (λ b. cond b (x ∷ []) []) passes))
+
+-- and with one that fails
+pub filter_passed : {X : Type 0} (p : X → Bool) (xs : List X) (i : ℕ) (x : X) → i < length xs → x ≡ get_or xs i x → p x ≡ false → filter p (take (i + 1) xs) ≡ filter p (take i xs)
+filter_passed {X} p xs i x below is fails =
+    filter_more p xs i x below
+    ∙ (ap (λ (ys : List X). filter p (take i xs) ++ ys) (subst (λ (y : X). cond (p y) (y ∷ []) [] ≡ []) is (ap (λ b. cond b (x ∷ []) []) fails))
+    ∙ append-nil (filter p (take i xs)))
 
 -- what `retain` keeps, where the closure stays as it is and computes a test
 module _ {X F : Type 0} (R : F → X → Bool → F → Type 0) (test : X → Bool) (f : F) (steady : (x : X) (b : Bool) (g : F) → R f x b g → (b ≡ test x) × (g ≡ f)) where

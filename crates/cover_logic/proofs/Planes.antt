@@ -1,4 +1,4 @@
-use Rattle.std.proofs.Common.{◌≡◌, ◌↔◌, ℕ, ◌+◌, ◌-◌, ◌*◌, ◌%◌, ◌^◌, ◌<◌, ◌≤◌, ◌∙◌, true, bit_and, bit_or, List, [], ◌∷◌, ◌++◌, length, take, drop, get_or, ap, sym, subst, refl, ◌⊎◌, inl, inr, ⊎_elim, append_assoc, arith}
+use Rattle.std.proofs.Common.{◌≡◌, ◌↔◌, ℕ, ◌+◌, ◌-◌, ◌*◌, ◌%◌, ◌^◌, ◌<◌, ◌≤◌, ◌∙◌, true, false, bit_and, bit_or, List, [], ◌∷◌, ◌++◌, length, take, drop, get_or, ap, sym, subst, refl, ◌⊎◌, inl, inr, ⊎_elim, append_assoc, arith}
 use Rattle.std.specs.Int.{bit_at, bit_not, w128}
 use Rattle.std.specs.List.{All, Contains}
 use Rattle.std.proofs.lemmas.Bool.{false≢true, cases_eq, cases_lt}
@@ -82,6 +82,17 @@ put_there row entries met place e below is some = record {
         (Contains-push_cases met e f h);
   };
   there = λ d in' agrees. subst (λ (g : Entry). Contains (met ++ e ∷ []) g) (is ∙ get_or_default entries place e d below) (Contains-push met e);
+}
+
+-- no entry at the place, or one whose term shares no value with the row
+pub put_beyond : (row : Term) (entries met : List Entry) (place : ℕ) → length entries ≤ place → IsPutAt row entries place met met
+put_beyond row entries met place beyond = record { more = more_none row entries met; there = λ d below some. absurd (omega arith) }
+
+pub put_passed : (row : Term) (entries met : List Entry) (place : ℕ) (e : Entry) → place < length entries → e ≡ get_or entries place e → agree row e.term ≡ false → IsPutAt row entries place met met
+put_passed row entries met place e below is apart = record {
+  more = more_none row entries met;
+  there = λ d in' some. absurd
+      (false≢true (sym apart ∙ subst (λ (g : Entry). agree row g.term ≡ true) (sym (is ∙ get_or_default entries place e d below)) some));
 }
 
 -- of the entries whose terms share a value with the row, those at no open place are put in

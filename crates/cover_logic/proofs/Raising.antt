@@ -1,37 +1,17 @@
-use Rattle.std.proofs.Common.{◌≡◌, ℕ, ◌+◌, ◌<◌, ◌≤◌, ◌∙◌, Bool, true, false, not, IsTrue, refl, List, sym, ◌↔◌, ⊎_elim, subst, arith}
-use Rattle.std.specs.List.{Contains, list_any}
-use Rattle.std.proofs.lemmas.Bool.{false≢true, cases_Bool, cases_eq, not_from_false}
-use Rattle.list_facts.specs.Laws.Members.{fails_from_none, passes_from_any}
+use Rattle.std.proofs.Common.{ℕ, ◌+◌, ◌<◌, ◌≤◌, ◌↔◌, List, [], ◌∷◌, ◌++◌, ⊎_elim, sym, subst, arith}
+use Rattle.std.specs.List.{Contains}
+use Rattle.std.proofs.lemmas.Bool.{cases_eq}
 use Rattle.cover_logic.specs.declared.term.Term.{Term}
-use Rattle.cover_logic.specs.Term.{FitsWidth, Holds, HoldsWithDash, IsCovered, LooksAt}
-use Rattle.cover_logic.specs.Inner.Pair.{Includes, IsLooser, ShareValue, agree}
+use Rattle.cover_logic.specs.Term.{FitsWidth, Holds, HoldsWithDash, LooksAt}
+use Rattle.cover_logic.specs.Inner.Pair.{Includes, IsLooser, ShareValue}
 use Rattle.cover_logic.specs.Inner.Rows.{IsClear, IsGrown, IsPrime, NeedsLiteral}
 use Rattle.cover_logic.proofs.Bits.{below_width}
-use Rattle.cover_logic.proofs.Terms.{agree_from_shared, shared_from_agree, looser_holds, looser_with_dash}
+use Rattle.cover_logic.proofs.Lists.{held_push_cases}
+use Rattle.cover_logic.proofs.Terms.{looser_holds, looser_with_dash}
 
--- a term that touches none of a list is clear of it
-clear_from_none : (t : Term) (terms : List Term) → list_any (agree t) terms ≡ false → IsClear terms t
-clear_from_none t terms h x p held =
-    false≢true (sym (fails_from_none (agree t) terms h held.0 held.1) ∙ agree_from_shared t held.0 x p held.2)
-
--- and one that touches some shares a value with it
-meets_from_some : (t : Term) (terms : List Term) → list_any (agree t) terms ≡ true → (x : ℕ) × IsCovered terms x × Holds t x
-meets_from_some t terms h =
-    let other = passes_from_any (agree t) terms h in
-    let value = shared_from_agree t other.0 other.2 in
-    (value.0, (other.0, other.1, value.2), value.1)
-
-pub clear_says : (t : Term) (terms : List Term) → IsTrue (not (list_any (agree t) terms)) ↔ IsClear terms t
-clear_says t terms = (
-  λ h. clear_from_none t terms (not_true _ h),
-  λ clear. ⊎_elim
-      (λ some. let m = meets_from_some t terms some in absurd (clear m.0 m.2 m.1))
-      (λ none. not_from_false _ none) (cases_Bool (list_any (agree t) terms)),
-)
-  where
-    not_true : (b : Bool) → not b ≡ true → b ≡ false
-    not_true true h = absurd (false≢true h)
-    not_true false h = refl
+-- a term that is clear of a list, and shares no value with one term more
+pub clear_push : (row : Term) (terms : List Term) (t : Term) → IsClear terms row → (ShareValue row t → ⊥) → IsClear (terms ++ t ∷ []) row
+clear_push row terms t clear apart x p held = ⊎_elim (λ k. clear x p k) (λ q. apart (x, p, q)) (held_push_cases terms t x held)
 
 -- the literals below a column are needed
 abbrev pub IsPrimeBelow : List Term → ℕ → Term → Type 0

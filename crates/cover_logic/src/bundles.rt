@@ -2,7 +2,7 @@
 //! value with a row, or whether the row holds them whole.
 ghost use Rattle.std.specs.Prelude.{◌<◌, ◌≤◌, IfOk, if◌then◌else◌, length};
 ghost use Rattle.cover_logic.specs.Term.{FitsWidth};
-ghost use Rattle.cover_logic.specs.Inner.Entries.{HasLiterals, IsNumbered};
+ghost use Rattle.cover_logic.specs.Inner.Entries.{HasLiterals};
 ghost use Rattle.cover_logic.specs.Inner.Planes.{AreLiteralsOf, AreTold, AreTold-prop, IsLiteralAt};
 
 use crate::term::Term;
@@ -41,7 +41,7 @@ pub struct Bundle {
 impl Bundle {
     ghost use Rattle.std.specs.Prelude.{◌≡◌, ◌≤◌, All, IfOk, OnOk, if◌then◌else◌, length};
     ghost use Rattle.cover_logic.specs.declared.term.Term.{Term};
-    ghost use Rattle.cover_logic.specs.Inner.Entries.{EntryFits, HasLiterals, IsAgainst, IsPutAt, IsPutIn, IsWithin};
+    ghost use Rattle.cover_logic.specs.Inner.Entries.{EntryFits, HasLiterals, IsAgainst, IsPutIn, IsWithin};
     ghost use Rattle.cover_logic.specs.Inner.Planes.{AreLiteralsOf};
 
     /// The bundle of the entries.
@@ -114,20 +114,6 @@ impl Bundle {
         within
     }
 
-    /// Adds the entry at the place if its term shares a value with the row.
-    fn put_at(&self, place: usize, row: Term, met: &mut Vec<Entry>) -> Result<(), AllocError>
-        ensures { OnOk result (IsPutAt row self.now.entries.items place met.old.items met.new.items) }
-    {
-        if place >= self.entries.len() {
-            return Ok(());
-        }
-        let entry = self.entries[place];
-        if row.touches(entry.term) {
-            met.push(entry)?;
-        }
-        Ok(())
-    }
-
     /// Adds the entries whose terms share a value with the row.
     fn put_met(
         &self,
@@ -142,7 +128,14 @@ impl Bundle {
         while open != 0 {
             let place = open.trailing_zeros();
             open &= !(1u128 << place);
-            self.put_at(place as usize, row, met)?;
+            let place = place as usize;
+            if place >= self.entries.len() {
+                continue;
+            }
+            let entry = self.entries[place];
+            if row.touches(entry.term) {
+                met.push(entry)?;
+            }
         }
         Ok(())
     }
@@ -171,7 +164,13 @@ impl Bundles {
         ensures terms { IfOk result (λ all. HasSameTerms terms.now (terms_in_bundles all)) }
         ensures numbers { IfOk result (λ all. IsNumbered terms.now (entries_of all)) }
     {
-        let entries = numbered(alloc, terms)?;
+        let mut entries = Vec::new(alloc);
+        for (number, term) in terms.iter().enumerate() {
+            entries.push(Entry {
+                term: *term,
+                number,
+            })?;
+        }
         Bundles::of(alloc, &entries, width)
     }
 
@@ -204,20 +203,6 @@ impl Bundles {
         }
         Ok(met)
     }
-}
-
-/// The terms with their numbers.
-fn numbered(alloc: Global, terms: &[Term]) -> Result<Vec<Entry>, AllocError>
-    ensures { IfOk result (λ entries. IsNumbered terms.now entries.items) }
-{
-    let mut entries = Vec::new(alloc);
-    for (number, term) in terms.iter().enumerate() {
-        entries.push(Entry {
-            term: *term,
-            number,
-        })?;
-    }
-    Ok(entries)
 }
 
 /// The literal of the row at the column, if it has one there.

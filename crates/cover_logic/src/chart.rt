@@ -19,7 +19,7 @@ pub fn blank(alloc: Global, width: u8) -> Result<Vec<usize>, AllocError>
     requires { width ≤ 16 }
     ensures { IfOk result (λ chart. chart.items ≡ replicate (2 ^ width) 0) }
 {
-    Ok(vec![in alloc; 0; 1usize << width]?)
+    vec![in alloc; 0; 1usize << width]
 }
 
 /// Puts the number at each value that the row holds.

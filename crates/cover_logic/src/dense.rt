@@ -127,9 +127,11 @@ fn rows_of(
     requires clear { All (IsClear zeros.now.terms.items) on.now }
     ensures { IfOk result (λ rows. ArePrimeRows on.now zeros.now.terms.items width rows.items) }
 {
-    let mut left = Vec::from_slice(alloc, on)?;
     let mut rows = Table::new(alloc, width)?;
-    while let Some(seed) = left.pop() {
+    let mut left = on.len();
+    while left > 0 {
+        left -= 1;
+        let seed = on[left];
         if !rows.holds(seed) {
             let row = row_of(seed, ground, zeros, width);
             ground.take(row.pattern());

@@ -21,7 +21,7 @@ pub fn distinct(alloc: Global, terms: &[Term]) -> Result<Vec<Term>, AllocError>
     ensures { IfOk result (λ once. HasSameValues terms.now once.items) }
 {
     let mut sorted = Vec::from_slice(alloc, terms)?;
-    sorted.sort_by_key(|term| (term.care, term.value))?;
+    sorted.sort_unstable_by_key(|term| (term.care, term.value));
     let mut once = Vec::new(alloc);
     for term in &sorted {
         if !last_includes(&once, *term) {

@@ -1,7 +1,7 @@
 //! Which rows of a dense gate can be left out, by a chart of the last row that holds each value of on.
-ghost use Rattle.std.specs.Prelude.{◌≤◌, All, IfOk, length};
+ghost use Rattle.std.specs.Prelude.{◌≤◌, All, IfOk};
 ghost use Rattle.cover_logic.specs.Term.{FitsWidth};
-ghost use Rattle.cover_logic.specs.Inner.Lasts.{AreLasts, AreLastsOn};
+ghost use Rattle.cover_logic.specs.Inner.Lasts.{AreLastsOn};
 ghost use Rattle.cover_logic.specs.Inner.Rows.{AreNeededRows, Covers};
 
 use crate::chart::{blank, clear, fill, find};
@@ -9,20 +9,8 @@ use crate::table::Table;
 use crate::term::Term;
 use std::alloc::{AllocError, Global};
 
-/// For each value one more than the number of the last row that holds it, or 0 where no row does.
-fn lasts(alloc: Global, rows: &[Term], width: u8) -> Result<Vec<usize>, AllocError>
-    requires few { width ≤ 16 }
-    requires fits { All (FitsWidth width) rows.now }
-    ensures { IfOk result (λ chart. AreLasts width rows.now (length rows.now) chart.items) }
-{
-    let mut chart = blank(alloc, width)?;
-    for (i, row) in rows.iter().enumerate() {
-        fill(&mut chart, *row, width, i + 1);
-    }
-    Ok(chart)
-}
-
-/// The same for each value of on, and 0 for any other value.
+/// For each value of on one more than the number of the last row that holds it, or 0 where no row does, and 0 for any
+/// other value.
 fn lasts_on(alloc: Global, rows: &[Term], on: &[Term], width: u8) -> Result<Vec<usize>, AllocError>
     requires few { width ≤ 16 }
     requires fits { All (FitsWidth width) rows.now }
@@ -30,7 +18,10 @@ fn lasts_on(alloc: Global, rows: &[Term], on: &[Term], width: u8) -> Result<Vec<
     ensures { IfOk result (λ chart. AreLastsOn width rows.now on.now chart.items) }
 {
     let ones = Table::of(alloc, on, width)?;
-    let mut chart = lasts(alloc, rows, width)?;
+    let mut chart = blank(alloc, width)?;
+    for (i, row) in rows.iter().enumerate() {
+        fill(&mut chart, *row, width, i + 1);
+    }
     clear(&mut chart, &ones.marks);
     Ok(chart)
 }

@@ -75,41 +75,27 @@ fn all_fit(terms: &[Term], width: u8) -> bool
     requires { width ≤ 128 }
     ensures { IsTrue result ↔ All (FitsWidth width) terms.now }
 {
-    terms.iter().all(|term| term.fits(width))
+    for term in terms {
+        if !term.fits(width) {
+            return false;
+        }
+    }
+    true
 }
 
 /// Whether no value is held by both lists.
 fn are_apart(on: &[Term], off: &[Term]) -> bool
     ensures { IsTrue result ↔ All (IsClear off.now) on.now }
 {
-    on.iter().all(|term| is_clear(*term, off))
+    for term in on {
+        if !is_clear(*term, off) {
+            return false;
+        }
+    }
+    true
 }
 
-/// The cover of a dense gate, by its values.
-fn dense_cover(alloc: Global, on: &[Term], off: &[Term], width: u8) -> Result<Vec<Term>, AllocError>
-    requires few { width ≤ 16 }
-    requires fits { All (FitsWidth width) on.now }
-    requires off_fits { All (FitsWidth width) off.now }
-    requires clear { All (IsClear off.now) on.now }
-    ensures { IfOk result (λ rows. AreNeededPrimes on.now off.now width rows.items) }
-{
-    let rows = dense_rows(alloc, on, off, width)?;
-    needed_by_lasts(alloc, &rows, on, width)
-}
-
-/// The cover of any gate, by its terms.
-fn term_cover(alloc: Global, on: &[Term], off: &[Term], width: u8) -> Result<Vec<Term>, AllocError>
-    requires width { width ≤ 128 }
-    requires fits { All (FitsWidth width) on.now }
-    requires off_fits { All (FitsWidth width) off.now }
-    requires clear { All (IsClear off.now) on.now }
-    ensures { IfOk result (λ rows. AreNeededPrimes on.now off.now width rows.items) }
-{
-    let rows = primes(alloc, on, off, width)?;
-    needed_rows(alloc, &rows, on, width)
-}
-
-/// The cover of the gate in the way that suits it.
+/// The cover of the gate in the way that suits it: of a dense gate by its values, and of any other by its terms.
 fn chosen_cover(
     alloc: Global,
     on: &[Term],
@@ -123,9 +109,11 @@ fn chosen_cover(
     ensures { IfOk result (λ rows. AreNeededPrimes on.now off.now width rows.items) }
 {
     if is_dense(on, off, width) {
-        return dense_cover(alloc, on, off, width);
+        let rows = dense_rows(alloc, on, off, width)?;
+        return needed_by_lasts(alloc, &rows, on, width);
     }
-    term_cover(alloc, on, off, width)
+    let primes = primes(alloc, on, off, width)?;
+    needed_rows(alloc, &primes, on, width)
 }
 
 /// Rows that hold every value of on and no value of off, and of which no literal and no row can be left out. Values

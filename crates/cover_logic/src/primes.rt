@@ -7,7 +7,7 @@ ghost use Rattle.cover_logic.specs.Inner.Rows.{ArePrimeRows, IsClear, IsGrown, I
 
 use crate::index::Index;
 use crate::raise::{grow, raise, widened};
-use crate::term::{Term, patterns, terms_of_patterns};
+use crate::term::{Term, patterns};
 use crate::waiting::Waiting;
 use cover_advice::{Limits, Prospects, Slices};
 use std::alloc::{AllocError, Global};
@@ -38,11 +38,10 @@ impl Guide {
     fn new(alloc: Global, on: &[Term], off: &Index, width: u8) -> Result<Guide, AllocError>
         requires { width ≤ 128 }
     {
-        Ok(Guide {
-            on: slices_of(alloc, on, width)?,
-            off: slices_of_index(alloc, off, width)?,
-            places: off.places(alloc)?,
-        })
+        let places = off.places(alloc)?;
+        let off = slices_of_index(alloc, off, width)?;
+        let on = slices_of(alloc, on, width)?;
+        Ok(Guide { on, off, places })
     }
 }
 
@@ -86,29 +85,14 @@ fn guided_growth(alloc: Global, seed: Term, guide: &Guide, off: &Index) -> Resul
     ensures { IfOk result (IsGrown seed (terms_of off.now)) }
 {
     let mut prospects = Prospects::new(alloc, seed.pattern(), &guide.on, &guide.off)?;
-    let others = terms_of_patterns(alloc, &prospects.others)?;
+    let mut others = Vec::new(alloc);
+    for pattern in &prospects.others {
+        others.push(Term::of(*pattern))?;
+    }
     grow(seed, &others, &mut prospects.limits, off)
 }
 
-/// The grown row widened further, by the advice of the guide, until it needs each of its literals.
-fn advised_row(
-    alloc: Global,
-    grown: Term,
-    guide: &Guide,
-    off: &Index,
-    width: u8,
-) -> Result<Term, AllocError>
-    requires width { width ≤ 128 }
-    requires fits { FitsWidth width grown }
-    requires clear { IsClear (terms_of off.now) grown }
-    ensures { IfOk result (IsPrimeRow grown (terms_of off.now) width) }
-{
-    let advice = guide.off.advice(alloc, grown.pattern())?;
-    let wide = widened(grown, Term::of(advice.wide), off);
-    Ok(raise(wide, off, width, &advice.reasons, &guide.places))
-}
-
-/// The same as `plain_row`, with the guide.
+/// The same as `plain_row`, with the guide: the grown row is widened further by its advice.
 fn guided_row(
     alloc: Global,
     seed: Term,
@@ -122,7 +106,9 @@ fn guided_row(
     ensures { IfOk result (IsPrimeRow seed (terms_of off.now) width) }
 {
     let grown = guided_growth(alloc, seed, guide, off)?;
-    let row = advised_row(alloc, grown, guide, off, width)?;
+    let advice = guide.off.advice(alloc, grown.pattern())?;
+    let wide = widened(grown, Term::of(advice.wide), off);
+    let row = raise(wide, off, width, &advice.reasons, &guide.places);
     guide.on.drop_included(alloc, row.pattern())?;
     Ok(row)
 }

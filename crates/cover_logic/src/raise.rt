@@ -14,7 +14,12 @@ use std::alloc::{AllocError, Global};
 pub fn is_clear(row: Term, terms: &[Term]) -> bool
     ensures { IsTrue result ↔ IsClear terms.now row }
 {
-    !terms.iter().any(|term| row.touches(*term))
+    for term in terms {
+        if row.touches(*term) {
+            return false;
+        }
+    }
+    true
 }
 
 /// Widens the seed so that it holds more of the other terms, each whole, and no value of off. The limits say what a row

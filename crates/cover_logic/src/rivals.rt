@@ -1,7 +1,7 @@
 //! Which rows can be left out, in long lists: bundles tell which rows and which terms of on share a value with a row.
-ghost use Rattle.std.specs.Prelude.{◌≡◌, ◌≤◌, ◌↔◌, [], All, IfOk, IsTrue, OnOk, length, replicate, true};
+ghost use Rattle.std.specs.Prelude.{◌≡◌, ◌≤◌, ◌↔◌, All, IfOk, IsTrue, length, replicate, true};
 ghost use Rattle.cover_logic.specs.Term.{FitsWidth};
-ghost use Rattle.cover_logic.specs.Inner.Entries.{HoldsRivals, IsRival, terms_in};
+ghost use Rattle.cover_logic.specs.Inner.Entries.{IsRival};
 ghost use Rattle.cover_logic.specs.Inner.Bundles.{AreRowsIn, IsSoleLeft, terms_in_bundles};
 ghost use Rattle.cover_logic.specs.Inner.Rows.{AreNeededRows, Covers, IsSole};
 
@@ -17,36 +17,6 @@ fn is_rival(row: usize, left: &[bool], entry: Entry) -> bool
     entry.number != row && left.get(entry.number).copied().unwrap_or(false)
 }
 
-/// The terms of other rows that are left.
-fn rivals(alloc: Global, row: usize, near: &[Entry], left: &[bool]) -> Result<Vec<Term>, AllocError>
-    ensures { IfOk result (λ others. HoldsRivals row left.now near.now others.items) }
-{
-    let mut others = Vec::new(alloc);
-    for entry in near {
-        if is_rival(row, left, *entry) {
-            others.push(entry.term)?;
-        }
-    }
-    Ok(others)
-}
-
-/// A value of the entries in the row that the others do not hold.
-fn sole_among(
-    alloc: Global,
-    row: Term,
-    near: &[Entry],
-    others: &[Term],
-) -> Result<Option<u128>, AllocError>
-    ensures { IfOk result (IsSole row (terms_in near.now) others.now) }
-{
-    for entry in near {
-        if let Some(gap) = find_shared_gap(alloc, row, entry.term, others)? {
-            return Ok(Some(gap));
-        }
-    }
-    Ok(None)
-}
-
 /// A value of on in the row that the others do not hold.
 fn sole_value(
     alloc: Global,
@@ -58,7 +28,12 @@ fn sole_value(
     ensures { IfOk result (IsSole row (terms_in_bundles on.now) others.now) }
 {
     let near = on.met_by(alloc, row)?;
-    sole_among(alloc, row, &near, others)
+    for entry in &near {
+        if let Some(gap) = find_shared_gap(alloc, row, entry.term, others)? {
+            return Ok(Some(gap));
+        }
+    }
+    Ok(None)
 }
 
 /// A value of on in the row of that number that no other row which is left holds.
@@ -75,25 +50,29 @@ fn sole_left(
     ensures { IfOk result (IsSoleLeft number row rows.now on.now left.now) }
 {
     let near = rows.met_by(alloc, row)?;
-    let others = rivals(alloc, number, &near, left)?;
+    let mut others = Vec::new(alloc);
+    for entry in &near {
+        if is_rival(number, left, *entry) {
+            others.push(entry.term)?;
+        }
+    }
     sole_value(alloc, row, on, &others)
 }
 
-/// Adds the rows that are left when each row goes whose values of on the others hold. At first all rows are left.
-fn add_needed_rows(
+/// The rows that are left when each row goes whose values of on the others hold. At first all rows are left.
+fn needed_rows(
     alloc: Global,
     rows: &[Term],
     all: &Bundles,
     on: &Bundles,
     left: &mut [bool],
-    kept: &mut Vec<Term>,
-) -> Result<(), AllocError>
+) -> Result<Vec<Term>, AllocError>
     requires rows { AreRowsIn rows.now all.now on.now.width }
     requires left { left.old ≡ replicate (length rows.now) true }
-    requires none { kept.old.items ≡ [] }
     requires covers { Covers rows.now (terms_in_bundles on.now) }
-    ensures { OnOk result (AreNeededRows (terms_in_bundles on.now) rows.now kept.new.items) }
+    ensures { IfOk result (λ kept. AreNeededRows (terms_in_bundles on.now) rows.now kept.items) }
 {
+    let mut kept = Vec::new(alloc);
     for (i, row) in rows.iter().enumerate() {
         let sole = sole_left(alloc, i, *row, all, left, on)?;
         if sole.is_some() {
@@ -102,26 +81,24 @@ fn add_needed_rows(
             left[i] = false;
         }
     }
-    Ok(())
+    Ok(kept)
 }
 
 /// The same, with bundles of the rows and of on.
-pub fn add_needed_by_bundles(
+pub fn needed_by_bundles(
     alloc: Global,
     rows: &[Term],
     on: &[Term],
     width: u8,
-    kept: &mut Vec<Term>,
-) -> Result<(), AllocError>
+) -> Result<Vec<Term>, AllocError>
     requires width { width ≤ 128 }
     requires fits { All (FitsWidth width) rows.now }
     requires on_fits { All (FitsWidth width) on.now }
-    requires none { kept.old.items ≡ [] }
     requires covers { Covers rows.now on.now }
-    ensures { OnOk result (AreNeededRows on.now rows.now kept.new.items) }
+    ensures { IfOk result (λ kept. AreNeededRows on.now rows.now kept.items) }
 {
+    let mut left = vec![in alloc; true; rows.len()]?;
     let held = Bundles::new(alloc, on, width)?;
     let all = Bundles::new(alloc, rows, width)?;
-    let mut left = vec![in alloc; true; rows.len()]?;
-    add_needed_rows(alloc, rows, &all, &held, &mut left, kept)
+    needed_rows(alloc, rows, &all, &held, &mut left)
 }

@@ -144,15 +144,3 @@ pub(crate) fn patterns(alloc: Global, terms: &[Term]) -> Result<Vec<Pattern>, Al
     }
     Ok(patterns)
 }
-
-/// The terms of the patterns.
-pub(crate) fn terms_of_patterns(
-    alloc: Global,
-    patterns: &[Pattern],
-) -> Result<Vec<Term>, AllocError> {
-    let mut terms = Vec::new(alloc);
-    for pattern in patterns {
-        terms.push(Term::of(*pattern))?;
-    }
-    Ok(terms)
-}

@@ -72,7 +72,6 @@ impl Waiting {
     ghost use Rattle.cover_logic.specs.declared.waiting.Group.{Group};
     ghost use Rattle.cover_logic.specs.Term.{FitsWidth};
     ghost use Rattle.cover_logic.specs.Inner.Groups.{IsFirstLive};
-    ghost use Rattle.cover_logic.specs.Inner.Planes.{AreLiteralsOf};
     ghost use Rattle.cover_logic.specs.Inner.Waiting.{HasDropped, HasTaken, IsWaiting};
 
     /// All terms of the list.
@@ -113,15 +112,6 @@ impl Waiting {
         }
     }
 
-    /// Drops from each group the terms that the row of these literals holds whole.
-    fn drop_from_each(&mut self, literals: &[Literal])
-        ensures { (row : Term) → AreLiteralsOf row literals.now → HasDropped row self.old self.new }
-    {
-        for group in self.groups.iter_mut() {
-            group.drop_included(literals);
-        }
-    }
-
     /// Drops each term that the row holds whole.
     pub fn drop_included(&mut self, alloc: Global, row: Term, width: u8) -> Result<(), AllocError>
         requires width { width ≤ 128 }
@@ -129,7 +119,9 @@ impl Waiting {
         ensures { OnOk result (HasDropped row self.old self.new) }
     {
         let literals = literals_of(alloc, row, width)?;
-        self.drop_from_each(&literals);
+        for group in self.groups.iter_mut() {
+            group.drop_included(&literals);
+        }
         Ok(())
     }
 }

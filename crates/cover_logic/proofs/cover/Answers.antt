@@ -1,5 +1,5 @@
 use Rattle.std.specs.List.{All}
-use Rattle.std.proofs.lemmas.Result.{IfOk-weaker}
+use Rattle.std.proofs.lemmas.Result.{IfOk-weaker, IfOk-from_err}
 use Rattle.cover_logic.specs.Term.{FitsWidth}
 use Rattle.cover_logic.specs.Inner.Rows.{IsClear}
 use Rattle.cover_logic.proofs.Values.{values_all}
@@ -35,3 +35,18 @@ returns-clause-good c =
 
 pub returns-clause-fits : goal.returns-clause-fits
 returns-clause-fits c = IfOk-weaker c.chosen_cover.result _ _ (λ rows p. p.primes.fits) c.chosen_cover.ensures
+
+pub chosen_cover-requires-clause-width : goal.chosen_cover-requires-clause-width
+chosen_cover-requires-clause-width c = c.requires.columns
+
+pub returns-in_err-ones-clause-good : goal.returns-in_err-ones-clause-good
+returns-in_err-ones-clause-good c = IfOk-from_err c.from_residual.result _ c.from_residual.ensures.0
+
+pub returns-in_err-ones-clause-fits : goal.returns-in_err-ones-clause-fits
+returns-in_err-ones-clause-fits c = IfOk-from_err c.from_residual.result _ c.from_residual.ensures.0
+
+pub returns-in_err-zeros-clause-good : goal.returns-in_err-zeros-clause-good
+returns-in_err-zeros-clause-good c = IfOk-from_err c.from_residual-in_err-zeros.result _ c.from_residual-in_err-zeros.ensures.0
+
+pub returns-in_err-zeros-clause-fits : goal.returns-in_err-zeros-clause-fits
+returns-in_err-zeros-clause-fits c = IfOk-from_err c.from_residual-in_err-zeros.result _ c.from_residual-in_err-zeros.ensures.0

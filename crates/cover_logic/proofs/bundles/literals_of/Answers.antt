@@ -1,3 +1,4 @@
+use Rattle.std.proofs.lemmas.Result.{IfOk-from_err}
 use Rattle.std.proofs.Common.{◌≡◌, ◌-◌, ◌≤◌, [], ◌∷◌, ◌++◌, subst, sym, rules, arith}
 use Rattle.cover_logic.specs.declared.bundles.Literal.{Literal}
 use Rattle.cover_logic.proofs.Literals.{AreLaterLiterals, later_none, later_more, later_passed, later_all}
@@ -24,7 +25,7 @@ loop-column-preserved-in-Continue-1 c =
     let within = c.loop-column.invariant.1 in
     let literals = c.loop-column.literals.items in
     let literal : Literal = c.in-Some.literal in
-    let pushed : c.push.new.self.items ≡ literals ++ literal ∷ [] = search rules in
+    let pushed : c.push.new.self.items ≡ literals ++ literal ∷ [] = c.in_ok-push.ensures.items in
     rw pushed (
       later_more c.args.row c.loop-column.column (c.loop-column.column - 1) literals literal (omega arith) c.in-Some.ensures.0 c.in-Some.ensures.1 c.loop-column.invariant.0,
       omega arith,
@@ -32,3 +33,6 @@ loop-column-preserved-in-Continue-1 c =
 
 pub returns : goal.returns
 returns c = later_all c.args.row c.loop-column.column c.loop-column.literals.items (let t = c.loop-column-test.false in omega arith) c.loop-column.invariant.0
+
+pub returns-in_err-push : goal.returns-in_err-push
+returns-in_err-push c = IfOk-from_err c.from_residual.result _ c.from_residual.ensures.0

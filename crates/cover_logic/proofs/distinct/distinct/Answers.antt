@@ -1,3 +1,4 @@
+use Rattle.std.proofs.lemmas.Result.{IfOk-from_err}
 use Rattle.std.proofs.Common.{◌≡◌, ◌+◌, ◌∙◌, List, [], ◌∷◌, ◌++◌, take, sym, subst, ap, rules}
 use Rattle.std.specs.List.Sorted.{IsPermutation}
 use Rattle.std.proofs.lemmas.List.{take_all, take_more}
@@ -22,7 +23,7 @@ loop-term-preserved c =
     rw more
     (elim c.if-not-last_includes.branch [
       | then-not-last_includes+in_ok-push w ↦
-          let pushed : c.if-not-last_includes.once.items ≡ once ++ term ∷ [] = search rules in
+          let pushed : c.if-not-last_includes.once.items ≡ once ++ term ∷ [] = ap (λ v. v.items) w.once-is ∙ w.in_ok-push.ensures.items in
           subst P (sym pushed) (values_push (take i sorted) once term c.loop-term.invariant)
       | else-not-last_includes w ↦
           let known : IsWithinOne once term =
@@ -34,6 +35,12 @@ pub returns : goal.returns
 returns c =
     let sorted = c.deref-term-items.result.now in
     let permuted : IsPermutation c.args.terms.now sorted =
-    rw c.deref-term-items.ensures.value (subst (λ (ts : List Term). IsPermutation ts c.sort_by_key.new.self.items) c.in_ok-sorted.ensures.items c.sort_by_key.ensures.permutation) in
+    rw c.deref-term-items.ensures.value (subst (λ (ts : List Term). IsPermutation ts c.sort_unstable_by_key.new.self.items) c.in_ok-sorted.ensures.items c.sort_unstable_by_key.ensures.permutation) in
     values_permuted c.args.terms.now sorted c.loop-term.once.items permuted
     (subst (λ (ts : List Term). HasSameValues ts c.loop-term.once.items) (take_all c.loop-term.term-index sorted c.loop-term-test.false) c.loop-term.invariant)
+
+pub returns-in_err-sorted : goal.returns-in_err-sorted
+returns-in_err-sorted c = IfOk-from_err c.from_residual.result _ c.from_residual.ensures.0
+
+pub returns-in_err-push : goal.returns-in_err-push
+returns-in_err-push c = IfOk-from_err c.from_residual-in_err-push.result _ c.from_residual-in_err-push.ensures.0

@@ -1,7 +1,7 @@
 use Rattle.std.proofs.Common.{◌≡◌, ℕ, ◌∙◌, ◌++◌, true, Option, List, ap, sym, subst, refl, rules}
 use Rattle.std.specs.List.{All, filter}
 use Rattle.std.proofs.lemmas.List.Elements.{filter_passes}
-use Rattle.std.proofs.lemmas.Result.{IfOk-weaker}
+use Rattle.std.proofs.lemmas.Result.{IfOk-weaker, IfOk-from_err}
 use Rattle.cover_logic.specs.declared.term.Term.{Term}
 use Rattle.cover_logic.specs.Inner.Pair.{agree}
 use Rattle.cover_logic.specs.Inner.Rows.{IsUncovered}
@@ -44,3 +44,9 @@ find_near_gap-returns t c =
     (λ gap h. gap_from_halves c.args.part c.with_literal.result c.with_literal-2.result c.args.near.now _ c.with_literal.ensures.half c.with_literal-2.ensures.half
     (subst (λ (o : Option ℕ). IsUncovered c.with_literal.result c.args.near.now o) c.in_default-2.is c.in_ok-gap.ensures) gap h)
     c.find_gap-2.ensures
+
+pub find_gap-returns-in_err-add_overlapping : goal.find_gap-returns-in_err-add_overlapping
+find_gap-returns-in_err-add_overlapping t c = IfOk-from_err c.from_residual.result _ c.from_residual.ensures.0
+
+pub find_near_gap-returns-in_err-gap : goal.find_near_gap-returns-in_err-gap
+find_near_gap-returns-in_err-gap t c = IfOk-from_err c.from_residual.result _ c.from_residual.ensures.0

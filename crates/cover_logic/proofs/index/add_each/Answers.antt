@@ -1,3 +1,4 @@
+use Rattle.std.proofs.lemmas.Result.{IfOk-from_err}
 use Rattle.std.proofs.Common.{◌≡◌, ◌+◌, ◌∙◌, List, ◌∷◌, [], ◌++◌, take, true, refl, sym, subst, ap, rules}
 use Rattle.std.proofs.lemmas.List.{take_all, take_more}
 use Rattle.cover_logic.specs.declared.index.Node.{Node}
@@ -16,7 +17,7 @@ loop-term-preserved c =
     let terms = c.args.terms.now in
     let i = c.loop-term.term-index in
     let node : Node = record { term = term; from = c.len-from.result; is_listed = true } in
-    let pushed : c.push.new.self.items ≡ c.loop-term.nodes.items ++ node ∷ [] = search rules in
+    let pushed : c.push.new.self.items ≡ c.loop-term.nodes.items ++ node ∷ [] = c.in_ok-push.ensures.items in
     let more : take (i + 1) terms ≡ take i terms ++ term ∷ [] =
     take_more terms i term c.loop-term-test.true ∙ ap (λ (t : Term). take i terms ++ t ∷ []) (sym c.term-item.is) in
     rw (more, pushed) (added_term before c.loop-term.nodes.items (take i terms) node c.loop-term.invariant refl (search rules))
@@ -25,3 +26,6 @@ pub returns : goal.returns
 returns c =
     subst (λ (ts : List Term). IsAdded c.args.nodes.now.items ts c.loop-term.nodes.items)
     (take_all c.loop-term.term-index c.args.terms.now c.loop-term-test.false) c.loop-term.invariant
+
+pub returns-in_err-push : goal.returns-in_err-push
+returns-in_err-push c = IfOk-from_err c.from_residual.result _ c.from_residual.ensures.0

@@ -1,4 +1,5 @@
-use Rattle.std.proofs.Common.{◌≡◌, ◌+◌, ◌∙◌, ℕ, List, ◌∷◌, [], ◌++◌, drop, length, ap, sym, subst, rules}
+use Rattle.std.proofs.lemmas.Result.{IfOk-from_err}
+use Rattle.std.proofs.Common.{◌≡◌, ◌+◌, ◌∙◌, ℕ, List, ◌∷◌, [], ◌++◌, drop, length, ap, sym, subst}
 use Rattle.std.specs.List.{All, Contains}
 use Rattle.std.proofs.lemmas.List.{drop_all, with_items_is}
 use Rattle.std.proofs.lemmas.List.Elements.{All-append, All-drop, Contains-get_or}
@@ -57,7 +58,7 @@ loop-i-preserved c =
       | then-is_some+in_ok-push w ↦
           let after = w.fill.new.chart in
           let filled : IsFilled width row 0 chart after = subst (λ (ns : List ℕ). IsFilled width row 0 ns after) w.deref_mut.ensures.value w.fill.ensures in
-          let pushed : c.if-is_some.kept.items ≡ kept ++ row ∷ [] = search rules in
+          let pushed : c.if-is_some.kept.items ≡ kept ++ row ∷ [] = ap (λ v. v.items) w.kept-is ∙ w.in_ok-push.ensures.items in
           let charted : c.if-is_some.chart.items ≡ after = ap (λ v. v.items) w.chart-is ∙ with_items_is c.loop-i.chart after (w.fill.ensures.size ∙ w.deref_mut.ensures.len) in
           rw (pushed, charted) (
             row_kept on rows kept rest (kept ++ rest) row c.find-sole.result before among alike sole (sym c.is_some.ensures ∙ w.if-is_some.true),
@@ -71,3 +72,18 @@ loop-i-preserved c =
 
 pub returns : goal.returns
 returns c = needed_from_kept c.args.on.now c.args.rows.now c.loop-i.kept.items _ (drop_all c.loop-i.i c.args.rows.now c.loop-i-test.false) c.loop-i.invariant.0
+
+pub lasts_on-requires-clause-few : goal.lasts_on-requires-clause-few
+lasts_on-requires-clause-few c = c.requires.few
+
+pub lasts_on-requires-clause-fits : goal.lasts_on-requires-clause-fits
+lasts_on-requires-clause-fits c = c.requires.fits
+
+pub lasts_on-requires-clause-on_fits : goal.lasts_on-requires-clause-on_fits
+lasts_on-requires-clause-on_fits c = c.requires.on_fits
+
+pub returns-in_err-chart : goal.returns-in_err-chart
+returns-in_err-chart c = IfOk-from_err c.from_residual.result _ c.from_residual.ensures.0
+
+pub returns-in_err-push : goal.returns-in_err-push
+returns-in_err-push c = IfOk-from_err c.from_residual-in_err-push.result _ c.from_residual-in_err-push.ensures.0

@@ -1,3 +1,4 @@
+use Rattle.std.proofs.lemmas.Result.{IfOk-from_err}
 use Rattle.std.proofs.Common.{◌≡◌, ◌<◌, ◌+◌, List, [], ◌∷◌, ◌++◌, subst, rules, arith, vec_len}
 use Rattle.std.specs.List.{Contains}
 use Rattle.std.proofs.lemmas.List.Elements.{Contains-push}
@@ -33,7 +34,7 @@ pub loop-seed-preserved : goal.loop-seed-preserved
 loop-seed-preserved c =
     let left = c.pop.new.self.items in
     let popped : c.loop-seed.left.items ≡ left ++ c.in-Some.seed ∷ [] = search rules in
-    let pushed : c.push.new.self.items ≡ c.loop-seed.rows.items ++ c.in_ok-row.row ∷ [] = search rules in
+    let pushed : c.push.new.self.items ≡ c.loop-seed.rows.items ++ c.in_ok-row.row ∷ [] = c.in_ok-push.ensures.items in
     let before : ArePrimes c.args.on.now (terms_of c.args.off.now) c.args.width (Contains (left ++ c.in-Some.seed ∷ [])) c.loop-seed.rows.items =
     subst (λ (ts : List Term). ArePrimes c.args.on.now (terms_of c.args.off.now) c.args.width (Contains ts) c.loop-seed.rows.items) popped c.loop-seed.invariant in
     let row = c.in_ok-row.ensures in
@@ -45,3 +46,15 @@ pub returns : goal.returns
 returns c =
     let none : c.loop-seed.left.items ≡ [] = search rules in
     primes_all _ _ _ (Contains c.loop-seed.left.items) _ (λ t h. Contains-none t (subst (λ (ts : List Term). Contains ts t) none h)) c.loop-seed.invariant
+
+pub plain_row-requires-clause-width : goal.plain_row-requires-clause-width
+plain_row-requires-clause-width c = c.requires.width
+
+pub returns-in_err-left : goal.returns-in_err-left
+returns-in_err-left c = IfOk-from_err c.from_residual.result _ c.from_residual.ensures.0
+
+pub returns-in_err-row : goal.returns-in_err-row
+returns-in_err-row c = IfOk-from_err c.from_residual-in_err-row.result _ c.from_residual-in_err-row.ensures.0
+
+pub returns-in_err-push : goal.returns-in_err-push
+returns-in_err-push c = IfOk-from_err c.from_residual-in_err-push.result _ c.from_residual-in_err-push.ensures.0

@@ -1,6 +1,6 @@
 use Rattle.std.proofs.Common.{◌≡◌, ℕ, subst, arith}
 use Rattle.cover_logic.specs.Inner.Index.{terms_of}
-use Rattle.cover_logic.proofs.Raising.{IsPrimeBelow, raised_once, prime_from_below}
+use Rattle.cover_logic.proofs.Raising.{IsPrimeBelow, raised_once, prime_from_below, raised_row}
 use Rattle.cover_logic.proofs.raise.raise.Goals as goal
 
 pub loop-column-preserved : goal.loop-column-preserved
@@ -13,3 +13,18 @@ returns-clause-prime c =
     let all : c.loop-column.column ≡ c.args.width = omega arith in
     prime_from_below (terms_of c.args.off.now) c.args.width c.loop-column.raised c.loop-column.invariant.fits
     (subst (λ (n : ℕ). IsPrimeBelow (terms_of c.args.off.now) n c.loop-column.raised) all c.loop-column.invariant.prime)
+
+pub loop-column-init : goal.loop-column-init
+loop-column-init c = raised_row c.args.row (terms_of c.args.off.now) c.args.width c.requires.clear c.requires.fits
+
+pub dashed-raised-requires-clause-clear : goal.dashed-raised-requires-clause-clear
+dashed-raised-requires-clause-clear c = c.loop-column.invariant.clear
+
+pub returns-clause-includes : goal.returns-clause-includes
+returns-clause-includes c = c.loop-column.invariant.includes
+
+pub returns-clause-clear : goal.returns-clause-clear
+returns-clause-clear c = c.loop-column.invariant.clear
+
+pub returns-clause-fits : goal.returns-clause-fits
+returns-clause-fits c = c.loop-column.invariant.fits

@@ -9,3 +9,9 @@ returns c =
     let found : IsFound table.width c.args.row 0 table.marks.items c.find.result =
     subst (λ (ns : List ℕ). IsFound table.width c.args.row 0 ns c.find.result) c.deref.ensures.value c.find.ensures in
     λ h. all_held table.width table.terms.items table.marks.items c.args.row c.find.result c.requires.table.told c.requires.fits found (c.is_none.ensures ∙ ap not h)
+
+pub find-requires-clause-few : goal.find-requires-clause-few
+find-requires-clause-few c = c.requires.table.few
+
+pub find-requires-clause-fits : goal.find-requires-clause-fits
+find-requires-clause-fits c = c.requires.fits

@@ -1,3 +1,4 @@
+use Rattle.std.proofs.lemmas.Result.{IfOk-from_err}
 use Rattle.std.proofs.Common.{◌≡◌, ◌+◌, ◌∙◌, List, [], ◌∷◌, ◌++◌, take, ap, sym, subst}
 use Rattle.std.proofs.lemmas.List.{take_all, take_more}
 use Rattle.cover_logic.specs.declared.term.Term.{Term}
@@ -33,3 +34,12 @@ loop-term-preserved c =
 pub returns : goal.returns
 returns c =
     subst (λ (ts : List Term). IsTableOf c.args.width ts c.loop-term.table) (take_all c.loop-term.term-index c.args.terms.now c.loop-term-test.false) c.loop-term.invariant
+
+pub new-requires : goal.new-requires
+new-requires c = c.requires.few
+
+pub returns-in_err-table : goal.returns-in_err-table
+returns-in_err-table c = IfOk-from_err c.from_residual.result _ c.from_residual.ensures.0
+
+pub returns-in_err-add : goal.returns-in_err-add
+returns-in_err-add c = IfOk-from_err c.from_residual-in_err-add.result _ c.from_residual-in_err-add.ensures.0

@@ -1,5 +1,0 @@
-use Rattle.cover_logic.proofs.Entries.{AreFirst}
-use Rattle.cover_logic.proofs.bundles.numbered.Given as goal
-
-abbrev pub invariant-loop-number : goal.invariant-loop-number
-invariant-loop-number l = AreFirst l.terms l.number l.entries.items

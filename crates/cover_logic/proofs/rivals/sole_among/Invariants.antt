@@ -1,7 +1,0 @@
-use Rattle.std.proofs.Common.{take}
-use Rattle.std.specs.List.{All}
-use Rattle.cover_logic.proofs.NeededRows.{IsSharedAt}
-use Rattle.cover_logic.proofs.rivals.sole_among.Given as goal
-
-abbrev pub invariant-loop-entry : goal.invariant-loop-entry
-invariant-loop-entry l = All (IsSharedAt l.row l.others) (take l.entry-index l.near)
