@@ -1,29 +1,38 @@
 -- Numbers and output fields, one byte after another.
-use Rattle.std.proofs.Common.{◌≡◌, ℕ, suc, ◌+◌, ◌-◌, ◌*◌, ◌%◌, ◌^◌, ◌<◌, ◌≤◌, true, false, cond, eqb, List, [], ◌∷◌, ◌++◌, length, get_or, take, ap, sym, ◌∙◌, arith}
+use Rattle.std.proofs.Common.{◌≡◌, ℕ, suc, ◌+◌, ◌-◌, ◌*◌, ◌%◌, ◌^◌, ◌<◌, ◌≤◌, Bool, true, false, ◌&&◌, cond, eqb, List, [], ◌∷◌, ◌++◌, length, get_or, take, ap, sym, ◌∙◌, arith}
 use Rattle.std.proofs.Math.Nat.{mod-eq_of_lt, pow-le-pow_right}
 use Rattle.std.proofs.Math.Pow.{pow_pos}
+use Rattle.std.proofs.lemmas.Bool.{false_from_ne_true, false≢true}
 use Rattle.std.proofs.lemmas.Bool.Decides.{nat_tests}
 use Rattle.std.proofs.lemmas.Int.Digits.{digits_value_more}
 use Rattle.std.proofs.lemmas.List.{take_more, length-take-le}
+use Rattle.std.proofs.lemmas.List.Folds.{list_all-append}
 use Rattle.std.proofs.lemmas.List.Sums.{AllPass-from_list_all}
 use Rattle.std.specs.Char.{digit_value, is_ascii_digit}
 use Rattle.std.specs.List.{list_all}
 use Rattle.std.specs.Str.Parse.{digits_value}
 use Rattle.kiss2.specs.Words.{care_in, value_in}
 
--- a digit at a place of digits
-pub record IsDigitAt (field : List ℕ) (place : ℕ) : Type 0 where
-  pub low : 48 ≤ get_or field place 0
-  pub high : get_or field place 0 ≤ 57
+-- a digit
+pub record IsDigit (c : ℕ) : Type 0 where
+  pub low : 48 ≤ c
+  pub high : c ≤ 57
 
-pub digit_at : (field : List ℕ) (place : ℕ) → list_all is_ascii_digit field ≡ true → place < length field → IsDigitAt field place
-digit_at field place digits within =
-    let c = get_or field place 0 in
-    let is : is_ascii_digit c ≡ true = AllPass-from_list_all is_ascii_digit field digits place 0 within in
-    record { low = grind (arith, nat_tests); high = grind (arith, nat_tests) }
+pub digit_is : (c : ℕ) → is_ascii_digit c ≡ true → IsDigit c
+digit_is c is = record { low = grind (arith, nat_tests); high = grind (arith, nat_tests) }
 
 pub digit_value_of : (c : ℕ) → 48 ≤ c → c ≤ 57 → digit_value c ≡ c - 48
 digit_value_of c low high = grind (arith, nat_tests)
+
+-- bytes that all pass a test, and one more
+pub all_more : (p : ℕ → Bool) (field : List ℕ) (place : ℕ) → place < length field → list_all p (take place field) ≡ true → p (get_or field place 0) ≡ true → list_all p (take (place + 1) field) ≡ true
+all_more p field place within before is =
+    ap (list_all p) (take_more field place 0 within)
+    ∙ (list_all-append p (take place field) (get_or field place 0 ∷ []) ∙ (ap (λ b. b && (p (get_or field place 0) && true)) before ∙ ap (λ b. b && true) is))
+
+-- a byte that does not
+pub not_all : (p : ℕ → Bool) (field : List ℕ) (place : ℕ) → place < length field → p (get_or field place 0) ≡ false → list_all p field ≡ false
+not_all p field place within other = false_from_ne_true (list_all p field) (λ all. false≢true (sym other ∙ AllPass-from_list_all p field all place 0 within))
 
 -- one digit more, while there is room for it
 pub digit_room : (n place digit : ℕ) → n < 10 ^ place → place < 9 → digit ≤ 9 → 10 * n + digit < 2 ^ 32
@@ -39,10 +48,9 @@ digit_below n place digit below small =
     let power : 10 ^ suc place ≡ 10 * 10 ^ place = omega arith in
     rw (next, power) (omega arith)
 
-pub digits_more : (field : List ℕ) (place n digit : ℕ) → place < length field → list_all is_ascii_digit field ≡ true → n ≡ digits_value 10 (take place field)
+pub digits_more : (field : List ℕ) (place n digit : ℕ) → place < length field → IsDigit (get_or field place 0) → n ≡ digits_value 10 (take place field)
     → digit ≡ get_or field place 0 - 48 → 10 * n + digit ≡ digits_value 10 (take (place + 1) field)
-digits_more field place n digit within digits so_far is_digit =
-    let d = digit_at field place digits within in
+digits_more field place n digit within d so_far is_digit =
     let value : digit_value (get_or field place 0) ≡ get_or field place 0 - 48 = digit_value_of (get_or field place 0) d.low d.high in
     omega (arith, digits_value_more 10 field place within)
 

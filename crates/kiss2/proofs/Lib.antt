@@ -1,8 +1,10 @@
 pub mod Digits
 pub mod Finding
 pub mod Stood
+pub mod Taken
 pub mod Once
 pub mod RowStands
+pub mod Front
 pub mod Ending
 pub mod Closing
 pub mod GoodLines

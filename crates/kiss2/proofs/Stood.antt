@@ -121,6 +121,12 @@ module _ (before : List Line) (line : Line) where
       ∙ (skip (stands_again (line_kind_of line) before) Repeated _ (ap (λ k. stands_again k before) is ∙ fresh)
       ∙ (only (form_fault (line_kind_of line) before line) ∙ ap (λ k. form_fault k before line) is))
 
+  -- that of a line with a word that is allowed once
+  pub fault_word : (kind : LineKind) → line.bad ≡ false → line_kind_of line ≡ kind → fault_in before line ≡ first_of (fault_where (stands_again kind before) Repeated ∷ form_fault kind before line ∷ [])
+  unfolding fault_in
+  fault_word kind clean is =
+      skip line.bad BadByte _ clean ∙ ap (λ k. first_of (fault_where (stands_again k before) Repeated ∷ form_fault k before line ∷ [])) is
+
 -- a kind of line that says nothing
 abbrev pub says_nothing : LineKind → Bool
 says_nothing Blank = true

@@ -1,7 +1,7 @@
 //! Judges the operands of a line.
 ghost use Rattle.std.specs.Prelude.{◌≡◌, ◌+◌, ◌<◌, ◌^◌, All, [], ◌++◌, false, true, not, IfOk, MatchResult, None, Some, length, unwrap_or};
 ghost use Rattle.std.specs.List.{list_any};
-ghost use Rattle.kiss2.specs.Faults.{count_fault, has_twice, is_not_one, long_name, names_fault, number_fault, operand_of, reset_fault};
+ghost use Rattle.kiss2.specs.Faults.{count_fault, has_twice, long_name, names_fault, number_fault, operand_of, reset_fault};
 ghost use Rattle.kiss2.specs.Words.{has_backslash, decimal_value};
 ghost use Rattle.kiss_file.specs.Names.{AreDistinct};
 ghost use Rattle.kiss2.specs.Inner.Judging.{Judges};
@@ -43,22 +43,14 @@ impl From<KissKind> for LineFail {
     }
 }
 
-/// The one field after a word.
-fn one_operand(fields: &[Name]) -> Result<&[u8], KissKind>
-    ensures { MatchResult result (λ field. (is_not_one fields.now ≡ false) × (field.now ≡ operand_of fields.now)) (λ kind. (is_not_one fields.now ≡ true) × (kind ≡ KissKind.BadFields)) }
-{
-    match fields {
-        [field] => Ok(field.bytes()),
-        _ => Err(KissKind::BadFields),
-    }
-}
-
 /// The number of `.i` or `.o`.
 pub(crate) fn count_said(fields: &[Name], what: KissLimit, limit: u8) -> Result<u8, KissKind>
     ensures { MatchResult result (λ count. (count_fault what limit fields.now ≡ None) × (count ≡ decimal_value (operand_of fields.now))) (λ kind. count_fault what limit fields.now ≡ Some kind) }
 {
-    let field = one_operand(fields)?;
-    let Some(number) = number_in(field) else {
+    let [field] = fields else {
+        return Err(KissKind::BadFields);
+    };
+    let Some(number) = number_in(field.bytes()) else {
         return Err(KissKind::BadNumber);
     };
     if number == 0 {
@@ -77,8 +69,10 @@ pub(crate) fn count_said(fields: &[Name], what: KissLimit, limit: u8) -> Result<
 pub(crate) fn judge_number(fields: &[Name]) -> Result<(), KissKind>
     ensures { MatchResult result (λ _. number_fault fields.now ≡ None) (λ kind. number_fault fields.now ≡ Some kind) }
 {
-    let field = one_operand(fields)?;
-    match number_in(field) {
+    let [field] = fields else {
+        return Err(KissKind::BadFields);
+    };
+    match number_in(field.bytes()) {
         Some(_) => Ok(()),
         None => Err(KissKind::BadNumber),
     }
@@ -106,16 +100,23 @@ pub(crate) fn reset_said(fields: &[Name]) -> Result<&[u8], KissKind>
     requires { All (λ name. length name < 2 ^ 32) fields.now }
     ensures { MatchResult result (λ name. (reset_fault fields.now ≡ None) × (name.now ≡ operand_of fields.now)) (λ kind. reset_fault fields.now ≡ Some kind) }
 {
-    let name = one_operand(fields)?;
+    let [name] = fields else {
+        return Err(KissKind::BadFields);
+    };
     judge_lengths(fields)?;
-    Ok(name)
+    Ok(name.bytes())
 }
 
 /// Whether some name has a backslash.
 fn some_backslash(names: &[Name]) -> bool
     ensures { result ≡ list_any has_backslash names.now }
 {
-    names.iter().any(|name| holds_backslash(name.bytes()))
+    for name in names {
+        if holds_backslash(name.bytes()) {
+            return true;
+        }
+    }
+    false
 }
 
 /// Adds names to others, and says whether each was new. If one was not, some are left out.
@@ -136,16 +137,16 @@ fn add_new(seen: &mut StateNames, names: &[Name]) -> Result<bool, AllocError>
     Ok(true)
 }
 
-/// Adds two lists of names to none, and says whether each name was new. If one was not, some are left out.
+/// Adds two lists of names to none, and says whether some name came twice. If one did, some are left out.
 fn add_both(seen: &mut StateNames, first: &[Name], second: &[Name]) -> Result<bool, AllocError>
     requires few { length first.now + length second.now < 65535 }
     requires empty { seen.old ≡ [] }
-    ensures { IfOk result (λ new. has_twice (first.now ++ second.now) ≡ not new) }
+    ensures { IfOk result (λ twice. twice ≡ has_twice (first.now ++ second.now)) }
 {
     if !add_new(seen, first)? {
-        return Ok(false);
+        return Ok(true);
     }
-    add_new(seen, second)
+    Ok(!add_new(seen, second)?)
 }
 
 /// Whether some name occurs twice in two lists together.
@@ -154,8 +155,7 @@ fn stands_twice(alloc: Global, first: &[Name], second: &[Name]) -> Result<bool, 
     ensures { IfOk result (λ twice. twice ≡ has_twice (first.now ++ second.now)) }
 {
     let mut seen = StateNames::new(alloc);
-    let new = add_both(&mut seen, first, second)?;
-    Ok(!new)
+    add_both(&mut seen, first, second)
 }
 
 /// The names of `.ilb` or `.ob`, given the number of inputs or outputs and the names of the other word.

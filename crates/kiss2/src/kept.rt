@@ -9,6 +9,7 @@ use crate::judging::LineFail;
 use crate::line_kind::is_row;
 use crate::said::Said;
 use hs_io::Line;
+use kiss_file::StateNames;
 use std::alloc::{AllocError, Global};
 
 /// What is kept of the lines so far. Lines without fields take no room in it.
@@ -25,7 +26,17 @@ impl Kept {
         ensures { Keeps result.said result.rows.items [] }
     {
         Kept {
-            said: Said::new(alloc),
+            said: Said {
+                inputs: None,
+                outputs: None,
+                row_word: false,
+                state_word: false,
+                reset: None,
+                input_names: None,
+                output_names: None,
+                rows: 0,
+                states: StateNames::new(alloc),
+            },
             rows: Vec::new(alloc),
         }
     }

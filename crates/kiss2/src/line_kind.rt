@@ -3,6 +3,7 @@ ghost use Rattle.kiss2.specs.Words.{is_ending, is_of_kind, line_kind_of, kind_of
 ghost use Rattle.kiss2.specs.declared.line_kind.LineKind.TheVariants.{Row};
 ghost use Rattle.kiss2.specs.Inner.Kinds.{kind_of_later_word};
 
+use crate::words::is_word;
 use hs_io::Line;
 
 /// What a line of a KISS2 text is, by its first field.
@@ -61,15 +62,15 @@ pub(crate) fn ends(line: &Line) -> bool
 fn first_field_kind(field: &[u8]) -> LineKind
     ensures { result ≡ kind_of_field field.now }
 {
-    if field == b".e".as_slice() || field == b".end".as_slice() {
+    if is_word(field, b".e") || is_word(field, b".end") {
         LineKind::End
-    } else if field == b".i".as_slice() {
+    } else if is_word(field, b".i") {
         LineKind::InputCount
-    } else if field == b".o".as_slice() {
+    } else if is_word(field, b".o") {
         LineKind::OutputCount
-    } else if field == b".p".as_slice() {
+    } else if is_word(field, b".p") {
         LineKind::RowCount
-    } else if field == b".s".as_slice() {
+    } else if is_word(field, b".s") {
         LineKind::StateCount
     } else {
         later_word_kind(field)
@@ -80,11 +81,11 @@ fn first_field_kind(field: &[u8]) -> LineKind
 fn later_word_kind(field: &[u8]) -> LineKind
     ensures { result ≡ kind_of_later_word field.now }
 {
-    if field == b".r".as_slice() {
+    if is_word(field, b".r") {
         LineKind::Reset
-    } else if field == b".ilb".as_slice() {
+    } else if is_word(field, b".ilb") {
         LineKind::InputNames
-    } else if field == b".ob".as_slice() {
+    } else if is_word(field, b".ob") {
         LineKind::OutputNames
     } else if field.first() == Some(&b'.') {
         LineKind::Unknown

@@ -27,31 +27,22 @@ pub fn read(alloc: Global, bytes: &[u8]) -> Result<KissFile, KissFail>
     ensures never_refused { (file : KissFile) → Kiss bytes.now file → MatchResult result (λ read. read ≡ file) (λ fail. fail ≡ KissFail.NoMemory) }
     ensures never_read { (fault : KissFault) → IsKissFault bytes.now fault.line fault.kind → MatchResult result (λ _. ⊥) (λ fail. (fail ≡ KissFail.Refused fault) ⊎ (fail ≡ KissFail.NoMemory)) }
 {
-    read_text(alloc, bytes)
+    let mut kept = Kept::new(alloc);
+    read_text(alloc, bytes, &mut kept)
 }
 
-/// The machine, or the first fault.
-fn read_text(alloc: Global, bytes: &[u8]) -> Result<KissFile, KissFail>
-    requires { length bytes.now < 2 ^ 32 }
+/// The machine, or the first fault. The lines are kept in what was empty before.
+fn read_text(alloc: Global, bytes: &[u8], kept: &mut Kept) -> Result<KissFile, KissFail>
+    requires short { length bytes.now < 2 ^ 32 }
+    requires empty { Keeps kept.old.said kept.old.rows.items [] }
     ensures read { IfOk result (λ file. Kiss bytes.now file) }
     ensures refused { (fault : KissFault) → result ≡ Err (KissFail.Refused fault) → IsKissFault bytes.now fault.line fault.kind }
 {
-    let Kept { said, rows } = judge(alloc, bytes)?;
-    if let Some(fault) = closing(&said) {
+    judge_lines(alloc, bytes, kept)?;
+    if let Some(fault) = closing(&kept.said) {
         return Err(KissFail::Refused(fault));
     }
-    Ok(record_of(alloc, rows.as_slice(), said)?)
-}
-
-/// What the lines before the ending word say, or the first fault of a line.
-fn judge(alloc: Global, bytes: &[u8]) -> Result<Kept, KissFail>
-    requires { length bytes.now < 2 ^ 32 }
-    ensures kept { IfOk result (λ kept. Keeps kept.said kept.rows.items (lines_read bytes.now)) }
-    ensures refused { (fault : KissFault) → result ≡ Err (KissFail.Refused fault) → IsLineFault (lines_read bytes.now) fault.line fault.kind }
-{
-    let mut kept = Kept::new(alloc);
-    judge_lines(alloc, bytes, &mut kept)?;
-    Ok(kept)
+    Ok(record_of(alloc, kept)?)
 }
 
 /// Judges the lines before the ending word, and keeps what they say.

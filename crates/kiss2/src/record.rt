@@ -1,5 +1,5 @@
 //! The record of lines without a fault, by the lines of their rows.
-ghost use Rattle.std.specs.Prelude.{ℕ, ◌≡◌, ◌<◌, ◌≤◌, All, Contains, List, IfNone, IfOk, IfSome, None, OnOk, Some, false, true, length, slice_get, slice_index_or};
+ghost use Rattle.std.specs.Prelude.{ℕ, ◌≡◌, ◌<◌, ◌≤◌, All, Contains, List, [], IfNone, IfOk, IfSome, None, OnOk, Some, false, true, length, slice_get, slice_index_or};
 ghost use Rattle.kiss_file.specs.declared.file.KissRow.{KissRow};
 ghost use Rattle.std.specs.List.{AllZip};
 ghost use Rattle.cubes.specs.Cube.{text_of};
@@ -8,8 +8,9 @@ ghost use Rattle.kiss2.specs.Kiss.{IsNextOf, IsRecordOf, IsRowOf, closing_fault}
 ghost use Rattle.kiss2.specs.Standing.{names_in_column};
 ghost use Rattle.kiss2.specs.Words.{is_character_field, is_open};
 ghost use Rattle.kiss2.specs.Inner.Good.{IsGoodRow, IsKnownRow, IsTableOf};
-ghost use Rattle.kiss2.specs.Inner.Judging.{Keeps, Stands, names_in_columns, once_after};
+ghost use Rattle.kiss2.specs.Inner.Judging.{Keeps, Stands, once_after};
 
+use crate::kept::Kept;
 use crate::said::{ResetLine, Said, add_name};
 use crate::words::{field_of, is_open_field, outputs_in_field};
 use cubes::Cube;
@@ -26,14 +27,19 @@ pub(crate) struct Table {
     reset: u16,
 }
 
-/// The record that lines without a fault give, by what is kept of them.
-pub(crate) fn record_of(alloc: Global, lines: &[Line], said: Said) -> Result<KissFile, AllocError>
-    requires { (all : List Line) × Keeps said lines.now all × (closing_fault all ≡ None) }
-    ensures { (all : List Line) → Keeps said lines.now all → closing_fault all ≡ None → IfOk result (λ file. IsRecordOf all file) }
+/// The record that lines without a fault give, by what is kept of them. It takes the names of inputs and outputs.
+pub(crate) fn record_of(alloc: Global, kept: &mut Kept) -> Result<KissFile, AllocError>
+    requires { (all : List Line) × Keeps kept.old.said kept.old.rows.items all × (closing_fault all ≡ None) }
+    ensures { (all : List Line) → Keeps kept.old.said kept.old.rows.items all → closing_fault all ≡ None → IfOk result (λ file. IsRecordOf all file) }
 {
-    let counts = counts_of(&said);
-    let table = table_of(alloc, lines, &said, counts.0)?;
-    Ok(file_of(counts, said, table))
+    let counts = counts_of(&kept.said);
+    let mut table = Table {
+        states: StateNames::new(alloc),
+        rows: Rows::new(alloc),
+        reset: 0,
+    };
+    fill_table(&mut table, kept.rows.as_slice(), &kept.said, counts.0)?;
+    Ok(file_of(counts, &mut kept.said, table))
 }
 
 /// The numbers of inputs and outputs, which were both said.
@@ -49,27 +55,26 @@ fn counts_of(said: &Said) -> (u8, u8)
     }
 }
 
-/// What the lines of the rows give, by what is kept of all lines.
-fn table_of(alloc: Global, lines: &[Line], said: &Said, inputs: u8) -> Result<Table, AllocError>
+/// Fills an empty table with what the lines of the rows give, by what is kept of all lines.
+fn fill_table(table: &mut Table, lines: &[Line], said: &Said, inputs: u8) -> Result<(), AllocError>
+    requires no_states { table.old.states ≡ [] }
+    requires no_rows { table.old.rows ≡ [] }
     requires kept { (all : List Line) × Keeps said.now lines.now all × (closing_fault all ≡ None) }
     requires inputs { said.now.inputs ≡ Some inputs }
-    ensures { (all : List Line) → Keeps said.now lines.now all → closing_fault all ≡ None → IfOk result (λ table. IsTableOf all table) }
+    ensures { (all : List Line) → Keeps said.now lines.now all → closing_fault all ≡ None → OnOk result (IsTableOf all table.new) }
 {
-    let states = states_of(alloc, lines)?;
-    let rows = rows_of(alloc, lines, &states, inputs)?;
-    let reset = reset_of(&said.reset, &states, rows.as_slice());
-    Ok(Table {
-        states,
-        rows,
-        reset,
-    })
+    add_column(&mut table.states, lines, 1)?;
+    add_column(&mut table.states, lines, 2)?;
+    add_rows(&mut table.rows, lines, &table.states, inputs)?;
+    table.reset = reset_of(&said.reset, &table.states, table.rows.as_slice());
+    Ok(())
 }
 
 /// The record of the numbers of inputs and outputs, the names that were said and the rows.
-fn file_of(counts: (u8, u8), said: Said, table: Table) -> KissFile
-    requires inputs { said.inputs ≡ Some counts.0 }
-    requires outputs { said.outputs ≡ Some counts.1 }
-    ensures { (all : List Line) → Stands said all → IsTableOf all table → IsRecordOf all result }
+fn file_of(counts: (u8, u8), said: &mut Said, table: Table) -> KissFile
+    requires inputs { said.old.inputs ≡ Some counts.0 }
+    requires outputs { said.old.outputs ≡ Some counts.1 }
+    ensures { (all : List Line) → Stands said.old all → IsTableOf all table → IsRecordOf all result }
 {
     KissFile {
         inputs: counts.0,
@@ -77,21 +82,9 @@ fn file_of(counts: (u8, u8), said: Said, table: Table) -> KissFile
         reset: table.reset,
         states: table.states,
         rows: table.rows,
-        input_names: said.input_names,
-        output_names: said.output_names,
+        input_names: said.input_names.take(),
+        output_names: said.output_names.take(),
     }
-}
-
-/// The names of the states in the order of their numbers.
-fn states_of(alloc: Global, lines: &[Line]) -> Result<StateNames, AllocError>
-    requires few { length (names_in_columns lines.now) ≤ 256 }
-    requires long { All (λ line. length line.fields ≡ 4) lines.now }
-    ensures { IfOk result (λ names. names ≡ names_in_columns lines.now) }
-{
-    let mut names = StateNames::new(alloc);
-    add_column(&mut names, lines, 1)?;
-    add_column(&mut names, lines, 2)?;
-    Ok(names)
 }
 
 /// Adds the names at a place of the rows.
@@ -107,25 +100,25 @@ fn add_column(names: &mut StateNames, lines: &[Line], place: usize) -> Result<()
     Ok(())
 }
 
-/// The rows in order.
-fn rows_of(
-    alloc: Global,
+/// Adds the rows to none, in order.
+fn add_rows(
+    rows: &mut Rows,
     lines: &[Line],
     states: &StateNames,
     inputs: u8,
-) -> Result<Rows, AllocError>
+) -> Result<(), AllocError>
+    requires empty { rows.old ≡ [] }
     requires some_input { 1 ≤ inputs }
     requires inputs { inputs ≤ 32 }
     requires states { length states.now ≤ 256 }
     requires good { (outputs : ℕ) × (outputs ≤ 64) × All (IsGoodRow inputs outputs) lines.now }
     requires known { All (IsKnownRow states.now) lines.now }
-    ensures { IfOk result (λ rows. AllZip (IsRowOf states.now) lines.now rows) }
+    ensures { OnOk result (AllZip (IsRowOf states.now) lines.now rows.new) }
 {
-    let mut rows = Rows::new(alloc);
     for line in lines {
         rows.push(row_of(line, states, inputs))?;
     }
-    Ok(rows)
+    Ok(())
 }
 
 /// The row that a line gives.

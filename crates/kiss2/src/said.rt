@@ -1,9 +1,10 @@
 //! What the lines so far have said, and one line more.
-ghost use Rattle.std.specs.Prelude.{ℕ, ◌≡◌, ◌+◌, ◌<◌, ◌≤◌, ◌^◌, All, Err, List, [], ◌∷◌, ◌++◌, false, true, not, filter, nat_lt, IfErr, IfOk, MatchResult, None, OnOk, Ok, Some, length};
+ghost use Rattle.std.specs.Prelude.{ℕ, ◌≡◌, ◌+◌, ◌<◌, ◌≤◌, ◌^◌, All, Err, List, [], ◌∷◌, ◌++◌, false, true, not, filter, nat_lt, IfErr, IfOk, MatchResult, OnOk, Ok, Some, length, unwrap_or};
+ghost use Rattle.std.specs.Option.{is_some};
 ghost use Rattle.hs_io.specs.declared.lines.Line.{Line};
-ghost use Rattle.kiss2.specs.declared.line_kind.LineKind.TheVariants.{InputCount, InputNames, OutputCount, OutputNames, Reset, Row, RowCount, StateCount};
-ghost use Rattle.kiss2.specs.Faults.{fault_in, first_of, fault_where, row_fault};
-ghost use Rattle.kiss2.specs.Words.{current_field, is_character_field, is_name, line_kind_of, output_field};
+ghost use Rattle.kiss2.specs.declared.line_kind.LineKind.TheVariants.{Reset, Row};
+ghost use Rattle.kiss2.specs.Faults.{count_fault, fault_in, first_of, fault_where, names_fault, number_fault, operand_of, row_fault};
+ghost use Rattle.kiss2.specs.Words.{current_field, decimal_value, is_character_field, is_name, line_kind_of, output_field};
 ghost use Rattle.kiss2.specs.Inner.Judging.{IsSmall, Judges, Stands, once_after};
 
 use crate::fault::{KissKind, KissLimit};
@@ -42,24 +43,6 @@ pub(crate) struct Said {
 }
 
 impl Said {
-    /// Before the first line.
-    pub fn new(alloc: Global) -> Said
-        ensures stands { Stands result [] }
-        ensures small { IsSmall result }
-    {
-        Said {
-            inputs: None,
-            outputs: None,
-            row_word: false,
-            state_word: false,
-            reset: None,
-            input_names: None,
-            output_names: None,
-            rows: 0,
-            states: StateNames::new(alloc),
-        }
-    }
-
     /// Judges a line after those before it, and takes it if it has no fault.
     pub fn take_line(&mut self, alloc: Global, line: &Line) -> Result<(), LineFail>
         requires short { All (λ field. length field < 2 ^ 32) line.now.fields }
@@ -72,78 +55,32 @@ impl Said {
         }
         match line_kind(line) {
             LineKind::Blank | LineKind::End => Ok(()),
-            LineKind::InputCount => self.take_inputs(line),
-            LineKind::OutputCount => self.take_outputs(line),
-            LineKind::RowCount => self.take_row_count(line),
-            LineKind::StateCount => self.take_state_count(line),
+            LineKind::InputCount => {
+                take_count(&mut self.inputs, operands_of(line), KissLimit::Inputs, 32)
+            }
+            LineKind::OutputCount => {
+                take_count(&mut self.outputs, operands_of(line), KissLimit::Outputs, 64)
+            }
+            LineKind::RowCount => take_word(&mut self.row_word, operands_of(line)),
+            LineKind::StateCount => take_word(&mut self.state_word, operands_of(line)),
             LineKind::Reset => self.take_reset(alloc, line),
-            LineKind::InputNames => self.take_input_names(alloc, line),
-            LineKind::OutputNames => self.take_output_names(alloc, line),
+            LineKind::InputNames => take_names(
+                alloc,
+                &mut self.input_names,
+                self.inputs,
+                &self.output_names,
+                operands_of(line),
+            ),
+            LineKind::OutputNames => take_names(
+                alloc,
+                &mut self.output_names,
+                self.outputs,
+                &self.input_names,
+                operands_of(line),
+            ),
             LineKind::Unknown => Err(LineFail::Fault(KissKind::UnknownWord)),
             LineKind::Row => self.take_row(line),
         }
-    }
-
-    /// `.i`
-    fn take_inputs(&mut self, line: &Line) -> Result<(), LineFail>
-        requires clean { line.now.bad ≡ false }
-        requires kind { line_kind_of line.now ≡ InputCount }
-        requires small { IsSmall self.old }
-        ensures judged { (before : List Line) → Stands self.old before → Judges result (fault_in before line.now) (λ _. Stands self.new (before ++ line.now ∷ [])) }
-        ensures small { OnOk result (IsSmall self.new) }
-    {
-        if self.inputs.is_some() {
-            return Err(LineFail::Fault(KissKind::Repeated));
-        }
-        self.inputs = Some(count_said(operands_of(line), KissLimit::Inputs, 32)?);
-        Ok(())
-    }
-
-    /// `.o`
-    fn take_outputs(&mut self, line: &Line) -> Result<(), LineFail>
-        requires clean { line.now.bad ≡ false }
-        requires kind { line_kind_of line.now ≡ OutputCount }
-        requires small { IsSmall self.old }
-        ensures judged { (before : List Line) → Stands self.old before → Judges result (fault_in before line.now) (λ _. Stands self.new (before ++ line.now ∷ [])) }
-        ensures small { OnOk result (IsSmall self.new) }
-    {
-        if self.outputs.is_some() {
-            return Err(LineFail::Fault(KissKind::Repeated));
-        }
-        self.outputs = Some(count_said(operands_of(line), KissLimit::Outputs, 64)?);
-        Ok(())
-    }
-
-    /// `.p`
-    fn take_row_count(&mut self, line: &Line) -> Result<(), LineFail>
-        requires clean { line.now.bad ≡ false }
-        requires kind { line_kind_of line.now ≡ RowCount }
-        requires small { IsSmall self.old }
-        ensures judged { (before : List Line) → Stands self.old before → Judges result (fault_in before line.now) (λ _. Stands self.new (before ++ line.now ∷ [])) }
-        ensures small { OnOk result (IsSmall self.new) }
-    {
-        if self.row_word {
-            return Err(LineFail::Fault(KissKind::Repeated));
-        }
-        judge_number(operands_of(line))?;
-        self.row_word = true;
-        Ok(())
-    }
-
-    /// `.s`
-    fn take_state_count(&mut self, line: &Line) -> Result<(), LineFail>
-        requires clean { line.now.bad ≡ false }
-        requires kind { line_kind_of line.now ≡ StateCount }
-        requires small { IsSmall self.old }
-        ensures judged { (before : List Line) → Stands self.old before → Judges result (fault_in before line.now) (λ _. Stands self.new (before ++ line.now ∷ [])) }
-        ensures small { OnOk result (IsSmall self.new) }
-    {
-        if self.state_word {
-            return Err(LineFail::Fault(KissKind::Repeated));
-        }
-        judge_number(operands_of(line))?;
-        self.state_word = true;
-        Ok(())
     }
 
     /// `.r`
@@ -166,42 +103,6 @@ impl Said {
         Ok(())
     }
 
-    /// `.ilb`
-    fn take_input_names(&mut self, alloc: Global, line: &Line) -> Result<(), LineFail>
-        requires clean { line.now.bad ≡ false }
-        requires kind { line_kind_of line.now ≡ InputNames }
-        requires short { All (λ field. length field < 2 ^ 32) line.now.fields }
-        requires small { IsSmall self.old }
-        ensures judged { (before : List Line) → Stands self.old before → Judges result (fault_in before line.now) (λ _. Stands self.new (before ++ line.now ∷ [])) }
-        ensures small { OnOk result (IsSmall self.new) }
-    {
-        if self.input_names.is_some() {
-            return Err(LineFail::Fault(KissKind::Repeated));
-        }
-        let others = given(&self.output_names);
-        let names = names_said(alloc, self.inputs, others, operands_of(line))?;
-        self.input_names = Some(names);
-        Ok(())
-    }
-
-    /// `.ob`
-    fn take_output_names(&mut self, alloc: Global, line: &Line) -> Result<(), LineFail>
-        requires clean { line.now.bad ≡ false }
-        requires kind { line_kind_of line.now ≡ OutputNames }
-        requires short { All (λ field. length field < 2 ^ 32) line.now.fields }
-        requires small { IsSmall self.old }
-        ensures judged { (before : List Line) → Stands self.old before → Judges result (fault_in before line.now) (λ _. Stands self.new (before ++ line.now ∷ [])) }
-        ensures small { OnOk result (IsSmall self.new) }
-    {
-        if self.output_names.is_some() {
-            return Err(LineFail::Fault(KissKind::Repeated));
-        }
-        let others = given(&self.input_names);
-        let names = names_said(alloc, self.outputs, others, operands_of(line))?;
-        self.output_names = Some(names);
-        Ok(())
-    }
-
     /// A row.
     fn take_row(&mut self, line: &Line) -> Result<(), LineFail>
         requires clean { line.now.bad ≡ false }
@@ -211,7 +112,7 @@ impl Said {
         ensures judged { (before : List Line) → Stands self.old before → Judges result (fault_in before line.now) (λ _. Stands self.new (before ++ line.now ∷ [])) }
         ensures small { OnOk result (IsSmall self.new) }
     {
-        let outputs = self.judge_front(line)?;
+        let outputs = judge_front(self.inputs, self.outputs, self.rows, line)?;
         add_name(&mut self.states, field_of(line, 1))?;
         add_name(&mut self.states, field_of(line, 2))?;
         if self.states.count() > 256 {
@@ -226,41 +127,95 @@ impl Said {
         self.rows += 1;
         Ok(())
     }
+}
 
-    /// Judges a row up to its names, and returns the number of outputs.
-    fn judge_front(&self, line: &Line) -> Result<u8, KissKind>
-        requires { All (λ field. length field < 2 ^ 32) line.now.fields }
-        ensures outputs { IfOk result (λ outputs. self.now.outputs ≡ Some outputs) }
-        ensures fields { OnOk result (length line.now.fields ≡ 4) }
-        ensures rows { OnOk result (self.now.rows < 65536) }
-        ensures current { OnOk result (is_name (current_field line.now) ≡ true) }
-        ensures good { IfOk result (λ outputs. (states : List (List ℕ)) → row_fault self.now.inputs self.now.outputs self.now.rows states line.now ≡ first_of (fault_where (nat_lt 256 (length states)) (KissKind.OverLimit KissLimit.States 257) ∷ fault_where (not (is_character_field outputs (output_field line.now))) KissKind.BadOutput ∷ [])) }
-        ensures bad { IfErr result (λ kind. (states : List (List ℕ)) → row_fault self.now.inputs self.now.outputs self.now.rows states line.now ≡ Some kind) }
-    {
-        let (Some(inputs), Some(outputs)) = (self.inputs, self.outputs) else {
-            return Err(KissKind::MissingCounts);
-        };
-        if line.fields.as_slice().len() != 4 {
-            return Err(KissKind::BadFields);
-        }
-        if self.rows >= 65536 {
-            return Err(KissKind::OverLimit {
-                what: KissLimit::Rows,
-                found: 65537,
-            });
-        }
-        if !has_characters(field_of(line, 0), inputs) {
-            return Err(KissKind::BadCube);
-        }
-        if is_open_field(field_of(line, 1)) {
-            return Err(KissKind::AnyState);
-        }
-        judge_length(field_of(line, 1))?;
-        if !is_open_field(field_of(line, 2)) {
-            judge_length(field_of(line, 2))?;
-        }
-        Ok(outputs)
+/// Judges a row up to its names, and returns the number of outputs.
+fn judge_front(
+    inputs: Option<u8>,
+    outputs: Option<u8>,
+    rows: u32,
+    line: &Line,
+) -> Result<u8, KissKind>
+    requires { All (λ field. length field < 2 ^ 32) line.now.fields }
+    ensures outputs { IfOk result (λ count. outputs ≡ Some count) }
+    ensures fields { OnOk result (length line.now.fields ≡ 4) }
+    ensures rows { OnOk result (rows < 65536) }
+    ensures current { OnOk result (is_name (current_field line.now) ≡ true) }
+    ensures good { IfOk result (λ count. (states : List (List ℕ)) → row_fault inputs outputs rows states line.now ≡ first_of (fault_where (nat_lt 256 (length states)) (KissKind.OverLimit KissLimit.States 257) ∷ fault_where (not (is_character_field count (output_field line.now))) KissKind.BadOutput ∷ [])) }
+    ensures bad { IfErr result (λ kind. (states : List (List ℕ)) → row_fault inputs outputs rows states line.now ≡ Some kind) }
+{
+    let (Some(inputs), Some(outputs)) = (inputs, outputs) else {
+        return Err(KissKind::MissingCounts);
+    };
+    if line.fields.as_slice().len() != 4 {
+        return Err(KissKind::BadFields);
     }
+    if rows >= 65536 {
+        return Err(KissKind::OverLimit {
+            what: KissLimit::Rows,
+            found: 65537,
+        });
+    }
+    if !has_characters(field_of(line, 0), inputs) {
+        return Err(KissKind::BadCube);
+    }
+    if is_open_field(field_of(line, 1)) {
+        return Err(KissKind::AnyState);
+    }
+    judge_length(field_of(line, 1))?;
+    if !is_open_field(field_of(line, 2)) {
+        judge_length(field_of(line, 2))?;
+    }
+    Ok(outputs)
+}
+
+/// `.i` or `.o`, given the number that was said before.
+fn take_count(
+    count: &mut Option<u8>,
+    fields: &[Name],
+    what: KissLimit,
+    limit: u8,
+) -> Result<(), LineFail>
+    ensures { Judges result (first_of (fault_where (is_some count.old) KissKind.Repeated ∷ count_fault what limit fields.now ∷ [])) (λ _. count.new ≡ Some (decimal_value (operand_of fields.now))) }
+{
+    if count.is_some() {
+        return Err(LineFail::Fault(KissKind::Repeated));
+    }
+    *count = Some(count_said(fields, what, limit)?);
+    Ok(())
+}
+
+/// `.p` or `.s`, given whether it came before.
+fn take_word(stands: &mut bool, fields: &[Name]) -> Result<(), LineFail>
+    ensures { Judges result (first_of (fault_where stands.old KissKind.Repeated ∷ number_fault fields.now ∷ [])) (λ _. stands.new ≡ true) }
+{
+    if *stands {
+        return Err(LineFail::Fault(KissKind::Repeated));
+    }
+    judge_number(fields)?;
+    *stands = true;
+    Ok(())
+}
+
+/// `.ilb` or `.ob`, given the names that were said before, the number of inputs or outputs and the names of the other
+/// word.
+fn take_names(
+    alloc: Global,
+    names: &mut Option<Names>,
+    count: Option<u8>,
+    others: &Option<Names>,
+    fields: &[Name],
+) -> Result<(), LineFail>
+    requires short { All (λ name. length name < 2 ^ 32) fields.now }
+    requires others { length (unwrap_or others.now []) < 256 }
+    ensures judged { Judges result (first_of (fault_where (is_some names.old) KissKind.Repeated ∷ names_fault count (unwrap_or others.now []) fields.now ∷ [])) (λ _. names.new ≡ Some fields.now) }
+    ensures few { OnOk result (length (unwrap_or names.new []) < 256) }
+{
+    if names.is_some() {
+        return Err(LineFail::Fault(KissKind::Repeated));
+    }
+    *names = Some(names_said(alloc, count, given(others), fields)?);
+    Ok(())
 }
 
 /// Whether a name is short enough.

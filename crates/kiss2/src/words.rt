@@ -2,6 +2,7 @@
 ghost use Rattle.std.specs.Prelude.{◌≡◌, ◌<◌, ◌≤◌, ◌^◌, false, true, IfNone, IfSome, length};
 ghost use Rattle.std.specs.Char.{is_ascii_digit};
 ghost use Rattle.std.specs.List.{list_all};
+ghost use Rattle.std.specs.Str.{bytes_eq};
 ghost use Rattle.kiss2.specs.Words.{care_in, field_at, has_backslash, is_character, is_character_field, is_decimal, is_open, decimal_value, operands, value_in};
 
 use hs_io::{Line, Name};
@@ -29,44 +30,47 @@ pub(crate) fn number_in(field: &[u8]) -> Option<u32>
     ensures some { IfSome result (λ number. (is_decimal field.now ≡ true) × (number ≡ decimal_value field.now)) }
     ensures none { IfNone result (is_decimal field.now ≡ false) }
 {
-    if field.is_empty() || field.len() > 9 || !are_digits(field) {
+    if field.is_empty() || field.len() > 9 {
         return None;
     }
-    Some(value_of_digits(field))
+    value_of_digits(field)
 }
 
-/// Whether each byte is a decimal digit.
-fn are_digits(field: &[u8]) -> bool
-    ensures { result ≡ list_all is_ascii_digit field.now }
-{
-    field.iter().all(|byte| byte.is_ascii_digit())
-}
-
-/// The number with these digits.
-fn value_of_digits(field: &[u8]) -> u32
-    requires short { length field.now ≤ 9 }
-    requires digits { list_all is_ascii_digit field.now ≡ true }
-    ensures { result ≡ decimal_value field.now }
+/// The number with these digits, if each byte is a decimal digit.
+fn value_of_digits(field: &[u8]) -> Option<u32>
+    requires { length field.now ≤ 9 }
+    ensures some { IfSome result (λ number. (list_all is_ascii_digit field.now ≡ true) × (number ≡ decimal_value field.now)) }
+    ensures none { IfNone result (list_all is_ascii_digit field.now ≡ false) }
 {
     let mut number = 0u32;
     for byte in field {
+        if !byte.is_ascii_digit() {
+            return None;
+        }
         number = 10 * number + u32::from(*byte - b'0');
     }
-    number
+    Some(number)
 }
 
 /// Whether the field is a `*` or a `-`, which is no name of a state.
 pub(crate) fn is_open_field(field: &[u8]) -> bool
     ensures { result ≡ is_open field.now }
 {
-    field == b"*".as_slice() || field == b"-".as_slice()
+    is_word(field, b"*") || is_word(field, b"-")
+}
+
+/// Whether the field is the word.
+pub(crate) fn is_word(field: &[u8], word: &[u8]) -> bool
+    ensures { result ≡ bytes_eq field.now word.now }
+{
+    field == word
 }
 
 /// Whether the name has a backslash.
 pub(crate) fn holds_backslash(name: &[u8]) -> bool
     ensures { result ≡ has_backslash name.now }
 {
-    name.iter().any(|byte| *byte == b'\\')
+    name.contains(&b'\\')
 }
 
 /// Whether the byte is a character of an input or output field.
@@ -80,7 +84,12 @@ fn is_field_character(byte: u8) -> bool
 fn are_characters(field: &[u8]) -> bool
     ensures { result ≡ list_all is_character field.now }
 {
-    field.iter().all(|byte| is_field_character(*byte))
+    for byte in field {
+        if !is_field_character(*byte) {
+            return false;
+        }
+    }
+    true
 }
 
 /// Whether the field is made of `count` characters.

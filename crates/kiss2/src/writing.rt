@@ -8,7 +8,7 @@ ghost use Rattle.cubes.specs.Field.{byte_of, character, characters};
 ghost use Rattle.hs_io.specs.Spelling.{ended, line_text, spaced, spelled};
 ghost use Rattle.kiss_file.specs.Names.{name_of};
 ghost use Rattle.kiss2.specs.Written.{fields_of_row, given_line, kiss_text, next_name, output_characters, states_standing};
-ghost use Rattle.kiss2.specs.Inner.Parts.{count_lines, head_lines, table_lines};
+ghost use Rattle.kiss2.specs.Inner.Parts.{count_lines, head_lines};
 
 use cubes::Cube;
 use hs_io::{Name, Names};
@@ -33,8 +33,8 @@ fn append_file(text: &mut Vec<u8>, file: &KissFile, states: usize) -> Result<(),
 {
     append_head(text, file)?;
     append_counts(text, file, states)?;
-    append_table(text, file)?;
-    Ok(())
+    append_rows(text, &file.states, file.outputs, file.rows.as_slice())?;
+    text.extend_from_slice(b".e\n")
 }
 
 /// Appends the numbers of inputs and outputs, and their names where they are given.
@@ -44,8 +44,7 @@ fn append_head(text: &mut Vec<u8>, file: &KissFile) -> Result<(), AllocError>
     append_number_line(text, b".i", usize::from(file.inputs))?;
     append_number_line(text, b".o", usize::from(file.outputs))?;
     append_given(text, b".ilb", &file.input_names)?;
-    append_given(text, b".ob", &file.output_names)?;
-    Ok(())
+    append_given(text, b".ob", &file.output_names)
 }
 
 /// Appends the numbers of rows and states, and the name of the reset state.
@@ -56,15 +55,6 @@ fn append_counts(text: &mut Vec<u8>, file: &KissFile, states: usize) -> Result<(
     append_number_line(text, b".p", file.rows.as_slice().len())?;
     append_number_line(text, b".s", states)?;
     append_name_line(text, b".r", name_at(&file.states, file.reset))?;
-    Ok(())
-}
-
-/// Appends the rows and the ending word.
-fn append_table(text: &mut Vec<u8>, file: &KissFile) -> Result<(), AllocError>
-    ensures { OnOk result (text.new.items ≡ text.old.items ++ spelled (table_lines file.now)) }
-{
-    append_rows(text, &file.states, file.outputs, file.rows.as_slice())?;
-    text.extend_from_slice(b".e\n")?;
     Ok(())
 }
 
@@ -81,14 +71,14 @@ fn append_name_line(text: &mut Vec<u8>, word: &[u8], field: &[u8]) -> Result<(),
 {
     text.extend_from_slice(word)?;
     append_field(text, field)?;
-    Ok(text.push(b'\n')?)
+    text.extend_from_slice(b"\n")
 }
 
 /// Appends a field after a space.
 fn append_field(text: &mut Vec<u8>, field: &[u8]) -> Result<(), AllocError>
     ensures { OnOk result (text.new.items ≡ text.old.items ++ spaced field.now) }
 {
-    text.push(b' ')?;
+    text.extend_from_slice(b" ")?;
     text.extend_from_slice(field)
 }
 
@@ -111,7 +101,7 @@ fn append_given(text: &mut Vec<u8>, word: &[u8], names: &Option<Names>) -> Resul
     };
     text.extend_from_slice(word)?;
     append_names(text, names.as_slice())?;
-    Ok(text.push(b'\n')?)
+    text.extend_from_slice(b"\n")
 }
 
 /// The name of a state, or no bytes if there is no such state.
@@ -152,9 +142,9 @@ fn append_row(
     append_cube(text, &row.cube)?;
     append_field(text, name_at(names, row.from))?;
     append_field(text, next_at(names, row.to))?;
-    text.push(b' ')?;
+    text.extend_from_slice(b" ")?;
     append_outputs(text, outputs, row)?;
-    Ok(text.push(b'\n')?)
+    text.extend_from_slice(b"\n")
 }
 
 /// The name of a next state, or a dash.
@@ -242,24 +232,8 @@ fn count_standing(standing: &mut [bool], rows: &[KissRow]) -> usize
 fn mark_states(standing: &mut [bool], rows: &[KissRow])
     ensures { (s : ℕ) → s < length standing.new → slice_index_or standing.new s false ≡ (slice_index_or standing.old s false || list_any (λ t. t == s) (map (λ row. row.from) rows.now ++ filter_map (λ row. row.to) rows.now)) }
 {
-    mark_currents(standing, rows);
-    mark_nexts(standing, rows);
-}
-
-/// Marks the current states of the rows.
-fn mark_currents(standing: &mut [bool], rows: &[KissRow])
-    ensures { (s : ℕ) → s < length standing.new → slice_index_or standing.new s false ≡ (slice_index_or standing.old s false || list_any (λ t. t == s) (map (λ row. row.from) rows.now)) }
-{
     for row in rows {
         mark(standing, row.from);
-    }
-}
-
-/// Marks the next states of the rows.
-fn mark_nexts(standing: &mut [bool], rows: &[KissRow])
-    ensures { (s : ℕ) → s < length standing.new → slice_index_or standing.new s false ≡ (slice_index_or standing.old s false || list_any (λ t. t == s) (filter_map (λ row. row.to) rows.now)) }
-{
-    for row in rows {
         mark_next(standing, row.to);
     }
 }
@@ -286,5 +260,11 @@ fn mark(standing: &mut [bool], state: u16)
 fn count_marked(standing: &[bool]) -> usize
     ensures { result ≡ count_by (λ stands. stands) standing.now }
 {
-    standing.iter().filter(|stands| **stands).count()
+    let mut count = 0;
+    for stands in standing {
+        if *stands {
+            count += 1;
+        }
+    }
+    count
 }

@@ -1,4 +1,5 @@
 use Rattle.std.proofs.Common.{◌≡◌, ◌∷◌, [], length, take, ap, sym, ◌∙◌, subst, arith}
+use Rattle.std.proofs.lemmas.Result.{err_from_is_err_and}
 use Rattle.hs_io.specs.Lines.{lines_of}
 use Rattle.kiss2.specs.Inner.Reading.{HasCome}
 use Rattle.kiss2.proofs.Ending.{all_read, ended_here, fault_here, goes_on, short_here}
@@ -41,3 +42,17 @@ returns-in-Err-clause-refused c fault same bytes count come =
     let here = subst (λ left. HasCome (lines_of bytes) c.args.kept.now.said c.args.kept.now.rows.items left count) first come in
     fault_here bytes c.args.kept.now.said c.args.kept.now.rows.items c.in-Some.line c.next_line.new.self count here c.in-Err.fail fault (sym c.ends.ensures ∙ c.if-ends.false)
     (c.in-Err.ensures.judged (take count (lines_of bytes)) here.keeps) (sym c.fail_of.ensures ∙ cc)
+
+pub returns-in_err-line-clause-shorter : goal.returns-in_err-line-clause-shorter
+returns-in_err-line-clause-shorter c = let p = err_from_is_err_and c.from_residual.result c.from_residual.ensures.1 in rw p.1 tt
+
+pub returns-in_err-line-clause-goes_on : goal.returns-in_err-line-clause-goes_on
+returns-in_err-line-clause-goes_on c = let p = err_from_is_err_and c.from_residual.result c.from_residual.ensures.1 in rw p.1 tt
+
+pub returns-in_err-line-clause-done : goal.returns-in_err-line-clause-done
+returns-in_err-line-clause-done c = let p = err_from_is_err_and c.from_residual.result c.from_residual.ensures.1 in rw p.1 tt
+
+pub returns-in_err-line-clause-refused : goal.returns-in_err-line-clause-refused
+returns-in_err-line-clause-refused c fault same =
+    let p = err_from_is_err_and c.from_residual.result c.from_residual.ensures.1 in
+    absurd (cc (same, p.1, p.2))

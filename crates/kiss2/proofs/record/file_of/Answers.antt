@@ -8,6 +8,6 @@ returns c all stands table = record {
   states = table.states;
   reset = table.reset;
   rows = table.rows;
-  input_names = stands.input_names;
-  output_names = stands.output_names;
+  input_names = c.take.ensures.value ∙ stands.input_names;
+  output_names = c.take-2.ensures.value ∙ stands.output_names;
 }

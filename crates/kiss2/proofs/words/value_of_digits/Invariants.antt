@@ -1,6 +1,8 @@
-use Rattle.std.proofs.Common.{◌≡◌, ◌^◌, ◌<◌, take}
+use Rattle.std.proofs.Common.{◌≡◌, ◌^◌, ◌<◌, true, take}
+use Rattle.std.specs.Char.{is_ascii_digit}
+use Rattle.std.specs.List.{list_all}
 use Rattle.std.specs.Str.Parse.{digits_value}
 use Rattle.kiss2.proofs.words.value_of_digits.Given as goal
 
 abbrev pub invariant-loop-byte : goal.invariant-loop-byte
-invariant-loop-byte l = (l.number ≡ digits_value 10 (take l.byte-index l.field)) × (l.number < 10 ^ l.byte-index)
+invariant-loop-byte l = (list_all is_ascii_digit (take l.byte-index l.field) ≡ true) × (l.number ≡ digits_value 10 (take l.byte-index l.field)) × (l.number < 10 ^ l.byte-index)

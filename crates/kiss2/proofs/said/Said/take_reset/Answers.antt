@@ -1,4 +1,5 @@
-use Rattle.std.proofs.Common.{◌≡◌, false, Some, refl, ap, sym, ◌∙◌}
+use Rattle.std.proofs.Common.{◌≡◌, ◌<◌, ◌^◌, ℕ, List, All, length, false, Some, refl, ap, subst, sym, ◌∙◌}
+use Rattle.std.proofs.lemmas.List.Elements.{All-drop}
 use Rattle.std.proofs.lemmas.Result.{err_from_is_err_and}
 use Rattle.std.specs.Option.{is_some, option_map}
 use Rattle.kiss2.specs.declared.line_kind.LineKind.TheVariants.{Reset}
@@ -34,3 +35,20 @@ returns-clause-judged c before stands =
         states = stands.states ∙ kept.states refl;
       },
     )
+
+pub reset_said-requires : goal.reset_said-requires
+reset_said-requires c =
+    subst (λ (names : List (List ℕ)). All (λ name. length name < 2 ^ 32) names) (sym c.operands_of.ensures) (All-drop (λ name. length name < 2 ^ 32) 1 c.args.line.now.fields c.requires.short)
+
+pub returns-in_err-name-clause-small : goal.returns-in_err-name-clause-small
+returns-in_err-name-clause-small c = let p = err_from_is_err_and c.from_residual.result c.from_residual.ensures.1 in rw p.1 tt
+
+pub returns-in_err-new-clause-judged : goal.returns-in_err-new-clause-judged
+returns-in_err-new-clause-judged c before stands =
+    let p = err_from_is_err_and c.from_residual-in_err-new.result c.from_residual-in_err-new.ensures.1 in rw (p.1, p.2) tt
+
+pub returns-in_err-new-clause-small : goal.returns-in_err-new-clause-small
+returns-in_err-new-clause-small c = let p = err_from_is_err_and c.from_residual-in_err-new.result c.from_residual-in_err-new.ensures.1 in rw p.1 tt
+
+pub returns-clause-small : goal.returns-clause-small
+returns-clause-small c = record { states = c.requires.small.states; input_names = c.requires.small.input_names; output_names = c.requires.small.output_names }

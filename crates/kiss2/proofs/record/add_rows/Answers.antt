@@ -4,7 +4,7 @@ use Rattle.std.proofs.lemmas.List.{take_more}
 use Rattle.kiss2.specs.Inner.Good.{IsGoodRow, IsKnownRow}
 use Rattle.kiss2.specs.Kiss.{IsRowOf}
 use Rattle.kiss2.proofs.Building.{zip_push}
-use Rattle.kiss2.proofs.record.rows_of.Goals as goal
+use Rattle.kiss2.proofs.record.add_rows.Goals as goal
 
 pub row_of-requires-clause-good : goal.row_of-requires-clause-good
 row_of-requires-clause-good c =
