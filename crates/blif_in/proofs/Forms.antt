@@ -61,7 +61,7 @@ pub bounded_more : (earlier : List Statement) (statement : Statement) → KeepsA
 bounded_more earlier statement keeps = record { inputs = keeps InputCount; outputs = keeps OutputCount; latches = keeps LatchCount; gates = keeps GateCount }
 
 -- a statement that is no gate's names brings no gate
-no_gate : (statement : Statement) (earlier : List Statement) → is_names statement ≡ false → count_by is_names (statement ∷ earlier) ≡ count_by is_names earlier
+pub no_gate : (statement : Statement) (earlier : List Statement) → is_names statement ≡ false → count_by is_names (statement ∷ earlier) ≡ count_by is_names earlier
 no_gate statement earlier other =
     sum_by-append (λ s. cond (is_names s) 1 0) (statement ∷ []) earlier
     ∙ ap (λ n. n + count_by is_names earlier) (zero-add (cond (is_names statement) 1 0) ∙ ap (λ b. cond b 1 0) other)

@@ -8,3 +8,4 @@ pub mod Clocks
 pub mod Texts
 pub mod Measured
 pub mod Exact
+pub mod Judged

@@ -1,6 +1,6 @@
 -- Lines that go on, and what is joined to them.
-use Rattle.std.proofs.Common.{◌≡◌, ℕ, ◌+◌, ◌-◌, ◌<◌, ◌≤◌, ◌||◌, Bool, true, false, cond, List, [], ◌∷◌, ◌++◌, length, get_or, take, append_assoc, arith, Option, Some, None, sym, ◌∙◌, refl, ap}
-use Rattle.std.specs.Prelude.{IfSome}
+use Rattle.std.proofs.Common.{◌≡◌, ℕ, ◌+◌, ◌-◌, ◌<◌, ◌≤◌, ◌||◌, Bool, true, false, cond, List, [], ◌∷◌, ◌++◌, length, get_or, take, append_assoc, arith, Option, Some, None, sym, ◌∙◌, refl, ap, subst}
+use Rattle.std.specs.Prelude.{IfNone, IfSome}
 use Rattle.std.proofs.lemmas.List.{take_all, take_more}
 use Rattle.hs_io.specs.declared.lines.Line.{Line}
 use Rattle.hs_io.specs.Lines.{fields_in}
@@ -46,28 +46,37 @@ behind_more (Some front) line lines = by (is_continued line.fields) where
   by false = refl
 
 -- a line that goes on is the front of the next joined line
-pub joined_more : (front : Option Line) (line whole : Line) (items lines all : List Line) → lines_behind front (joined items) ≡ all → items ≡ line ∷ lines → whole ≡ behind front (part_of line) → is_continued line.fields ≡ true
-    → lines_behind (Some whole) (joined lines) ≡ all
-joined_more front line whole items lines all so_far first is more =
-    ap (λ w. lines_behind (Some w) (joined lines)) is
+pub joined_more : (front after : Option Line) (line : Line) (items lines all : List Line) → lines_behind front (joined items) ≡ all → items ≡ line ∷ lines → after ≡ Some (behind front (part_of line)) → is_continued line.fields ≡ true
+    → lines_behind after (joined lines) ≡ all
+joined_more front after line items lines all so_far first is more =
+    ap (λ w. lines_behind w (joined lines)) is
     ∙ sym (behind_more front line lines ∙ ap (λ b. cond b (lines_behind (Some (behind front (part_of line))) (joined lines)) (behind front (part_of line) ∷ joined lines)) more)
     ∙ ap (λ (ls : List Line). lines_behind front (joined ls)) (sym first)
     ∙ so_far
 
 -- any other line ends it
-pub joined_here : (front : Option Line) (line whole : Line) (items lines all : List Line) → lines_behind front (joined items) ≡ all → items ≡ line ∷ lines → whole ≡ behind front (part_of line) → is_continued line.fields ≡ false → all ≡ whole ∷ joined lines
-joined_here front line whole items lines all so_far first is alone =
-    sym so_far
+pub joined_here : (front after : Option Line) (line : Line) (items lines all : List Line) → lines_behind front (joined items) ≡ all → items ≡ line ∷ lines → after ≡ Some (behind front (part_of line)) → is_continued line.fields ≡ false
+    → IfSome after (λ whole. all ≡ whole ∷ joined lines)
+joined_here front after line items lines all so_far first is alone =
+    subst (λ whole. IfSome whole (λ w. all ≡ w ∷ joined lines)) (sym is)
+    (sym so_far
     ∙ ap (λ (ls : List Line). lines_behind front (joined ls)) first
     ∙ behind_more front line lines
-    ∙ ap (λ b. cond b (lines_behind (Some (behind front (part_of line))) (joined lines)) (behind front (part_of line) ∷ joined lines)) alone
-    ∙ ap (λ w. w ∷ joined lines) (sym is)
+    ∙ ap (λ b. cond b (lines_behind (Some (behind front (part_of line))) (joined lines)) (behind front (part_of line) ∷ joined lines)) alone)
+
+-- and then there is a joined line
+pub some_here : (front after : Option Line) (line : Line) (all : List Line) → after ≡ Some (behind front (part_of line)) → IfNone after (all ≡ [])
+some_here front after line all is = subst (λ whole. IfNone whole (all ≡ [])) (sym is) tt
 
 -- at the end of the text the front is the last joined line
 pub joined_last : (front : Option Line) (items ended all : List Line) → lines_behind front (joined items) ≡ all → items ≡ [] → ended ≡ [] → IfSome front (λ line. all ≡ line ∷ joined ended)
 joined_last None items ended all so_far none empty = tt
 joined_last (Some front) items ended all so_far none empty =
     sym so_far ∙ ap (λ (ls : List Line). in_front front (joined ls)) none ∙ ap (λ (ls : List Line). front ∷ joined ls) (sym empty)
+
+pub joined_none : (front : Option Line) (items all : List Line) → lines_behind front (joined items) ≡ all → items ≡ [] → IfNone front (all ≡ [])
+joined_none None items all so_far none = sym so_far ∙ ap (λ (ls : List Line). joined ls) none
+joined_none (Some front) items all so_far none = tt
 
 -- a list up to its last item, and that item
 split_last : {X : Type 0} (xs : List X) (x : X) → 1 ≤ length xs → x ≡ get_or xs (length xs - 1) x → xs ≡ take (length xs - 1) xs ++ x ∷ []

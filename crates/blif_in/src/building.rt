@@ -3,12 +3,12 @@ ghost use Rattle.std.specs.Prelude.{◌≡◌, ℕ, ◌∷◌, ◌++◌, [], IfO
 ghost use Rattle.std.specs.Option.{option_to_list};
 ghost use Rattle.net_core.specs.Statements as said;
 ghost use Rattle.blif_in.specs.Text as text;
-ghost use Rattle.blif_in.specs.Inner.Building.{Adds, closed, gate_by, gates_by, network_by};
+ghost use Rattle.blif_in.specs.Inner.Building.{Adds, gate_by, gates_by, network_by};
 ghost use Rattle.blif_in.specs.Inner.Saying.{said_by};
 
 use crate::statement::{Statement, latch_parts, start_said};
 use hs_io::{Name, Names};
-use net_core::{Gate, Gates, Latch, Latches, Network};
+use net_core::{Gate, Gates, Latch, Latches, Network, Start};
 use std::alloc::{AllocError, Global};
 
 /// A gate, as far as its rows were read.
@@ -53,7 +53,7 @@ impl Draft {
         if let Statement::Row(fields) = statement {
             return add_row(alloc, &mut self.open_gate, fields);
         }
-        self.close()?;
+        add_gate(&mut self.gates, self.open_gate.take())?;
         self.begin(alloc, statement)
     }
 
@@ -76,27 +76,34 @@ impl Draft {
         }
     }
 
-    /// Ends the gate whose rows were read, if there is one.
-    fn close(&mut self) -> Result<(), AllocError>
-        ensures { OnOk result (self.new ≡ closed self.old) }
-    {
-        if let Some(gate) = self.open_gate.take() {
-            self.gates.push(whole_gate(gate))?;
-        }
-        Ok(())
-    }
-
     /// The network of the statements.
-    pub fn finish(mut self) -> Result<Network, AllocError>
+    pub fn finish(self) -> Result<Network, AllocError>
         ensures { IfOk result (λ net. net ≡ network_by self []) }
     {
-        self.close()?;
+        let Draft {
+            inputs,
+            outputs,
+            latches,
+            mut gates,
+            open_gate,
+        } = self;
+        add_gate(&mut gates, open_gate)?;
         Ok(Network {
-            inputs: self.inputs,
-            outputs: self.outputs,
-            latches: self.latches,
-            gates: self.gates,
+            inputs,
+            outputs,
+            latches,
+            gates,
         })
+    }
+}
+
+/// Adds the gate whose rows were read, if there is one.
+fn add_gate(gates: &mut Gates, open_gate: Option<DraftGate>) -> Result<(), AllocError>
+    ensures { OnOk result (gates.new ≡ gates.old ++ gates_by open_gate []) }
+{
+    match open_gate {
+        Some(gate) => gates.push(whole_gate(gate)),
+        None => Ok(()),
     }
 }
 
@@ -147,9 +154,16 @@ fn add_latch(alloc: Global, latches: &mut Latches, operands: &[Name]) -> Result<
     let Some(start) = start_said(parts.start) else {
         return Ok(());
     };
-    latches.push(Latch {
-        input: Name::new(alloc, parts.input.bytes())?,
-        output: Name::new(alloc, parts.output.bytes())?,
+    latches.push(latch_of(alloc, parts.input, parts.output, start)?)
+}
+
+/// The latch of copies of these names.
+fn latch_of(alloc: Global, input: &Name, output: &Name, start: Start) -> Result<Latch, AllocError>
+    ensures { IfOk result (λ latch. latch ≡ record { input = input.now; output = output.now; start = start }) }
+{
+    Ok(Latch {
+        input: Name::new(alloc, input.bytes())?,
+        output: Name::new(alloc, output.bytes())?,
         start,
     })
 }

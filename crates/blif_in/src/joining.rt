@@ -1,11 +1,11 @@
 //! Joins lines that end in a backslash with the next ones, and gives the lines that are statements one by one.
-ghost use Rattle.std.specs.Prelude.{◌≡◌, ◌++◌, ◌∷◌, ◌-◌, [], IfNone, IfOk, IfSome, OnOk, length, take};
+ghost use Rattle.std.specs.Prelude.{◌≡◌, ◌++◌, ◌∷◌, ◌-◌, [], IfNone, IfOk, IfSome, OnOk, Some, length, take};
 ghost use Rattle.std.specs.List.{list_any};
 ghost use Rattle.hs_io.specs.Lines.{fields_in};
 ghost use Rattle.net_core.specs.Joined.{is_backslash, is_continued, ends_in_backslash, ends_text, joined, part_of, without_backslash};
 ghost use Rattle.net_core.specs.Joined as joining;
 ghost use Rattle.net_core.specs.Statements.{is_skipped};
-ghost use Rattle.blif_in.specs.Inner.Joining.{behind, merged, statement_lines};
+ghost use Rattle.blif_in.specs.Inner.Joining.{behind, lines_behind, merged, statement_lines};
 
 use hs_io::{Fields, Line, LineReader, Name};
 use std::alloc::{AllocError, Global};
@@ -35,17 +35,38 @@ fn next_joined(alloc: Global, lines: &mut LineReader<'_>) -> Result<Option<Line>
     ensures none { IfOk result (λ next. IfNone next (joined lines.old ≡ [])) }
 {
     let mut front: Option<Line> = None;
+    join_lines(alloc, lines, &mut front)?;
+    Ok(front)
+}
+
+/// Joins the next lines up to one that does not end in a backslash.
+fn join_lines(
+    alloc: Global,
+    lines: &mut LineReader<'_>,
+    front: &mut Option<Line>,
+) -> Result<(), AllocError>
+    ensures some { OnOk result (IfSome front.new (λ line. lines_behind front.old (joined lines.old) ≡ line ∷ joined lines.new)) }
+    ensures none { OnOk result (IfNone front.new (lines_behind front.old (joined lines.old) ≡ [])) }
+{
     while let Some(line) = lines.next_line(alloc)? {
         let goes_on = is_joined_to_next(line.fields.as_slice());
-        let whole = line_behind(alloc, front.take(), line)?;
+        add_line(alloc, front, line)?;
         if !goes_on {
-            return Ok(Some(whole));
+            return Ok(());
         }
-        front = Some(whole);
     }
     // No line is left, but the contract of `next_line` does not say so of the reader.
     *lines = LineReader::new(&[]);
-    Ok(front)
+    Ok(())
+}
+
+/// Adds the part that a line gives to the front of a joined line.
+fn add_line(alloc: Global, front: &mut Option<Line>, line: Line) -> Result<(), AllocError>
+    ensures { OnOk result (front.new ≡ Some (behind front.old (part_of line))) }
+{
+    let whole = line_behind(alloc, front.take(), line)?;
+    *front = Some(whole);
+    Ok(())
 }
 
 /// Whether the line with these fields ends in a backslash.
@@ -157,12 +178,23 @@ fn shortened(alloc: Global, fields: &[Name]) -> Result<Fields, AllocError>
     ensures { IfOk result (λ short. short ≡ without_backslash fields.now) }
 {
     let mut short = Fields::new(alloc);
-    let [front @ .., last] = fields else {
-        return Ok(short);
-    };
-    add_fields(alloc, &mut short, front)?;
-    add_shortened(alloc, &mut short, last.bytes())?;
+    add_without_backslash(alloc, &mut short, fields)?;
     Ok(short)
+}
+
+/// Adds fields without their last byte, a backslash.
+fn add_without_backslash(
+    alloc: Global,
+    short: &mut Fields,
+    fields: &[Name],
+) -> Result<(), AllocError>
+    ensures { OnOk result (short.new ≡ short.old ++ without_backslash fields.now) }
+{
+    let [front @ .., last] = fields else {
+        return Ok(());
+    };
+    add_fields(alloc, short, front)?;
+    add_shortened(alloc, short, last.bytes())
 }
 
 /// Adds a field without its last byte, if that leaves a byte.

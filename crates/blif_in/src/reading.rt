@@ -1,5 +1,5 @@
 //! Reads a BLIF text.
-ghost use Rattle.std.specs.Prelude.{◌≡◌, ◌<◌, ◌^◌, [], Err, IfOk, List, MatchResult, None, OnOk, length, map};
+ghost use Rattle.std.specs.Prelude.{◌≡◌, ◌<◌, ◌^◌, ◌∷◌, [], Err, IfOk, List, MatchResult, None, OnOk, length, map};
 ghost use Rattle.std.specs.List.{list_any};
 ghost use Rattle.std.specs.Str.{bytes_eq};
 ghost use Rattle.hs_io.specs.declared.lines.Line.{Line};
@@ -11,9 +11,10 @@ ghost use Rattle.net_core.specs.Statements as said;
 ghost use Rattle.blif_in.specs.declared.fault.BlifFault.{BlifFault};
 ghost use Rattle.blif_in.specs.Text.{IsBlifFault, IsFaultOf, IsStructureFault, TellsOf, driven_within, text_fault};
 ghost use Rattle.blif_in.specs.Text as text;
-ghost use Rattle.blif_in.specs.Inner.Building.{network_by};
+ghost use Rattle.blif_in.specs.Inner.Building.{Adds, network_by};
 ghost use Rattle.blif_in.specs.Inner.Joining.{lines_read};
 ghost use Rattle.blif_in.specs.Inner.Judging.{IsSmall};
+ghost use Rattle.blif_in.specs.Inner.Measuring.{AreMeasurable};
 ghost use Rattle.blif_in.specs.Inner.Progressing.{IsReadTo, Tells, fault_of};
 ghost use Rattle.blif_in.specs.Inner.Saying.{numbered, says};
 
@@ -22,7 +23,7 @@ use crate::fault::{BlifFail, BlifFault, BlifKind};
 use crate::joining::next_statement;
 use crate::progress::{FirstClock, Progress};
 use crate::statement::statement_of;
-use hs_io::LineReader;
+use hs_io::{Line, LineReader};
 use net_core::{Gate, Latch, NetFail, Network, Order, check};
 use std::alloc::Global;
 
@@ -66,31 +67,25 @@ fn read_statements(alloc: Global, bytes: &[u8]) -> Result<OrderedNetwork, BlifFa
     ensures order { IfOk result (λ ordered. IsOrderOf ordered.net ordered.order) }
     ensures refused { (fault : BlifFault) → result ≡ Err (BlifFail.Refused fault) → IsFaultOf (numbered (lines_read bytes.now)) fault }
 {
-    let Reading { progress, net } = judged_statements(alloc, bytes)?;
+    let mut progress = Progress::new();
+    let net = network_said(alloc, bytes, &mut progress)?;
     if let Some(fault) = closing_fault(&progress, &net) {
         return Err(BlifFail::Refused(fault));
     }
     put_in_order(alloc, net)
 }
 
-/// What the statements without a fault come to.
-#[derive(Drop)]
-struct Reading {
-    progress: Progress,
-    net: Network,
-}
-
-/// What the statements of a text come to, or the first fault of a statement.
-fn judged_statements(alloc: Global, bytes: &[u8]) -> Result<Reading, BlifFail>
-    requires { length bytes.now < 2 ^ 32 }
-    ensures read { Tells result (text.first_fault [] (numbered (lines_read bytes.now))) (λ reading. IsReadTo (lines_read bytes.now) [] reading.progress) }
-    ensures said { IfOk result (λ reading. reading.net ≡ text.network_of (map says (lines_read bytes.now))) }
+/// Takes up the lines of a text, up to the first fault of a statement, and gives the network that they say.
+fn network_said(alloc: Global, bytes: &[u8], progress: &mut Progress) -> Result<Network, BlifFail>
+    requires short { length bytes.now < 2 ^ 32 }
+    requires none { (lines : List Line) → IsReadTo lines lines progress.old }
+    requires small { IsSmall progress.old.summary }
+    ensures read { Tells result (text.first_fault [] (numbered (lines_read bytes.now))) (λ _. IsReadTo (lines_read bytes.now) [] progress.new) }
+    ensures said { IfOk result (λ net. net ≡ text.network_of (map says (lines_read bytes.now))) }
 {
-    let mut progress = Progress::new();
     let mut draft = Draft::new(alloc);
-    take_lines(alloc, bytes, &mut progress, &mut draft)?;
-    let net = draft.finish()?;
-    Ok(Reading { progress, net })
+    take_lines(alloc, bytes, progress, &mut draft)?;
+    Ok(draft.finish()?)
 }
 
 /// Takes up the lines of a text, up to the first fault of a statement.
@@ -109,9 +104,26 @@ fn take_lines(
 {
     let mut lines = LineReader::new(bytes);
     while let Some(line) = next_statement(alloc, &mut lines)? {
-        progress.take(alloc, &line)?;
-        draft.add(alloc, statement_of(&line))?;
+        take_line(alloc, &line, progress, draft)?;
     }
+    Ok(())
+}
+
+/// Takes up one line more, or gives the fault of that line.
+fn take_line(
+    alloc: Global,
+    line: &Line,
+    progress: &mut Progress,
+    draft: &mut Draft,
+) -> Result<(), BlifFail>
+    requires measurable { AreMeasurable line.now.fields }
+    requires small { IsSmall progress.old.summary }
+    ensures read { (lines rest : List Line) → IsReadTo lines (line.now ∷ rest) progress.old → Tells result (text.first_fault [] (numbered lines)) (λ _. IsReadTo lines rest progress.new) }
+    ensures small { OnOk result (IsSmall progress.new.summary) }
+    ensures adds { OnOk result (Adds (says line.now) draft.old draft.new) }
+{
+    progress.take(alloc, line)?;
+    draft.add(alloc, statement_of(line))?;
     Ok(())
 }
 

@@ -36,7 +36,6 @@ pub(crate) fn statement_of(line: &Line) -> Statement<'_>
 }
 
 /// What a line of these fields says.
-#[tactic(auto, using(crate::proofs::Names::measurable_tail))]
 fn statement_by<'a>(word: &[u8], operands: &'a [Name], fields: &'a [Name]) -> Statement<'a>
     requires { fields.now ≡ word.now ∷ operands.now }
     ensures says { said_by result ≡ said.statement_of (word.now ∷ operands.now) }
@@ -54,11 +53,18 @@ fn statement_by<'a>(word: &[u8], operands: &'a [Name], fields: &'a [Name]) -> St
         Statement::Latch(operands)
     } else if word == b".names".as_slice() {
         Statement::Names(operands)
-    } else if word.first() == Some(&b'.') {
+    } else if is_word(word) {
         Statement::Other
     } else {
         Statement::Row(fields)
     }
+}
+
+/// Whether the field begins with a dot.
+fn is_word(field: &[u8]) -> bool
+    ensures { result ≡ said.is_word field.now }
+{
+    field.first() == Some(&b'.')
 }
 
 /// The operands of a latch.
@@ -84,6 +90,32 @@ impl<'a> LatchParts<'a> {
             start: None,
         }
     }
+
+    /// A latch's input and output with its other operands.
+    fn with(self, others: &'a [Name]) -> Option<LatchParts<'a>>
+        requires { parts_said self ≡ record { input = self.input.now; output = self.output.now; kind = None; control = None; start = None } }
+        ensures { option_map parts_said result ≡ said.latch_parts (self.entry.input.now ∷ self.entry.output.now ∷ others.now) }
+    {
+        match others {
+            [] => Some(self),
+            [start] => Some(LatchParts {
+                start: Some(start),
+                ..self
+            }),
+            [kind, control] => Some(LatchParts {
+                kind: Some(kind),
+                control: Some(control),
+                ..self
+            }),
+            [kind, control, start] => Some(LatchParts {
+                kind: Some(kind),
+                control: Some(control),
+                start: Some(start),
+                ..self
+            }),
+            _ => None,
+        }
+    }
 }
 
 /// The two to five operands of a latch.
@@ -91,22 +123,7 @@ pub(crate) fn latch_parts(operands: &[Name]) -> Option<LatchParts<'_>>
     ensures { option_map parts_said result ≡ said.latch_parts operands.now }
 {
     match operands {
-        [input, output] => Some(LatchParts::of(input, output)),
-        [input, output, start] => Some(LatchParts {
-            start: Some(start),
-            ..LatchParts::of(input, output)
-        }),
-        [input, output, kind, control] => Some(LatchParts {
-            kind: Some(kind),
-            control: Some(control),
-            ..LatchParts::of(input, output)
-        }),
-        [input, output, kind, control, start] => Some(LatchParts {
-            kind: Some(kind),
-            control: Some(control),
-            start: Some(start),
-            ..LatchParts::of(input, output)
-        }),
+        [input, output, others @ ..] => LatchParts::of(input, output).with(others),
         _ => None,
     }
 }

@@ -35,14 +35,3 @@ network_by draft behind =
 -- whatever comes behind, the draft after a statement becomes the network that the draft before it becomes with that statement
 abbrev pub Adds : Statement → Draft → Draft → Type 0
 Adds statement before after = (behind : List Statement) → network_by after behind ≡ network_by before (statement ∷ behind)
-
--- a draft whose open gate has all its rows
-abbrev pub closed : Draft → Draft
-closed draft =
-    record {
-      inputs = draft.inputs;
-      outputs = draft.outputs;
-      latches = draft.latches;
-      gates = draft.gates ++ gates_by draft.open_gate [];
-      open_gate = None;
-    }

@@ -6,6 +6,6 @@ use Rattle.blif_in.proofs.reading.read_statements.Goals as goal
 pub returns-clause-refused : goal.returns-clause-refused
 returns-clause-refused c fault told =
     let lines = lines_read c.args.bytes.now in
-    let read = c.in_ok-progress.ensures.read in
-    unsound lines c.closing_fault.result c.in_ok-progress.field-0.net fault (faultless lines c.in_ok-progress.field-0.progress read) (c.closing_fault.ensures lines read c.in_ok-progress.ensures.said) c.in_default.is
-    c.in_ok-progress.ensures.said (c.put_in_order.ensures.refused fault told)
+    let read = c.in_ok-net.ensures.read in
+    unsound lines c.closing_fault.result c.in_ok-net.net fault (faultless lines c.network_said.new.progress read) (c.closing_fault.ensures lines read c.in_ok-net.ensures.said) c.in_default.is
+    c.in_ok-net.ensures.said (c.put_in_order.ensures.refused fault told)
