@@ -1,6 +1,6 @@
 //! The calls of `hs_list` and `hs_io`.
 
-use crate::words::pieces;
+use crate::words::{is_word, pieces};
 use crate::{line_texts, shelves};
 use case_lines::Answer;
 use hs_io::{LoadFail, Name, Names, SinkFail, copied_names};
@@ -53,7 +53,7 @@ fn put_counted(names: &[Name], answer: &mut Answer) {
 
 /// Puts the message of a failure.
 fn put_message(word: &[u8], answer: &mut Answer) {
-    if word == b"SinkFail::Failed".as_slice() {
+    if is_word(word, b"SinkFail::Failed") {
         answer.add_displayed(SinkFail::Failed);
     } else {
         answer.add_displayed(load_fail(word));
@@ -62,9 +62,9 @@ fn put_message(word: &[u8], answer: &mut Answer) {
 
 /// The failure of a load that a word names.
 fn load_fail(word: &[u8]) -> LoadFail {
-    if word == b"LoadFail::Failed".as_slice() {
+    if is_word(word, b"LoadFail::Failed") {
         LoadFail::Failed
-    } else if word == b"LoadFail::TooLong".as_slice() {
+    } else if is_word(word, b"LoadFail::TooLong") {
         LoadFail::TooLong
     } else {
         LoadFail::NoMemory

@@ -1,6 +1,6 @@
 //! A judge of words that looks at each word on its own and counts the words before it.
 
-use crate::words::number;
+use crate::words::{is_word, number};
 use job_words::{CommandOption, Form, OperandKind, Words, built_forms};
 
 /// The number of the refused word, counted from 1, or 0 where the words are a job.
@@ -63,15 +63,15 @@ fn is_taken(words: &Words, place: usize) -> bool {
 
 /// Whether a word is an option that takes the next word.
 fn takes_word(word: &[u8]) -> bool {
-    word == b"--limit".as_slice() || word == b"--start".as_slice() || word == b"--fill".as_slice()
+    is_word(word, b"--limit") || is_word(word, b"--start") || is_word(word, b"--fill")
 }
 
 /// Whether an option can take a word.
 fn can_be_taken(option: &[u8], word: &[u8]) -> bool {
-    if option == b"--limit".as_slice() {
+    if is_word(option, b"--limit") {
         return is_between(1, 10_000, word);
     }
-    option == b"--start".as_slice() || word == b"hold".as_slice()
+    is_word(option, b"--start") || is_word(word, b"hold")
 }
 
 /// Whether the form has the option that a word names.

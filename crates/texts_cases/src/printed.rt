@@ -1,6 +1,6 @@
 //! Lines to err and reports.
 
-use crate::words::{count, cut, number, pieces};
+use crate::words::{count, cut, is_word, number, pieces};
 use case_lines::Answer;
 use hs_list::Items;
 use hs_texts::err_lines;
@@ -86,7 +86,7 @@ fn counted(alloc: Global, states: &[u8], words: &[u8]) -> Result<Vec<u8>, AllocE
 
 /// The summary of the trial of 42 2 2 1 with the given number of closed partitions, or with more than 1,000.
 fn summary(alloc: Global, closed: &[u8]) -> Result<Vec<u8>, AllocError> {
-    let closed = if closed == b"more".as_slice() {
+    let closed = if is_word(closed, b"more") {
         None
     } else {
         Some(count(closed) as usize)

@@ -1,6 +1,6 @@
 //! Shelves and sinks.
 
-use crate::words::{cut, number, pieces};
+use crate::words::{cut, is_word, number, pieces};
 use case_lines::Answer;
 use hs_io::{FileShelf, LoadFail, MemShelf, MemSink, Name, Shelf, Sink, SinkFail, StdSink};
 use std::alloc::Global;
@@ -38,9 +38,9 @@ fn take_steps(alloc: Global, steps: &[Name], answer: &mut Answer) {
 fn take_step(alloc: Global, shelf: &mut MemShelf, step: &[u8], answer: &mut Answer) {
     let (verb, rest) = cut(step, b' ');
     let (first, second) = cut(rest, b' ');
-    if verb == b"add".as_slice() {
+    if is_word(verb, b"add") {
         add(shelf, first, second, answer);
-    } else if verb == b"fail".as_slice() {
+    } else if is_word(verb, b"fail") {
         fail_at(shelf, first, answer);
     } else {
         load(alloc, shelf, first, number(second), answer);
@@ -104,7 +104,7 @@ fn put_each(sink: &mut MemSink, steps: &[Name], answer: &mut Answer) {
 /// Takes a step of a sink.
 fn put_step(sink: &mut MemSink, step: &[u8], answer: &mut Answer) {
     let (verb, rest) = cut(step, b' ');
-    if verb == b"fail".as_slice() {
+    if is_word(verb, b"fail") {
         let (call, take) = cut(rest, b' ');
         sink.fail_at(number(call).clamp(1, 1000), number(take).min(1000) as usize);
     } else {

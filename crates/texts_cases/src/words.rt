@@ -5,6 +5,11 @@ ghost use Rattle.std.specs.Prelude.{◌≡◌, ◌<◌, ◌≤◌, codes, if◌t
 use hs_io::{Name, Names};
 use std::alloc::{AllocError, Global};
 
+/// Whether the text is the word.
+pub fn is_word(text: &[u8], word: &[u8]) -> bool {
+    text == word
+}
+
 /// The text before the first `mark` and the text after it; the whole text and nothing if there is no `mark`.
 pub fn cut(text: &[u8], mark: u8) -> (&[u8], &[u8]) {
     for i in 0..text.len() {
