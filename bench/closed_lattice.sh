@@ -7,7 +7,7 @@
 set -eu
 words="closed pairs consistent"
 . "$(dirname "$0")/timing.sh"
-use_program benchmarks
+use_program machine_benchmarks
 works=("$@")
 [ $# -gt 0 ] || works=($words)
 

@@ -2,10 +2,10 @@
 # Times what the gates of a code read from outside, beside a plain way in the same run. It asks each state about the
 # first one like it, which is searched, for each bit that is judged, and compares each two pieces of a state. A time is
 # processor time, the least of three runs without that of a run that only makes the case, for one call. The cases are
-# those of crates/benchmarks.
+# those of crates/machine_benchmarks.
 set -eu
 . "$(dirname "$0")/timing.sh"
-use_program benchmarks
+use_program machine_benchmarks
 TIMEFORMAT='%U %S'
 
 # the processor time of the program in milliseconds, the least of three runs: case, size, work, calls

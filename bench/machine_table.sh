@@ -1,10 +1,10 @@
 #!/usr/bin/env bash
 # Times machines of large files from outside: the building, beside the reading of the same text, and the questions
 # about two states, beside a plain comparison of the two at each symbol by itself in the same run. What reading and
-# building take is subtracted from the questions. The machines are those of crates/benchmarks.
+# building take is subtracted from the questions. The machines are those of crates/machine_benchmarks.
 set -eu
 . "$(dirname "$0")/timing.sh"
-use_program benchmarks
+use_program machine_benchmarks
 
 # the time of the program, in microseconds: kind, size, work, pairs
 run() {

@@ -4,7 +4,7 @@
 # that of a run that only makes the machine.
 set -eu
 . "$(dirname "$0")/timing.sh"
-use_program benchmarks
+use_program machine_benchmarks
 
 printf '%-8s %8s %8s %12s %12s %8s\n' machine states classes 'alike (ms)' 'plain (ms)' ratio
 while read -r kind states; do

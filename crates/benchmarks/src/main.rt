@@ -4,48 +4,24 @@
 //!
 //! - `texts` describes the subjects `lines`, `kiss2`, `blif` and `networks`.
 //! - `sets` describes `cubes`, `covers`, `labels` and `bits`.
-//! - `machines` describes `machines`.
 //!
 //! Each of these modules says what the works on its subjects are, and which module describes the kinds.
 #![tactic(auto)]
 
-mod drawing;
-mod machines;
 mod sets;
 mod texts;
 
 use anyhow::{Error, bail};
+use bench_cases::{Case, case_of};
 use sets::{covers, gaps, worlds};
 use std::alloc::Global;
 use std::env;
-
-/// What is asked.
-#[derive(Clone, Copy)]
-pub(crate) struct Case<'a> {
-    subject: &'a str,
-    kind: &'a str,
-    size: usize,
-    work: &'a str,
-    times: usize,
-}
 
 /// What the work gives: two counts, and before them the number of bytes of the text if the subject is one.
 #[derive(Clone, Copy)]
 pub(crate) struct Counts {
     bytes: Option<usize>,
     pair: (usize, usize),
-}
-
-/// The case that a line says, if it says one.
-fn case_of(line: &str) -> Option<Case<'_>> {
-    let mut words = line.split(' ');
-    Some(Case {
-        subject: words.next()?,
-        kind: words.next()?,
-        size: words.next()?.parse().ok()?,
-        work: words.next()?,
-        times: words.next()?.parse().ok()?,
-    })
 }
 
 /// What the work on a case gives.
@@ -56,7 +32,6 @@ fn answer(alloc: Global, case: Case<'_>) -> Result<Counts, Error> {
         "covers" => covers::answer(alloc, case)?,
         "labels" => worlds::answer_labels(alloc, case)?,
         "bits" => worlds::answer_bits(alloc, case)?,
-        "machines" => machines::answer(alloc, case)?,
         _ => bail!("no such subject"),
     };
     Ok(Counts { bytes: None, pair })

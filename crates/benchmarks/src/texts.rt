@@ -15,8 +15,9 @@ mod networks;
 mod plain;
 mod reading;
 
-use crate::{Case, Counts};
+use crate::Counts;
 use anyhow::{Error, bail};
+use bench_cases::Case;
 use forms::{form_of, text_of};
 use std::alloc::Global;
 

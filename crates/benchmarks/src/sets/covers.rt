@@ -1,8 +1,8 @@
 //! Covers of gates.
 
 use super::gates::{Gate, gate_of, gates_of};
-use crate::Case;
 use anyhow::{Error, bail};
+use bench_cases::Case;
 use cover_logic::{Term, can_cover, cover};
 use std::alloc::Global;
 

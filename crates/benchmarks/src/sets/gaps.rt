@@ -3,8 +3,8 @@
 ghost use Rattle.std.specs.Prelude.{◌≡◌, ◌<◌, ◌≤◌, ◌^◌, All};
 
 use super::cubes_of_kinds::cubes_of;
-use crate::Case;
 use anyhow::{Error, bail};
+use bench_cases::Case;
 use cubes::{Cube, first_gap};
 use std::alloc::{AllocError, Global};
 

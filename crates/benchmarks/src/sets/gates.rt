@@ -3,7 +3,7 @@
 ghost use Rattle.std.specs.Prelude.{◌≡◌, ◌<◌, ◌≤◌, bit_and};
 
 use super::trees::leaves;
-use crate::drawing::drawn;
+use bench_cases::drawn;
 use cover_logic::{Term, can_cover};
 use std::alloc::{AllocError, Global};
 

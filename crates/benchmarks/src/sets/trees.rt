@@ -1,6 +1,6 @@
 //! Trees that cut the symbols of 32 inputs. A leaf is a care and a value.
 
-use crate::drawing::drawn;
+use bench_cases::drawn;
 use std::alloc::{AllocError, Global};
 
 /// The leaves of a tree that cuts the symbols at random: no two hold the same symbol. Trees of other numbers have

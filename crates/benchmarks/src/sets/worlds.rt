@@ -4,8 +4,8 @@ ghost use Rattle.std.specs.Prelude.{◌≡◌, ◌≤◌, All, IfOk, length};
 ghost use Rattle.partition.specs.Partition.{IsPartition, IsStateCount};
 
 use super::partitions::{partitions_of, states_of};
-use crate::Case;
 use anyhow::{Error, bail};
+use bench_cases::Case;
 use hs_lattice::{JoinWorld, Listing, join_closure};
 use partition::{BitPart, BitWorld, PartWorld, Partition};
 use std::alloc::{AllocError, Global};

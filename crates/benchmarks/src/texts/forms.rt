@@ -2,7 +2,7 @@
 
 ghost use Rattle.std.specs.Prelude.{◌≤◌};
 
-use crate::drawing::drawn_index;
+use bench_cases::drawn_index;
 use std::alloc::{AllocError, Global};
 
 /// A kind of text. Every second piece is repeated `size` times.

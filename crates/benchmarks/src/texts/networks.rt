@@ -1,13 +1,13 @@
 //! Networks read, put in order and run.
 
-ghost use Rattle.std.specs.Prelude.{◌<◌, ◌^◌, IfOk, length, vec_len};
+ghost use Rattle.std.specs.Prelude.{◌<◌, ◌^◌, length};
 ghost use Rattle.net_core.specs.Order.{IsOrderOf};
 ghost use Rattle.net_core.specs.Sound.{Sound};
 
 use super::forms::{form_of, text_of};
 use super::plain::count_ones;
-use crate::Case;
 use anyhow::{Error, bail};
+use bench_cases::Case;
 use blif_in::read_ordered;
 use net_core::{Network, Order};
 use net_sim::run;
@@ -48,8 +48,10 @@ fn ones(
 ) -> Result<usize, Error>
     requires sound { Sound net.now }
     requires order { IsOrderOf net.now order.now }
-    requires short { length symbols.now < 2 ^ 32 }
 {
+    if symbols.len() >= 1 << 32 {
+        bail!("too many symbols");
+    }
     match work {
         "order" => Ok(0),
         "plain" => Ok(count_ones(alloc, order, symbols)?),
@@ -59,17 +61,11 @@ fn ones(
 }
 
 /// As many symbols as the case has times, for networks of its kind.
-fn symbols_of(alloc: Global, case: Case<'_>) -> Result<Vec<u8>, Error>
-    ensures { IfOk result (λ symbols. vec_len symbols < 2 ^ 32) }
-{
+fn symbols_of(alloc: Global, case: Case<'_>) -> Result<Vec<u8>, Error> {
     let Some(form) = form_of("symbols", case.kind) else {
         bail!("no symbols for this kind");
     };
-    let symbols = text_of(alloc, form, case.times)?;
-    if symbols.len() >= 1 << 32 {
-        bail!("too many symbols");
-    }
-    Ok(symbols)
+    Ok(text_of(alloc, form, case.times)?)
 }
 
 /// The number of ones in the answers of a run.

@@ -1,5 +1,0 @@
-use Rattle.kiss2_laws.proofs.ReadLawful.{read_lawful}
-use Rattle.benchmarks.proofs.machines.files.file_in.Goals as goal
-
-pub returns : goal.returns
-returns c = read_lawful c.args.text.now c.in-Ok.file c.in-Ok.ensures.read
