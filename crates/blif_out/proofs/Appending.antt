@@ -1,15 +1,14 @@
 -- One append after another.
-use Rattle.std.proofs.Common.{◌≡◌, ℕ, ◌+◌, List, [], ◌∷◌, ◌++◌, sym, ap, ◌∙◌, arith, append-nil, ◌<◌, length, get_or, take, append_assoc}
+use Rattle.std.proofs.Common.{◌≡◌, ℕ, ◌+◌, List, [], ◌∷◌, ◌++◌, sym, ap, ◌∙◌, arith, append-nil}
 use Rattle.std.specs.Fmt.{decimal}
 use Rattle.std.specs.Int.{bit_at}
 use Rattle.std.specs.List.{flat_map}
-use Rattle.std.proofs.lemmas.List.{flat_map_more, take_more}
+use Rattle.std.proofs.lemmas.List.{flat_map_more}
 use Rattle.std.proofs.lemmas.List.FromFn.{map-range_with_len_more}
 use Rattle.list_facts.specs.Laws.Appending.{text_more}
 use Rattle.hs_io.specs.Spelling.{spaced, line_text}
 use Rattle.partition.specs.Text.{labels_text}
 use Rattle.blif_out.specs.Head.{bits_of}
-use Rattle.std.proofs.lemmas.Grind.{flat_map-append}
 use Rattle.blif_out.specs.Inner.Pieces.{comma_number}
 
 -- a line with one field more
@@ -29,11 +28,3 @@ bit_more start text new i word digit before pushed is =
     text_more start text new (bits_of i word) (digit ∷ []) before pushed
     ∙ ap (λ (d : ℕ). start ++ (bits_of i word ++ d ∷ [])) is
     ∙ ap (λ (t : List ℕ). start ++ t) (sym (map-range_with_len_more (λ j. 48 + bit_at word j) 0 i i (omega arith)))
-
--- the pieces of one more item were appended
-pub pieces_more : {X : Type 0} (f : X → List ℕ) (items : List X) (i : ℕ) (item d : X) (start old new : List ℕ) → i < length items → item ≡ get_or items i d → old ≡ start ++ flat_map f (take i items)
-    → new ≡ old ++ f item → new ≡ start ++ flat_map f (take (i + 1) items)
-pieces_more {X} f items i item d start old new within is before added =
-    let more : flat_map f (take (i + 1) items) ≡ flat_map f (take i items) ++ f item =
-    ap (flat_map f) (take_more items i d within ∙ ap (λ (one : X). take i items ++ one ∷ []) (sym is)) ∙ flat_map-append f (take i items) (item ∷ []) ∙ ap (λ (text : List ℕ). flat_map f (take i items) ++ text) (append-nil (f item)) in
-    added ∙ ap (λ (text : List ℕ). text ++ f item) before ∙ append_assoc start (flat_map f (take i items)) (f item) ∙ ap (λ (text : List ℕ). start ++ text) (sym more)

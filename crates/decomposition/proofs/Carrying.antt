@@ -9,7 +9,7 @@ use Rattle.kiss_file.specs.Machine.{Conflicting, next, out}
 use Rattle.kiss_file.proofs.Machine.{next_is_a_state}
 use Rattle.machine_table.specs.Staying.{NeverLeaves}
 use Rattle.machine_table.specs.Table.{IsTable}
-use Rattle.machine_table.proofs.Lawful.{table_of_lawful}
+use Rattle.state_pairs.proofs.Lawful.{table_of_lawful}
 use Rattle.net_core.specs.declared.Network.{Network}
 use Rattle.net_core.specs.Step.{AreStarts, Step}
 use Rattle.pair_operators.specs.Pair.{Closed}

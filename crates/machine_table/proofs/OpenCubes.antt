@@ -10,13 +10,13 @@ use Rattle.kiss_file.specs.declared.file.KissFile.{KissFile}
 use Rattle.kiss_file.specs.declared.file.KissRow.{KissRow}
 use Rattle.machine_table.specs.declared.missing.Missing.{Missing}
 use Rattle.machine_table.specs.Said.{IsSaid, Says, place_of}
-use Rattle.machine_table.specs.Table.{IsTable}
+use Rattle.state_pairs.specs.Table.{IsTable}
 use Rattle.machine_table.specs.declared.missing.Missing.TheVariants.{Next, Output}
-use Rattle.machine_table.specs.Inner.Asked.{IsOfState}
+use Rattle.state_pairs.specs.Asked.{IsOfState}
 use Rattle.machine_table.specs.Inner.OpenSymbol.{AreCubesOf, AreFullCubes, IsFirstOf, IsFull, IsSaidEverywhere}
 use Rattle.state_rows.specs.Places.{IsNumberOf}
-use Rattle.machine_table.proofs.Asking.{is_row_at, lawful_row, looked_at, number_of_row}
-use Rattle.machine_table.proofs.Sought.{at_from_held}
+use Rattle.state_pairs.proofs.Asking.{is_row_at, lawful_row, looked_at, number_of_row}
+use Rattle.state_pairs.proofs.Sought.{at_from_held}
 
 module _ (F : KissFile) (s : ℕ) (part : Missing) (numbers : List ℕ) (count : ℕ) (cubes : List Cube) (row : KissRow)
     (known : AreCubesOf F s part numbers count cubes) (inside : count < length numbers)

@@ -8,10 +8,10 @@ use Rattle.kiss_file.specs.declared.file.KissFile.{KissFile}
 use Rattle.kiss_file.specs.declared.file.KissRow.{KissRow}
 use Rattle.kiss_file.specs.Machine.{Conflicting, Specified, given_bit, output_bit}
 use Rattle.kiss_file.proofs.Machine.{output_bit_not_said, output_bit_said}
-use Rattle.machine_table.specs.Inner.Asked.{HaveOneLabel, NoneIsOpen, IsLabelAt, IsOpenAt, digit}
+use Rattle.state_pairs.specs.Asked.{HaveOneLabel, NoneIsOpen, IsLabelAt, IsOpenAt, digit}
 use Rattle.state_rows.specs.Least.{IsMetBy, lesser_of}
-use Rattle.machine_table.specs.Pairs.{AgreeAt, AgreeInBit, AtEachSymbol, IsFirstWithout}
-use Rattle.machine_table.proofs.Labels.{AreLabels, if_some_each}
+use Rattle.state_pairs.specs.Pairs.{AgreeAt, AgreeInBit, AtEachSymbol, IsFirstWithout}
+use Rattle.state_pairs.proofs.Labels.{AreLabels, if_some_each}
 use Rattle.machine_table.proofs.OutputWords.{same_map, same_values}
 use Rattle.state_rows.proofs.Least.{lesser_has, met_left, met_right}
 

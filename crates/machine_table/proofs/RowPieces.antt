@@ -14,14 +14,14 @@ use Rattle.kiss_file.specs.Machine.{Conflicting, IsRowAt, output_bit}
 use Rattle.kiss_file.proofs.Machine.{next_said, output_bit_said}
 use Rattle.machine_table.specs.declared.covering.Piece.{Piece}
 use Rattle.machine_table.specs.Covering.{IsPiece}
-use Rattle.machine_table.specs.Inner.Asked.{IsOfState}
+use Rattle.state_pairs.specs.Asked.{IsOfState}
 use Rattle.machine_table.specs.Inner.OpenSymbol.{SaysAll}
-use Rattle.machine_table.specs.Table.{IsTable}
+use Rattle.state_pairs.specs.Table.{IsTable}
 use Rattle.machine_table.specs.Walk.{outputs_of}
-use Rattle.machine_table.proofs.Asking.{lawful_row, number_of_row}
+use Rattle.state_pairs.proofs.Asking.{lawful_row, number_of_row}
 use Rattle.state_rows.proofs.Outputs.{given_value}
 use Rattle.machine_table.proofs.OutputWords.{same_map}
-use Rattle.machine_table.proofs.Sought.{at_from_held}
+use Rattle.state_pairs.proofs.Sought.{at_from_held}
 
 -- a number whose bits are all at low places is small
 pub below_from_bits : (n k : ℕ) → ((b : ℕ) → bit n b ≡ true → b < k) → n < 2 ^ k

@@ -10,13 +10,13 @@ use Rattle.kiss_file.specs.declared.file.KissFile.{KissFile}
 use Rattle.kiss_file.specs.declared.file.KissRow.{KissRow}
 use Rattle.kiss_file.specs.Machine.{Conflicting, IsRowAt, Specified, given_bit, out, output_bit}
 use Rattle.kiss_file.proofs.Machine.{output_bit_not_said, output_bit_said}
-use Rattle.machine_table.specs.Inner.Asked.{HaveOneLabel, IsLabelAt, IsOpenAt}
+use Rattle.state_pairs.specs.Asked.{HaveOneLabel, IsLabelAt, IsOpenAt}
 use Rattle.machine_table.specs.Inner.OpenSymbol.{SaysAll}
-use Rattle.machine_table.specs.Pairs.{AgreeAt}
-use Rattle.machine_table.specs.Table.{IsTable}
+use Rattle.state_pairs.specs.Pairs.{AgreeAt}
+use Rattle.state_pairs.specs.Table.{IsTable}
 use Rattle.machine_table.specs.Walk.{outputs_of}
-use Rattle.machine_table.proofs.Asking.{lawful_row, number_of_row}
-use Rattle.machine_table.proofs.Labels.{AreLabels, label_or_open}
+use Rattle.state_pairs.proofs.Asking.{lawful_row, number_of_row}
+use Rattle.state_pairs.proofs.Labels.{AreLabels, label_or_open}
 use Rattle.state_rows.proofs.Outputs.{given_in_all, given_value}
 use Rattle.machine_table.proofs.OutputLabels.{no_label}
 use Rattle.machine_table.proofs.OutputWords.{same_map, same_values}

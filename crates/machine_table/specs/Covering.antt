@@ -10,10 +10,7 @@ use Rattle.machine_table.specs.declared.covering.Piece.{Piece}
 use Rattle.machine_table.specs.declared.missing.Missing.{Missing}
 use Rattle.machine_table.specs.Said.{Says}
 use Rattle.machine_table.specs.Walk.{outputs_of}
-
--- some symbol leads the two states to these
-abbrev pub IsImage : KissFile → (s t u v : ℕ) → Type 0
-IsImage F s t u v = (x : ℕ) × (x < 2 ^ F.inputs) × (next F s (symbol_of F.inputs x) ≡ u) × (next F t (symbol_of F.inputs x) ≡ v)
+pub use Rattle.state_pairs.specs.Pairs.{IsImage}
 
 -- the piece's next state and outputs are the machine's at each symbol that it holds
 pub record IsPiece (F : KissFile) (s : ℕ) (piece : Piece) : Type 0 where

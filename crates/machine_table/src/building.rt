@@ -2,14 +2,12 @@
 ghost use Rattle.std.specs.Prelude.{◌≡◌, ◌^◌, ◌<◌, IfOk, IfErr, OnOk, length};
 ghost use Rattle.kiss_file.specs.Machine.{Accepted, Conflicting};
 ghost use Rattle.machine_table.specs.Cause.{Caused, IsConflictOf};
-ghost use Rattle.machine_table.specs.Table.{IsTable};
+ghost use Rattle.state_pairs.specs.Table.{IsTable};
 
 use crate::{Machine, Missing};
-use kiss_file::{Fill, KissFile, copied_file};
-use state_rows::{
-    bundles_of_states, columns_of_states, first_conflict, leaders_of_states, places_by_cubes,
-    places_of_states,
-};
+use kiss_file::{Fill, KissFile};
+use state_pairs::RowsByState;
+use state_rows::{bundles_of_states, first_conflict, places_of_states};
 use std::alloc::{AllocError, AllocFailed, Global};
 
 /// Why a file has no machine.
@@ -108,16 +106,9 @@ impl Machine {
                 row_b: later as u32 + 1,
             });
         }
-        let ordered = places_by_cubes(alloc, rows, &places)?;
-        let leaders = leaders_of_states(alloc, rows, &ordered)?;
-        let columns = columns_of_states(alloc, rows, &ordered, &leaders)?;
-        let file = copied_file(alloc, file)?;
+        let rows = RowsByState::of_lists(alloc, file, &places, bundles)?;
         Ok(Machine {
-            file,
-            places: ordered,
-            bundles,
-            leaders,
-            columns,
+            rows,
             complete: false,
         })
     }

@@ -124,7 +124,7 @@ impl Machine {
         ensures { (y : ℕ) → HoldsNumber cube.now y → next self.now s (symbol_of self.now.inputs y) ≡ result }
     {
         // Naming a field gives the proof what every machine keeps; the same in the function below.
-        let _ = &self.file;
+        let _ = &self.rows;
         self.next(s, least_symbol(cube)) as u16
     }
 
@@ -136,7 +136,7 @@ impl Machine {
         ensures outputs { (y : ℕ) → HoldsNumber cube.now y → out self.now s (symbol_of self.now.inputs y) ≡ outputs_of self.now.outputs result }
         ensures below { result < 2 ^ self.now.outputs }
     {
-        let _ = &self.file;
+        let _ = &self.rows;
         self.output_word(s, least_symbol(cube))
     }
 

@@ -3,29 +3,26 @@
 //! A [`Machine`] is built from a file whose rows do not contradict one another and, with `Fill::Refuse`,
 //! leave nothing open. Contracts see it as that file, so every question it answers is about the next states
 //! and outputs that `kiss_file/specs/Machine` defines. There is no table indexed by symbols: answers come from
-//! the rows of the states in question. `state_rows` arranges the rows of each state: in the order of their cubes, and
-//! in bundles of 64, which find all rows that share a symbol with a cube at once, so that only those rows are asked.
+//! the rows of the states in question. `state_rows` arranges the rows of each state, and `state_pairs` compares
+//! those of two states, asking only rows that share a symbol.
 //!
 //! `specs/Table` says which files have a machine, `specs/Conflict` which two rows a refusal names,
 //! `specs/Said` which open entry it names, and `specs/Cause` when each refusal occurs. `specs/Staying` says
 //! that a machine never leaves its states, `specs/Walk` how numbers encode outputs, `specs/Pairs` what is
 //! asked of two states at all symbols, `specs/Covering` what the images and pieces list and what filled rows
-//! say, and `specs/Merging` what becomes of a partition in which the next states of two states are merged.
+//! say, and `specs/Merging` what becomes of a partition in which the next states of two states are merged. The
+//! definitions of `Table`, `Staying`, `Pairs` and `Merging` are those of `state_pairs`.
 #![tactic(auto)]
 
-mod aligned;
 mod building;
 mod covering;
 mod images;
 mod laws;
 mod machine;
-mod merged_images;
 mod missing;
 mod open_entry;
-mod pair_list;
 mod pairs;
-mod question;
-mod searching;
+mod row_tree;
 mod walking;
 
 pub use building::BuildFail;

@@ -4,13 +4,13 @@ ghost use Rattle.cubes.specs.Gap.{IsHeld};
 ghost use Rattle.kiss_file.specs.declared.file.KissFile.{KissFile};
 ghost use Rattle.machine_table.specs.declared.missing.Missing.{Missing};
 ghost use Rattle.machine_table.specs.Inner.OpenSymbol.{AreFullCubes, IsFirstAmong, IsFirstOf, IsFull, IsSaidEverywhere, SaysAll};
-ghost use Rattle.machine_table.specs.Table.{IsTable};
+ghost use Rattle.state_pairs.specs.Table.{IsTable};
 ghost use Rattle.machine_table.specs.Said.{IsEntry, IsFirstOpen, IsSaid, Says, place_of};
 
-use crate::machine::given;
 use crate::{Machine, Missing};
 use cubes::{Cube, first_gap};
 use kiss_file::KissRow;
+use state_pairs::given;
 use std::alloc::{AllocError, Global};
 
 /// A part at a state and a symbol.

@@ -7,7 +7,7 @@ ghost use Rattle.machine_table.specs.Walk.{outputs_of};
 
 use crate::Machine;
 use crate::open_entry::all_outputs;
-use state_rows::RowTree;
+use crate::row_tree::RowTree;
 use std::alloc::{AllocError, Global};
 
 /// The number of symbols per state from which trees of rows pay off.
@@ -44,7 +44,7 @@ impl Machine {
         if symbols / MANY_VISITS < self.states() {
             return Ok(trees);
         }
-        let rows = self.file.rows.as_slice();
+        let rows = self.rows.all_rows();
         for s in 0..self.states() {
             let tree = RowTree::of_rows(alloc, rows, self.numbers_of(s), u32::MAX, 32)?;
             trees.push(tree)?;
@@ -110,7 +110,7 @@ impl Machine {
         requires x { x < 2 ^ self.now.inputs }
         ensures { IfSome result (λ step. IsStep self.now s x step.next step.outputs) }
     {
-        if number >= self.file.rows.as_slice().len() {
+        if number >= self.rows.all_rows().len() {
             return None;
         }
         let row = self.row(number);

@@ -7,10 +7,10 @@ use Rattle.cubes.proofs.Numbers.{length-symbol_of}
 use Rattle.kiss_file.specs.declared.file.KissFile.{KissFile}
 use Rattle.kiss_file.specs.Machine.{next}
 use Rattle.machine_table.specs.Covering.{IsImage}
-use Rattle.machine_table.specs.Inner.AddedPairs.{BelowCount, IsFound}
+use Rattle.state_pairs.specs.AddedPairs.{BelowCount, IsFound}
 use Rattle.machine_table.specs.Merging.{MergesImages, MergesPairs}
 use Rattle.machine_table.specs.Staying.{NeverLeaves}
-use Rattle.machine_table.proofs.MergedPairs.{merges_as, merges_below_none, merges_more, merges_pair}
+use Rattle.state_pairs.proofs.MergedPairs.{merges_as, merges_below_none, merges_more, merges_pair}
 use Rattle.mm_lattice.specs.Generators.{IsRightOf}
 use Rattle.mm_lattice.proofs.Holds.{right_held}
 use Rattle.partition.specs.Inner.Relabelled.{relabelled}

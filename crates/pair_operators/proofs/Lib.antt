@@ -3,4 +3,3 @@ pub mod Firsts
 pub mod LowSoFar
 pub mod Classes
 pub mod Asking
-pub mod Pushing

@@ -6,7 +6,7 @@ use Rattle.kiss_file.specs.Machine.{Conflicting, answers}
 use Rattle.kiss_file.proofs.Machine.{next_is_a_state}
 use Rattle.machine_table.specs.Staying.{NeverLeaves}
 use Rattle.machine_table.specs.Table.{IsTable}
-use Rattle.machine_table.proofs.Lawful.{table_of_lawful}
+use Rattle.state_pairs.proofs.Lawful.{table_of_lawful}
 use Rattle.pair_operators.specs.Pair.{Closed}
 use Rattle.state_reduce.specs.WorkMachine.{ClassesAnswerAlike}
 use Rattle.state_reduce.specs.Inner.Named.{AreAllNamed}

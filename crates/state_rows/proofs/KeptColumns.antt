@@ -3,23 +3,12 @@ use Rattle.std.proofs.Common.{◌≡◌, ℕ, ◌+◌, ◌<◌, List, [], ◌∷
 use Rattle.std.proofs.Math.Dec.{eqb}
 use Rattle.std.specs.Option.{option_eq}
 use Rattle.std.proofs.lemmas.Bool.{cases_lt, eqb-true, false≢true, not-false}
-use Rattle.std.proofs.lemmas.List.{get_or_append_left, get_or_default, get_or_push}
+use Rattle.std.proofs.lemmas.List.{get_or_default}
 use Rattle.std.proofs.lemmas.List.Elements.{Contains-append_left, Contains-get_or, Contains-push, Contains-push_cases}
 use Rattle.kiss_file.specs.declared.file.KissRow.{KissRow}
+use Rattle.list_facts.specs.Laws.Places.{each_pushed}
 use Rattle.state_rows.specs.Columns.{AreColumns, AreKept, ArePicked, HaveSameCubes, IsAtPlace, IsKept, IsLedBy, NameOne, RepresentBoth, RepresentColumns}
 use Rattle.state_rows.specs.Places.{ListRows, places_of}
-
--- what holds of each element of a list, and of one more, holds of each of the longer list
-pub each_pushed : {A : Type 0} (list : List A) (one d : A) (n : ℕ) (P : ℕ → A → Type 0) → length list ≡ n
-    → ((k : ℕ) → k < n → P k (get_or list k d)) → P n one → (k : ℕ) → k < n + 1 → P k (get_or (list ++ one ∷ []) k d)
-each_pushed list one d n P count known last k below =
-    elim (cases_lt k n) [
-      | inl before ↦ subst (P k) (sym (get_or_append_left list (one ∷ []) d k (omega (arith, count, before)))) (known k before)
-      | inr now ↦
-          let at : n ≡ k = omega arith in
-          let here : get_or (list ++ one ∷ []) k d ≡ one = get_or_push list one d k (count ∙ at) in
-          subst (P k) (sym here) (subst (λ (i : ℕ). P i one) at last)
-    ]
 
 -- what compares as the same is the same
 pub same_option : (a b : Option ℕ) → false ≡ not (option_eq eqb a b) → a ≡ b
@@ -146,8 +135,8 @@ pub kept_more : (rows : List KissRow) (places : List (List ℕ)) (leaders : List
     → RepresentColumns rows places (IsLedBy leaders n) (length (places_of places n)) list → AreKept rows places leaders (n + 1) (kept ++ list ∷ [])
 kept_more rows places leaders n kept list known last = record {
   size = omega (arith, known.size, length-pushed kept list);
-  each = each_pushed kept list [] n (λ leader places_kept. RepresentColumns rows places (IsLedBy leaders leader) (length (places_of places leader)) places_kept) known.size
-      known.each last;
+  each = each_pushed kept (kept ++ list ∷ []) list [] n (λ leader places_kept. RepresentColumns rows places (IsLedBy leaders leader) (length (places_of places leader)) places_kept)
+      known.size refl known.each last;
 }
   where
     length-pushed : (lists : List (List ℕ)) (one : List ℕ) → length (lists ++ one ∷ []) ≡ length lists + 1

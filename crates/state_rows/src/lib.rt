@@ -5,8 +5,7 @@
 //! each list by the cubes, so that states with the same cubes have them at the same places. `leaders_of_states` tells
 //! which states these are, and `columns_of_states` keeps one place for each different column of their next states.
 //! `bundles_of_states` puts the rows of each state into bundles of 64, which mark all rows that share a symbol with a
-//! cube in one step. `first_conflict` finds with them the first two rows that contradict one another. A [`RowTree`]
-//! leads from a symbol to few rows that may hold it; it is a hint, without a contract.
+//! cube in one step. `first_conflict` finds with them the first two rows that contradict one another.
 //!
 //! `specs/Places` says which lists of numbers are those of the states, `specs/Columns` what leaders and columns are,
 //! `specs/Bundles` what a bundle holds and marks, `specs/Conflict` which two rows are the first that contradict one
@@ -19,7 +18,6 @@ mod columns;
 mod contradiction;
 mod order;
 mod places;
-mod trees;
 
 pub use bundles::{RowBundle, bundles_of_states};
 pub use classes::leaders_of_states;
@@ -27,4 +25,3 @@ pub use columns::columns_of_states;
 pub use contradiction::first_conflict;
 pub use order::places_by_cubes;
 pub use places::{list_of, places_of_states};
-pub use trees::RowTree;

@@ -7,7 +7,7 @@ use Rattle.kiss_file.specs.declared.file.KissFile.{KissFile}
 use Rattle.kiss_file.specs.declared.file.KissRow.{KissRow}
 use Rattle.machine_table.specs.declared.missing.Missing.{Missing}
 use Rattle.machine_table.specs.Covering.{IsRightRow, IsSaidBy}
-use Rattle.machine_table.specs.Inner.Asked.{IsOfState}
+use Rattle.state_pairs.specs.Asked.{IsOfState}
 use Rattle.machine_table.specs.Said.{Says, place_of}
 
 -- each row of the state is among the rows, and each of them is right

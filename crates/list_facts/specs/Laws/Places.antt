@@ -1,6 +1,8 @@
 -- What is at a place of a list.
-use Rattle.std.proofs.Common.{◌≡◌, ℕ, zero, suc, ◌+◌, ◌<◌, ◌≤◌, ◌⊎◌, inl, inr, All, Some, List, [], ◌∷◌, ◌++◌, length, map, get_or, slice_get, refl, ap, ◌∙◌, subst, arith}
+use Rattle.std.proofs.Common.{◌≡◌, ℕ, zero, suc, ◌+◌, ◌<◌, ◌≤◌, ◌⊎◌, inl, inr, All, Some, List, [], ◌∷◌, ◌++◌, length, map, get_or, slice_get, refl, sym, ap, ◌∙◌, subst, arith}
 use Rattle.std.specs.List.Sorted.{IsStrictlyIncreasing}
+use Rattle.std.proofs.lemmas.Bool.{cases_lt}
+use Rattle.std.proofs.lemmas.List.{get_or_append_left, get_or_push}
 use Rattle.std.proofs.lemmas.Option.{slice_get-get_or}
 
 pub item_at : {X : Type 0} (xs : List X) (k : ℕ) → k < length xs → (x : X) × (slice_get xs k ≡ Some x)
@@ -28,6 +30,19 @@ get_cases (y ∷ xs) ys (suc k) x is =
       | inl first ↦ inl first
       | inr behind ↦ inr (behind.0, (let e = behind.1 in omega arith), behind.2)
     ]
+
+-- ---- one element more
+-- what holds at each place of a list, and at the next place of the element that is pushed, holds at each place of the longer list
+pub each_pushed : {X : Type 0} (xs more : List X) (x d : X) (n : ℕ) (P : ℕ → X → Type 0) → length xs ≡ n → more ≡ xs ++ x ∷ []
+    → ((k : ℕ) → k < n → P k (get_or xs k d)) → P n x → (k : ℕ) → k < n + 1 → P k (get_or more k d)
+each_pushed {X} xs more x d n P size is known last k below =
+    subst (λ (ys : List X). P k (get_or ys k d)) (sym is)
+    (elim (cases_lt k n) [
+      | inl before ↦ subst (P k) (sym (get_or_append_left xs (x ∷ []) d k (omega (arith, size, before)))) (known k before)
+      | inr after ↦
+          let at : n ≡ k = omega (arith, below, after) in
+          subst (P k) (sym (get_or_push xs x d k (size ∙ at))) (subst (λ (i : ℕ). P i x) at last)
+    ])
 
 -- ---- the values of a function
 pub get_map : {X Y : Type 0} (f : X → Y) (xs : List X) (k : ℕ) (x : X) → slice_get xs k ≡ Some x → slice_get (map f xs) k ≡ Some (f x)

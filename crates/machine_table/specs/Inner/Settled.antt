@@ -6,7 +6,7 @@ use Rattle.kiss_file.specs.declared.file.KissFile.{KissFile}
 use Rattle.kiss_file.specs.declared.file.KissRow.{KissRow}
 use Rattle.machine_table.specs.declared.covering.Piece.{Piece}
 use Rattle.machine_table.specs.Covering.{IsHeldByPiece, IsPiece}
-use Rattle.machine_table.specs.Inner.Asked.{IsOfState}
+use Rattle.state_pairs.specs.Asked.{IsOfState}
 
 -- the other cube holds all symbols of the cube or none
 abbrev pub IsAllOrNone : Cube → Cube → Type 0

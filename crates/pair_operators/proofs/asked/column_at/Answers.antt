@@ -1,8 +1,8 @@
-use Rattle.std.proofs.Common.{◌<◌, [], length, arith}
+use Rattle.std.proofs.Common.{◌≡◌, ◌<◌, [], length, arith}
 use Rattle.std.proofs.lemmas.List.Elements.{All-nil, All-push, All-same}
 use Rattle.cubes.specs.Symbol.{symbol_of}
 use Rattle.kiss_file.specs.Machine.{next}
-use Rattle.pair_operators.proofs.Pushing.{each_pushed}
+use Rattle.list_facts.specs.Laws.Places.{each_pushed}
 use Rattle.pair_operators.proofs.asked.column_at.Goals as goal
 
 pub overflow_cast-next : goal.overflow_cast-next
@@ -19,7 +19,8 @@ pub loop-s-preserved : goal.loop-s-preserved
 loop-s-preserved c = record {
   size = omega (arith, c.loop-s.invariant.size, c.in_ok-push.ensures.len);
   inside = All-same (λ t. t < length c.args.m.now.states) _ _ c.in_ok-push.ensures.items (All-push (λ t. t < length c.args.m.now.states) c.loop-s.states.items c.next.result c.loop-s.invariant.inside c.next.ensures.state);
-  next_state = each_pushed (λ k. next c.args.m.now k (symbol_of c.args.m.now.inputs c.args.x)) c.loop-s.states.items c.push.new.self.items c.next.result c.loop-s.s (omega (arith, c.loop-s.invariant.size, c.loop-s.states.ok.0)) c.in_ok-push.ensures.items c.next.ensures.next c.loop-s.invariant.next_state;
+  next_state = each_pushed c.loop-s.states.items c.push.new.self.items c.next.result 0 c.loop-s.s (λ k t. t ≡ next c.args.m.now k (symbol_of c.args.m.now.inputs c.args.x)) (omega (arith, c.loop-s.invariant.size, c.loop-s.states.ok.0))
+      c.in_ok-push.ensures.items c.loop-s.invariant.next_state c.next.ensures.next;
 }
 
 pub returns : goal.returns

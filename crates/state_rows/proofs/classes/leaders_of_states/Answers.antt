@@ -1,9 +1,9 @@
-use Rattle.std.proofs.Common.{ℕ, ◌≡◌, ◌+◌, ◌<◌, List, [], ◌∷◌, ◌++◌, All, length, slice_index, sym, subst, arith, length-append}
+use Rattle.std.proofs.Common.{ℕ, ◌≡◌, ◌+◌, ◌<◌, List, [], ◌∷◌, ◌++◌, All, length, sym, subst, arith, length-append}
 use Rattle.std.proofs.lemmas.List.Elements.{All-push}
 use Rattle.std.proofs.lemmas.Result.{IfOk-from_err}
+use Rattle.list_facts.specs.Laws.Places.{each_pushed}
 use Rattle.state_rows.specs.Columns.{HaveSameCubes}
 use Rattle.state_rows.specs.Places.{places_of}
-use Rattle.state_rows.proofs.KeptColumns.{each_pushed}
 use Rattle.state_rows.proofs.classes.leaders_of_states.Goals as goal
 
 pub loop-s-preserved : goal.loop-s-preserved
@@ -17,9 +17,8 @@ loop-s-preserved c =
       size = subst (λ (all : List ℕ). length all ≡ c.loop-s.s + 1) (sym pushed) (omega (arith, length-append leaders (one ∷ []), c.loop-s.invariant.size));
       inside = subst (λ (all : List ℕ). All (λ leader. leader < length places) all) (sym pushed)
           (All-push (λ leader. leader < length places) leaders one c.loop-s.invariant.inside c.leader_of.ensures.state);
-      cubes = subst (λ (all : List ℕ). (t : ℕ) → t < c.loop-s.s + 1 → HaveSameCubes rows (places_of places (slice_index all t)) (places_of places t)) (sym pushed)
-          (each_pushed leaders one 0 c.loop-s.s (λ t leader. HaveSameCubes rows (places_of places leader) (places_of places t)) c.loop-s.invariant.size
-          c.loop-s.invariant.cubes c.leader_of.ensures.cubes);
+      cubes = each_pushed leaders c.push.new.self.items one 0 c.loop-s.s (λ t leader. HaveSameCubes rows (places_of places leader) (places_of places t))
+          c.loop-s.invariant.size pushed c.loop-s.invariant.cubes c.leader_of.ensures.cubes;
     }
 
 pub returns-in_err-leaders-clause-size : goal.returns-in_err-leaders-clause-size

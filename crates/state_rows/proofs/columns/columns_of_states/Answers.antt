@@ -1,8 +1,9 @@
-use Rattle.std.proofs.Common.{ℕ, ◌≡◌, ◌+◌, ◌<◌, ◌∷◌, [], ◌++◌, List, length, get_or, sym, ◌∙◌, ap, subst, arith, length-append}
+use Rattle.std.proofs.Common.{ℕ, ◌≡◌, ◌+◌, ◌∷◌, [], ◌++◌, List, length, get_or, sym, ◌∙◌, ap, subst, arith, length-append}
 use Rattle.std.proofs.lemmas.Result.{IfOk-from_err}
 use Rattle.state_rows.specs.Columns.{ArePicked}
 use Rattle.state_rows.specs.Places.{places_of}
-use Rattle.state_rows.proofs.KeptColumns.{are_columns, each_pushed, kept_within}
+use Rattle.list_facts.specs.Laws.Places.{each_pushed}
+use Rattle.state_rows.proofs.KeptColumns.{are_columns, kept_within}
 use Rattle.state_rows.proofs.columns.columns_of_states.Goals as goal
 
 pub picked-requires : goal.picked-requires
@@ -46,8 +47,8 @@ loop-s-preserved c =
     subst (ArePicked (places_of places s) (places_of kept (get_or leaders s 0))) (sym c.from.ensures) second in
     record {
       count = subst (λ (all : List (List ℕ)). length all ≡ s + 1) (sym pushed) (omega (arith, length-append columns (own ∷ []), c.loop-s.invariant.count));
-      each = subst (λ (all : List (List ℕ)). (t : ℕ) → t < s + 1 → ArePicked (places_of places t) (places_of kept (get_or leaders t 0)) (places_of all t)) (sym pushed)
-          (each_pushed columns own [] s (λ t list. ArePicked (places_of places t) (places_of kept (get_or leaders t 0)) list) c.loop-s.invariant.count c.loop-s.invariant.each now);
+      each = each_pushed columns c.push.new.self.items own [] s (λ t list. ArePicked (places_of places t) (places_of kept (get_or leaders t 0)) list) c.loop-s.invariant.count
+          pushed c.loop-s.invariant.each now;
     }
 
 pub returns-in_err-kept : goal.returns-in_err-kept

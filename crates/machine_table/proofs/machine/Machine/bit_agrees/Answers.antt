@@ -1,9 +1,9 @@
 use Rattle.std.proofs.Common.{ℕ, ◌↔◌, ◌∙◌, IsTrue, ap, false, not, subst, sym, ◌<◌}
 use Rattle.kiss_file.specs.declared.file.KissFile.{KissFile}
 use Rattle.kiss_file.specs.Machine.{Conflicting}
-use Rattle.machine_table.specs.Pairs.{AgreeInBit, AtEachSymbol}
-use Rattle.machine_table.specs.Table.{IsTable}
-use Rattle.machine_table.proofs.Labels.{each_from_none, none_from_each, true_from_not}
+use Rattle.state_pairs.specs.Pairs.{AgreeInBit, AtEachSymbol}
+use Rattle.state_pairs.specs.Table.{IsTable}
+use Rattle.state_pairs.proofs.Labels.{each_from_none, none_from_each, true_from_not}
 use Rattle.machine_table.proofs.OutputLabels.{bits_alike, bits_equal, given_everywhere, given_label, label_of_output, no_label, one_given, output_labels}
 use Rattle.machine_table.proofs.machine.Machine.bit_agrees.Goals as goal
 

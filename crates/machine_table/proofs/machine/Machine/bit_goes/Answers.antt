@@ -4,10 +4,10 @@ use Rattle.cubes.specs.Symbol.{symbol_of}
 use Rattle.cubes.proofs.Bits.{same_bits, same_digits}
 use Rattle.kiss_file.specs.declared.file.KissFile.{KissFile}
 use Rattle.kiss_file.specs.Machine.{Conflicting, next}
-use Rattle.machine_table.specs.Pairs.{AtEachSymbol, GoInto, HaveOneBit}
-use Rattle.machine_table.specs.Table.{IsTable}
-use Rattle.machine_table.proofs.Labels.{each_from_none, none_from_each, true_from_not}
-use Rattle.machine_table.proofs.NextLabels.{label_of_next, named, named_everywhere, next_labels, one_named}
+use Rattle.state_pairs.specs.Pairs.{AtEachSymbol, GoInto, HaveOneBit}
+use Rattle.state_pairs.specs.Table.{IsTable}
+use Rattle.state_pairs.proofs.Labels.{each_from_none, none_from_each, true_from_not}
+use Rattle.state_pairs.proofs.NextLabels.{label_of_next, named, named_everywhere, next_labels, one_named}
 use Rattle.machine_table.proofs.machine.Machine.bit_goes.Goals as goal
 
 pub returns : goal.returns

@@ -2,10 +2,10 @@ use Rattle.std.proofs.Common.{ℕ, ◌≡◌, true, slice_index, subst}
 use Rattle.kiss_file.specs.declared.file.KissFile.{KissFile}
 use Rattle.kiss_file.specs.Machine.{Conflicting}
 use Rattle.partition.specs.Partition.{Together}
-use Rattle.machine_table.specs.Pairs.{AtEachSymbol, GoInto}
-use Rattle.machine_table.specs.Table.{IsTable}
-use Rattle.machine_table.proofs.Labels.{each_from_none, first_not_so, if_none_given}
-use Rattle.machine_table.proofs.NextLabels.{label_of_next, named, named_everywhere, next_labels, one_named, together_in}
+use Rattle.state_pairs.specs.Pairs.{AtEachSymbol, GoInto}
+use Rattle.state_pairs.specs.Table.{IsTable}
+use Rattle.state_pairs.proofs.Labels.{each_from_none, first_not_so, if_none_given}
+use Rattle.state_pairs.proofs.NextLabels.{label_of_next, named, named_everywhere, next_labels, one_named, together_in}
 use Rattle.machine_table.proofs.machine.Machine.first_apart.Goals as goal
 
 pub returns-clause-some : goal.returns-clause-some

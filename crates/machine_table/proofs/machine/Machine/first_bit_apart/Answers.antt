@@ -1,9 +1,9 @@
 use Rattle.std.proofs.Common.{ℕ, IfSome, IfNone, true, subst, ◌<◌, sym}
 use Rattle.kiss_file.specs.declared.file.KissFile.{KissFile}
 use Rattle.kiss_file.specs.Machine.{Conflicting}
-use Rattle.machine_table.specs.Pairs.{AgreeInBit, AtEachSymbol, IsFirstWithout}
-use Rattle.machine_table.specs.Table.{IsTable}
-use Rattle.machine_table.proofs.Labels.{each_from_none, first_not_so, if_none_given}
+use Rattle.state_pairs.specs.Pairs.{AgreeInBit, AtEachSymbol, IsFirstWithout}
+use Rattle.state_pairs.specs.Table.{IsTable}
+use Rattle.state_pairs.proofs.Labels.{each_from_none, first_not_so, if_none_given}
 use Rattle.machine_table.proofs.OutputLabels.{bits_alike, bits_equal, given_everywhere, given_label, label_of_output, no_label, one_given, output_labels}
 use Rattle.machine_table.proofs.machine.Machine.first_bit_apart.Goals as goal
 

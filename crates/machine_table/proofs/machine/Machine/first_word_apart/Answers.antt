@@ -2,9 +2,9 @@ use Rattle.std.proofs.Common.{ℕ, ◌≡◌, ◌-◌, ◌^◌, ◌∙◌, ap, s
 use Rattle.kiss_file.specs.declared.file.KissFile.{KissFile}
 use Rattle.kiss_file.specs.Machine.{Conflicting}
 use Rattle.state_rows.specs.Least.{IsMetBy}
-use Rattle.machine_table.specs.Pairs.{AgreeAt}
-use Rattle.machine_table.specs.Table.{IsTable}
-use Rattle.machine_table.proofs.Labels.{each_from_none, first_not_so, none_from_each}
+use Rattle.state_pairs.specs.Pairs.{AgreeAt}
+use Rattle.state_pairs.specs.Table.{IsTable}
+use Rattle.state_pairs.proofs.Labels.{each_from_none, first_not_so, none_from_each}
 use Rattle.machine_table.proofs.OutputLabels.{no_label}
 use Rattle.machine_table.proofs.WordLabels.{one_word_said, word_at, word_label, word_labels, word_not_open, words_alike, words_equal}
 use Rattle.machine_table.proofs.machine.Machine.first_word_apart.Goals as goal

@@ -11,8 +11,8 @@ pub invariant_of-self : goal.invariant_of-self
 invariant_of-self c =
     let said = subst (λ (found : Option Entry). IfNone found ((s number : ℕ) (part : Missing) → IsEntry c.args.self.now s number part → IsSaid c.args.self.now s number part))
     c.in_default.is c.in_ok-entry.ensures.none in
-    let complete : Specified c.self.inside.file = subst Specified (sym c.self.view_is) (specified c.args.self.now said) in
-    (c.self.invariant.0, c.self.invariant.1, c.self.invariant.2, (λ _. complete), c.self.invariant.4, c.self.invariant.5)
+    let complete : Specified c.self.inside.rows = subst Specified (sym c.self.view_is) (specified c.args.self.now said) in
+    (c.self.invariant.0, c.self.invariant.1, (λ _. complete))
 
 pub returns-in_default-clause-accepted : goal.returns-in_default-clause-accepted
 returns-in_default-clause-accepted c =

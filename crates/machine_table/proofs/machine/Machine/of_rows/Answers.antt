@@ -5,11 +5,9 @@ use Rattle.kiss_file.specs.declared.file.KissFile.{KissFile}
 use Rattle.kiss_file.specs.declared.file.KissRow.{KissRow}
 use Rattle.kiss_file.specs.Machine.{Conflicting, Specified}
 use Rattle.state_rows.specs.Conflict.{ContradictAt}
-use Rattle.machine_table.specs.Table.{IsTable}
+use Rattle.state_pairs.specs.Table.{IsTable}
 use Rattle.state_rows.specs.Bundles.{IsFit, ListBundles}
-use Rattle.state_rows.specs.Columns.{AreColumns}
-use Rattle.state_rows.specs.Places.{ListRows}
-use Rattle.machine_table.proofs.Lawful.{fit_of_table}
+use Rattle.state_pairs.proofs.Lawful.{fit_of_table}
 use Rattle.machine_table.proofs.Conflicts.{few_rows, none_conflicting}
 use Rattle.machine_table.proofs.machine.Machine.of_rows.Goals as goal
 
@@ -39,28 +37,25 @@ first_conflict-requires-clause-fit c = (
   subst (λ (list : List KissRow). All (IsFit c.args.file.now.inputs) list) (sym c.as_slice-rows.ensures) (fit_of_table c.args.file.now c.requires.table),
 )
 
+pub of_lists-requires-clause-no_conflict : goal.of_lists-requires-clause-no_conflict
+of_lists-requires-clause-no_conflict c =
+    none_conflicting c.args.file.now (subst (λ (list : List KissRow). (i j : ℕ) → i < j → ContradictAt list i j → ⊥) c.as_slice-rows.ensures c.in_default.ensures.none)
+
+pub of_lists-requires-clause-size : goal.of_lists-requires-clause-size
+of_lists-requires-clause-size c = ap (λ (lists : List (List ℕ)). length lists) c.deref-3.ensures.value ∙ c.in_ok-places.ensures.size ∙ c.count.ensures.count
+
+pub of_lists-requires-clause-bundles : goal.of_lists-requires-clause-bundles
+of_lists-requires-clause-bundles c =
+    subst (λ (n : ℕ). ListBundles c.args.file.now.rows n c.in_ok-bundles.bundles.items) c.count.ensures.count
+    (subst (λ (list : List KissRow). ListBundles list c.count.result c.in_ok-bundles.bundles.items) c.as_slice-rows.ensures
+    (subst (λ (n : ℕ). ListBundles c.as_slice-rows.result.now n c.in_ok-bundles.bundles.items) (ap (λ (lists : List (List ℕ)). length lists) c.deref.ensures.value ∙ c.in_ok-places.ensures.size) c.in_ok-bundles.ensures))
+
 pub invariant_of-result : goal.invariant_of-result
 invariant_of-result c =
-    let F = c.args.file.now in
-    let none = none_conflicting F
+    let none = none_conflicting c.args.file.now
     (subst (λ (list : List KissRow). (i j : ℕ) → i < j → ContradictAt list i j → ⊥) c.as_slice-rows.ensures c.in_default.ensures.none) in
-    let stand : ListRows F.rows (length F.states) c.in_ok-ordered.ordered.items =
-    subst (λ (n : ℕ). ListRows F.rows n c.in_ok-ordered.ordered.items) c.count.ensures.count
-    (subst (λ (list : List KissRow). ListRows list c.count.result c.in_ok-ordered.ordered.items) c.as_slice-rows.ensures
-    (subst (λ (n : ℕ). ListRows c.as_slice-rows.result.now n c.in_ok-ordered.ordered.items) (ap (λ (lists : List (List ℕ)). length lists) c.deref-3.ensures.value ∙ c.in_ok-places.ensures.size) c.in_ok-ordered.ensures)) in
-    let columns : AreColumns F.rows c.in_ok-ordered.ordered.items c.in_ok-leaders.leaders.items c.in_ok-columns.columns.items =
-    subst (λ (list : List KissRow). AreColumns list c.in_ok-ordered.ordered.items c.in_ok-leaders.leaders.items c.in_ok-columns.columns.items) c.as_slice-rows.ensures
-    (subst (λ (all : List ℕ). AreColumns c.as_slice-rows.result.now c.in_ok-ordered.ordered.items all c.in_ok-columns.columns.items) c.deref-6.ensures.value
-    (subst (λ (lists : List (List ℕ)). AreColumns c.as_slice-rows.result.now lists c.deref-6.result.now c.in_ok-columns.columns.items) c.deref-5.ensures.value
-    c.in_ok-columns.ensures)) in
-    let bundles : ListBundles F.rows (length F.states) c.in_ok-bundles.bundles.items =
-    subst (λ (n : ℕ). ListBundles F.rows n c.in_ok-bundles.bundles.items) c.count.ensures.count
-    (subst (λ (list : List KissRow). ListBundles list c.count.result c.in_ok-bundles.bundles.items) c.as_slice-rows.ensures
-    (subst (λ (n : ℕ). ListBundles c.as_slice-rows.result.now n c.in_ok-bundles.bundles.items) (ap (λ (lists : List (List ℕ)). length lists) c.deref.ensures.value ∙ c.in_ok-places.ensures.size) c.in_ok-bundles.ensures)) in
-    subst (λ (G : KissFile). IsTable G × (Conflicting G → ⊥) × ListRows G.rows (length G.states) c.in_ok-ordered.ordered.items × (IsTrue false → Specified G)
-    × AreColumns G.rows c.in_ok-ordered.ordered.items c.in_ok-leaders.leaders.items c.in_ok-columns.columns.items
-    × ListBundles G.rows (length G.states) c.in_ok-bundles.bundles.items)
-    (sym c.in_ok-file.ensures) (c.requires.table, none, stand, (λ complete. absurd (false≢true complete)), columns, bundles)
+    subst (λ (G : KissFile). IsTable G × (Conflicting G → ⊥) × (IsTrue false → Specified G)) (sym c.in_ok-rows.ensures)
+    (c.requires.table, none, (λ complete. absurd (false≢true complete)))
 
 pub returns-in_err-places-clause-machine : goal.returns-in_err-places-clause-machine
 returns-in_err-places-clause-machine c = IfOk-from_err c.from_residual.result _ c.from_residual.ensures.0
@@ -74,35 +69,8 @@ returns-in_err-bundles-clause-machine c = IfOk-from_err c.from_residual-in_err-b
 pub returns-in_err-bundles-clause-caused : goal.returns-in_err-bundles-clause-caused
 returns-in_err-bundles-clause-caused c = let p = err_from_is_err_and c.from_residual-in_err-bundles.result c.from_residual-in_err-bundles.ensures.1 in rw (p.1, p.2) tt
 
-pub returns-in_err-ordered-clause-machine : goal.returns-in_err-ordered-clause-machine
-returns-in_err-ordered-clause-machine c = IfOk-from_err c.from_residual-in_err-ordered.result _ c.from_residual-in_err-ordered.ensures.0
+pub returns-in_err-rows-clause-machine : goal.returns-in_err-rows-clause-machine
+returns-in_err-rows-clause-machine c = IfOk-from_err c.from_residual-in_err-rows.result _ c.from_residual-in_err-rows.ensures.0
 
-pub returns-in_err-ordered-clause-caused : goal.returns-in_err-ordered-clause-caused
-returns-in_err-ordered-clause-caused c = let p = err_from_is_err_and c.from_residual-in_err-ordered.result c.from_residual-in_err-ordered.ensures.1 in rw (p.1, p.2) tt
-
-pub returns-in_err-leaders-clause-machine : goal.returns-in_err-leaders-clause-machine
-returns-in_err-leaders-clause-machine c = IfOk-from_err c.from_residual-in_err-leaders.result _ c.from_residual-in_err-leaders.ensures.0
-
-pub returns-in_err-leaders-clause-caused : goal.returns-in_err-leaders-clause-caused
-returns-in_err-leaders-clause-caused c = let p = err_from_is_err_and c.from_residual-in_err-leaders.result c.from_residual-in_err-leaders.ensures.1 in rw (p.1, p.2) tt
-
-pub returns-in_err-columns-clause-machine : goal.returns-in_err-columns-clause-machine
-returns-in_err-columns-clause-machine c = IfOk-from_err c.from_residual-in_err-columns.result _ c.from_residual-in_err-columns.ensures.0
-
-pub returns-in_err-columns-clause-caused : goal.returns-in_err-columns-clause-caused
-returns-in_err-columns-clause-caused c = let p = err_from_is_err_and c.from_residual-in_err-columns.result c.from_residual-in_err-columns.ensures.1 in rw (p.1, p.2) tt
-
-pub returns-in_err-file-clause-machine : goal.returns-in_err-file-clause-machine
-returns-in_err-file-clause-machine c = IfOk-from_err c.from_residual-in_err-file.result _ c.from_residual-in_err-file.ensures.0
-
-pub returns-in_err-file-clause-caused : goal.returns-in_err-file-clause-caused
-returns-in_err-file-clause-caused c = let p = err_from_is_err_and c.from_residual-in_err-file.result c.from_residual-in_err-file.ensures.1 in rw (p.1, p.2) tt
-
-pub columns_of_states-requires-clause-size : goal.columns_of_states-requires-clause-size
-columns_of_states-requires-clause-size c = rw (c.deref-5.ensures.value, c.deref-6.ensures.value) (rw c.deref-4.ensures.value at c.in_ok-leaders.ensures.size)
-
-pub columns_of_states-requires-clause-inside : goal.columns_of_states-requires-clause-inside
-columns_of_states-requires-clause-inside c = rw (c.deref-5.ensures.value, c.deref-6.ensures.value) (rw c.deref-4.ensures.value at c.in_ok-leaders.ensures.inside)
-
-pub columns_of_states-requires-clause-alike : goal.columns_of_states-requires-clause-alike
-columns_of_states-requires-clause-alike c = rw (c.deref-5.ensures.value, c.deref-6.ensures.value) (rw c.deref-4.ensures.value at c.in_ok-leaders.ensures.cubes)
+pub returns-in_err-rows-clause-caused : goal.returns-in_err-rows-clause-caused
+returns-in_err-rows-clause-caused c = let p = err_from_is_err_and c.from_residual-in_err-rows.result c.from_residual-in_err-rows.ensures.1 in rw (p.1, p.2) tt

@@ -1,7 +1,7 @@
 use Rattle.std.proofs.Common.{◌∙◌, subst, sym}
 use Rattle.kiss_file.specs.declared.file.KissFile.{KissFile}
 use Rattle.kiss_file.specs.Machine.{Conflicting}
-use Rattle.machine_table.specs.Table.{IsTable}
+use Rattle.state_pairs.specs.Table.{IsTable}
 use Rattle.machine_table.proofs.SettledCubes.{settled_out}
 use Rattle.machine_table.proofs.machine.Machine.one_word.Goals as goal
 

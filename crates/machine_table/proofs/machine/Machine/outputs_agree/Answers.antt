@@ -1,6 +1,6 @@
 use Rattle.std.proofs.Common.{ℕ, ◌≡◌, ◌<◌, ◌∙◌, inl, inr, subst, sym, arith, refl}
 use Rattle.std.proofs.lemmas.Bool.{cases_lt, false≢true}
-use Rattle.machine_table.specs.Pairs.{AgreeInBit, AtEachSymbol}
+use Rattle.state_pairs.specs.Pairs.{AgreeInBit, AtEachSymbol}
 use Rattle.machine_table.proofs.OutputLabels.{from_each_bit, in_each_bit}
 use Rattle.machine_table.proofs.machine.Machine.outputs_agree.Goals as goal
 

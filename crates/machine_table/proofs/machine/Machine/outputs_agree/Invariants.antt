@@ -1,5 +1,5 @@
 use Rattle.std.proofs.Common.{ℕ, ◌<◌}
-use Rattle.machine_table.specs.Pairs.{AgreeInBit, AtEachSymbol}
+use Rattle.state_pairs.specs.Pairs.{AgreeInBit, AtEachSymbol}
 use Rattle.machine_table.proofs.machine.Machine.outputs_agree.Given as goal
 
 abbrev pub invariant-loop-b : goal.invariant-loop-b

@@ -7,11 +7,11 @@ use Rattle.cubes.proofs.Numbers.{length-symbol_of}
 use Rattle.kiss_file.specs.declared.file.KissRow.{KissRow}
 use Rattle.machine_table.specs.declared.covering.Piece.{Piece}
 use Rattle.machine_table.specs.Covering.{IsHeldByPiece, IsPiece}
-use Rattle.machine_table.specs.Inner.Asked.{IsOfState}
-use Rattle.machine_table.proofs.Asking.{looked_at, of_each_row}
+use Rattle.state_pairs.specs.Asked.{IsOfState}
+use Rattle.state_pairs.proofs.Asking.{looked_at, of_each_row}
 use Rattle.machine_table.proofs.RowPieces.{row_is_piece}
 use Rattle.machine_table.proofs.SettledCubes.{held_by_last, held_still, no_pieces}
-use Rattle.machine_table.proofs.Sought.{row_of}
+use Rattle.state_pairs.proofs.Sought.{row_of}
 use Rattle.machine_table.proofs.machine.Machine.pieces_of_rows.Goals.{After-row}
 use Rattle.machine_table.proofs.machine.Machine.pieces_of_rows.Goals as goal
 

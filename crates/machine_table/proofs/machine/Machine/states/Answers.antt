@@ -1,9 +1,10 @@
-use Rattle.std.proofs.Common.{subst}
+use Rattle.std.proofs.Common.{◌≡◌, length, subst}
 use Rattle.kiss_file.specs.declared.file.KissFile.{KissFile}
-use Rattle.machine_table.specs.Staying.{NeverLeaves}
-use Rattle.machine_table.proofs.Staying.{never_leaves}
+use Rattle.state_pairs.specs.Staying.{NeverLeaves}
 use Rattle.machine_table.proofs.machine.Machine.states.Goals as goal
 
+pub returns-clause-count : goal.returns-clause-count
+returns-clause-count c = subst (λ (F : KissFile). c.states.result ≡ length F.states) c.self.view_is c.states.ensures.count
+
 pub returns-clause-inside : goal.returns-clause-inside
-returns-clause-inside c =
-    subst (λ (F : KissFile). NeverLeaves F) c.self.view_is (never_leaves c.self.inside.file c.self.invariant.0 c.self.invariant.1)
+returns-clause-inside c = subst NeverLeaves c.self.view_is c.states.ensures.inside

@@ -1,8 +1,8 @@
 use Rattle.std.proofs.Common.{ℕ, ◌≡◌, ◌<◌, ◌∙◌, List, length, get_or, ap, subst, sym, arith}
 use Rattle.std.proofs.lemmas.List.{get_or_read}
 use Rattle.std.proofs.lemmas.List.Elements.{All-get_or}
+use Rattle.list_facts.specs.Laws.Places.{each_pushed}
 use Rattle.pair_operators.specs.Inner.Keys.{mixed}
-use Rattle.pair_operators.proofs.Pushing.{each_pushed}
 use Rattle.pair_operators.proofs.asked.Keys.after.Goals as goal
 
 pub label-label-requires : goal.label-label-requires
@@ -27,8 +27,8 @@ loop-s-preserved c =
     let here = c.mixed.ensures ∙ ap (λ (list : List ℕ). mixed (get_or list s 0) c.label-label.result) c.deref-key-items.ensures.value ∙ ap (λ (l : ℕ). mixed (get_or keys s 0) l) label in
     record {
       size = omega (arith, c.loop-s.invariant.size, c.in_ok-push.ensures.len);
-      each = each_pushed (λ k. mixed (get_or keys k 0) (get_or q (get_or states k 0) 0)) c.loop-s.numbers.items c.push.new.self.items c.mixed.result s
-          (omega (arith, c.loop-s.invariant.size, c.loop-s.numbers.ok.0)) c.in_ok-push.ensures.items here c.loop-s.invariant.each;
+      each = each_pushed c.loop-s.numbers.items c.push.new.self.items c.mixed.result 0 s (λ k key. key ≡ mixed (get_or keys k 0) (get_or q (get_or states k 0) 0))
+          (omega (arith, c.loop-s.invariant.size, c.loop-s.numbers.ok.0)) c.in_ok-push.ensures.items c.loop-s.invariant.each here;
     }
 
 pub returns : goal.returns

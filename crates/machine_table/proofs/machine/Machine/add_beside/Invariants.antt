@@ -1,9 +1,0 @@
-use Rattle.std.proofs.Common.{◌≡◌}
-use Rattle.machine_table.specs.Inner.AddedPairs.{AddsPairs, AtBundle, BelowCount}
-use Rattle.machine_table.proofs.machine.Machine.add_beside.Given as goal
-
-abbrev pub invariant-loop-bundle : goal.invariant-loop-bundle
-invariant-loop-bundle l = record {
-  pairs : AddsPairs (BelowCount (AtBundle l.self.rows l.bundle-items l.row.cube l.next) l.bundle-index) l.fn.pairs.pairs l.pairs.pairs;
-  states : l.pairs.states ≡ l.fn.pairs.states;
-}

@@ -1,9 +1,0 @@
-use Rattle.std.proofs.Common.{◌≡◌}
-use Rattle.machine_table.specs.Inner.AddedPairs.{AddsPairs, AtBothPlaces, BelowCount}
-use Rattle.machine_table.proofs.machine.Machine.add_by_places.Given as goal
-
-abbrev pub invariant-loop-i : goal.invariant-loop-i
-invariant-loop-i l = record {
-  pairs : AddsPairs (BelowCount (AtBothPlaces l.self.rows l.first l.second) l.i) l.fn.pairs.pairs l.pairs.pairs;
-  states : l.pairs.states ≡ l.fn.pairs.states;
-}

@@ -1,9 +1,0 @@
-use Rattle.std.proofs.Common.{◌≡◌}
-use Rattle.machine_table.specs.Inner.AddedPairs.{AddsPairs, AtPlace, BelowCount, IsNamedBeside}
-use Rattle.machine_table.proofs.machine.Machine.add_by_rows.Given as goal
-
-abbrev pub invariant-loop-number : goal.invariant-loop-number
-invariant-loop-number l = record {
-  pairs : AddsPairs (BelowCount (AtPlace l.self.rows l.number-items (IsNamedBeside l.self l.t)) l.number-index) l.fn.pairs.pairs l.pairs.pairs;
-  states : l.pairs.states ≡ l.fn.pairs.states;
-}

@@ -1,5 +1,0 @@
-use Rattle.machine_table.proofs.MarkedRows.{IsSearchedOver}
-use Rattle.machine_table.proofs.machine.Machine.first_apart_from.Given as goal
-
-abbrev pub invariant-loop-bundle : goal.invariant-loop-bundle
-invariant-loop-bundle g l = IsSearchedOver (g.Q.Question.said l.question) l.self l.t l.bundle-items l.bundle-index l.row l.least l.found

@@ -1,0 +1,9 @@
+pub mod Table
+pub mod Staying
+pub mod Pairs
+pub mod Asked
+pub mod Aligned
+pub mod MarkedRows
+pub mod AddedPairs
+pub mod SeenPairs
+pub mod Merging

@@ -1,8 +1,0 @@
-use Rattle.std.proofs.Common.{◌+◌, ◌*◌}
-use Rattle.state_rows.proofs.trees.RowTree.+branches.Given as goal
-
-abbrev pub decreases-of_rows : goal.decreases-of_rows
-decreases-of_rows l = 2 * l.depth
-
-abbrev pub decreases-of_side : goal.decreases-of_side
-decreases-of_side l = 2 * l.depth + 1
