@@ -5,7 +5,7 @@
 # column.
 set -eu
 . "$(dirname "$0")/timing.sh"
-use_program benchmarks
+use_program set_benchmarks
 
 # the time of one call, in microseconds: kind, size, work, calls
 each() {

@@ -4,7 +4,7 @@
 # many calls and none, and the ratio.
 set -eu
 . "$(dirname "$0")/timing.sh"
-use_program benchmarks
+use_program set_benchmarks
 
 # the least of five runs, in microseconds: question, kind, size, calls
 least() {

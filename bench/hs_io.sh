@@ -4,7 +4,7 @@
 # many calls and none, the least of five runs.
 set -eu
 . "$(dirname "$0")/timing.sh"
-use_program benchmarks
+use_program text_benchmarks
 
 # the time of one call, in microseconds: question, rows, fields of a row, calls
 each() {

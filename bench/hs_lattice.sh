@@ -7,7 +7,7 @@
 # to count them.
 set -eu
 . "$(dirname "$0")/timing.sh"
-use_program benchmarks
+use_program set_benchmarks
 
 # the least of five runs of a case, in microseconds
 least() {

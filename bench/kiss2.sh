@@ -5,7 +5,7 @@
 # rows, or 0 and the line of the first fault.
 set -eu
 . "$(dirname "$0")/timing.sh"
-use_program benchmarks
+use_program text_benchmarks
 
 # the time of one call, in milliseconds: kind, size, work, calls
 each() {

@@ -4,7 +4,7 @@
 # only makes the texts, reads the network and puts it in order.
 set -eu
 . "$(dirname "$0")/timing.sh"
-use_program benchmarks
+use_program text_benchmarks
 
 # the time of the work, in milliseconds: kind, size, symbols, work
 each() {

@@ -4,7 +4,7 @@
 # Prints the time of one call, from the difference of many calls and none.
 set -eu
 . "$(dirname "$0")/timing.sh"
-use_program benchmarks
+use_program set_benchmarks
 
 # the least of five runs, in microseconds: question, how partitions are kept, kind, states, calls
 least() {
