@@ -75,21 +75,11 @@ fn add_minterms(pairs: &mut Vec<Pair>, width: u8) -> Result<(), AllocError>
     requires positive { 0 < width }
     requires bound { width ≤ 32 }
 {
-    add_symbols(pairs, u32::MAX >> (32 - width))
-}
-
-/// Adds the symbols from 0 to the last one, which is the care of each, in a scattered order.
-fn add_symbols(pairs: &mut Vec<Pair>, last: u32) -> Result<(), AllocError> {
-    for number in 0..last {
-        pairs.push(symbol_at(number, last))?;
+    let care = u32::MAX >> (32 - width);
+    for i in 0..=care {
+        pairs.push((care, i.wrapping_mul(40_503) & care))?;
     }
-    pairs.push(symbol_at(last, last))?;
     Ok(())
-}
-
-/// The pair of the symbol that comes at a number in that order.
-fn symbol_at(number: u32, last: u32) -> Pair {
-    (last, number.wrapping_mul(40_503) & last)
 }
 
 /// Adds cubes that leave no gap: one with a 1 at the last place, one with 0 there and 1 at the place before it,
