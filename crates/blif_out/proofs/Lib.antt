@@ -7,3 +7,5 @@ pub mod Whole
 pub mod Visible
 pub mod Cutting
 pub mod Once
+pub mod NetworkTexts
+pub mod WorkedTexts

@@ -78,10 +78,14 @@ comment_text fields = line_text (codes "#" ∷ fields)
 abbrev pub head_lines : Header → List (List ℕ)
 head_lines H = map comment_text (head_fields H)
 
+-- the text of a header
+abbrev pub header_text : Header → List ℕ
+header_text H = flat_map ended (head_lines H)
+
 -- the bytes begin with the lines of the header, and the network follows
 abbrev pub Head : List ℕ → Header → Type 0
-Head bytes H = (rest : List ℕ) × (bytes ≡ flat_map ended (head_lines H) ++ (model_word ++ rest))
+Head bytes H = (rest : List ℕ) × (bytes ≡ header_text H ++ (model_word ++ rest))
 
 -- the whole text of a network after its header
 abbrev pub net_text_of : Header → Network → List ℕ
-net_text_of H N = flat_map ended (head_lines H) ++ net_text N
+net_text_of H N = header_text H ++ net_text N

@@ -4,4 +4,7 @@ pub mod Law
 pub mod Head
 pub mod Order
 pub mod HeadLaw
+pub mod Comments
+pub mod NetworkText
+pub mod Worked
 pub mod Inner

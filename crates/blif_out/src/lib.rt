@@ -1,22 +1,30 @@
 //! Writes networks as BLIF.
 //!
-//! [`text`] gives the text of a network after its header, which is comments that say how the network was made.
-//! It promises that the text is the one that `specs/Head.antt` and `specs/NetText.antt` lay out line by line,
-//! that the text denotes the network, and that its head is that of the header. [`append`] gives only the
-//! network. [`append_field`] and the calls beside it give single fields of a comment, for texts with other heads.
-//! `specs/Writable.antt` and `specs/Order.antt` say which networks can be written.
+//! [`text_of_network`] gives the text of a network after its comments, whatever they say. `specs/NetworkText` says
+//! all that holds of such a text: it is whole, denotes the network, also after further comments, and the network is
+//! sound and starts at known values. `specs/Writable` and `specs/Order` say which networks can be written.
+//!
+//! [`header_comments`] gives the comments that say how a network was made, which `specs/Head` lays out line by
+//! line; [`text`] gives them and the network in one call, and [`append`] gives only the network. [`append_field`] and
+//! the calls beside it give single fields of a comment, for texts with other comments.
+//!
+//! `specs/Worked` has worked texts, and the laws whose names begin with `worked` say that they are as written.
 //!
 //! Why the text denotes the network: each line of the header begins with the mark of a comment and otherwise
 //! has only visible bytes and spaces, so a reader skips it. Each statement is read as the fields that spell it.
 #![tactic(auto)]
 
+ghost use Rattle.blif_out.specs.Comments.{CommentsJoin, HeaderIsComments};
 ghost use Rattle.blif_out.specs.HeadLaw.{HeadIsComments, HeadOnce};
 ghost use Rattle.blif_out.specs.Law.{NetTextDenotes};
+ghost use Rattle.blif_out.specs.NetworkText.{NetworkHasText, TextHasHead};
 
 mod fields;
 mod header;
 mod header_text;
 mod network_text;
+mod networks;
+mod worked;
 mod writing;
 
 pub use fields::{
@@ -24,7 +32,9 @@ pub use fields::{
 };
 pub use header::{Header, LatchNote, LatchNotes};
 pub use header_text::{append_notes, word_of_kind};
-pub use writing::{append, text};
+pub use networks::{CommentedNetwork, HeadedNetwork};
+pub use worked::{worked_comments, worked_lines, worked_texts};
+pub use writing::{append, header_comments, text, text_of_network};
 
 /// The text of a network denotes it, whatever comments are before it.
 pub fn net_text_denotes()
@@ -39,4 +49,24 @@ pub fn head_once()
 /// The lines of a header are comments: a reader of the network skips them.
 pub fn head_is_comments()
     ensures { HeadIsComments }
+{}
+
+/// The text of a header consists of comments.
+pub fn header_is_comments()
+    ensures { HeaderIsComments }
+{}
+
+/// Comments after comments are comments.
+pub fn comments_join()
+    ensures { CommentsJoin }
+{}
+
+/// A network that is ready has a text after all comments.
+pub fn network_has_text()
+    ensures { NetworkHasText }
+{}
+
+/// A text whose comments are those of a header begins with this header.
+pub fn text_has_head()
+    ensures { TextHasHead }
 {}

@@ -1,16 +1,18 @@
-//! The whole text, and the text of the network alone.
+//! The text of a network after its comments or its header, and the text of the network alone.
 
 ghost use Rattle.std.specs.Prelude.{◌≡◌, ◌≤◌, ◌++◌, IfOk, OnErr, OnOk, length};
 ghost use Rattle.hs_io.specs.Spelling.{ArePlainFields};
 ghost use Rattle.net_core.specs.Denotes.{Denotes};
-ghost use Rattle.blif_out.specs.Head.{Head, net_text_of};
+ghost use Rattle.blif_out.specs.Comments.{IsPrintable};
+ghost use Rattle.blif_out.specs.Head.{Head, header_text, net_text_of};
 ghost use Rattle.blif_out.specs.NetText.{net_text};
+ghost use Rattle.blif_out.specs.NetworkText.{IsNetworkText, CanBeText};
 ghost use Rattle.blif_out.specs.Order.{HasKnownStarts, HasRowsInOrder};
 ghost use Rattle.blif_out.specs.Writable.{IsWritable};
 
-use crate::Header;
 use crate::header_text::append_header;
 use crate::network_text::append_network;
+use crate::{CommentedNetwork, Header};
 use net_core::Network;
 use std::alloc::{AllocError, Global};
 
@@ -36,13 +38,31 @@ pub(crate) fn whole_text(
     net: &Network,
     header: &Header,
 ) -> Result<Vec<u8>, AllocError>
-    requires latches { length header.now.latches ≤ 64 }
-    requires words { length header.now.words ≡ length header.now.states }
+    requires { IsPrintable header.now }
     ensures { IfOk result (λ text. text.items ≡ net_text_of header.now net.now) }
 {
-    let mut text = Vec::new(alloc);
-    append_header(alloc, &mut text, header)?;
+    let mut text = header_comments(alloc, header)?;
     append_network(&mut text, net)?;
+    Ok(text)
+}
+
+/// The comments of a header.
+pub fn header_comments(alloc: Global, header: &Header) -> Result<Vec<u8>, AllocError>
+    requires { IsPrintable header.now }
+    ensures { IfOk result (λ comments. comments.items ≡ header_text header.now) }
+{
+    let mut comments = Vec::new(alloc);
+    append_header(alloc, &mut comments, header)?;
+    Ok(comments)
+}
+
+/// The text of a network after its comments.
+pub fn text_of_network(alloc: Global, made: &CommentedNetwork) -> Result<Vec<u8>, AllocError>
+    requires { CanBeText made.now }
+    ensures { IfOk result (λ text. IsNetworkText made.now.comments made.now.network text.items) }
+{
+    let mut text = Vec::from_slice(alloc, made.comments.as_slice())?;
+    append_network(&mut text, &made.network)?;
     Ok(text)
 }
 

@@ -1,0 +1,29 @@
+//! Worked texts.
+
+ghost use Rattle.std.specs.Prelude.{◌≡◌, [], ◌∷◌, codes};
+ghost use Rattle.blif_out.specs.Comments.{AreComments};
+ghost use Rattle.blif_out.specs.Head.{comment_text, net_text_of, part_fields};
+ghost use Rattle.blif_out.specs.NetText.{gate_fields};
+ghost use Rattle.blif_out.specs.Worked.{carried_part, gate, reduced_header, reduced_lines, reduced_network, serial_header, serial_lines, serial_network, text};
+ghost use Rattle.hs_io.specs.Spelling.{spelled};
+
+/// Texts of networks after their headers: one of a serial decomposition, and one of a machine of classes, whose latch
+/// reads no state bit.
+pub fn worked_texts()
+    ensures serial { net_text_of serial_header serial_network ≡ text serial_lines }
+    ensures reduced { net_text_of reduced_header reduced_network ≡ text reduced_lines }
+{}
+
+/// Lines by themselves: a part whose carrier is another partition, a gate that is always 1, and one that is always 0.
+pub fn worked_lines()
+    ensures part { comment_text (part_fields (1, carried_part)) ≡ codes "# part 1 0,1,2,3,0 carrier 0,0,0,1,0 reads 0,12" }
+    ensures one { spelled (gate_fields (gate [] (codes "z0") ([] ∷ []))) ≡ text (codes ".names z0" ∷ codes "1" ∷ []) }
+    ensures zero { spelled (gate_fields (gate [] (codes "z1") [])) ≡ text (codes ".names z1" ∷ []) }
+{}
+
+/// What are comments and what is not: no lines are, lines that begin with the mark are, another line is not.
+pub fn worked_comments()
+    ensures none { AreComments [] }
+    ensures two { AreComments (text (codes "# ab" ∷ codes "#" ∷ [])) }
+    ensures other { AreComments (text (codes "states 4" ∷ [])) → ⊥ }
+{}
