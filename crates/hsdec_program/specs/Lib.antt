@@ -1,4 +1,5 @@
 pub mod Words
 pub mod Phrases
+pub mod Groups
 pub mod Pages
 pub mod Status

@@ -4,6 +4,7 @@ use Rattle.std.specs.List.{flat_map}
 use Rattle.std.specs.Option.{option_map}
 use Rattle.std.specs.Str.{bytes_eq}
 use Rattle.hs_io.specs.Spelling.{ended, spaced}
+use Rattle.job_words.specs.declared.command.Command.{Command}
 use Rattle.job_words.specs.declared.table.CommandOption.{CommandOption}
 use Rattle.job_words.specs.declared.table.CommandOption.TheVariants.{Limit, Reduce, Start, Fill}
 use Rattle.job_words.specs.declared.table.OperandKind.{OperandKind}
@@ -11,7 +12,10 @@ use Rattle.job_words.specs.declared.table.OperandKind.TheVariants.{File, Net, Pa
 use Rattle.job_words.specs.Command.{command_word}
 use Rattle.job_words.specs.Job.{row_named}
 use Rattle.job_words.specs.Table.{Row, built}
-use Rattle.hsdec_program.specs.Phrases.{example_of, operand_note, operand_word, option_note, option_words, phrase_of}
+use Rattle.hsdec_program.specs.declared.groups.Group.{Group}
+use Rattle.hsdec_program.specs.declared.groups.Group.TheVariants.{Look, Split, Code, Run, Make}
+use Rattle.hsdec_program.specs.Groups.{group_of, heading_of, same_group}
+use Rattle.hsdec_program.specs.Phrases.{example_of, making_of, operand_note, operand_word, option_note, option_words, phrase_of}
 
 -- a line for each operand, and for each option
 abbrev pub operand_lines : List OperandKind → List ℕ
@@ -30,15 +34,32 @@ form_words row =
 abbrev pub form_lines : Row → List ℕ
 form_lines row = form_words row ++ 10 ∷ codes "      " ++ ended (phrase_of row.command)
 
+-- the lines of a command that is in the group, and none of another
+abbrev pub lines_within : Group → Row → List ℕ
+lines_within group row = if same_group group (group_of row.command) then form_lines row else []
+
+-- a group: an empty line, its heading, and its commands in the order of the rows
+abbrev pub group_lines : List Row → Group → List ℕ
+group_lines rows group = ended [] ++ ended (heading_of group) ++ flat_map (lines_within group) rows
+
 -- the line of an example
 abbrev pub example_line : List ℕ → List ℕ
 example_line words = codes "  hsdec " ++ ended words
 
--- the page about a command: its lines, what its operands and options are, and an example
+-- the line that makes the file of an example, if there is one
+abbrev pub making_line : Option (List ℕ) → List ℕ
+making_line None = []
+making_line (Some words) = example_line words
+
+-- the first line of the page about a command: what it does
+abbrev pub title_line : Command → List ℕ
+title_line command = command_word command ++ spaced (ended (phrase_of command))
+
+-- the page about a command: what it does, its words, what its operands and options are, and an example
 abbrev pub command_page : Row → List ℕ
 command_page row =
-    form_lines row ++ ended [] ++ operand_lines row.operands ++ option_lines row.options ++ ended [] ++ ended (codes "Example:")
-    ++ example_line (example_of row.command)
+    title_line row.command ++ ended [] ++ form_words row ++ ended [] ++ ended [] ++ operand_lines row.operands ++ option_lines row.options ++ ended []
+    ++ ended (codes "Example:") ++ making_line (making_of row.command) ++ example_line (example_of row.command)
 
 -- how the program is called, and the answers with what to do, line by line
 unfoldable pub usage_text : List ℕ
@@ -49,8 +70,6 @@ usage_text =
     ∷ codes "  hsdec --help"
     ∷ codes "  hsdec --help COMMAND"
     ∷ codes "  hsdec --version"
-    ∷ []
-    ∷ codes "Commands:"
     ∷ []
     )
 
@@ -83,18 +102,19 @@ answers_text =
     ∷ codes "      can help"
     ∷ codes "  21  the machine has more than 8 inputs"
     ∷ codes "  22  more than 256 outputs occur"
+    ∷ codes "  6 and 16 are not used"
     ∷ []
     )
 
--- a page about commands, operands and options
-abbrev pub help_page_of : List Row → List OperandKind → List CommandOption → List ℕ
-help_page_of rows operands options =
-    usage_text ++ flat_map form_lines rows ++ ended [] ++ ended (codes "Operands and options:") ++ operand_lines operands
+-- a page about commands, in these groups, and about operands and options
+abbrev pub help_page_of : List Row → List Group → List OperandKind → List CommandOption → List ℕ
+help_page_of rows groups operands options =
+    usage_text ++ flat_map (group_lines rows) groups ++ ended [] ++ ended (codes "Operands and options:") ++ operand_lines operands
     ++ option_lines options ++ answers_text
 
--- the page about the program: every command that is built, and their operands and options
+-- the page about the program: every command that is built, in its group, and their operands and options
 unfoldable pub help_page : List ℕ
-help_page = help_page_of built (File ∷ Net ∷ Symbols ∷ Part ∷ Parts ∷ Cover ∷ Seed ∷ A ∷ B ∷ K ∷ []) (Limit ∷ Reduce ∷ Start ∷ Fill ∷ [])
+help_page = help_page_of built (Look ∷ Split ∷ Code ∷ Run ∷ Make ∷ []) (File ∷ Net ∷ Symbols ∷ Part ∷ Parts ∷ Cover ∷ Seed ∷ A ∷ B ∷ K ∷ []) (Limit ∷ Reduce ∷ Start ∷ Fill ∷ [])
 
 -- the page of the version
 abbrev pub version_page : List ℕ

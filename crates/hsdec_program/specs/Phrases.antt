@@ -1,5 +1,5 @@
 -- What the pages say about commands, operands and options; each is a line without its line feed.
-use Rattle.std.specs.Prelude.{ℕ, List, codes}
+use Rattle.std.specs.Prelude.{ℕ, List, Option, Some, None, codes}
 use Rattle.job_words.specs.declared.command.Command.{Command}
 use Rattle.job_words.specs.declared.command.Command.TheVariants as commands
 use Rattle.job_words.specs.declared.table.CommandOption.{CommandOption}
@@ -58,6 +58,11 @@ example_of commands.Definite = codes "definite three_ones.kiss"
 example_of commands.Shift = codes "shift shift3.kiss"
 example_of commands.Ispairs = codes "ispairs modulo4.kiss --limit 100"
 example_of commands.Sopairs = codes "sopairs modulo4.kiss --limit 100"
+
+-- the words that make the file of an example before it; the files of the other examples are in the folder examples
+abbrev pub making_of : Command → Option (List ℕ)
+making_of commands.Sim = Some (codes "serial modulo4.kiss > modulo4.blif")
+making_of command = None
 
 -- the name of an operand
 abbrev pub operand_word : OperandKind → List ℕ

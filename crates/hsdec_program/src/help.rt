@@ -6,11 +6,14 @@ ghost use Rattle.std.specs.Option.{option_map};
 ghost use Rattle.hs_io.specs.Spelling.{ended, spaced};
 ghost use Rattle.job_words.specs.Job.{row_named};
 ghost use Rattle.job_words.specs.Table.{row_of};
-ghost use Rattle.hsdec_program.specs.Pages.{answers_text, command_page, form_lines, example_line, form_words, help_page, help_page_of, operand_lines, option_lines, page_asked, usage_text};
-ghost use Rattle.hsdec_program.specs.Phrases.{operand_word, option_words};
+ghost use Rattle.hsdec_program.specs.Pages.{answers_text, command_page, form_lines, example_line, form_words, group_lines, help_page, help_page_of, lines_within, making_line, operand_lines, option_lines, page_asked, title_line, usage_text};
+ghost use Rattle.hsdec_program.specs.Phrases.{example_of, making_of, operand_word, option_words};
 
-use crate::phrases::{example, operand_name, operand_text, option_name, option_text, phrase};
-use job_words::{CommandOption, Form, OperandKind, Words, built_forms};
+use crate::groups::{Group, command_group, heading, is_same};
+use crate::phrases::{
+    example, making, operand_name, operand_text, option_name, option_text, phrase,
+};
+use job_words::{Command, CommandOption, Form, OperandKind, Words, built_forms, form_named};
 use std::alloc::{AllocError, Global};
 
 /// The version of the program.
@@ -22,9 +25,16 @@ const USAGE: &[u8] = b"Usage:
   hsdec --help
   hsdec --help COMMAND
   hsdec --version
-
-Commands:
 ";
+
+/// The groups of commands, in the order in which the page lists them.
+const GROUPS: &[Group] = &[
+    Group::Look,
+    Group::Split,
+    Group::Code,
+    Group::Run,
+    Group::Make,
+];
 
 /// The operands of all commands, in the order in which the page explains them.
 const OPERANDS: &[OperandKind] = &[
@@ -75,6 +85,7 @@ Exit status, and what to do:
       can help
   21  the machine has more than 8 inputs
   22  more than 256 outputs occur
+  6 and 16 are not used
 ";
 
 /// The page that the words ask for: `--help` or `--version` alone, or `--help` with a command.
@@ -128,36 +139,25 @@ fn page_about(alloc: Global, forms: &[Form], word: &[u8]) -> Result<Option<Vec<u
     }
 }
 
-/// The form of a command, by its word.
-fn form_named<'a>(forms: &'a [Form], word: &[u8]) -> Option<&'a Form>
-    ensures { option_map (λ form. row_of form.now) result ≡ row_named (map row_of forms.now) word.now }
-{
-    for form in forms {
-        if word == form.command.word() {
-            return Some(form);
-        }
-    }
-    None
-}
-
 /// The page about the whole program.
 fn help(alloc: Global) -> Result<Vec<u8>, AllocError>
     ensures { IfOk result (λ page. page.items ≡ help_page) }
 {
-    help_on(alloc, built_forms(), OPERANDS, OPTIONS)
+    help_on(alloc, built_forms(), GROUPS, OPERANDS, OPTIONS)
 }
 
-/// The page about these commands, operands and options.
+/// The page about these commands, in these groups, and about operands and options.
 fn help_on(
     alloc: Global,
     forms: &[Form],
+    groups: &[Group],
     operands: &[OperandKind],
     options: &[CommandOption],
 ) -> Result<Vec<u8>, AllocError>
-    ensures { IfOk result (λ page. page.items ≡ help_page_of (map row_of forms.now) operands.now options.now) }
+    ensures { IfOk result (λ page. page.items ≡ help_page_of (map row_of forms.now) groups.now operands.now options.now) }
 {
     let mut page = Vec::from_slice(alloc, usage())?;
-    append_forms(&mut page, forms)?;
+    append_groups(&mut page, forms, groups)?;
     append_line(&mut page, b"")?;
     append_line(&mut page, b"Operands and options:")?;
     append_operands(&mut page, operands)?;
@@ -185,22 +185,75 @@ fn form_page(alloc: Global, form: &Form) -> Result<Vec<u8>, AllocError>
     ensures { IfOk result (λ page. page.items ≡ command_page (row_of form.now)) }
 {
     let mut page = Vec::new(alloc);
-    append_form(&mut page, form)?;
+    append_title(&mut page, form.command)?;
+    append_line(&mut page, b"")?;
+    append_form_words(&mut page, form)?;
+    append_line(&mut page, b"")?;
     append_line(&mut page, b"")?;
     append_operands(&mut page, form.operands)?;
     append_options(&mut page, form.options)?;
     append_line(&mut page, b"")?;
-    append_line(&mut page, b"Example:")?;
-    append_example(&mut page, example(form.command))?;
+    append_examples(&mut page, form.command)?;
     Ok(page)
 }
 
-/// Appends the lines of commands.
-fn append_forms(page: &mut Vec<u8>, forms: &[Form]) -> Result<(), AllocError>
-    ensures { OnOk result (page.new.items ≡ page.old.items ++ flat_map form_lines (map row_of forms.now)) }
+/// Appends the first line of a page: what the command does.
+fn append_title(page: &mut Vec<u8>, command: Command) -> Result<(), AllocError>
+    ensures { OnOk result (page.new.items ≡ page.old.items ++ title_line command) }
+{
+    page.extend_from_slice(command.word())?;
+    append_spaced(page, phrase(command))?;
+    page.push(b'\n')?;
+    Ok(())
+}
+
+/// Appends the examples of a command: the line that makes the file of the other, if there is one, and the other.
+fn append_examples(page: &mut Vec<u8>, command: Command) -> Result<(), AllocError>
+    ensures { OnOk result (page.new.items ≡ page.old.items ++ ended (codes "Example:")
+        ++ making_line (making_of command) ++ example_line (example_of command)) }
+{
+    append_line(page, b"Example:")?;
+    if let Some(words) = making(command) {
+        append_example(page, words)?;
+    }
+    append_example(page, example(command))
+}
+
+/// Appends the lines of commands, group by group.
+fn append_groups(page: &mut Vec<u8>, forms: &[Form], groups: &[Group]) -> Result<(), AllocError>
+    ensures { OnOk result (page.new.items ≡ page.old.items ++ flat_map (group_lines (map row_of forms.now)) groups.now) }
+{
+    for group in groups {
+        append_group(page, forms, *group)?;
+    }
+    Ok(())
+}
+
+/// Appends the lines of a group.
+fn append_group(page: &mut Vec<u8>, forms: &[Form], group: Group) -> Result<(), AllocError>
+    ensures { OnOk result (page.new.items ≡ page.old.items ++ group_lines (map row_of forms.now) group) }
+{
+    append_line(page, b"")?;
+    append_line(page, heading(group))?;
+    append_forms(page, forms, group)
+}
+
+/// Appends the lines of the commands of a group.
+fn append_forms(page: &mut Vec<u8>, forms: &[Form], group: Group) -> Result<(), AllocError>
+    ensures { OnOk result (page.new.items ≡ page.old.items ++ flat_map (lines_within group) (map row_of forms.now)) }
 {
     for form in forms {
-        append_form(page, form)?;
+        append_within(page, form, group)?;
+    }
+    Ok(())
+}
+
+/// Appends the lines of a command if it is in the group.
+fn append_within(page: &mut Vec<u8>, form: &Form, group: Group) -> Result<(), AllocError>
+    ensures { OnOk result (page.new.items ≡ page.old.items ++ lines_within group (row_of form.now)) }
+{
+    if is_same(group, command_group(form.command)) {
+        return append_form(page, form);
     }
     Ok(())
 }

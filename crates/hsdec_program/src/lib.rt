@@ -3,13 +3,14 @@
 //!
 //! - the exit status is the number of the answer to the words (`specs/Status`);
 //! - the words are those of the arguments (`specs/Words`);
-//! - `--help` and `--version` put a page (`specs/Pages`, `specs/Phrases`);
+//! - `--help` and `--version` put a page (`specs/Pages`, `specs/Groups`, `specs/Phrases`);
 //! - everything else is what `run` of the crate `hsdec_core` promises.
 //!
 //! [`SystemArguments`] are the arguments of the system, and [`InputShelf`] holds its files and standard input.
 #![tactic(auto)]
 
 mod arguments;
+mod groups;
 mod help;
 mod input_shelf;
 mod phrases;

@@ -1,7 +1,8 @@
 //! What the pages say about commands, operands and options; each is a line without its line feed.
 
 ghost use Rattle.std.specs.Prelude.{◌≡◌};
-ghost use Rattle.hsdec_program.specs.Phrases.{example_of, operand_note, operand_word, option_note, option_words, phrase_of};
+ghost use Rattle.std.specs.Option.{option_map};
+ghost use Rattle.hsdec_program.specs.Phrases.{example_of, making_of, operand_note, operand_word, option_note, option_words, phrase_of};
 
 use job_words::{Command, CommandOption, OperandKind};
 
@@ -68,6 +69,16 @@ pub fn example(command: Command) -> &'static [u8]
         Command::Shift => b"shift shift3.kiss",
         Command::Ispairs => b"ispairs modulo4.kiss --limit 100",
         Command::Sopairs => b"sopairs modulo4.kiss --limit 100",
+    }
+}
+
+/// The words that make the file of an example before it. The files of the other examples are in the folder examples.
+pub fn making(command: Command) -> Option<&'static [u8]>
+    ensures { option_map (λ words. words.now) result ≡ making_of command }
+{
+    match command {
+        Command::Sim => Some(b"serial modulo4.kiss > modulo4.blif"),
+        _ => None,
     }
 }
 

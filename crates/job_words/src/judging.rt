@@ -38,7 +38,7 @@ pub fn judge(alloc: Global, forms: &[Form], words: &Words) -> Result<Job, JobFai
 }
 
 /// The row of a command, by its word.
-fn form_named<'a>(forms: &'a [Form], word: &[u8]) -> Option<&'a Form>
+pub fn form_named<'a>(forms: &'a [Form], word: &[u8]) -> Option<&'a Form>
     ensures { option_map (λ form. row_of form.now) result ≡ row_named (map row_of forms.now) word.now }
 {
     for form in forms {

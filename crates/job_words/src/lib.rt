@@ -31,7 +31,7 @@ mod words;
 
 pub use command::Command;
 pub use jobs::{Job, JobFail};
-pub use judging::{job, judge};
+pub use judging::{form_named, job, judge};
 pub use laws::{judged_lines, limits_are_limits, parts_are_few, sizes_are_sizes};
 pub use table::{CommandOption, Form, OperandKind, built_forms};
 pub use words::Words;
