@@ -1,7 +1,6 @@
 -- The digits of symbols, one more at a time.
 use Rattle.std.proofs.Common.{◌≡◌, ℕ, suc, ◌+◌, ◌-◌, ◌<◌, ◌≤◌, List, [], ◌∷◌, ◌++◌, map, refl, sym, ap, ◌∙◌, arith, append_assoc, append-nil}
-use Rattle.cubes.specs.Symbol.{bit, symbol_of}
-use Rattle.answers.specs.Digits.{digit}
+use Rattle.cubes.specs.Symbol.{bit, digit, symbol_of}
 
 -- the bits from a place on are the one there and those after it
 symbol_from : (width place number : ℕ) → place < width → symbol_of (width - place) number ≡ bit number (width - 1 - place) ∷ symbol_of (width - (place + 1)) number

@@ -1,7 +1,6 @@
 pub mod Answer
 pub mod Cause
 pub mod Delivery
-pub mod Digits
 pub mod Judged
 pub mod KissTexts
 pub mod Laws

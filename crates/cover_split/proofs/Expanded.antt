@@ -8,10 +8,10 @@ use Rattle.std.proofs.lemmas.List.Elements.{All-append, All-cons, All-contains, 
 use Rattle.std.proofs.lemmas.Nat.Bits.{bit_at_above, bit_at_ones, bit_at_ones_above}
 use Rattle.std.proofs.lemmas.Option.{same_Some, slice_get_within}
 use Rattle.cubes.specs.Cube.{Holds}
-use Rattle.cubes.specs.Symbol.{bit, number_of, symbol_of}
-use Rattle.cubes.proofs.Bits.{bit_from_one, one_from_bit}
-use Rattle.cubes.proofs.Meeting.{length_of_held, number_of_held}
-use Rattle.cubes.proofs.Numbers.{number_below, symbol_of-number_of}
+use Rattle.cubes.specs.Symbol.{bit, number_of, symbol_of, lowest_bits}
+use Rattle.cubes.specs.Laws.Bits.{bit_from_one, one_from_bit}
+use Rattle.cubes.specs.Laws.Meeting.{length_of_held, number_of_held}
+use Rattle.cubes.specs.Laws.Numbers.{number_below, symbol_of-number_of}
 use Rattle.kiss_file.specs.declared.file.KissFile.{KissFile}
 use Rattle.kiss_file.specs.declared.file.KissRow.{KissRow}
 use Rattle.kiss_file.specs.Lawful.{AreGiven, AreNumbered, IsLawful, IsLawfulRow, appearances, given_names}
@@ -20,7 +20,6 @@ use Rattle.kiss_file.specs.Names.{AreDistinct, IsPlainName}
 use Rattle.kiss_file.proofs.Machine.{next_said, output_bit_said}
 use Rattle.machine_table.specs.Staying.{NeverLeaves}
 use Rattle.machine_table.specs.Table.{IsTable}
-use Rattle.machine_table.specs.Walk.{outputs_of}
 use Rattle.machine_table.proofs.OutputWords.{same_map, same_values}
 use Rattle.kiss_file.proofs.ByState.{IsByState, lawful_by_state, numbered_by_state}
 use Rattle.kiss_file.proofs.NumberedNames.{length-numbered_names}
@@ -87,9 +86,9 @@ module _ (F : KissFile) (table : IsTable F) (stays : NeverLeaves F) (blocks : Li
         subst (λ (y : List Bool). IsNextPair F blocks row.from y (known row among).1.target) symbol_is
         ((known row among).1.leads (number_of x) number_low (number_of_held row.cube x held))
 
-    row_gives : (j s : ℕ) → IsPair blocks row.from j s → out F s x ≡ outputs_of F.outputs row.value
+    row_gives : (j s : ℕ) → IsPair blocks row.from j s → out F s x ≡ lowest_bits F.outputs row.value
     row_gives j s pair =
-        subst (λ (y : List Bool). out F s y ≡ outputs_of F.outputs row.value) symbol_is ((known row among).1.gives j s (number_of x) pair number_low (number_of_held row.cube x held))
+        subst (λ (y : List Bool). out F s y ≡ lowest_bits F.outputs row.value) symbol_is ((known row among).1.gives j s (number_of x) pair number_low (number_of_held row.cube x held))
 
   -- ---- no two rows contradict one another
   pub no_conflict : Conflicting E → ⊥
@@ -105,7 +104,7 @@ module _ (F : KissFile) (table : IsTable F) (stays : NeverLeaves F) (blocks : Li
       let second = known other also in
       let pair = some_pair blocks row.from first.0 in
       let low : b < F.outputs = ones_high F.outputs b (ap (λ (n : ℕ). bit n b) (sym second.1.care) ∙ cared other b true one) in
-      let words : outputs_of F.outputs row.value ≡ outputs_of F.outputs other.value =
+      let words : lowest_bits F.outputs row.value ≡ lowest_bits F.outputs other.value =
       sym (row_gives row among x held pair.0 pair.1 pair.2) ∙ row_gives other also x too pair.0 pair.1 (subst (λ (i : ℕ). IsPair blocks i pair.0 pair.1) from pair.2) in
       let same : bit row.value b ≡ bit other.value b = same_values (bit row.value) (bit other.value) F.outputs words b low in
       let zero : bit row.value b ≡ false = same_Some (bit row.value b) false (sym (gives_bit row F.outputs b first.1.care low) ∙ none) in
@@ -155,10 +154,10 @@ module _ (F : KissFile) (table : IsTable F) (stays : NeverLeaves F) (blocks : Li
       let there = row_there i x within long in
       let row = there.0 in
       let it = (known row there.1.among).1 in
-      let word : out F s x ≡ outputs_of F.outputs row.value = row_gives row there.1.among x there.1.held j s (subst (λ (k : ℕ). IsPair blocks k j s) (sym there.1.from) pair) in
+      let word : out F s x ≡ lowest_bits F.outputs row.value = row_gives row there.1.among x there.1.held j s (subst (λ (k : ℕ). IsPair blocks k j s) (sym there.1.from) pair) in
       same_map (output_bit E i x) (bit row.value) E.outputs
       (λ b low. output_bit_said E i x no_conflict row b (bit row.value b) there.1 (gives_bit row F.outputs b it.care (omega (arith, is.outputs))))
-      ∙ ap (λ (o : ℕ). outputs_of o row.value) is.outputs ∙ sym word
+      ∙ ap (λ (o : ℕ). lowest_bits o row.value) is.outputs ∙ sym word
 
   pub expansion : IsExpansion F blocks E
   expansion = record {

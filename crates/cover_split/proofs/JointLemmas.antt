@@ -8,14 +8,14 @@ use Rattle.std.proofs.lemmas.Option.{get_or_from_slice_get, none-some, same_Some
 use Rattle.cubes.specs.declared.cube.Cube.{Cube}
 use Rattle.cubes.specs.Cube.{HoldsNumber, IsHalf, Meets}
 use Rattle.cubes.specs.Symbol.{bit, symbol_of}
-use Rattle.cubes.proofs.Ends.{least_held, value_le}
-use Rattle.cubes.proofs.Parts.{half_from_whole, whole_from_half}
+use Rattle.cubes.specs.Laws.Ends.{least_held, value_le}
+use Rattle.cubes.specs.Laws.Parts.{half_from_whole, whole_from_half}
 use Rattle.kiss_file.specs.declared.file.KissFile.{KissFile}
 use Rattle.kiss_file.specs.Machine.{next}
 use Rattle.machine_table.specs.declared.covering.Piece.{Piece}
 use Rattle.machine_table.specs.Covering.{IsHeldByPiece, IsPiece}
 use Rattle.machine_table.specs.Pairs.{AtEachSymbol, IsFirstWithout}
-use Rattle.cubes.proofs.SharedCubes.{meets_from_held, value_below}
+use Rattle.cubes.specs.Laws.SharedCubes.{meets_from_held, value_below}
 use Rattle.cover_split.specs.Cover.{block_at}
 use Rattle.cover_split.specs.Expansion.{HasNexts, IsTarget, StaysWithin}
 use Rattle.cover_split.specs.declared.joint.Joint.{Joint}

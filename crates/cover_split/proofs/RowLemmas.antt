@@ -6,13 +6,12 @@ use Rattle.std.proofs.lemmas.List.Elements.{All-append, All-get_or, All-nil, All
 use Rattle.std.proofs.lemmas.Option.{get_or_from_slice_get, same_Some, slice_get_within, slice_get-get_or}
 use Rattle.cubes.specs.declared.cube.Cube.{Cube}
 use Rattle.cubes.specs.Cube.{HoldsNumber}
-use Rattle.cubes.specs.Symbol.{symbol_of}
+use Rattle.cubes.specs.Symbol.{symbol_of, lowest_bits}
 use Rattle.kiss_file.specs.declared.file.KissFile.{KissFile}
 use Rattle.kiss_file.specs.declared.file.KissRow.{KissRow}
 use Rattle.kiss_file.specs.Machine.{next, out}
 use Rattle.machine_table.specs.declared.covering.Piece.{Piece}
 use Rattle.machine_table.specs.Covering.{IsPiece}
-use Rattle.machine_table.specs.Walk.{outputs_of}
 use Rattle.cover_split.specs.Cover.{Has, block_at}
 use Rattle.cover_split.specs.Expansion.{IsTarget, pairs_of}
 use Rattle.cover_split.specs.declared.joint.Joint.{Joint}
@@ -74,7 +73,7 @@ module _ (F : KissFile) (blocks : List (List ℕ)) (i j place : ℕ) (at : IsPla
         let same : Pairs_are (k, s) (j, get_or (block_at blocks j) place 0) = same_Some {A = ℕ × ℕ} (k, s) (j, get_or (block_at blocks j) place 0) (sym pair ∙ at.pair) in
         let source : s ≡ get_or (block_at blocks j) place 0 = ap (λ (p : ℕ × ℕ). p.1) same in
         let inside : HoldsNumber joint.cube x = subst (λ (c : Cube). HoldsNumber c x) cube held in
-        ap (λ (u : ℕ). out F u (symbol_of F.inputs x)) source ∙ known.0.outputs x within (known.1 x inside) ∙ sym (ap (outputs_of F.outputs) value);
+        ap (λ (u : ℕ). out F u (symbol_of F.inputs x)) source ∙ known.0.outputs x within (known.1 x inside) ∙ sym (ap (lowest_bits F.outputs) value);
   } where
     known : IsPiece F (get_or (block_at blocks j) place 0) piece × HoldsAllOf joint.cube piece
     known = is.pieces_are place (get_or (block_at blocks j) place 0) piece state_there there

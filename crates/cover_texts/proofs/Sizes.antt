@@ -2,7 +2,7 @@
 use Rattle.std.proofs.Common.{◌≡◌, ℕ, suc, ◌+◌, ◌≤◌, All, List, [], ◌∷◌, length, refl, ap, subst, arith, length-append}
 use Rattle.std.proofs.lemmas.List.Elements.{All-head, All-tail}
 use Rattle.cover_split.specs.Parts.{IsSplitByBlock}
-use Rattle.least_codes.proofs.OwnCarriers.{no_inner}
+use Rattle.state_codes.specs.Laws.OwnCarriers.{no_inner}
 use Rattle.partition.specs.Partition.{blocks_of}
 use Rattle.partition.specs.Laws.Labels.{blocks_of-le}
 use Rattle.state_codes.specs.declared.Codes.{Codes}

@@ -5,12 +5,11 @@ use Rattle.answers.specs.declared.refusals.CoverFlaw.{CoverFlaw}
 use Rattle.answers.specs.declared.refusals.CoverFlaw.TheVariants.{Lacks, Leaves, Place, Places, Trivial, Within}
 use Rattle.answers.specs.declared.refusals.Refusal.TheVariants.{BadCover}
 use Rattle.answers.specs.Cause.{Cause}
-use Rattle.answers.specs.Digits.{digit}
 use Rattle.cover_split.specs.declared.cover.CoverFail.TheVariants as fails
 use Rattle.cover_split.specs.Cover.{IsCover}
 use Rattle.cover_split.specs.Expansion.{IsFirstLeaving}
 use Rattle.cover_split.specs.Refusal.{CoverFault, IsTextOf}
-use Rattle.cubes.specs.Symbol.{symbol_of}
+use Rattle.cubes.specs.Symbol.{symbol_of, digit}
 use Rattle.kiss_file.specs.declared.file.KissFile.{KissFile}
 
 -- the least state that is in no block has this name

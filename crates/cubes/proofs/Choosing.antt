@@ -3,8 +3,8 @@ use Rattle.std.proofs.Common.{◌≡◌, ℕ, zero, suc, ◌+◌, ◌*◌, ◌^�
 use Rattle.std.proofs.lemmas.Bool.{cases_lt}
 use Rattle.std.proofs.lemmas.Nat.Bits.{bit_at_cat_low}
 use Rattle.cubes.specs.Symbol.{bit}
-use Rattle.cubes.proofs.Bits.{same_bits}
-use Rattle.cubes.proofs.Numbers.{bit-above, bit-top, pow-suc}
+use Rattle.cubes.specs.Laws.Bits.{same_bits}
+use Rattle.cubes.specs.Laws.Numbers.{bit-above, bit-top, pow-suc}
 
 -- the number that has these bits at so many lowest places, and none above
 pub chosen : (ℕ → Bool) → ℕ → ℕ

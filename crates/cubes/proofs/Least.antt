@@ -9,8 +9,8 @@ use Rattle.cubes.specs.Symbol.{bit}
 use Rattle.cubes.specs.Cube.{HoldsNumber}
 use Rattle.cubes.specs.Gap.{HoldsEach, IsFirstGap}
 use Rattle.cubes.specs.Inner.Region.{HasDashesBelow, HoldsRegion, IsGapIn, IsHalfOf, IsLeastGapIn}
-use Rattle.cubes.proofs.Bits.{bit-or, bit-zero, one_from_bit, same_digits, zero_from_bit}
-use Rattle.cubes.proofs.Held.{held_from_agrees}
+use Rattle.cubes.specs.Laws.Bits.{bit-or, bit-zero, one_from_bit, same_digits, zero_from_bit}
+use Rattle.cubes.specs.Laws.Held.{held_from_agrees}
 use Rattle.cubes.proofs.Narrowing.{place_of_power}
 
 -- one place lower, a number has twice its part and its bit

@@ -1,17 +1,7 @@
-pub mod Bits
-pub mod Places
-pub mod Masks
-pub mod Held
-pub mod Numbers
-pub mod Meeting
 pub mod Reading
 pub mod Lists
-pub mod Ends
-pub mod Parts
-pub mod Deciding
 pub mod Choosing
 pub mod Regions
-pub mod SharedCubes
 pub mod Narrowing
 pub mod Wanting
 pub mod Least

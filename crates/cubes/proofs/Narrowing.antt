@@ -9,8 +9,8 @@ use Rattle.cubes.specs.declared.cube.Cube.{Cube}
 use Rattle.cubes.specs.Symbol.{bit}
 use Rattle.cubes.specs.Cube.{HoldsNumber}
 use Rattle.cubes.specs.Inner.Region.{IsNarrowed, IsOpen}
-use Rattle.cubes.proofs.Bits.{bit-and, bit-or, bit-zero, bit_from_one, bit_from_zero, or_first, or_second, same_digits, zero_from_bit}
-use Rattle.cubes.proofs.Held.{agrees_from_held, held_from_agrees}
+use Rattle.cubes.specs.Laws.Bits.{bit-and, bit-or, bit-zero, bit_from_one, bit_from_zero, or_first, or_second, same_digits, zero_from_bit}
+use Rattle.cubes.specs.Laws.Held.{agrees_from_held, held_from_agrees}
 
 -- a number with bits at the lowest places alone is below the power of two
 pub below_from_bits : (n places : ℕ) → ((k : ℕ) → bit n k ≡ true → k < places) → n < 2 ^ places

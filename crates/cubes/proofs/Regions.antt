@@ -9,14 +9,14 @@ use Rattle.std.specs.declared.alloc.AllocError.{AllocError}
 use Rattle.std.specs.Int.RustNames.{bit_xor}
 use Rattle.cubes.specs.declared.cube.Cube.{Cube}
 use Rattle.cubes.specs.Symbol.{bit}
-use Rattle.cubes.specs.Cube.{HoldsNumber}
+use Rattle.cubes.specs.Cube.{HoldsNumber, clash_of}
 use Rattle.cubes.specs.Gap.{IsHeld}
-use Rattle.cubes.specs.Inner.Region.{AreWanted, HoldsRegion, IsGapIn, clash_of, looked_at, touches}
-use Rattle.cubes.proofs.Bits.{bit-and, bit-xor, bit-zero, one_from_bit, same_bits, same_digits}
-use Rattle.cubes.proofs.Ends.{least_held, value_le_care}
-use Rattle.cubes.proofs.Held.{agrees_from_held, held_from_agrees}
+use Rattle.cubes.specs.Inner.Region.{AreWanted, HoldsRegion, IsGapIn, looked_at, touches}
+use Rattle.cubes.specs.Laws.Bits.{bit-and, bit-xor, bit-zero, one_from_bit, same_bits, same_digits}
+use Rattle.cubes.specs.Laws.Ends.{least_held, value_le_care}
+use Rattle.cubes.specs.Laws.Held.{agrees_from_held, held_from_agrees}
 use Rattle.cubes.proofs.Lists.{Any-from_filter, Any-to_filter, Any-weaker, Any-with_all}
-use Rattle.cubes.proofs.Meeting.{clash_digit, clash_of-agreed}
+use Rattle.cubes.specs.Laws.Meeting.{clash_digit, clash_of-agreed}
 
 -- ---- the places at which a cube looks
 looks_when : (c r : Bool) → c ≡ true → r ≡ false → (c && not (beq c r)) ≡ true

@@ -8,9 +8,9 @@ use Rattle.cubes.specs.declared.cube.Cube.{Cube}
 use Rattle.cubes.specs.Symbol.{bit}
 use Rattle.cubes.specs.Cube.{HoldsNumber}
 use Rattle.cubes.specs.Inner.Region.{AreWanted, HoldsRegion, IsNarrowed, IsHalfOf, IsOpen, looked_at, touches}
-use Rattle.cubes.proofs.Bits.{bit-and, bit-or, bit-xor, bit-zero, bit_from_zero, or_first, or_second, same_digits}
+use Rattle.cubes.specs.Laws.Bits.{bit-and, bit-or, bit-xor, bit-zero, bit_from_zero, or_first, or_second, same_digits}
 use Rattle.cubes.proofs.Choosing.{chosen, chosen-bit}
-use Rattle.cubes.proofs.Held.{agrees_from_held, held_from_agrees}
+use Rattle.cubes.specs.Laws.Held.{agrees_from_held, held_from_agrees}
 use Rattle.cubes.proofs.Lists.{Any-weaker, Any-with_all}
 use Rattle.cubes.proofs.Regions.{from_look, look_from, held_far}
 

@@ -1,5 +1,5 @@
 -- Cubes, seen as the characters of their field.
-use Rattle.std.specs.Prelude.{ℕ, ◌≡◌, ◌≢◌, ◌+◌, ◌-◌, ◌^◌, ◌<◌, List, Option, Bool, true, false, if◌then◌else◌, bit_or, length, map, slice_index}
+use Rattle.std.specs.Prelude.{ℕ, ◌≡◌, ◌≢◌, ◌+◌, ◌-◌, ◌^◌, ◌<◌, List, Option, Bool, true, false, if◌then◌else◌, bit_and, bit_or, bit_xor, length, map, slice_index}
 use Rattle.std.specs.List.{AllZip}
 use Rattle.cubes.specs.declared.cube.Cube.{Cube}
 use Rattle.cubes.specs.Symbol.{bit, symbol_of}
@@ -28,6 +28,10 @@ HoldsNumber c number = Holds c (symbol_of c.width number)
 -- some symbol is held by both cubes
 abbrev pub Meets : Cube → Cube → Type 0
 Meets c d = (symbol : List Bool) × Holds c symbol × Holds d symbol
+
+-- the places where both have a bit, and the bits differ
+abbrev pub clash_of : Cube → Cube → ℕ
+clash_of c d = bit_and (bit_and (bit_xor c.value d.value) c.care) d.care
 
 -- at some place both cubes have a bit, and these bits differ
 abbrev pub DiffersAtPlace : Cube → Cube → Type 0

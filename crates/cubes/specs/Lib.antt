@@ -3,3 +3,4 @@ pub mod Field
 pub mod Cube
 pub mod Gap
 pub mod Inner
+pub mod Laws

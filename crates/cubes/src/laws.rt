@@ -1,5 +1,5 @@
 //! Laws of symbols and cubes, for the crates above. Each law is the contract of a function that does nothing.
-ghost use Rattle.std.specs.Prelude.{ℕ, ◌≡◌, ◌+◌, ◌<◌, ◌≤◌, ◌^◌, ◌↔◌, Bool, true, List, bit_and, length};
+ghost use Rattle.std.specs.Prelude.{ℕ, ◌≡◌, ◌+◌, ◌<◌, ◌≤◌, ◌^◌, ◌↔◌, Bool, true, false, List, [], ◌∷◌, bit_and, length};
 ghost use Rattle.cubes.specs.declared.cube.Cube.{Cube};
 ghost use Rattle.cubes.specs.Cube.{DiffersAtPlace, HasBitsOf, Holds, HoldsNumber, IsBoth, IsHalf, Meets, greatest_of, holds};
 ghost use Rattle.cubes.specs.Symbol.{bit, number_of, symbol_of};
@@ -10,6 +10,13 @@ pub fn symbols_are_numbers()
     ensures places { (places x : ℕ) → length (symbol_of places x) ≡ places }
     ensures symbol { (symbol : List Bool) → symbol_of (length symbol) (number_of symbol) ≡ symbol }
     ensures below { (symbol : List Bool) → number_of symbol < 2 ^ length symbol }
+{}
+
+/// Small symbols: the first bit is the most significant.
+pub fn worked_symbols()
+    ensures number { number_of (true ∷ false ∷ []) ≡ 2 }
+    ensures symbol { symbol_of 3 6 ≡ true ∷ true ∷ false ∷ [] }
+    ensures lowest { symbol_of 2 5 ≡ false ∷ true ∷ [] }
 {}
 
 /// What a cube holds, place by place and by one mask.

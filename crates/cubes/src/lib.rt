@@ -7,16 +7,18 @@
 //! The definitions are in `specs/`: `Symbol` has symbols and their numbers, `Field` the characters of a field,
 //! `Cube` what a cube holds and where two cubes meet, and `Gap` the first symbol that a list leaves out. They
 //! speak of characters and bits one by one. The code compares whole numbers under masks, and `first_gap` halves
-//! the symbols by one bit at a time.
+//! the symbols by one bit at a time. What follows from the definitions is in `Laws`.
 #![tactic(auto)]
 
 mod cube;
 mod gap;
 mod laws;
+mod symbol;
 
 pub use cube::{Cube, CubeFail};
 pub use gap::first_gap;
 pub use laws::{
     apart_cubes_differ, ends_of_a_cube, holding_is_decided, parts_of_cubes, places_of_a_cube,
-    symbols_are_numbers,
+    symbols_are_numbers, worked_symbols,
 };
+pub use symbol::{bit, digit_of};

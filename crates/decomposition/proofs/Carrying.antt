@@ -15,7 +15,7 @@ use Rattle.net_core.specs.Step.{AreStarts, Step}
 use Rattle.pair_operators.specs.Pair.{Closed}
 use Rattle.partition.specs.Laws.Labels.{same_labels}
 use Rattle.realise.specs.Carries.{Carries}
-use Rattle.gate_rows.specs.Bits.{code_bits}
+use Rattle.cubes.specs.Symbol.{lowest_bits}
 use Rattle.realise.specs.Codes.{code_of}
 use Rattle.state_reduce.specs.Alike.{IsEquivalence}
 use Rattle.state_reduce.specs.Quotient.{AreBlocksInOrder}
@@ -146,7 +146,7 @@ labels_inside false F W class None lawful no_conflict work is = tt
 -- a network that carries the work machine between codes carries the file's machine between the printed ones
 pub carries_file : (F W : KissFile) (class : ℕ → ℕ) (N : Network) (words printed : List ℕ) → F.reset < length F.states → NeverLeaves F → IsImage F W class → ArePrinted F class words printed → Carries W N words → Carries F N printed
 carries_file F W class N words printed inside stays image are carries =
-    let same : (s : ℕ) → s < length F.states → code_of (length N.latches) words (class s) ≡ code_of (length N.latches) printed s = λ s in_s. ap (code_bits (length N.latches)) (sym (are.each s in_s)) in
+    let same : (s : ℕ) → s < length F.states → code_of (length N.latches) words (class s) ≡ code_of (length N.latches) printed s = λ s in_s. ap (lowest_bits (length N.latches)) (sym (are.each s in_s)) in
     record {
       inputs = carries.inputs ∙ image.inputs;
       outputs = carries.outputs ∙ image.outputs;

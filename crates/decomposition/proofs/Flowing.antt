@@ -1,7 +1,7 @@
 -- Where information flows as the parts say, the candidates of a latch permit it.
 use Rattle.std.proofs.Common.{◌≡◌, ℕ, ◌<◌, refl, inl, inr, Bool, All, Contains, List, Some, length, get_or, slice_get, sym, subst}
 use Rattle.list_facts.specs.Laws.Places.{item_at}
-use Rattle.cubes.proofs.Bits.{same_bits}
+use Rattle.cubes.specs.Laws.Bits.{same_bits}
 use Rattle.dependence.specs.Candidates.{IsCandidate}
 use Rattle.dependence.specs.Permits.{AgreeOn, next_value}
 use Rattle.kiss_file.specs.declared.file.KissFile.{KissFile}

@@ -4,7 +4,7 @@ use Rattle.std.proofs.lemmas.Option.{same_Some, slice_get-get_or, slice_get_with
 use Rattle.list_facts.specs.Laws.Everywhere.{all_at}
 use Rattle.list_facts.specs.Laws.Places.{item_at}
 use Rattle.blif_out.specs.declared.header.LatchNote.{LatchNote}
-use Rattle.cubes.proofs.Bits.{same_digits}
+use Rattle.cubes.specs.Laws.Bits.{same_digits}
 use Rattle.dependence.specs.declared.sets.ReadSet.{ReadSet}
 use Rattle.dependence.specs.declared.sets.Reads.{Reads}
 use Rattle.dependence.specs.Candidates.{IsCandidate}

@@ -7,9 +7,9 @@ use Rattle.std.proofs.lemmas.Option.{get_or_from_slice_get, same_Some, slice_get
 use Rattle.std.specs.Bool.{beq}
 use Rattle.std.specs.Option.{option_map}
 use Rattle.std.specs.Int.RustNames.{bit_xor}
+use Rattle.cubes.specs.Cube.{clash_of}
 use Rattle.cubes.specs.Symbol.{bit}
-use Rattle.cubes.specs.Inner.Region.{clash_of}
-use Rattle.cubes.proofs.Bits.{bit-and, bit-or, bit-xor, bit-zero}
+use Rattle.cubes.specs.Laws.Bits.{bit-and, bit-or, bit-xor, bit-zero}
 use Rattle.kiss_file.specs.declared.file.KissRow.{KissRow}
 use Rattle.kiss_file.specs.Machine.{given_bit}
 use Rattle.dependence.specs.declared.effects.Effect.{Effect}
@@ -17,7 +17,7 @@ use Rattle.dependence.specs.declared.bit.Bit.{Bit}
 use Rattle.dependence.specs.declared.bit.Bit.TheVariants.{Latch, Output}
 use Rattle.dependence.specs.Effects.{ActsBy, acts_on}
 use Rattle.dependence.specs.Inner.Effects.{Adds, AreApart, IsActed, Show, acts_in}
-use Rattle.dependence.specs.Inner.Said.{next_bit, row_value}
+use Rattle.dependence.specs.Said.{next_bit, row_value}
 use Rattle.dependence.proofs.Symbols.{clash_turned, one_place}
 
 -- ---- what is added in turn

@@ -10,9 +10,9 @@ use Rattle.list_facts.specs.Laws.Members.{Contains-here, Contains-none, Contains
 use Rattle.cubes.specs.declared.cube.Cube.{Cube}
 use Rattle.cubes.specs.Cube.{HoldsNumber, IsHalf, Meets}
 use Rattle.cubes.specs.Symbol.{bit, symbol_of}
-use Rattle.cubes.proofs.Bits.{bit-zero, bit_from_one, one_from_bit}
-use Rattle.cubes.proofs.Numbers.{length-symbol_of}
-use Rattle.cubes.proofs.Parts.{half_from_whole, whole_from_half}
+use Rattle.cubes.specs.Laws.Bits.{bit-zero, bit_from_one, one_from_bit}
+use Rattle.cubes.specs.Laws.Numbers.{length-symbol_of}
+use Rattle.cubes.specs.Laws.Parts.{half_from_whole, whole_from_half}
 use Rattle.kiss_file.specs.declared.file.KissFile.{KissFile}
 use Rattle.kiss_file.specs.declared.file.KissRow.{KissRow}
 use Rattle.kiss_file.specs.Machine.{Conflicting, IsRowAt, Specified, given_bit}
@@ -27,7 +27,7 @@ use Rattle.machine_table.specs.Table.{IsTable}
 use Rattle.state_pairs.proofs.Asking.{lawful_row, number_of_row}
 use Rattle.machine_table.proofs.OpenParts.{one_part}
 use Rattle.state_rows.proofs.Outputs.{gives_where_cares, given_in_all, value_of_given}
-use Rattle.cubes.proofs.SharedCubes.{meets_from_held}
+use Rattle.cubes.specs.Laws.SharedCubes.{meets_from_held}
 use Rattle.state_pairs.proofs.Sought.{at_from_held, held_from_at, row_from_at}
 
 -- ---- a row without the parts that another says

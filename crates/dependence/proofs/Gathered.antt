@@ -25,9 +25,9 @@ use Rattle.dependence.specs.Permits.{InWord}
 use Rattle.dependence.specs.ReadRule.{Beside, IsReadRule}
 use Rattle.dependence.specs.Reads.{IsReadSet}
 use Rattle.dependence.proofs.Adding.{acts_within}
-use Rattle.dependence.proofs.Judged.{permits_more}
+use Rattle.dependence.specs.Laws.Judged.{permits_more}
 use Rattle.dependence.proofs.Showing.{across_matters, matters_across}
-use Rattle.dependence.proofs.Words.{bit_within}
+use Rattle.dependence.specs.Laws.Words.{bit_within}
 
 -- the rule is one of which bits are candidates and which are read
 pub rule_same : (F : KissFile) (words : List ℕ) (C D R S : ℕ → Type 0) (value : ℕ → List Bool → Bool) → ((c : ℕ) → C c ↔ D c) → ((c : ℕ) → R c ↔ S c) → IsReadRule F words C R value → IsReadRule F words D S value

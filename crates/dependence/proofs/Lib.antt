@@ -1,14 +1,9 @@
-pub mod Words
-pub mod Agreeing
 pub mod Firsts
-pub mod Judged
-pub mod Irredundant
 pub mod Listed
 pub mod Symbols
 pub mod Adding
 pub mod Across
 pub mod Shared
-pub mod Said
 pub mod Showing
 pub mod Gathered
 pub mod FilledRows

@@ -5,8 +5,8 @@ use Rattle.std.proofs.lemmas.List.Elements.{All-contains}
 use Rattle.std.proofs.lemmas.Nat.Bits.{bit_at-lt, bit_at-pow_other, bit_at-pow_same, bit_at-zero, bit_at_and, bit_at_or, bit_at_xor, same_from_bits}
 use Rattle.std.specs.Int.{bit_at}
 use Rattle.std.specs.Int.RustNames.{bit_xor}
-use Rattle.cubes.specs.Inner.Region.{clash_of}
-use Rattle.cubes.proofs.Meeting.{clash_digit, kept_digit}
+use Rattle.cubes.specs.Cube.{clash_of}
+use Rattle.cubes.specs.Laws.Meeting.{clash_digit, kept_digit}
 use Rattle.kiss_file.specs.declared.file.KissRow.{KissRow}
 use Rattle.dependence.specs.Inner.Effects.{DifferMore, HasBits}
 use Rattle.dependence.proofs.Symbols.{clash_turned}

@@ -5,9 +5,9 @@ use Rattle.std.proofs.lemmas.List.Elements.{All-contains}
 use Rattle.std.proofs.lemmas.Option.{slice_get_past}
 use Rattle.cubes.specs.Symbol.{number_of, symbol_of}
 use Rattle.cubes.specs.Cube.{Holds, HoldsNumber, Meets}
-use Rattle.cubes.proofs.Held.{agrees_from_held, held_from_agrees}
-use Rattle.cubes.proofs.Meeting.{length_of_held, meets_from_clash}
-use Rattle.cubes.proofs.Numbers.{length-symbol_of, number_below, symbol_of-number_of}
+use Rattle.cubes.specs.Laws.Held.{agrees_from_held, held_from_agrees}
+use Rattle.cubes.specs.Laws.Meeting.{length_of_held, meets_from_clash}
+use Rattle.cubes.specs.Laws.Numbers.{length-symbol_of, number_below, symbol_of-number_of}
 use Rattle.kiss_file.specs.declared.file.KissFile.{KissFile}
 use Rattle.kiss_file.specs.declared.file.KissRow.{KissRow}
 use Rattle.machine_table.specs.declared.missing.Missing.{Missing}
@@ -18,8 +18,8 @@ use Rattle.dependence.specs.Inputs.{DifferAlone}
 use Rattle.dependence.specs.Bit.{IsBit, value_of}
 use Rattle.dependence.specs.Effects.{MattersAt}
 use Rattle.dependence.specs.Inner.Effects.{Show, ShowAcross}
-use Rattle.dependence.specs.Inner.Said.{row_value}
-use Rattle.dependence.proofs.Said.{part_counted, part_of, row_gives, says_value}
+use Rattle.dependence.specs.Said.{row_value}
+use Rattle.dependence.specs.Laws.Said.{part_counted, part_of, row_gives, says_value}
 use Rattle.dependence.proofs.Symbols.{clash_of-differing, differ_alone, parted}
 
 module _ (F : KissFile) (words : List ℕ) (gate : Bit) (of_gate : IsBit F gate) (s : ℕ) where

@@ -6,13 +6,13 @@ use Rattle.std.proofs.lemmas.Nat.Bits.{bit_at-lt, bit_at-pow_other, bit_at-pow_s
 use Rattle.std.proofs.Math.Pow.{pow-lt}
 use Rattle.std.specs.Int.{bit_at, bit_not}
 use Rattle.std.specs.List.{slice_get}
+use Rattle.cubes.specs.Cube.{clash_of}
 use Rattle.cubes.specs.declared.cube.Cube.{Cube}
 use Rattle.cubes.specs.Symbol.{bit, symbol_of}
-use Rattle.cubes.specs.Inner.Region.{clash_of}
-use Rattle.cubes.proofs.Bits.{bit_from_one, one_from_bit, same_bits, same_digits}
-use Rattle.cubes.proofs.Held.{Agrees}
-use Rattle.cubes.proofs.Meeting.{clash_digit, kept_digit}
-use Rattle.cubes.proofs.Numbers.{length-symbol_of, pow-suc}
+use Rattle.cubes.specs.Laws.Bits.{bit_from_one, one_from_bit, same_bits, same_digits}
+use Rattle.cubes.specs.Laws.Held.{Agrees}
+use Rattle.cubes.specs.Laws.Meeting.{clash_digit, kept_digit}
+use Rattle.cubes.specs.Laws.Numbers.{length-symbol_of, pow-suc}
 use Rattle.dependence.specs.Inputs.{DifferAlone}
 
 -- ---- one place of two cubes, by its digits

@@ -1,7 +1,6 @@
 -- Definitions that only private functions and proofs need.
 pub mod Asking
 pub mod Judging
-pub mod Said
 pub mod Effects
 pub mod Filled
 pub mod Sets

@@ -6,4 +6,6 @@ pub mod Inputs
 pub mod Effects
 pub mod Listed
 pub mod Reads
+pub mod Said
 pub mod Inner
+pub mod Laws

@@ -6,11 +6,11 @@ ghost use Rattle.kiss_file.specs.Machine.{given_bit};
 ghost use Rattle.dependence.specs.Permits.{InWord};
 ghost use Rattle.dependence.specs.Effects.{ActsBy, AddsState, HasPlace, acts_on};
 ghost use Rattle.dependence.specs.Inner.Effects.{Adds, AreApart, AreEffects, DifferMore, HasBits, IsActed, Show, ShowAcross, ShowBeside};
-ghost use Rattle.dependence.specs.Inner.Said.{next_bit};
+ghost use Rattle.dependence.specs.Said.{next_bit};
 
 use crate::bit::Bit;
 use crate::filled::filled_rows;
-use crate::judging::{has, with_bit};
+use crate::words::{has_bit, with_bit};
 use kiss_file::KissRow;
 use machine_table::Machine;
 use std::alloc::{AllocError, Global};
@@ -259,8 +259,8 @@ impl Effect {
         ensures { result ≡ acts_on self gate }
     {
         match gate {
-            Bit::Latch(i) => has(self.latches, i as u32),
-            Bit::Output(b) => has(self.outputs, u32::from(b)),
+            Bit::Latch(i) => has_bit(self.latches, i as u32),
+            Bit::Output(b) => has_bit(self.outputs, u32::from(b)),
         }
     }
 }

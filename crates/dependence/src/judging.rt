@@ -1,17 +1,15 @@
 //! Which candidates a gate reads.
 
-ghost use Rattle.std.specs.Prelude.{◌≡◌, ◌↔◌, ◌<◌, ◌⊎◌, ℕ, IfOk, IsTrue, length};
+ghost use Rattle.std.specs.Prelude.{◌≡◌, ◌<◌, length};
 ghost use Rattle.dependence.specs.Bit.{IsBit, value_of};
-ghost use Rattle.dependence.specs.Listed.{AreListed};
 ghost use Rattle.dependence.specs.Inner.Judging.{IsJudged};
 ghost use Rattle.dependence.specs.Permits.{InWord};
-ghost use Rattle.dependence.specs.ReadRule.{IsReadRule, Without};
+ghost use Rattle.dependence.specs.ReadRule.{IsReadRule};
 
-use crate::Numbers;
 use crate::asking::permits_gate;
 use crate::bit::Bit;
+use crate::words::without;
 use machine_table::Machine;
-use std::alloc::{AllocError, Global};
 
 /// The candidates that the gate reads. They are judged from the highest down: a candidate is left out where
 /// the others that are still in the set permit the gate.
@@ -40,41 +38,4 @@ fn judged(m: &Machine, words: &[u64], set: u64, c: u32, gate: Bit) -> u64
     } else {
         set
     }
-}
-
-/// The numbers of the bits of a word, ascending.
-pub fn numbers_of(alloc: Global, set: u64) -> Result<Numbers, AllocError>
-    ensures { IfOk result (λ numbers. AreListed numbers set 64) }
-{
-    let mut numbers = Numbers::new(alloc);
-    for c in 0..64u8 {
-        if has(set, u32::from(c)) {
-            numbers.push(c)?;
-        }
-    }
-    Ok(numbers)
-}
-
-/// Whether bit c is in the set.
-pub(crate) fn has(set: u64, c: u32) -> bool
-    requires { c < 64 }
-    ensures { IsTrue result ↔ InWord set c }
-{
-    (set >> c) & 1 == 1
-}
-
-/// The set with bit c.
-pub fn with_bit(set: u64, c: u32) -> u64
-    requires { c < 64 }
-    ensures { (d : ℕ) → InWord result d ↔ (InWord set d ⊎ (d ≡ c)) }
-{
-    set | (1 << c)
-}
-
-/// The set without bit c.
-fn without(set: u64, c: u32) -> u64
-    requires { c < 64 }
-    ensures { (d : ℕ) → InWord result d ↔ Without (InWord set) c d }
-{
-    set & !(1 << c)
 }

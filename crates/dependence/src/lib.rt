@@ -26,13 +26,14 @@ mod laws;
 mod numbers;
 mod reading;
 mod sets;
+mod words;
 
 pub use asking::{permits, permits_output};
 pub use bit::Bit;
 pub use effects::{Effect, add_effects, inputs_of, no_effects};
 pub use filled::filled_rows;
-pub use judging::{numbers_of, with_bit};
 pub use laws::rule_is_irredundant;
 pub use numbers::Numbers;
 pub use reading::reads;
 pub use sets::{ReadSet, ReadSets, Reads};
+pub use words::{bits_below, has_bit, numbers_of, with_bit};

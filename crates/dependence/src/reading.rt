@@ -13,7 +13,8 @@ ghost use Rattle.dependence.specs.Reads.{AreReads, IsReadSet};
 
 use crate::bit::Bit;
 use crate::effects::{Effect, effects_of, inputs_of};
-use crate::judging::{numbers_of, read_bits, with_bit};
+use crate::judging::read_bits;
+use crate::words::{bits_below, numbers_of, with_bit};
 use crate::{ReadSet, ReadSets, Reads};
 use machine_table::Machine;
 use state_codes::{Codes, Split};
@@ -138,17 +139,5 @@ fn may_read(split: &Split, j: u16, l: u16) -> bool
     match split.parts.as_slice().get(usize::from(j)) {
         Some(part) => part.reads.as_slice().contains(&l),
         None => false,
-    }
-}
-
-/// The set of the first bits.
-fn bits_below(bits: usize) -> u64
-    requires { bits ≤ 64 }
-    ensures { (c : ℕ) → InWord result c ↔ (c < bits) }
-{
-    if bits == 0 {
-        0
-    } else {
-        u64::MAX >> (64 - bits)
     }
 }

@@ -8,9 +8,8 @@ use Rattle.list_facts.specs.Laws.Members.{Contains-here, Contains-none, Contains
 use Rattle.cover_logic.specs.declared.term.Term.{Term}
 use Rattle.cover_logic.specs.Cover.{CanCover}
 use Rattle.cover_logic.specs.Term.{FitsWidth, Holds}
-use Rattle.cubes.specs.Symbol.{symbol_of}
+use Rattle.cubes.specs.Symbol.{symbol_of, lowest_bits}
 use Rattle.gate_rows.specs.declared.demands.Demand.{Demand}
-use Rattle.gate_rows.specs.Bits.{code_bits}
 use Rattle.gate_rows.specs.Columns.{IsReadIn, IsTermOf, column_count}
 use Rattle.gate_rows.specs.Covers.{HoldValues, IsGoodCover}
 use Rattle.gate_rows.specs.Demands.{AreApart, IsAsked}
@@ -52,7 +51,7 @@ module _ (inputs places : List ℕ) (given : Bool) (demands : List Demand) (at :
         held = λ v. (
           λ h.
               elim (Contains-append_cases old (t ∷ []) h.0 h.1) [
-                | inl first ↦ read_later (code_bits (column_count inputs places) v) ((before.held v).0 (h.0, first, h.2))
+                | inl first ↦ read_later (lowest_bits (column_count inputs places) v) ((before.held v).0 (h.0, first, h.2))
                 | inr last ↦
                     let same : t ≡ h.0 = Contains-one t h.0 last in
                     record { at = at; among = Contains-append_right demands (at ∷ []) at (Contains-here at []); gives = gives; is_read = (is.holds v).0 (subst (λ (u : Term). Holds u v) (sym same) h.2) }
@@ -66,7 +65,7 @@ module _ (inputs places : List ℕ) (given : Bool) (demands : List Demand) (at :
                     let same : at ≡ h.at = Contains-one at h.at last in (
                       t,
                       Contains-append_right old (t ∷ []) t (Contains-here t []),
-                      (is.holds v).1 (subst (λ (p : Demand). IsReadIn inputs places p.cube p.word (code_bits (column_count inputs places) v)) (sym same) h.is_read),
+                      (is.holds v).1 (subst (λ (p : Demand). IsReadIn inputs places p.cube p.word (lowest_bits (column_count inputs places) v)) (sym same) h.is_read),
                     )
               ],
         );
@@ -77,7 +76,7 @@ module _ (inputs places : List ℕ) (given : Bool) (demands : List Demand) (at :
   read_skip old before other = record {
     fits = before.fits;
     held = λ v. (
-      λ h. read_later (code_bits (column_count inputs places) v) ((before.held v).0 h),
+      λ h. read_later (lowest_bits (column_count inputs places) v) ((before.held v).0 h),
       λ h.
           elim (Contains-append_cases demands (at ∷ []) h.at h.among) [
             | inl first ↦ (before.held v).1 (record { at = h.at; among = first; gives = h.gives; is_read = h.is_read })
@@ -107,7 +106,7 @@ module _ (inputs places : List ℕ) (demands : List Demand) where
         columns = few;
         on_fits = on_is.fits;
         off_fits = off_is.fits;
-        apart = λ v low is_on is_off. apart (code_bits (column_count inputs places) v) ((on_is.held v).0 is_on) ((off_is.held v).0 is_off);
+        apart = λ v low is_on is_off. apart (lowest_bits (column_count inputs places) v) ((on_is.held v).0 is_on) ((off_is.held v).0 is_off);
       })
 
   pub read_cover_at : (width : ℕ) (on off : List Term) (rows : List (List ℕ)) → width ≡ column_count inputs places → HoldWhatIsRead inputs places true demands on → HoldWhatIsRead inputs places false demands off → IsGoodCover (HoldValues width on) (HoldValues width off) rows

@@ -9,7 +9,7 @@ use Rattle.cover_logic.specs.declared.term.Term.{Term}
 use Rattle.cover_logic.specs.Term.{Holds}
 use Rattle.cover_logic.proofs.Terms.{split_by}
 use Rattle.cubes.specs.Symbol.{bit}
-use Rattle.cubes.proofs.Bits.{bit_from_one, bit_from_zero, one_from_bit, zero_from_bit}
+use Rattle.cubes.specs.Laws.Bits.{bit_from_one, bit_from_zero, one_from_bit, zero_from_bit}
 use Rattle.gate_rows.specs.Inner.Literals.{AllowsFrom, HasCharacters, code_character}
 
 -- ---- characters of two lists, one behind the other

@@ -12,10 +12,9 @@ use Rattle.cover_logic.specs.declared.term.Term.{Term}
 use Rattle.cubes.specs.declared.cube.Cube.{Cube}
 use Rattle.cubes.specs.Cube.{HoldsNumber}
 use Rattle.cubes.specs.Field.{character}
-use Rattle.cubes.specs.Symbol.{bit, number_of, symbol_of}
-use Rattle.cubes.proofs.Held.{agrees_from_held, held_from_agrees}
-use Rattle.cubes.proofs.Numbers.{number_below, symbol_of-number_of}
-use Rattle.gate_rows.specs.Bits.{code_bits}
+use Rattle.cubes.specs.Symbol.{bit, number_of, symbol_of, lowest_bits}
+use Rattle.cubes.specs.Laws.Held.{agrees_from_held, held_from_agrees}
+use Rattle.cubes.specs.Laws.Numbers.{number_below, symbol_of-number_of}
 use Rattle.gate_rows.specs.Columns.{IsReadIn, IsTermOf, column_count, column_values, input_of}
 use Rattle.gate_rows.specs.Inner.Literals.{AllowsFrom, HasCharacters, code_character, columns_of, input_character}
 
@@ -56,7 +55,7 @@ module _ (inputs places : List ℕ) (x : List Bool) (word : ℕ) where
       omega (arith, length-append (map (input_of x) inputs) (map (bit word) places), length-map inputs (input_of x), length-map places (bit word))
 
 -- a bit of a number, in the list of its bits
-pub code_at : (width v c : ℕ) → c < width → get_or (code_bits width v) c false ≡ bit v c
+pub code_at : (width v c : ℕ) → c < width → get_or (lowest_bits width v) c false ≡ bit v c
 code_at width v c lt = get_or-map-range_with_len (bit v) 0 width c c false lt (omega arith)
 
 -- ---- the character of a cube and the bits of its symbols
@@ -75,12 +74,12 @@ module _ (cube : Cube) (inputs places : List ℕ) (word : ℕ) (inside : All (λ
   listed_within c a is = subst (λ (n : ℕ). n < cube.width) (get_or_from_slice_get inputs c a 0 is) (inside c 0 (slice_get_within inputs c a is))
 
   -- what is read at a symbol of the cube is allowed
-  pub allowed_there : (v n : ℕ) → HoldsNumber cube n → code_bits (column_count inputs places) v ≡ column_values inputs places (symbol_of cube.width n) word
+  pub allowed_there : (v n : ℕ) → HoldsNumber cube n → lowest_bits (column_count inputs places) v ≡ column_values inputs places (symbol_of cube.width n) word
       → AllowsFrom 0 (columns_of inputs places cube word) v
   allowed_there v n held read c wanted is =
       let x : List Bool = symbol_of cube.width n in
       let e : 0 + c ≡ c = omega arith in
-      let here : get_or (code_bits (column_count inputs places) v) c false ≡ get_or (column_values inputs places x word) c false = ap (λ (bits : List Bool). get_or bits c false) read in
+      let here : get_or (lowest_bits (column_count inputs places) v) c false ≡ get_or (column_values inputs places x word) c false = ap (λ (bits : List Bool). get_or bits c false) read in
       elim (get_cases (map (input_character cube) inputs) (map (code_character word) places) c (Some wanted) is) [
         | inl first ↦
             let found = from_map (input_character cube) inputs c (Some wanted) first in
@@ -164,9 +163,9 @@ module _ (cube : Cube) (inputs places : List ℕ) (word : ℕ) (inside : All (λ
       sym (number_bit filled cube.width k filled_length lt ∙ (filled_at a (omega arith) ∙ choice_wanted (input_character cube a) (fill inputs (bit v) a) (bit cube.value k) says)))
 
   -- and there the number is read
-  filled_read : code_bits (column_count inputs places) v ≡ column_values inputs places filled word
+  filled_read : lowest_bits (column_count inputs places) v ≡ column_values inputs places filled word
   filled_read =
-      ext_get_or false (code_bits (column_count inputs places) v) (column_values inputs places filled word)
+      ext_get_or false (lowest_bits (column_count inputs places) v) (column_values inputs places filled word)
       (length-map-range_with_len (bit v) 0 (column_count inputs places) ∙ sym (read_length inputs places filled word))
       (λ c within.
       let lt : c < column_count inputs places = omega (arith, within, length-map-range_with_len (bit v) 0 (column_count inputs places)) in
@@ -196,7 +195,7 @@ module _ (cube : Cube) (inputs places : List ℕ) (word : ℕ) (inside : All (λ
       ])
 
   -- so the number is read at a symbol of the cube
-  pub read_there : IsReadIn inputs places cube word (code_bits (column_count inputs places) v)
+  pub read_there : IsReadIn inputs places cube word (lowest_bits (column_count inputs places) v)
   read_there =
       let whole : symbol_of cube.width (number_of filled) ≡ filled = ap (λ (n : ℕ). symbol_of n (number_of filled)) (sym filled_length) ∙ symbol_of-number_of filled in (
         number_of filled,

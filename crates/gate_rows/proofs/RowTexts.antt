@@ -19,11 +19,10 @@ use Rattle.cover_logic.specs.declared.term.Term.{Term}
 use Rattle.cover_logic.specs.Term.{FitsWidth, Holds, HoldsWithDash, IsCovered, LooksAt}
 use Rattle.cover_logic.proofs.Bits.{below_width}
 use Rattle.cubes.specs.Field.{allows, byte_of, character}
-use Rattle.cubes.specs.Symbol.{bit, number_of}
-use Rattle.cubes.proofs.Bits.{bit_from_one, one_from_bit, same_bits, same_digits}
-use Rattle.cubes.proofs.Numbers.{number_below}
+use Rattle.cubes.specs.Symbol.{bit, number_of, lowest_bits}
+use Rattle.cubes.specs.Laws.Bits.{bit_from_one, one_from_bit, same_bits, same_digits}
+use Rattle.cubes.specs.Laws.Numbers.{number_below}
 use Rattle.net_core.specs.Step.{character_holds, row_holds}
-use Rattle.gate_rows.specs.Bits.{code_bits}
 use Rattle.gate_rows.specs.Covers.{AreHeld, IsGoodCover, IsWithDash}
 use Rattle.gate_rows.specs.Inner.Texts.{IsCoverByTerms, byte_at, row_text}
 use Rattle.gate_rows.proofs.ReadNumbers.{code_at, number_bit}
@@ -81,7 +80,7 @@ text_length width t = length-map-range_with_len (byte_at t) 0 width
 text_at : (width : ℕ) (t : Term) (c : ℕ) → c < width → get_or (row_text width t) c 0 ≡ byte_at t c
 text_at width t c lt = get_or-map-range_with_len (byte_at t) 0 width c c 0 lt (omega arith)
 
-code_length : (width v : ℕ) → length (code_bits width v) ≡ width
+code_length : (width v : ℕ) → length (lowest_bits width v) ≡ width
 code_length width v = length-map-range_with_len (bit v) 0 width
 
 -- a character of the text holds the bit of a number where the term agrees with it there
@@ -96,52 +95,52 @@ from_character t v c held looks =
     (from_allows (bit t.care c) (bit t.value c) (bit v c) (sym (byte_holds (character t.care t.value c) (bit v c)) ∙ held) (bit_from_one t.care c looks))
 
 -- the text holds what the term holds
-text_from_term : (width : ℕ) (t : Term) (v : ℕ) → Holds t v → row_holds (row_text width t) (code_bits width v) ≡ true
+text_from_term : (width : ℕ) (t : Term) (v : ℕ) → Holds t v → row_holds (row_text width t) (lowest_bits width v) ≡ true
 unfolding Holds
 text_from_term width t v held =
-    row_from_places (row_text width t) (code_bits width v) (text_length width t ∙ sym (code_length width v))
+    row_from_places (row_text width t) (lowest_bits width v) (text_length width t ∙ sym (code_length width v))
     (λ c within.
     let lt : c < width = omega (arith, within, text_length width t) in
-    ap (λ (n : ℕ). character_holds n (get_or (code_bits width v) c false)) (text_at width t c lt)
+    ap (λ (n : ℕ). character_holds n (get_or (lowest_bits width v) c false)) (text_at width t c lt)
     ∙ (ap (character_holds (byte_at t c)) (code_at width v c lt) ∙ character_from t v c (held c)))
 
-term_from_text : (width : ℕ) (t : Term) (v : ℕ) → FitsWidth width t → row_holds (row_text width t) (code_bits width v) ≡ true → Holds t v
+term_from_text : (width : ℕ) (t : Term) (v : ℕ) → FitsWidth width t → row_holds (row_text width t) (lowest_bits width v) ≡ true → Holds t v
 unfolding Holds
 term_from_text width t v fits held c looks =
     let lt : c < width = below_width width t.care c fits looks in
-    let at = (places_from_row (row_text width t) (code_bits width v) held).1 c (omega (arith, lt, text_length width t)) in
+    let at = (places_from_row (row_text width t) (lowest_bits width v) held).1 c (omega (arith, lt, text_length width t)) in
     from_character t v c
-    (sym (ap (character_holds (byte_at t c)) (code_at width v c lt)) ∙ (sym (ap (λ (n : ℕ). character_holds n (get_or (code_bits width v) c false)) (text_at width t c lt)) ∙ at)) looks
+    (sym (ap (character_holds (byte_at t c)) (code_at width v c lt)) ∙ (sym (ap (λ (n : ℕ). character_holds n (get_or (lowest_bits width v) c false)) (text_at width t c lt)) ∙ at)) looks
 
 -- ---- lists of texts
 module _ (width : ℕ) (rows : List Term) (v : ℕ) where
   abbrev pub texts : List (List ℕ)
   texts = map (row_text width) rows
 
-  pub held_from_covered : IsCovered rows v → AreHeld texts (code_bits width v)
+  pub held_from_covered : IsCovered rows v → AreHeld texts (lowest_bits width v)
   held_from_covered h =
       let among = Contains-map (row_text width) rows h.0 h.1 in
-      list_any_at (λ row. row_holds row (code_bits width v)) texts among.0 (row_text width h.0) among.1
-      (ap (λ (row : List ℕ). row_holds row (code_bits width v)) among.2 ∙ text_from_term width h.0 v h.2)
+      list_any_at (λ row. row_holds row (lowest_bits width v)) texts among.0 (row_text width h.0) among.1
+      (ap (λ (row : List ℕ). row_holds row (lowest_bits width v)) among.2 ∙ text_from_term width h.0 v h.2)
 
-  pub covered_from_held : All (FitsWidth width) rows → AreHeld texts (code_bits width v) → IsCovered rows v
+  pub covered_from_held : All (FitsWidth width) rows → AreHeld texts (lowest_bits width v) → IsCovered rows v
   covered_from_held fits h =
-      let one = Any-from_list_any (λ row. row_holds row (code_bits width v)) texts h in
+      let one = Any-from_list_any (λ row. row_holds row (lowest_bits width v)) texts h in
       let found = Contains-from_map (row_text width) rows one.1 (one.0, one.2, one.3) in
       let fit : FitsWidth width found.0 = subst (FitsWidth width) found.1.2 (fits found.1.0 found.0 found.1.1) in (
         found.0,
         found.1,
-        term_from_text width found.0 v fit (ap (λ (row : List ℕ). row_holds row (code_bits width v)) found.2 ∙ one.4),
+        term_from_text width found.0 v fit (ap (λ (row : List ℕ). row_holds row (lowest_bits width v)) found.2 ∙ one.4),
       )
 
 -- the number that writes what is read
-pub number_for : (read : List Bool) (width : ℕ) → length read ≡ width → (v : ℕ) × (v < 2 ^ width) × (code_bits width v ≡ read)
+pub number_for : (read : List Bool) (width : ℕ) → length read ≡ width → (v : ℕ) × (v < 2 ^ width) × (lowest_bits width v ≡ read)
 number_for read width long =
     let back : List Bool = reverse read in
     let count : length back ≡ width = length-reverse read ∙ long in (
       number_of back,
       subst (λ (n : ℕ). number_of back < 2 ^ n) count (number_below back),
-      ext_get_or false (code_bits width (number_of back)) read (code_length width (number_of back) ∙ sym long) (λ c within.
+      ext_get_or false (lowest_bits width (number_of back)) read (code_length width (number_of back) ∙ sym long) (λ c within.
           let lt : c < width = omega (arith, within, code_length width (number_of back)) in
           let e : length read - 1 - (width - 1 - c) ≡ c = omega (arith, lt, long) in
           code_at width (number_of back) c lt
@@ -259,13 +258,13 @@ module _ (On Off : List Bool → Type 0) (width : ℕ) (rows : List Term) (names
   on_held_by read on =
       let number = number_for read width (on_long read on) in
       let covered = cover.on_held number.0 number.1 (subst On (sym number.2) on) in
-      subst (AreHeld names) number.2 (sym (same_held (code_bits width number.0)) ∙ held_from_covered width rows number.0 covered)
+      subst (AreHeld names) number.2 (sym (same_held (lowest_bits width number.0)) ∙ held_from_covered width rows number.0 covered)
 
   off_free_of : (read : List Bool) → Off read → AreHeld names read → ⊥
   off_free_of read off held =
       let number = number_for read width (off_long read off) in
-      let there : AreHeld names (code_bits width number.0) = subst (AreHeld names) (sym number.2) held in
-      cover.off_free number.0 number.1 (subst Off (sym number.2) off) (covered_from_held width rows number.0 cover.fits (same_held (code_bits width number.0) ∙ there))
+      let there : AreHeld names (lowest_bits width number.0) = subst (AreHeld names) (sym number.2) held in
+      cover.off_free number.0 number.1 (subst Off (sym number.2) off) (covered_from_held width rows number.0 cover.fits (same_held (lowest_bits width number.0) ∙ there))
 
   needs_literal : (row raised : List ℕ) (place : ℕ) → Contains names row → place < length row → slice_get row place ≢ Some 45 → IsWithDash row place raised
       → (read : List Bool) × Off read × (row_holds raised read ≡ true)
@@ -277,21 +276,21 @@ module _ (On Off : List Bool → Type 0) (width : ℕ) (rows : List Term) (names
       let row_at : (k : ℕ) → k < width → get_or row k 0 ≡ byte_at t k = λ k lt. sym (ap (λ (text : List ℕ). get_or text k 0) found.2) ∙ text_at width t k lt in
       let looks : LooksAt t place = literal_there t place (λ e.
       other (slice_get-get_or row place 0 inside ∙ ap (λ (c : ℕ). Some c) (row_at place low ∙ e))) in
-      let needed = subst (λ (u : Term). (column : ℕ) → LooksAt u column → (v : ℕ) × (v < 2 ^ width) × Off (code_bits width v) × HoldsWithDash u column v)
+      let needed = subst (λ (u : Term). (column : ℕ) → LooksAt u column → (v : ℕ) × (v < 2 ^ width) × Off (lowest_bits width v) × HoldsWithDash u column v)
       found.1.2 (cover.literals_needed found.1.0 t found.1.1) place looks in
       let v : ℕ = needed.0 in (
-        code_bits width v,
+        lowest_bits width v,
         needed.2,
-        row_from_places raised (code_bits width v) (dash.lengths ∙ (count ∙ sym (code_length width v))) (λ k within.
+        row_from_places raised (lowest_bits width v) (dash.lengths ∙ (count ∙ sym (code_length width v))) (λ k within.
             let lt : k < width = omega (arith, within, dash.lengths, count) in
             elim (cases_eq k place) [
               | inl same ↦
                   let here : get_or raised k 0 ≡ 45 = ap (λ (n : ℕ). get_or raised n 0) same ∙ get_or_from_slice_get raised place 45 0 dash.dash in
-                  ap (λ (c : ℕ). character_holds c (get_or (code_bits width v) k false)) here
+                  ap (λ (c : ℕ). character_holds c (get_or (lowest_bits width v) k false)) here
               | inr apart ↦
                   let here : get_or raised k 0 ≡ byte_at t k =
                   sym (unwrap_or-slice_get raised k 0) ∙ (ap (λ (o : Option ℕ). unwrap_or o 0) (dash.elsewhere k apart) ∙ (unwrap_or-slice_get row k 0 ∙ row_at k lt)) in
-                  ap (λ (c : ℕ). character_holds c (get_or (code_bits width v) k false)) here
+                  ap (λ (c : ℕ). character_holds c (get_or (lowest_bits width v) k false)) here
                   ∙ (ap (character_holds (byte_at t k)) (code_at width v k lt) ∙ character_from t v k (with_dash t place v k needed.3 apart))
             ]),
       )
@@ -301,7 +300,7 @@ module _ (On Off : List Bool → Type 0) (width : ℕ) (rows : List Term) (names
       let place = Contains-permutation names row_texts (get_or names i []) back (Contains-get_or names i [] lt) in
       let j : ℕ = place.0 in
       let needed = cover.rows_needed j (omega (arith, place.1, length-map rows (row_text width))) in
-      let read : List Bool = code_bits width needed.0 in
+      let read : List Bool = lowest_bits width needed.0 in
       let test : List ℕ → Bool = λ row. row_holds row read in
       let some : list_any test row_texts ≡ true = held_from_covered width rows needed.0 (cover.on_held needed.0 needed.1 needed.2) in
       let none : list_any test (remove row_texts j) ≡ false =

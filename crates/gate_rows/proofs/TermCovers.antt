@@ -4,8 +4,7 @@ use Rattle.std.proofs.lemmas.List.FromFn.{length-map-range_with_len}
 use Rattle.cover_logic.specs.declared.term.Term.{Term}
 use Rattle.cover_logic.specs.Cover.{IsTermCover}
 use Rattle.cover_logic.specs.Term.{FitsWidth, IsCovered}
-use Rattle.cubes.specs.Symbol.{bit}
-use Rattle.gate_rows.specs.Bits.{code_bits}
+use Rattle.cubes.specs.Symbol.{bit, lowest_bits}
 use Rattle.gate_rows.specs.Covers.{AreHeld, HoldValues, IsGoodCover}
 use Rattle.gate_rows.specs.Inner.Texts.{IsCoverByTerms, row_text}
 use Rattle.gate_rows.proofs.RowTexts.{covered_from_held, good_cover, held_from_covered, widths}
@@ -15,7 +14,7 @@ pub values_length : (width : ℕ) (terms : List Term) (read : List Bool) → Hol
 values_length width terms read h = sym (ap length h.2) ∙ length-map-range_with_len (bit h.0) 0 width
 
 -- the terms hold the number that writes values that they hold
-pub covered_values : (width : ℕ) (terms : List Term) (v : ℕ) → All (FitsWidth width) terms → HoldValues width terms (code_bits width v) → IsCovered terms v
+pub covered_values : (width : ℕ) (terms : List Term) (v : ℕ) → All (FitsWidth width) terms → HoldValues width terms (lowest_bits width v) → IsCovered terms v
 covered_values width terms v fits h =
     covered_from_held width terms v fits (subst (AreHeld (map (row_text width) terms)) h.2 (held_from_covered width terms h.0 h.3))
 

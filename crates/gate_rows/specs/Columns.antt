@@ -4,8 +4,7 @@ use Rattle.cover_logic.specs.declared.term.Term.{Term}
 use Rattle.cover_logic.specs.Term.{FitsWidth, Holds}
 use Rattle.cubes.specs.declared.cube.Cube.{Cube}
 use Rattle.cubes.specs.Cube.{HoldsNumber}
-use Rattle.cubes.specs.Symbol.{bit, symbol_of}
-use Rattle.gate_rows.specs.Bits.{code_bits}
+use Rattle.cubes.specs.Symbol.{bit, symbol_of, lowest_bits}
 
 -- input a of a symbol
 abbrev pub input_of : List Bool → ℕ → Bool
@@ -27,4 +26,4 @@ IsReadIn inputs places cube word read =
 -- the term holds exactly the values that are read for the symbols of the cube
 pub record IsTermOf (inputs places : List ℕ) (cube : Cube) (word : ℕ) (t : Term) : Type 0 where
   pub fits : FitsWidth (column_count inputs places) t
-  pub holds : (v : ℕ) → Holds t v ↔ IsReadIn inputs places cube word (code_bits (column_count inputs places) v)
+  pub holds : (v : ℕ) → Holds t v ↔ IsReadIn inputs places cube word (lowest_bits (column_count inputs places) v)

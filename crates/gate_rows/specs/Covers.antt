@@ -4,12 +4,12 @@ use Rattle.std.specs.List.{list_any}
 use Rattle.cover_logic.specs.declared.term.Term.{Term}
 use Rattle.cover_logic.specs.Term.{IsCovered}
 use Rattle.net_core.specs.Step.{row_holds}
-use Rattle.gate_rows.specs.Bits.{code_bits}
+use Rattle.cubes.specs.Symbol.{lowest_bits}
 
 -- some term holds the values of this number of columns: they are the bits of a number that the term holds, column c
 -- the bit of value 2 ^ c
 abbrev pub HoldValues : ℕ → List Term → List Bool → Type 0
-HoldValues width terms read = (v : ℕ) × (v < 2 ^ width) × (code_bits width v ≡ read) × IsCovered terms v
+HoldValues width terms read = (v : ℕ) × (v < 2 ^ width) × (lowest_bits width v ≡ read) × IsCovered terms v
 
 -- some row holds the values
 abbrev pub AreHeld : List (List ℕ) → List Bool → Type 0

@@ -1,4 +1,3 @@
-pub mod Bits
 pub mod Columns
 pub mod Covers
 pub mod Demands

@@ -8,7 +8,7 @@ ghost use Rattle.gate_rows.specs.Columns.{IsTermOf};
 ghost use Rattle.gate_rows.specs.Inner.Literals.{AllowsFrom, HasCharacters, code_character, columns_of, input_character};
 
 use cover_logic::Term;
-use cubes::Cube;
+use cubes::{Cube, bit};
 
 /// The term of what a gate reads for the symbols of a cube and for a word: the characters of the cube for the
 /// read inputs, and then the bits of the word at the read places. Column c is the bit of value 2^c. Input 0 is
@@ -94,12 +94,4 @@ fn with_literal(term: Term, column: usize, one: bool) -> Term
         care: term.care | literal,
         value,
     }
-}
-
-/// Whether a bit of a word is 1.
-pub fn bit(word: u64, place: usize) -> bool
-    requires { place < 64 }
-    ensures { result ≡ symbols.bit word place }
-{
-    word >> place & 1 == 1
 }

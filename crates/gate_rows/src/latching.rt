@@ -4,8 +4,8 @@ ghost use Rattle.std.specs.Prelude.{◌≡◌, ◌≤◌, ◌<◌, if◌then◌e
 ghost use Rattle.net_core.specs.declared.Start.TheVariants.{Zero, One};
 ghost use Rattle.gate_rows.specs.Latches.{AreLatches, latch_of};
 
-use crate::columns::bit;
 use crate::naming::name_from;
+use cubes::bit;
 use net_core::{Latch, Latches, SignalNames, Start};
 use std::alloc::{AllocError, Global};
 

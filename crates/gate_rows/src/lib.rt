@@ -7,8 +7,7 @@
 //!
 //! [`listed_names`] gives the names that a gate lists, and [`latches`] the latches that start at the bits of a word.
 //!
-//! The definitions are in `specs/`: `Bits` has numbers as lists of bits, `Columns` what a gate reads, `Demands`
-//! what is asked of it, and `Covers` the one definition of a good cover over texts of rows. `Names` and `Latches`
+//! The definitions are in `specs/`: `Columns` has what a gate reads, `Demands` what is asked of it, and `Covers` the one definition of a good cover over texts of rows. `Names` and `Latches`
 //! have the names and the latches.
 #![tactic(auto)]
 
@@ -18,7 +17,6 @@ mod latching;
 mod naming;
 mod texts;
 
-pub use columns::bit;
 pub use demands::{Demand, demanded_rows};
 pub use latching::latches;
 pub use naming::{listed_names, name_from};

@@ -5,10 +5,9 @@ use Rattle.std.proofs.lemmas.List.Elements.{All-map}
 use Rattle.std.proofs.lemmas.Nat.{pow_pos}
 use Rattle.std.proofs.lemmas.Simd.{map-map}
 use Rattle.std.proofs.Math.Nat.{mod-lt}
-use Rattle.cubes.specs.Symbol.{symbol_of}
+use Rattle.cubes.specs.Symbol.{symbol_of, lowest_bits}
 use Rattle.kiss_file.specs.declared.file.KissFile.{KissFile}
 use Rattle.kiss_file.specs.Machine.{answers}
-use Rattle.machine_table.specs.Walk.{outputs_of}
 use Rattle.generated_texts.specs.Figures.{ones_in, trial_word}
 
 -- symbols modulo their number are symbols
@@ -23,10 +22,10 @@ flat_of_map {X} {Y} f (x ∷ xs) = ap (λ (rest : List Y). f x ++ rest) (flat_of
 
 -- the ones among the outputs that numbers write are those of the machine's answers
 pub ones_of_words : (F : KissFile) (inputs : ℕ) (numbers words : List ℕ) (bits : List Bool) (ones : ℕ) → F.outputs ≡ 2 → inputs ≡ F.inputs → numbers ≡ map (λ j. j % 2 ^ inputs) (range_with_len 0 1000)
-    → map (outputs_of F.outputs) words ≡ answers F F.reset (map (symbol_of F.inputs) numbers) → bits ≡ flat_map (outputs_of 2) words → ones ≡ count_by (λ bit. bit) bits → ones ≡ ones_in (answers F F.reset (trial_word F.inputs))
+    → map (lowest_bits F.outputs) words ≡ answers F F.reset (map (symbol_of F.inputs) numbers) → bits ≡ flat_map (lowest_bits 2) words → ones ≡ count_by (λ bit. bit) bits → ones ≡ ones_in (answers F F.reset (trial_word F.inputs))
 ones_of_words F inputs numbers words bits ones two same is walked bits_are counted =
     let word : map (symbol_of F.inputs) numbers ≡ trial_word F.inputs =
     ap (map (symbol_of F.inputs)) (is ∙ ap (λ (n : ℕ). map (λ j. j % 2 ^ n) (range_with_len 0 1000)) same) ∙ map-map (symbol_of F.inputs) (λ (j : ℕ). j % 2 ^ F.inputs) (range_with_len 0 1000) in
-    let outputs : map (outputs_of 2) words ≡ answers F F.reset (trial_word F.inputs) =
-    ap (λ (o : ℕ). map (outputs_of o) words) (sym two) ∙ walked ∙ ap (answers F F.reset) word in
-    counted ∙ ap (count_by (λ bit. bit)) (bits_are ∙ sym (flat_of_map (outputs_of 2) words)) ∙ ap ones_in outputs
+    let outputs : map (lowest_bits 2) words ≡ answers F F.reset (trial_word F.inputs) =
+    ap (λ (o : ℕ). map (lowest_bits o) words) (sym two) ∙ walked ∙ ap (answers F F.reset) word in
+    counted ∙ ap (count_by (λ bit. bit)) (bits_are ∙ sym (flat_of_map (lowest_bits 2) words)) ∙ ap ones_in outputs

@@ -1,14 +1,14 @@
 //! The figures of the summary of a trial.
 
-ghost use Rattle.std.specs.Prelude.{◌≡◌, ◌%◌, ◌^◌, ◌<◌, ◌≤◌, IfOk, count_by, map};
+ghost use Rattle.std.specs.Prelude.{◌≡◌, ◌%◌, ◌^◌, ◌≤◌, IfOk, count_by, map};
 ghost use Rattle.std.specs.List.{flat_map, range_with_len};
-ghost use Rattle.cubes.specs.Symbol as symbols;
 ghost use Rattle.kiss_file.specs.Machine.{answers};
-ghost use Rattle.machine_table.specs.Walk.{outputs_of};
+ghost use Rattle.cubes.specs.Symbol.{lowest_bits};
 ghost use Rattle.partition.specs.Partition.{blocks_of};
 ghost use Rattle.state_codes.specs.Code.{IsLength};
 ghost use Rattle.generated_texts.specs.Figures.{AreFigures, IsClosedCount, ones_in, trial_word};
 
+use cubes::bit;
 use hs_lattice::Listing;
 use hs_list::Items;
 use hs_texts::reports::TrialFigures;
@@ -120,7 +120,7 @@ fn symbol_count(inputs: u8) -> u32
 
 /// The outputs, two for each number, which are its bits.
 fn output_bits(alloc: Global, words: &[u64]) -> Result<Vec<bool>, AllocError>
-    ensures { IfOk result (λ bits. bits.items ≡ flat_map (outputs_of 2) words.now) }
+    ensures { IfOk result (λ bits. bits.items ≡ flat_map (lowest_bits 2) words.now) }
 {
     let mut bits = Vec::new(alloc);
     for word in words {
@@ -128,12 +128,4 @@ fn output_bits(alloc: Global, words: &[u64]) -> Result<Vec<bool>, AllocError>
         bits.push(bit(*word, 1))?;
     }
     Ok(bits)
-}
-
-/// Whether a bit of a number is 1.
-fn bit(value: u64, place: usize) -> bool
-    requires { place < 64 }
-    ensures { result ≡ symbols.bit value place }
-{
-    value >> place & 1 == 1
 }

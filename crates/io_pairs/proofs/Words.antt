@@ -4,7 +4,7 @@ use Rattle.std.proofs.Math.Nat.{mod-one}
 use Rattle.std.proofs.lemmas.Nat.{mod-pow-add, mod_low}
 use Rattle.std.specs.Int.{bit_at}
 use Rattle.std.proofs.lemmas.Bool.{cases_Bool}
-use Rattle.cubes.proofs.Numbers.{digit_times, pow-suc}
+use Rattle.cubes.specs.Laws.Numbers.{digit_times, pow-suc}
 use Rattle.cubes.specs.Cube.{HoldsNumber}
 use Rattle.cubes.specs.Symbol.{bit, symbol_of}
 use Rattle.kiss_file.specs.declared.file.KissFile.{KissFile}

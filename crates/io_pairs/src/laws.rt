@@ -2,14 +2,13 @@
 //! nothing.
 
 ghost use Rattle.std.specs.Prelude.{ℕ, ◌≡◌, ◌<◌, ◌^◌, All, List, map};
-ghost use Rattle.cubes.specs.Symbol.{symbol_of};
+ghost use Rattle.cubes.specs.Symbol.{symbol_of, lowest_bits};
 ghost use Rattle.hs_lattice.specs.JoinWorld.{IsGenerated};
 ghost use Rattle.io_pairs.specs.Inputs.{IsInJoin, IsInMmPair, IsLeastInPair};
 ghost use Rattle.io_pairs.specs.Outputs.{IsLeastOutPair, IsOutJoin, IsOutMmPair, output_word};
 ghost use Rattle.io_pairs.specs.Sides.{Sides};
 ghost use Rattle.kiss_file.specs.Machine.{out};
 ghost use Rattle.kiss_file.specs.declared.file.KissFile.{KissFile};
-ghost use Rattle.machine_table.specs.Walk.{outputs_of};
 
 /// An Mm pair of either kind is decided by its right side, and joins of Mm pairs are Mm pairs.
 pub fn mm_pairs_are_joins()
@@ -23,6 +22,6 @@ pub fn mm_pairs_are_joins()
 
 /// The number of an output has the outputs as its bits, output b at 2^b.
 pub fn words_write_outputs()
-    ensures outputs { (F : KissFile) (s x : ℕ) → outputs_of F.outputs (output_word F s x) ≡ out F s (symbol_of F.inputs x) }
+    ensures outputs { (F : KissFile) (s x : ℕ) → lowest_bits F.outputs (output_word F s x) ≡ out F s (symbol_of F.inputs x) }
     ensures below { (F : KissFile) (s x : ℕ) → output_word F s x < 2 ^ F.outputs }
 {}

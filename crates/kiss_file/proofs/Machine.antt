@@ -8,7 +8,7 @@ use Rattle.std.proofs.lemmas.List.FromFn.{get_or-map-range_with_len, length-map-
 use Rattle.std.proofs.lemmas.Option.{same_Some, slice_get-get_or}
 use Rattle.list_facts.specs.Laws.Members.{Contains-one}
 use Rattle.cubes.specs.Cube.{holds}
-use Rattle.cubes.proofs.Deciding.{held_from_test, test_from_held}
+use Rattle.cubes.specs.Laws.Deciding.{held_from_test, test_from_held}
 use Rattle.kiss_file.specs.declared.file.KissFile.{KissFile}
 use Rattle.kiss_file.specs.declared.file.KissRow.{KissRow}
 use Rattle.kiss_file.specs.Lawful.{IsLawfulRow}

@@ -22,7 +22,7 @@ use Rattle.least_codes.specs.Inner.Parts.{AreBitLabels, bit_labels}
 use Rattle.kiss_file.specs.declared.file.KissFile.{KissFile}
 use Rattle.least_codes.specs.Kind.{GiveLeastCode, IsLeastSplit}
 use Rattle.least_codes.specs.LeastCode.{AreCodes, IsLeastCode}
-use Rattle.least_codes.proofs.OwnCarriers.{inside_itself, zeros, zeros_need}
+use Rattle.state_codes.specs.Laws.OwnCarriers.{inside_itself, zeros, zeros_need}
 
 -- the label of a state is its bit
 pub label_at : (n : ℕ) (words : List ℕ) (i s : ℕ) → length words ≡ n → s < n → get_or (bit_labels i words) s 0 ≡ bit_at (get_or words s 0) i

@@ -20,12 +20,12 @@ use Rattle.dependence.specs.Candidates.{IsBitOfCode, IsCandidate, IsOpenTo}
 use Rattle.dependence.specs.Permits.{next_value}
 use Rattle.dependence.specs.ReadRule.{Beside, IsReadRule}
 use Rattle.dependence.specs.Reads.{IsReadSet}
-use Rattle.dependence.proofs.Judged.{permits_more}
+use Rattle.dependence.specs.Laws.Judged.{permits_more}
 use Rattle.least_codes.specs.Kind.{IsLeastSplit}
 use Rattle.least_codes.specs.Laws.{LeastCodeReadsLeast}
 use Rattle.least_codes.specs.LeastCode.{AreCodes}
 use Rattle.least_codes.specs.LeastReads.{AreLeastReads}
-use Rattle.least_codes.proofs.OwnCarriers.{no_inner}
+use Rattle.state_codes.specs.Laws.OwnCarriers.{no_inner}
 use Rattle.least_codes.proofs.Reading.{other_among}
 use Rattle.least_codes.proofs.Rule.{rule_gives_least}
 

@@ -8,7 +8,7 @@ use Rattle.std.proofs.lemmas.Nat.{pow_below}
 use Rattle.std.proofs.lemmas.Nat.Bits.{bit_at-lt, bit_at_xor, bit_at-pow_same}
 use Rattle.std.specs.Int.{bit_at}
 use Rattle.std.specs.List.{list_any}
-use Rattle.cubes.proofs.Numbers.{pow-suc}
+use Rattle.cubes.specs.Laws.Numbers.{pow-suc}
 use Rattle.state_codes.specs.Code.{need}
 use Rattle.state_codes.specs.Laws.Need.{need-least}
 use Rattle.least_codes.specs.LeastCode.{AreCodes}

@@ -9,7 +9,6 @@ pub mod Trying
 pub mod Turning
 pub mod Halves
 pub mod Least
-pub mod OwnCarriers
 pub mod BitParts
 pub mod Chosen
 pub mod Reading

@@ -4,7 +4,7 @@ use Rattle.std.proofs.lemmas.Bool.{cases_eq, eq-eqb, eqb-true}
 use Rattle.std.proofs.lemmas.List.{take_more, take_all}
 use Rattle.std.proofs.lemmas.List.Elements.{All-nil, All-push, All-contains, Contains-append_left, Contains-get_or, Contains-push, Contains-push_cases}
 use Rattle.cubes.specs.Symbol.{bit, symbol_of}
-use Rattle.cubes.proofs.Numbers.{length-symbol_of}
+use Rattle.cubes.specs.Laws.Numbers.{length-symbol_of}
 use Rattle.kiss_file.specs.declared.file.KissFile.{KissFile}
 use Rattle.kiss_file.specs.Machine.{next}
 use Rattle.machine_table.specs.Covering.{IsImage}
@@ -12,7 +12,7 @@ use Rattle.machine_table.specs.Pairs.{HaveOneBit}
 use Rattle.machine_table.specs.Staying.{NeverLeaves}
 use Rattle.dependence.specs.Permits.{next_value}
 use Rattle.dependence.specs.Bit.{GiveTheSame}
-use Rattle.dependence.proofs.Agreeing.{same_each}
+use Rattle.dependence.specs.Laws.Agreeing.{same_each}
 use Rattle.least_codes.specs.declared.two_states.TwoStates.{TwoStates}
 use Rattle.least_codes.specs.declared.table.Images.{Images}
 use Rattle.least_codes.specs.Inner.Apart.{AreApart, ArePairs, IsPair}

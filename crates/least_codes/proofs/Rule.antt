@@ -9,8 +9,8 @@ use Rattle.state_codes.specs.Code.{need}
 use Rattle.state_codes.specs.Laws.Need.{need-least}
 use Rattle.dependence.specs.Permits.{InWord, PermitsValue}
 use Rattle.dependence.specs.ReadRule.{Beside, IsIrredundant, IsReadRule}
-use Rattle.dependence.proofs.Judged.{permits_more}
-use Rattle.dependence.proofs.Irredundant.{rule_least}
+use Rattle.dependence.specs.Laws.Judged.{permits_more}
+use Rattle.dependence.specs.Laws.Irredundant.{rule_least}
 use Rattle.least_codes.specs.Inner.Choice.{Ascend}
 use Rattle.least_codes.specs.Laws.{RuleGivesLeast, RuleGivesLeastSet}
 use Rattle.least_codes.specs.LeastCode.{AreCodes}

@@ -7,7 +7,7 @@ use Rattle.std.proofs.lemmas.Nat.Bits.{bit_at_ones}
 use Rattle.std.specs.Int.{from_bool}
 use Rattle.cubes.specs.Field.{characters}
 use Rattle.cubes.specs.Symbol.{bit, symbol_of}
-use Rattle.cubes.proofs.Bits.{bit_from_one}
+use Rattle.cubes.specs.Laws.Bits.{bit_from_one}
 
 -- there are few symbols
 pub few_symbols : (k : ℕ) → k ≤ 8 → 2 ^ k ≤ 256

@@ -11,9 +11,9 @@ use Rattle.std.specs.List.{AllZip}
 use Rattle.cubes.specs.Cube.{Holds}
 use Rattle.cubes.specs.Field.{Allows}
 use Rattle.cubes.specs.Symbol.{bit, number_of, symbol_of}
-use Rattle.cubes.proofs.Bits.{bit_from_one, bit_from_zero}
-use Rattle.cubes.proofs.Numbers.{bit-above, length-symbol_of, number_below, number_of-symbol_of, symbol_of-number_of}
-use Rattle.cubes.proofs.Places.{length-characters}
+use Rattle.cubes.specs.Laws.Bits.{bit_from_one, bit_from_zero}
+use Rattle.cubes.specs.Laws.Numbers.{bit-above, length-symbol_of, number_below, number_of-symbol_of, symbol_of-number_of}
+use Rattle.cubes.specs.Laws.Places.{length-characters}
 use Rattle.kiss_file.specs.declared.file.KissRow.{KissRow}
 use Rattle.machine_gen.specs.Inner.Drawing.{IsRowAt as IsRowAtPlace, next_of, place_of}
 use Rattle.machine_gen.specs.MachineOf.{AreRows, AreSizes, IsDrawnRow, next_first, next_second}

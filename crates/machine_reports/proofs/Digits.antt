@@ -3,8 +3,7 @@ use Rattle.std.proofs.Common.{◌≡◌, ℕ, ◌+◌, List, [], ◌∷◌, ◌+
 use Rattle.std.specs.List.{range_with_len}
 use Rattle.std.proofs.lemmas.List.{map-append}
 use Rattle.std.proofs.lemmas.List.FromFn.{map-range_with_len_more}
-use Rattle.answers.specs.Digits.{digit}
-use Rattle.cubes.specs.Symbol.{bit}
+use Rattle.cubes.specs.Symbol.{bit, digit}
 use Rattle.machine_reports.specs.OutputTexts.{output_digits}
 
 digits_more : (word place : ℕ) → output_digits (place + 1) word ≡ output_digits place word ++ digit (bit word place) ∷ []

@@ -2,17 +2,16 @@
 use Rattle.std.specs.Prelude.{◌≡◌, ℕ, ◌∷◌, ◌++◌, List, codes, map}
 use Rattle.std.specs.Fmt.{decimal}
 use Rattle.std.specs.List.{enumerate_from, flat_map}
-use Rattle.answers.specs.Digits.{digit}
+use Rattle.cubes.specs.Symbol.{digit, lowest_bits}
 use Rattle.hs_texts.specs.ErrLines.{as_line}
 use Rattle.io_pairs.specs.Outputs.{IsOutMmPair, occurring}
 use Rattle.io_pairs.specs.Sides.{RightBefore}
 use Rattle.kiss_file.specs.declared.file.KissFile.{KissFile}
-use Rattle.machine_table.specs.Walk.{outputs_of}
 use Rattle.machine_reports.specs.ListTexts.{IsEvidenceText, IsListText, pair_line}
 
 -- the digits of the outputs that are the bits of a number, output 0 first
 abbrev pub output_digits : ℕ → ℕ → List ℕ
-output_digits bits word = map digit (outputs_of bits word)
+output_digits bits word = map digit (lowest_bits bits word)
 
 -- the line of an output with its number
 abbrev pub output_line : ℕ → ℕ × ℕ → List ℕ

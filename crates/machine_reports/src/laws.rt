@@ -2,11 +2,10 @@
 //! that does nothing.
 
 ghost use Rattle.std.specs.Prelude.{◌≡◌, ℕ, ◌-◌, Bool, List, length, map};
-ghost use Rattle.answers.specs.Digits.{digit};
 ghost use Rattle.answers.specs.Laws.Causes.{HasOneAnswer};
 ghost use Rattle.answers.specs.declared.refusals.Refusal.{Refusal};
 ghost use Rattle.closed_lattice.specs.Closed.{IsClosedPartition};
-ghost use Rattle.cubes.specs.Symbol.{symbol_of};
+ghost use Rattle.cubes.specs.Symbol.{digit, symbol_of};
 ghost use Rattle.io_pairs.specs.Outputs.{output_word};
 ghost use Rattle.kiss_file.specs.Machine.{out};
 ghost use Rattle.kiss_file.specs.declared.file.KissFile.{KissFile};

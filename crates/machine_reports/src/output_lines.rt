@@ -2,10 +2,11 @@
 
 ghost use Rattle.std.specs.Prelude.{◌≡◌, ◌++◌, ◌<◌, ◌≤◌, IfOk, OnOk};
 ghost use Rattle.std.specs.List.{enumerate_from, flat_map};
-ghost use Rattle.answers.specs.Digits.{digit};
 ghost use Rattle.cubes.specs.Symbol as symbols;
+ghost use Rattle.cubes.specs.Symbol.{digit};
 ghost use Rattle.machine_reports.specs.OutputTexts.{output_digits, output_line};
 
+use cubes::{bit, digit_of};
 use std::alloc::{AllocError, Global};
 
 /// The lines of outputs of this number of bits, numbered from 0.
@@ -56,5 +57,5 @@ fn digit_at(word: u64, place: usize) -> u8
     requires { place < 64 }
     ensures { result ≡ digit (symbols.bit word place) }
 {
-    if word >> place & 1 == 1 { b'1' } else { b'0' }
+    digit_of(bit(word, place))
 }

@@ -3,14 +3,13 @@ use Rattle.std.proofs.Common.{◌≡◌, ℕ, ◌-◌, ◌<◌, ◌^◌, ◌||�
 use Rattle.std.proofs.lemmas.Bool.{cases_Bool, false≢true}
 use Rattle.std.proofs.lemmas.Nat.Bits.{bit_at_ones}
 use Rattle.std.specs.Int.{bit_at}
-use Rattle.cubes.specs.Symbol.{bit, symbol_of}
-use Rattle.cubes.proofs.Bits.{bit-or, bit-zero, bit_from_one}
+use Rattle.cubes.specs.Symbol.{bit, symbol_of, lowest_bits}
+use Rattle.cubes.specs.Laws.Bits.{bit-or, bit-zero, bit_from_one}
 use Rattle.kiss_file.specs.declared.file.KissFile.{KissFile}
 use Rattle.kiss_file.specs.declared.file.KissRow.{KissRow}
 use Rattle.kiss_file.specs.Lawful.{IsLawfulRow}
 use Rattle.kiss_file.specs.Machine.{Conflicting, IsRowAt, given_bit, out, output_bit}
 use Rattle.kiss_file.proofs.Machine.{output_bit_said}
-use Rattle.machine_table.specs.Walk.{outputs_of}
 use Rattle.machine_table.proofs.OutputWords.{same_map}
 use Rattle.machine_table.proofs.RowPieces.{below_from_bits}
 
@@ -95,7 +94,7 @@ module _ (F : KissFile) (s x : ℕ) where
   -- outputs that are not known are 0
   pub gathered_outputs : (known word : ℕ) → IsGathered F s x known word
       → ((b : ℕ) → b < F.outputs → bit known b ≡ false → output_bit F s (symbol_of F.inputs x) b ≡ false)
-      → outputs_of F.outputs word ≡ out F s (symbol_of F.inputs x)
+      → lowest_bits F.outputs word ≡ out F s (symbol_of F.inputs x)
   gathered_outputs known word so_far zeros =
       same_map (bit word) (output_bit F s (symbol_of F.inputs x)) F.outputs
       (λ b inside.

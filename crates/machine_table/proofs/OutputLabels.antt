@@ -3,7 +3,7 @@ use Rattle.std.proofs.Common.{◌≡◌, ℕ, length, ◌+◌, ◌<◌, ◌≤�
 use Rattle.std.proofs.lemmas.Bool.{cases_lt, false≢true, true≢false}
 use Rattle.std.specs.Option.{option_map}
 use Rattle.cubes.specs.Symbol.{symbol_of}
-use Rattle.cubes.proofs.Numbers.{length-symbol_of}
+use Rattle.cubes.specs.Laws.Numbers.{length-symbol_of}
 use Rattle.kiss_file.specs.declared.file.KissFile.{KissFile}
 use Rattle.kiss_file.specs.declared.file.KissRow.{KissRow}
 use Rattle.kiss_file.specs.Machine.{Conflicting, Specified, given_bit, output_bit}

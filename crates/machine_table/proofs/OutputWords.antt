@@ -7,12 +7,11 @@ use Rattle.std.proofs.lemmas.List.FromFn.{fill_by_all, length-map-range_with_len
 use Rattle.std.proofs.lemmas.Nat.Bits.{bit_at_cat_low}
 use Rattle.std.specs.Int.{bit_at}
 use Rattle.std.specs.List.{range_with_len}
-use Rattle.cubes.specs.Symbol.{bit, symbol_of}
-use Rattle.cubes.proofs.Bits.{same_bits}
-use Rattle.cubes.proofs.Numbers.{bit-above, bit-top}
+use Rattle.cubes.specs.Symbol.{bit, symbol_of, lowest_bits}
+use Rattle.cubes.specs.Laws.Bits.{same_bits}
+use Rattle.cubes.specs.Laws.Numbers.{bit-above, bit-top}
 use Rattle.kiss_file.specs.declared.file.KissFile.{KissFile}
 use Rattle.kiss_file.specs.Machine.{answers, next, out}
-use Rattle.machine_table.specs.Walk.{outputs_of}
 
 -- one more bit of a number is known
 module _ (value : ℕ → Bool) (word b : ℕ) (below : word < 2 ^ b) (bits : (k : ℕ) → k < b → bit word k ≡ value k) where
@@ -51,24 +50,24 @@ same_values f g n same k within =
 
 -- one more symbol of a word was walked
 pub walked_more : (F : KissFile) (s : ℕ) (words : List ℕ) (word i : ℕ) (symbols : List ℕ) (all : List (List Bool)) → i < length symbols
-    → outputs_of F.outputs word ≡ out F s (symbol_of F.inputs (get_or symbols i 0))
-    → map (outputs_of F.outputs) words ++ answers F s (map (symbol_of F.inputs) (drop i symbols)) ≡ all
-    → map (outputs_of F.outputs) (words ++ word ∷ []) ++ answers F (next F s (symbol_of F.inputs (get_or symbols i 0))) (map (symbol_of F.inputs) (drop (i + 1) symbols)) ≡ all
+    → lowest_bits F.outputs word ≡ out F s (symbol_of F.inputs (get_or symbols i 0))
+    → map (lowest_bits F.outputs) words ++ answers F s (map (symbol_of F.inputs) (drop i symbols)) ≡ all
+    → map (lowest_bits F.outputs) (words ++ word ∷ []) ++ answers F (next F s (symbol_of F.inputs (get_or symbols i 0))) (map (symbol_of F.inputs) (drop (i + 1) symbols)) ≡ all
 walked_more F s words word i symbols all inside outputs known =
     let x = symbol_of F.inputs (get_or symbols i 0) in
     let rest = map (symbol_of F.inputs) (drop (i + 1) symbols) in
     let cut : get_or symbols i 0 ∷ drop (i + 1) symbols ≡ drop i symbols = rw add-one (sym (drop-cons symbols i 0 inside)) in
-    ap (λ (list : List (List Bool)). list ++ answers F (next F s x) rest) (map-append (outputs_of F.outputs) words (word ∷ []))
-    ∙ append_assoc (map (outputs_of F.outputs) words) (outputs_of F.outputs word ∷ []) (answers F (next F s x) rest)
-    ∙ ap (λ (first : List Bool). map (outputs_of F.outputs) words ++ first ∷ answers F (next F s x) rest) outputs
-    ∙ ap (λ (list : List ℕ). map (outputs_of F.outputs) words ++ answers F s (map (symbol_of F.inputs) list)) cut
+    ap (λ (list : List (List Bool)). list ++ answers F (next F s x) rest) (map-append (lowest_bits F.outputs) words (word ∷ []))
+    ∙ append_assoc (map (lowest_bits F.outputs) words) (lowest_bits F.outputs word ∷ []) (answers F (next F s x) rest)
+    ∙ ap (λ (first : List Bool). map (lowest_bits F.outputs) words ++ first ∷ answers F (next F s x) rest) outputs
+    ∙ ap (λ (list : List ℕ). map (lowest_bits F.outputs) words ++ answers F s (map (symbol_of F.inputs) list)) cut
     ∙ known
 
 -- the whole word was walked
 pub walked : (F : KissFile) (s : ℕ) (words : List ℕ) (i : ℕ) (symbols : List ℕ) (all : List (List Bool)) → length symbols ≤ i
-    → map (outputs_of F.outputs) words ++ answers F s (map (symbol_of F.inputs) (drop i symbols)) ≡ all
-    → map (outputs_of F.outputs) words ≡ all
+    → map (lowest_bits F.outputs) words ++ answers F s (map (symbol_of F.inputs) (drop i symbols)) ≡ all
+    → map (lowest_bits F.outputs) words ≡ all
 walked F s words i symbols all past known =
-    sym (append-nil (map (outputs_of F.outputs) words))
-    ∙ ap (λ (list : List ℕ). map (outputs_of F.outputs) words ++ answers F s (map (symbol_of F.inputs) list)) (sym (drop_all i symbols past))
+    sym (append-nil (map (lowest_bits F.outputs) words))
+    ∙ ap (λ (list : List ℕ). map (lowest_bits F.outputs) words ++ answers F s (map (symbol_of F.inputs) list)) (sym (drop_all i symbols past))
     ∙ known

@@ -6,8 +6,8 @@ use Rattle.std.proofs.lemmas.Nat.Bits.{bit_at_above, bit_at_cat_low, same_from_b
 use Rattle.std.specs.Int.{bit_at}
 use Rattle.cubes.specs.declared.cube.Cube.{Cube}
 use Rattle.cubes.specs.Cube.{HoldsNumber}
-use Rattle.cubes.specs.Symbol.{bit, symbol_of}
-use Rattle.cubes.proofs.Bits.{zero_from_bit}
+use Rattle.cubes.specs.Symbol.{bit, symbol_of, lowest_bits}
+use Rattle.cubes.specs.Laws.Bits.{zero_from_bit}
 use Rattle.kiss_file.specs.declared.file.KissFile.{KissFile}
 use Rattle.kiss_file.specs.declared.file.KissRow.{KissRow}
 use Rattle.kiss_file.specs.Machine.{Conflicting, IsRowAt, output_bit}
@@ -17,7 +17,6 @@ use Rattle.machine_table.specs.Covering.{IsPiece}
 use Rattle.state_pairs.specs.Asked.{IsOfState}
 use Rattle.machine_table.specs.Inner.OpenSymbol.{SaysAll}
 use Rattle.state_pairs.specs.Table.{IsTable}
-use Rattle.machine_table.specs.Walk.{outputs_of}
 use Rattle.state_pairs.proofs.Asking.{lawful_row, number_of_row}
 use Rattle.state_rows.proofs.Outputs.{given_value}
 use Rattle.machine_table.proofs.OutputWords.{same_map}
@@ -58,6 +57,6 @@ row_is_piece F table no_conflict s all row of_state piece cube names word =
       outputs = λ x within held.
           same_map (output_bit F s (symbol_of F.inputs x)) (bit row.value) F.outputs
           (λ b inside. output_bit_said F s (symbol_of F.inputs x) no_conflict row b (bit row.value b) (at x held) (given_value row b (says.1 b inside)))
-          ∙ sym (ap (outputs_of F.outputs) word);
+          ∙ sym (ap (lowest_bits F.outputs) word);
       no_more = subst (λ (n : ℕ). n < 2 ^ F.outputs) (sym word) (below_from_bits row.value F.outputs (λ b one. lawful.care b (lawful.value b one)));
     }

@@ -5,7 +5,7 @@ use Rattle.std.proofs.lemmas.List.Elements.{All-push, Contains-append_left, Cont
 use Rattle.cubes.specs.declared.cube.Cube.{Cube}
 use Rattle.cubes.specs.Cube.{HoldsNumber, IsHalf}
 use Rattle.cubes.specs.Symbol.{bit, symbol_of}
-use Rattle.cubes.proofs.Parts.{half_from_whole}
+use Rattle.cubes.specs.Laws.Parts.{half_from_whole}
 use Rattle.kiss_file.specs.declared.file.KissFile.{KissFile}
 use Rattle.kiss_file.specs.declared.file.KissRow.{KissRow}
 use Rattle.kiss_file.specs.Machine.{Conflicting, IsRowAt, next, out, output_bit}

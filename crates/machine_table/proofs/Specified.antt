@@ -1,7 +1,7 @@
 -- Where each entry of a file is said by some row, nothing is left open.
 use Rattle.std.proofs.Common.{◌≡◌, ℕ, ◌+◌, ◌<◌, ◌^◌, Bool, List, sym, ◌∙◌, subst, arith, ap}
 use Rattle.cubes.specs.Symbol.{number_of, symbol_of}
-use Rattle.cubes.proofs.Numbers.{number_below, symbol_of-number_of}
+use Rattle.cubes.specs.Laws.Numbers.{number_below, symbol_of-number_of}
 use Rattle.kiss_file.specs.declared.file.KissFile.{KissFile}
 use Rattle.kiss_file.specs.declared.file.KissRow.{KissRow}
 use Rattle.kiss_file.specs.Machine.{IsRowAt, Specified}

@@ -3,9 +3,9 @@ use Rattle.std.proofs.Common.{◌≡◌, ℕ, ◌-◌, ◌<◌, ◌^◌, ◌⊎�
 use Rattle.std.proofs.lemmas.Bool.{cases_Bool, cases_lt, eq-eqb, eqb-true, true≢false}
 use Rattle.std.proofs.lemmas.Nat.{pow_pos}
 use Rattle.std.proofs.lemmas.Nat.Bits.{bit_at_above, bit_at_ones, same_from_bits}
-use Rattle.cubes.specs.Symbol.{bit, symbol_of}
-use Rattle.cubes.proofs.Bits.{bit-zero, one_from_bit, same_digits, zero_from_bit}
-use Rattle.cubes.proofs.Numbers.{length-symbol_of}
+use Rattle.cubes.specs.Symbol.{bit, symbol_of, lowest_bits}
+use Rattle.cubes.specs.Laws.Bits.{bit-zero, one_from_bit, same_digits, zero_from_bit}
+use Rattle.cubes.specs.Laws.Numbers.{length-symbol_of}
 use Rattle.kiss_file.specs.declared.file.KissFile.{KissFile}
 use Rattle.kiss_file.specs.declared.file.KissRow.{KissRow}
 use Rattle.kiss_file.specs.Machine.{Conflicting, IsRowAt, Specified, given_bit, out, output_bit}
@@ -14,7 +14,6 @@ use Rattle.state_pairs.specs.Asked.{HaveOneLabel, IsLabelAt, IsOpenAt}
 use Rattle.machine_table.specs.Inner.OpenSymbol.{SaysAll}
 use Rattle.state_pairs.specs.Pairs.{AgreeAt}
 use Rattle.state_pairs.specs.Table.{IsTable}
-use Rattle.machine_table.specs.Walk.{outputs_of}
 use Rattle.state_pairs.proofs.Asking.{lawful_row, number_of_row}
 use Rattle.state_pairs.proofs.Labels.{AreLabels, label_or_open}
 use Rattle.state_rows.proofs.Outputs.{given_in_all, given_value}
@@ -31,7 +30,7 @@ labelled true word v is = (refl, (cc))
 labelled false word v is = absurd (cc)
 
 -- small numbers of the same outputs are equal
-same_word : (n v w : ℕ) → v < 2 ^ n → w < 2 ^ n → outputs_of n v ≡ outputs_of n w → v ≡ w
+same_word : (n v w : ℕ) → v < 2 ^ n → w < 2 ^ n → lowest_bits n v ≡ lowest_bits n w → v ≡ w
 same_word n v w first second same =
     same_from_bits v w
     (λ i.
@@ -43,7 +42,7 @@ same_word n v w first second same =
 module _ (F : KissFile) (table : IsTable F) (no_conflict : Conflicting F → ⊥) (all : ℕ) (whole : all ≡ 2 ^ F.outputs - 1) where
   -- the outputs that a word says are the machine's
   abbrev pub IsWordAt : ℕ → ℕ → ℕ → Type 0
-  IsWordAt s x v = (outputs_of F.outputs v ≡ out F s (symbol_of F.inputs x)) × (v < 2 ^ F.outputs)
+  IsWordAt s x v = (lowest_bits F.outputs v ≡ out F s (symbol_of F.inputs x)) × (v < 2 ^ F.outputs)
 
   pub said_word : (s x v : ℕ) → IsLabelAt (word_label all) F s x v → IsWordAt s x v
   said_word s x v (row, at, says) =
@@ -138,7 +137,7 @@ module _ (F : KissFile) (table : IsTable F) (no_conflict : Conflicting F → ⊥
 
   module _ (s t : ℕ) (first : SaysAll F s) (second : SaysAll F t) (x : ℕ) where
     pub words_alike : word_at s x ≡ word_at t x → AgreeAt F s t x
-    words_alike same = sym (word_is_out s first x).0 ∙ ap (outputs_of F.outputs) same ∙ (word_is_out t second x).0
+    words_alike same = sym (word_is_out s first x).0 ∙ ap (lowest_bits F.outputs) same ∙ (word_is_out t second x).0
 
     pub words_equal : AgreeAt F s t x → word_at s x ≡ word_at t x
     words_equal agree =

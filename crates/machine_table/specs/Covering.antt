@@ -1,7 +1,7 @@
 -- What a machine does at the symbols of a cube, each symbol given by its number.
 use Rattle.std.specs.Prelude.{ℕ, ◌≡◌, ◌<◌, ◌^◌, Bool, Contains, List, Some, length}
 use Rattle.cubes.specs.Cube.{HoldsNumber}
-use Rattle.cubes.specs.Symbol.{symbol_of}
+use Rattle.cubes.specs.Symbol.{symbol_of, lowest_bits}
 use Rattle.kiss_file.specs.declared.file.KissFile.{KissFile}
 use Rattle.kiss_file.specs.declared.file.KissRow.{KissRow}
 use Rattle.kiss_file.specs.Lawful.{IsLawfulRow}
@@ -9,14 +9,13 @@ use Rattle.kiss_file.specs.Machine.{given_bit, next, out, output_bit}
 use Rattle.machine_table.specs.declared.covering.Piece.{Piece}
 use Rattle.machine_table.specs.declared.missing.Missing.{Missing}
 use Rattle.machine_table.specs.Said.{Says}
-use Rattle.machine_table.specs.Walk.{outputs_of}
 pub use Rattle.state_pairs.specs.Pairs.{IsImage}
 
 -- the piece's next state and outputs are the machine's at each symbol that it holds
 pub record IsPiece (F : KissFile) (s : ℕ) (piece : Piece) : Type 0 where
   pub width : piece.cube.width ≡ F.inputs
   pub next_state : (x : ℕ) → x < 2 ^ F.inputs → HoldsNumber piece.cube x → next F s (symbol_of F.inputs x) ≡ piece.next
-  pub outputs : (x : ℕ) → x < 2 ^ F.inputs → HoldsNumber piece.cube x → out F s (symbol_of F.inputs x) ≡ outputs_of F.outputs piece.outputs
+  pub outputs : (x : ℕ) → x < 2 ^ F.inputs → HoldsNumber piece.cube x → out F s (symbol_of F.inputs x) ≡ lowest_bits F.outputs piece.outputs
   pub no_more : piece.outputs < 2 ^ F.outputs
 
 -- some piece holds the symbol of that number

@@ -5,6 +5,5 @@ pub mod Cause
 pub mod Pairs
 pub mod Covering
 pub mod Merging
-pub mod Walk
 pub mod Inner
 pub mod Staying

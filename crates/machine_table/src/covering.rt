@@ -3,10 +3,9 @@
 //! If each row gives every part and no symbol is without a row, the rows are the pieces. Otherwise the cube of
 //! all symbols is halved until each row holds all symbols of a cube or none.
 ghost use Rattle.std.specs.Prelude.{ℕ, ◌≡◌, ◌<◌, ◌^◌, All, IfNone, IfOk, IfSome, IsSome, OnOk, Some, false, length};
-ghost use Rattle.cubes.specs.Symbol.{bit, symbol_of};
+ghost use Rattle.cubes.specs.Symbol.{bit, symbol_of, lowest_bits};
 ghost use Rattle.cubes.specs.Cube.{HoldsNumber};
 ghost use Rattle.kiss_file.specs.Machine.{Specified, next, out};
-ghost use Rattle.machine_table.specs.Walk.{outputs_of};
 ghost use Rattle.machine_table.specs.declared.covering.Piece.{Piece};
 ghost use Rattle.machine_table.specs.Covering.{IsPiece, IsHeldByPiece};
 ghost use Rattle.machine_table.specs.Inner.OpenSymbol.{SaysAll};
@@ -133,7 +132,7 @@ impl Machine {
         requires s { s < length self.now.states }
         requires width { cube.now.width ≡ self.now.inputs }
         requires settled { IsSettledIn self.now s cube.now }
-        ensures outputs { (y : ℕ) → HoldsNumber cube.now y → out self.now s (symbol_of self.now.inputs y) ≡ outputs_of self.now.outputs result }
+        ensures outputs { (y : ℕ) → HoldsNumber cube.now y → out self.now s (symbol_of self.now.inputs y) ≡ lowest_bits self.now.outputs result }
         ensures below { result < 2 ^ self.now.outputs }
     {
         let _ = &self.rows;

@@ -8,7 +8,7 @@
 //!
 //! `specs/Table` says which files have a machine, `specs/Conflict` which two rows a refusal names,
 //! `specs/Said` which open entry it names, and `specs/Cause` when each refusal occurs. `specs/Staying` says
-//! that a machine never leaves its states, `specs/Walk` how numbers encode outputs, `specs/Pairs` what is
+//! that a machine never leaves its states, `specs/Pairs` what is
 //! asked of two states at all symbols, `specs/Covering` what the images and pieces list and what filled rows
 //! say, and `specs/Merging` what becomes of a partition in which the next states of two states are merged. The
 //! definitions of `Table`, `Staying`, `Pairs` and `Merging` are those of `state_pairs`.

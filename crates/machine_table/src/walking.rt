@@ -1,9 +1,8 @@
 //! The outputs along a word.
 ghost use Rattle.std.specs.Prelude.{◌≡◌, ◌<◌, ◌^◌, All, IfOk, IfSome, length, map};
-ghost use Rattle.cubes.specs.Symbol.{symbol_of};
+ghost use Rattle.cubes.specs.Symbol.{symbol_of, lowest_bits};
 ghost use Rattle.kiss_file.specs.Machine.{answers, out};
 ghost use Rattle.machine_table.specs.Inner.Step.{IsStep};
-ghost use Rattle.machine_table.specs.Walk.{outputs_of};
 
 use crate::Machine;
 use crate::open_entry::all_outputs;
@@ -24,7 +23,7 @@ impl Machine {
     /// The outputs from the reset state on, one number for each symbol, with output b at 2^b.
     pub fn walk(&self, alloc: Global, symbols: &[u32]) -> Result<Vec<u64>, AllocError>
         requires { All (λ x. x < 2 ^ self.now.inputs) symbols.now }
-        ensures outputs { IfOk result (λ words. map (outputs_of self.now.outputs) words.items ≡ answers self.now self.now.reset (map (symbol_of self.now.inputs) symbols.now)) }
+        ensures outputs { IfOk result (λ words. map (lowest_bits self.now.outputs) words.items ≡ answers self.now self.now.reset (map (symbol_of self.now.inputs) symbols.now)) }
         ensures below { IfOk result (λ words. All (λ word. word < 2 ^ self.now.outputs) words.items) }
     {
         let trees = self.trees_for(alloc, symbols.len())?;
@@ -131,7 +130,7 @@ impl Machine {
         requires s { s < length self.now.states }
         requires x { x < 2 ^ self.now.inputs }
         ensures below { result < 2 ^ self.now.outputs }
-        ensures outputs { outputs_of self.now.outputs result ≡ out self.now s (symbol_of self.now.inputs x) }
+        ensures outputs { lowest_bits self.now.outputs result ≡ out self.now s (symbol_of self.now.inputs x) }
     {
         let all = all_outputs(self.outputs());
         let mut given = 0;

@@ -4,7 +4,7 @@ use Rattle.std.proofs.Math.Nat.{pow-le-pow_right}
 use Rattle.std.proofs.Math.Seq.{take-suc}
 use Rattle.std.proofs.lemmas.List.{length_push}
 use Rattle.cubes.specs.Symbol.{number_of}
-use Rattle.cubes.proofs.Numbers.{number_below, pow-suc}
+use Rattle.cubes.specs.Laws.Numbers.{number_below, pow-suc}
 use mir.Val.{bool_byte}
 
 -- one more bit

@@ -15,7 +15,7 @@ use Rattle.cubes.specs.declared.cube.CubeFail.TheVariants.{BadChar, BadWidth}
 use Rattle.cubes.specs.Cube.{IsFirstBad, field_of, holds, text_of}
 use Rattle.cubes.specs.Field.{IsCharacter, allows, byte_of, characters_hold}
 use Rattle.cubes.specs.Symbol.{number_of, symbol_of}
-use Rattle.cubes.proofs.Numbers.{length-symbol_of, number_below, symbol_of-number_of}
+use Rattle.cubes.specs.Laws.Numbers.{length-symbol_of, number_below, symbol_of-number_of}
 use Rattle.net_core.specs.Step.{character_holds, row_holds}
 use Rattle.net_core.specs.declared.ordering.NumberedGate.{NumberedGate}
 use Rattle.net_sim.specs.declared.forms.GateForm.{GateForm}

@@ -4,8 +4,8 @@ use Rattle.std.proofs.Math.Nat.{pow-le-pow_right}
 use Rattle.std.proofs.lemmas.Bool.{cases_lt}
 use Rattle.std.proofs.lemmas.Nat.Bits.{bit_at_set_other, bit_at_set_same}
 use Rattle.cubes.specs.Symbol.{bit, number_of, symbol_of}
-use Rattle.cubes.proofs.Bits.{bit_from_one, same_bits}
-use Rattle.cubes.proofs.Numbers.{number_below}
+use Rattle.cubes.specs.Laws.Bits.{bit_from_one, same_bits}
+use Rattle.cubes.specs.Laws.Numbers.{number_below}
 use Rattle.net_core.specs.declared.ordering.NumberedGate.{NumberedGate}
 use Rattle.net_sim.specs.declared.small.SmallGate.{SmallGate}
 use Rattle.net_sim.specs.Inner.Evaluated.{bits_at, value_at, value_for}

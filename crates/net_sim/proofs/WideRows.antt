@@ -8,7 +8,7 @@ use Rattle.std.proofs.lemmas.List.Folds.{list_any-append}
 use Rattle.cubes.specs.declared.cube.Cube.{Cube}
 use Rattle.cubes.specs.Cube.{holds, text_of}
 use Rattle.cubes.specs.Symbol.{number_of, symbol_of}
-use Rattle.cubes.proofs.Numbers.{number_below, symbol_of-number_of}
+use Rattle.cubes.specs.Laws.Numbers.{number_below, symbol_of-number_of}
 use Rattle.net_core.specs.Step.{character_holds, row_holds}
 use Rattle.net_core.specs.declared.ordering.NumberedGate.{NumberedGate}
 use Rattle.net_sim.specs.Inner.Evaluated.{bits_at}

@@ -3,10 +3,9 @@
 use Rattle.std.specs.Prelude.{◌≡◌, ℕ, List, [], ◌∷◌, Some, map, slice_get}
 use Rattle.answers.specs.declared.refusals.Refusal.TheVariants.{Conflict, NoMachine, NoNetwork, Unspecified}
 use Rattle.answers.specs.Cause.{Cause, FirstOf}
-use Rattle.answers.specs.Digits.{digit}
 use Rattle.blif_in.specs.declared.fault.BlifFault.{BlifFault}
 use Rattle.blif_in.specs.Text.{IsBlifFault}
-use Rattle.cubes.specs.Symbol.{symbol_of}
+use Rattle.cubes.specs.Symbol.{digit, symbol_of}
 use Rattle.operands.specs.Loading.{Lengthy}
 use Rattle.kiss2.specs.declared.fault.KissFault.{KissFault}
 use Rattle.kiss_file.specs.declared.fill.Fill.{Fill}

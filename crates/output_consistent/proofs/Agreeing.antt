@@ -2,7 +2,7 @@
 use Rattle.std.proofs.Common.{◌≡◌, ◌∙◌, ℕ, ◌+◌, ◌<◌, ◌^◌, Bool, List, length, sym, subst, inl, inr, arith}
 use Rattle.std.proofs.lemmas.Bool.{cases_eq}
 use Rattle.cubes.specs.Symbol.{number_of, symbol_of}
-use Rattle.cubes.proofs.Numbers.{length-symbol_of, number_below, symbol_of-number_of}
+use Rattle.cubes.specs.Laws.Numbers.{length-symbol_of, number_below, symbol_of-number_of}
 use Rattle.kiss_file.specs.declared.file.KissFile.{KissFile}
 use Rattle.kiss_file.specs.Machine.{out}
 use Rattle.machine_table.specs.Pairs.{AgreeAt, AtEachSymbol}

@@ -1,7 +1,7 @@
 -- States that agree in one output are put together, state by state.
 use Rattle.std.proofs.Common.{◌≡◌, ℕ, ◌∙◌, List, length, sym, ap, refl, inl, inr}
 use Rattle.cubes.specs.Symbol.{symbol_of}
-use Rattle.cubes.proofs.Numbers.{length-symbol_of}
+use Rattle.cubes.specs.Laws.Numbers.{length-symbol_of}
 use Rattle.kiss_file.specs.declared.file.KissFile.{KissFile}
 use Rattle.kiss_file.specs.Machine.{output_bit}
 use Rattle.partition.specs.Inner.Splitting.{IsSplitBy}

@@ -8,12 +8,12 @@ use Rattle.list_facts.specs.Laws.Members.{Contains-filter_map, Contains-from_fil
 use Rattle.list_facts.specs.Laws.Places.{ascending_count}
 use Rattle.cubes.specs.declared.cube.Cube.{Cube}
 use Rattle.cubes.specs.Symbol.{number_of, symbol_of}
-use Rattle.cubes.proofs.Numbers.{length-symbol_of, number_below, symbol_of-number_of}
+use Rattle.cubes.specs.Laws.Numbers.{length-symbol_of, number_below, symbol_of-number_of}
 use Rattle.dependence.specs.declared.bit.Bit.{Bit}
 use Rattle.dependence.specs.declared.sets.ReadSet.{ReadSet}
 use Rattle.dependence.specs.Bit.{IsBit, value_of}
-use Rattle.dependence.specs.Inner.Said.{row_value}
-use Rattle.dependence.proofs.Said.{mapped, part_counted, part_of, row_gives, says_value}
+use Rattle.dependence.specs.Said.{row_value}
+use Rattle.dependence.specs.Laws.Said.{mapped, part_counted, part_of, row_gives, says_value}
 use Rattle.gate_rows.specs.declared.demands.Demand.{Demand}
 use Rattle.gate_rows.specs.Columns.{IsReadIn}
 use Rattle.gate_rows.specs.Covers.{IsGoodCover}

@@ -5,7 +5,7 @@ use Rattle.std.proofs.lemmas.List.{length-map}
 use Rattle.list_facts.specs.Laws.Members.{agree_from_map}
 use Rattle.list_facts.specs.Laws.Places.{get_behind}
 use Rattle.cubes.specs.Symbol.{bit}
-use Rattle.cubes.proofs.Bits.{same_digits}
+use Rattle.cubes.specs.Laws.Bits.{same_digits}
 use Rattle.dependence.specs.declared.sets.ReadSet.{ReadSet}
 use Rattle.gate_rows.specs.Columns.{input_of}
 use Rattle.kiss_file.specs.declared.file.KissFile.{KissFile}

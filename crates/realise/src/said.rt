@@ -2,12 +2,12 @@
 
 ghost use Rattle.std.specs.Prelude.{◌≡◌, ◌<◌, IfSome, length};
 ghost use Rattle.kiss_file.specs.Machine.{given_bit};
-ghost use Rattle.dependence.specs.Inner.Said as said;
+ghost use Rattle.dependence.specs.Said as said;
 ghost use Rattle.dependence.specs.Effects.{HasPlace};
-ghost use Rattle.dependence.specs.Inner.Said.{row_value};
+ghost use Rattle.dependence.specs.Said.{row_value};
 
+use cubes::bit;
 use dependence::Bit;
-use gate_rows::bit;
 use kiss_file::KissRow;
 
 /// What the gate of a bit gives at the symbols of a row, if the row says it. The words are the codes of the

@@ -7,7 +7,7 @@ use Rattle.std.proofs.lemmas.List.Elements.{All-append, All-contains, Contains-a
 use Rattle.list_facts.specs.Laws.Members.{Contains-filter_map, Contains-from_filter_map}
 use Rattle.cubes.specs.Symbol.{bit, symbol_of}
 use Rattle.dependence.specs.declared.bit.Bit.TheVariants.{Output}
-use Rattle.dependence.proofs.Said.{mapped, says_value}
+use Rattle.dependence.specs.Laws.Said.{mapped, says_value}
 use Rattle.gate_rows.specs.declared.demands.Demand.{Demand}
 use Rattle.gate_rows.specs.Demands.{demand_at}
 use Rattle.kiss_file.specs.declared.file.KissFile.{KissFile}

@@ -9,10 +9,9 @@ use Rattle.std.proofs.lemmas.List.FromFn.{get_or-map-range_with_len, length-map-
 use Rattle.std.proofs.lemmas.Nat.{mul-add-lt, pow-add}
 use Rattle.std.proofs.lemmas.Nat.Bits.{bit_at_cat_high, bit_at_cat_low}
 use Rattle.std.proofs.lemmas.Option.{slice_get-get_or}
-use Rattle.cubes.specs.Symbol.{bit, number_of, symbol_of}
-use Rattle.cubes.proofs.Bits.{one_from_bit, same_bits, zero_from_bit}
-use Rattle.cubes.proofs.Numbers.{length-symbol_of, number_below, number_of-symbol_of, symbol_of-number_of}
-use Rattle.gate_rows.specs.Bits.{code_bits}
+use Rattle.cubes.specs.Symbol.{bit, number_of, symbol_of, lowest_bits}
+use Rattle.cubes.specs.Laws.Bits.{one_from_bit, same_bits, zero_from_bit}
+use Rattle.cubes.specs.Laws.Numbers.{length-symbol_of, number_below, number_of-symbol_of, symbol_of-number_of}
 use Rattle.kiss_file.specs.declared.file.KissFile.{KissFile}
 use Rattle.kiss_file.specs.Machine.{next}
 use Rattle.machine_table.specs.Staying.{NeverLeaves}
@@ -27,14 +26,14 @@ two_pos : 0 < 2
 two_pos = omega arith
 
 -- ---- bits of a number of two parts
-pub code_bits_parts : (a b high low : ℕ) → low < 2 ^ a → code_bits (a + b) (high * 2 ^ a + low) ≡ code_bits a low ++ code_bits b high
+pub code_bits_parts : (a b high low : ℕ) → low < 2 ^ a → lowest_bits (a + b) (high * 2 ^ a + low) ≡ lowest_bits a low ++ lowest_bits b high
 code_bits_parts a b high low small =
     let whole : ℕ = high * 2 ^ a + low in
-    let first : length (code_bits a low) ≡ a = length-map-range_with_len (bit low) 0 a in
-    let second : length (code_bits b high) ≡ b = length-map-range_with_len (bit high) 0 b in
-    let all : length (code_bits (a + b) whole) ≡ a + b = length-map-range_with_len (bit whole) 0 (a + b) in
-    ext_get_or false (code_bits (a + b) whole) (code_bits a low ++ code_bits b high)
-    (omega (arith, all, first, second, length-append (code_bits a low) (code_bits b high)))
+    let first : length (lowest_bits a low) ≡ a = length-map-range_with_len (bit low) 0 a in
+    let second : length (lowest_bits b high) ≡ b = length-map-range_with_len (bit high) 0 b in
+    let all : length (lowest_bits (a + b) whole) ≡ a + b = length-map-range_with_len (bit whole) 0 (a + b) in
+    ext_get_or false (lowest_bits (a + b) whole) (lowest_bits a low ++ lowest_bits b high)
+    (omega (arith, all, first, second, length-append (lowest_bits a low) (lowest_bits b high)))
     (λ i within.
     let below : i < a + b = omega (arith, within, all) in
     get_or-map-range_with_len (bit whole) 0 (a + b) i i false below (omega arith)
@@ -42,11 +41,11 @@ code_bits_parts a b high low small =
       | inl left ↦
           same_bits whole low i i (bit_at_cat_low high a low i left)
           ∙ (sym (get_or-map-range_with_len (bit low) 0 a i i false left (omega arith))
-          ∙ sym (get_or_append_left (code_bits a low) (code_bits b high) false i (omega (arith, left, first))))
+          ∙ sym (get_or_append_left (lowest_bits a low) (lowest_bits b high) false i (omega (arith, left, first))))
       | inr right ↦
           same_bits whole high i (i - a) (bit_at_cat_high high a low i small right)
           ∙ (sym (get_or-map-range_with_len (bit high) 0 b (i - a) (i - a) false (omega (arith, below, right)) (omega arith))
-          ∙ sym (get_or-append_right (code_bits a low) (code_bits b high) a i false first right))
+          ∙ sym (get_or-append_right (lowest_bits a low) (lowest_bits b high) a i false first right))
     ])
 
 -- ---- the bits of a symbol, turned over
@@ -54,7 +53,7 @@ digit_below : (b : Bool) → (if b then 1 else 0) < 2 ^ 1
 digit_below true = omega arith
 digit_below false = omega arith
 
-digit_bits : (b : Bool) → code_bits 1 (if b then 1 else 0) ≡ b ∷ []
+digit_bits : (b : Bool) → lowest_bits 1 (if b then 1 else 0) ≡ b ∷ []
 digit_bits true = refl
 digit_bits false = refl
 
@@ -66,7 +65,7 @@ pub turned_small : (places x : ℕ) → turned_bits places x < 2 ^ places
 turned_small zero x = omega arith
 turned_small (suc p) x = one_digit p (turned_bits p x) (bit x p) (turned_small p x)
 
-pub turned_symbol : (places x : ℕ) → code_bits places (turned_bits places x) ≡ symbol_of places x
+pub turned_symbol : (places x : ℕ) → lowest_bits places (turned_bits places x) ≡ symbol_of places x
 unfolding symbol_of
 turned_symbol zero x = refl
 turned_symbol (suc p) x =
@@ -74,10 +73,10 @@ turned_symbol (suc p) x =
     let t : ℕ = turned_bits p x in
     let double : 2 * t + b ≡ t * 2 ^ 1 + b = omega arith in
     let one_more : suc p ≡ 1 + p = omega arith in
-    ap (λ (n : ℕ). code_bits (suc p) n) double
-    ∙ (ap (λ (n : ℕ). code_bits n (t * 2 ^ 1 + b)) one_more
+    ap (λ (n : ℕ). lowest_bits (suc p) n) double
+    ∙ (ap (λ (n : ℕ). lowest_bits n (t * 2 ^ 1 + b)) one_more
     ∙ (code_bits_parts 1 p t b (digit_below (bit x p))
-    ∙ (ap (λ (bits : List Bool). bits ++ code_bits p t) (digit_bits (bit x p))
+    ∙ (ap (λ (bits : List Bool). bits ++ lowest_bits p t) (digit_bits (bit x p))
     ∙ ap (λ (bits : List Bool). bit x p ∷ bits) (turned_symbol p x))))
 
 -- ---- no symbols
@@ -90,7 +89,7 @@ contents_none F content within latches state = record { each = each; right = rig
 
     of_nothing : IsContentOf F 0 [] content
     of_nothing = record {
-      latches = ap (λ (n : ℕ). code_bits n content.latches) none;
+      latches = ap (λ (n : ℕ). lowest_bits n content.latches) none;
       small = (let power : 2 ^ (0 * F.inputs) ≡ 1 = ap (λ (n : ℕ). 2 ^ n) none in omega (arith, power, latches));
       state = state;
       within = subst (λ (s : ℕ). s < length F.states) (sym state) within;
@@ -118,9 +117,9 @@ module _ (F : KissFile) (k : ℕ) (stays : NeverLeaves F) where
       let low : ℕ = turned_bits F.inputs v in
       let value : ℕ = content.latches * 2 ^ F.inputs + low in
       record {
-        latches = ap (λ (n : ℕ). code_bits n value) (sym more_bits)
+        latches = ap (λ (n : ℕ). lowest_bits n value) (sym more_bits)
             ∙ (code_bits_parts F.inputs (k * F.inputs) content.latches low (turned_small F.inputs v)
-            ∙ (ap (λ (bits : List Bool). bits ++ code_bits (k * F.inputs) content.latches) (turned_symbol F.inputs v ∙ written)
+            ∙ (ap (λ (bits : List Bool). bits ++ lowest_bits (k * F.inputs) content.latches) (turned_symbol F.inputs v ∙ written)
             ∙ (ap (λ (bits : List Bool). x ++ bits) is.latches ∙ sym (longer_latches word x))));
         small =
             let power : 2 ^ ((k + 1) * F.inputs) ≡ 2 ^ F.inputs * 2 ^ (k * F.inputs) = ap (λ (n : ℕ). 2 ^ n) (sym more_bits) ∙ pow-add 2 F.inputs (k * F.inputs) in

@@ -5,9 +5,8 @@ use Rattle.std.proofs.lemmas.List.{drop_at, take-append-drop, take_at, length-ta
 use Rattle.std.proofs.lemmas.List.Elements.{All-tail}
 use Rattle.std.proofs.lemmas.List.FromFn.{length-map-range_with_len}
 use Rattle.std.proofs.lemmas.Nat.Bits.{same_from_bits_below}
-use Rattle.cubes.specs.Symbol.{bit}
-use Rattle.cubes.proofs.Bits.{same_digits}
-use Rattle.gate_rows.specs.Bits.{code_bits}
+use Rattle.cubes.specs.Symbol.{bit, lowest_bits}
+use Rattle.cubes.specs.Laws.Bits.{same_digits}
 use Rattle.gate_rows.proofs.ReadNumbers.{code_at}
 use Rattle.gate_rows.proofs.RowTexts.{number_for}
 use Rattle.kiss_file.specs.declared.file.KissFile.{KissFile}
@@ -52,10 +51,10 @@ word_of_latches n (x ∷ word) (suc k) is long =
     ∙ ap (λ (more : List (List Bool)). x ∷ more) (word_of_latches n word k count rest))
 
 -- ---- numbers of so many bits
-pub code_length : (count number : ℕ) → length (code_bits count number) ≡ count
+pub code_length : (count number : ℕ) → length (lowest_bits count number) ≡ count
 code_length count number = length-map-range_with_len (bit number) 0 count
 
-pub one_number : (count v w : ℕ) → v < 2 ^ count → w < 2 ^ count → code_bits count v ≡ code_bits count w → v ≡ w
+pub one_number : (count v w : ℕ) → v < 2 ^ count → w < 2 ^ count → lowest_bits count v ≡ lowest_bits count w → v ≡ w
 one_number count v w low_v low_w same =
     same_from_bits_below count v w low_v low_w
     (λ i lt. same_digits v w i i (sym (code_at count v i lt) ∙ (ap (λ (bits : List Bool). get_or bits i false) same ∙ code_at count w i lt)))
@@ -65,16 +64,16 @@ module _ (F : KissFile) (k : ℕ) where
   bits_are_word bits long = record { count = word_count k F.inputs bits; symbols = word_symbols k F.inputs bits long }
 
   pub content_is_word : (number : ℕ) → IsWord F k (content_of F k number)
-  content_is_word number = bits_are_word (code_bits (k * F.inputs) number) (code_length (k * F.inputs) number)
+  content_is_word number = bits_are_word (lowest_bits (k * F.inputs) number) (code_length (k * F.inputs) number)
 
-  pub content_values : (number : ℕ) → latch_values (content_of F k number) ≡ code_bits (k * F.inputs) number
-  content_values number = latch_values_of k F.inputs (code_bits (k * F.inputs) number) (code_length (k * F.inputs) number)
+  pub content_values : (number : ℕ) → latch_values (content_of F k number) ≡ lowest_bits (k * F.inputs) number
+  content_values number = latch_values_of k F.inputs (lowest_bits (k * F.inputs) number) (code_length (k * F.inputs) number)
 
   -- each word is the content of a number
   pub record IsNumbered (word : List (List Bool)) : Type 0 where
     pub number : ℕ
     pub low : number < 2 ^ (k * F.inputs)
-    pub values : code_bits (k * F.inputs) number ≡ latch_values word
+    pub values : lowest_bits (k * F.inputs) number ≡ latch_values word
     pub content : content_of F k number ≡ word
     pub state : state_at F k number ≡ state_after F word
 

@@ -13,8 +13,8 @@ use Rattle.list_facts.specs.Laws.Members.{agree_from_map}
 use Rattle.list_facts.specs.Laws.Places.{ascending_count}
 use Rattle.cubes.specs.Cube.{HoldsNumber}
 use Rattle.cubes.specs.Symbol.{bit, number_of, symbol_of}
-use Rattle.cubes.proofs.Bits.{same_bits}
-use Rattle.cubes.proofs.Numbers.{length-symbol_of, number_below, symbol_of-number_of}
+use Rattle.cubes.specs.Laws.Bits.{same_bits}
+use Rattle.cubes.specs.Laws.Numbers.{length-symbol_of, number_below, symbol_of-number_of}
 use Rattle.dependence.specs.declared.sets.ReadSet.{ReadSet}
 use Rattle.dependence.specs.Listed.{AreListed}
 use Rattle.dependence.specs.Inputs.{DifferAlone}

@@ -7,11 +7,10 @@ use Rattle.std.proofs.lemmas.List.Elements.{Contains-get_or}
 use Rattle.std.proofs.lemmas.Nat.{xor_lt}
 use Rattle.std.proofs.lemmas.Nat.Bits.{bit_at-lt, bit_at_xor, bit_at-pow_other, bit_at-pow_same, same_from_bits_below}
 use Rattle.std.proofs.lemmas.Option.{slice_get-get_or, slice_get_past}
-use Rattle.cubes.specs.Symbol.{bit, number_of, symbol_of}
-use Rattle.cubes.proofs.Bits.{same_bits, same_digits}
-use Rattle.cubes.proofs.Numbers.{length-symbol_of, number_below, symbol_of-number_of}
+use Rattle.cubes.specs.Symbol.{bit, number_of, symbol_of, lowest_bits}
+use Rattle.cubes.specs.Laws.Bits.{same_bits, same_digits}
+use Rattle.cubes.specs.Laws.Numbers.{length-symbol_of, number_below, symbol_of-number_of}
 use Rattle.dependence.specs.Inputs.{DifferAlone}
-use Rattle.gate_rows.specs.Bits.{code_bits}
 use Rattle.gate_rows.proofs.ReadNumbers.{code_at}
 use Rattle.kiss_file.specs.declared.file.KissFile.{KissFile}
 use Rattle.kiss_file.specs.Machine.{output_bit}
@@ -81,14 +80,14 @@ module _ (F : KissFile) (k b : ℕ) (table firsts classes : List ℕ) (is : IsTa
       subst (λ (y : List Bool). output_bit F (state_at F k v) y b ≡ output_bit F (state_at F k w) y b) written (alike (number_of x) below)
 
   -- a latch value of a content, by its number
-  value_there : (number i : ℕ) → i < k * F.inputs → slice_get (code_bits (k * F.inputs) number) i ≡ Some (bit number i)
+  value_there : (number i : ℕ) → i < k * F.inputs → slice_get (lowest_bits (k * F.inputs) number) i ≡ Some (bit number i)
   value_there number i lt =
-      slice_get-get_or (code_bits (k * F.inputs) number) i false (omega (arith, lt, code_length (k * F.inputs) number)) ∙ ap (λ (d : Bool). Some d) (code_at (k * F.inputs) number i lt)
+      slice_get-get_or (lowest_bits (k * F.inputs) number) i false (omega (arith, lt, code_length (k * F.inputs) number)) ∙ ap (λ (d : Bool). Some d) (code_at (k * F.inputs) number i lt)
 
-  differ_alone : (number latch : ℕ) → latch < k * F.inputs → DifferAlone latch (code_bits (k * F.inputs) number) (code_bits (k * F.inputs) (bit_xor number (2 ^ latch)))
+  differ_alone : (number latch : ℕ) → latch < k * F.inputs → DifferAlone latch (lowest_bits (k * F.inputs) number) (lowest_bits (k * F.inputs) (bit_xor number (2 ^ latch)))
   differ_alone number latch lt =
-      let bits : List Bool = code_bits (k * F.inputs) number in
-      let others : List Bool = code_bits (k * F.inputs) (bit_xor number (2 ^ latch)) in
+      let bits : List Bool = lowest_bits (k * F.inputs) number in
+      let others : List Bool = lowest_bits (k * F.inputs) (bit_xor number (2 ^ latch)) in
       record {
         lengths = code_length (k * F.inputs) number ∙ sym (code_length (k * F.inputs) (bit_xor number (2 ^ latch)));
         there = λ same.
@@ -118,7 +117,7 @@ module _ (F : KissFile) (k b : ℕ) (table firsts classes : List ℕ) (is : IsTa
         other_content = content_is_word F k w;
         symbol = told.1;
         differ = subst (λ (bits : List Bool). DifferAlone latch bits (latch_values (content_of F k w))) (sym (content_values F k v))
-            (subst (λ (bits : List Bool). DifferAlone latch (code_bits (k * F.inputs) v) bits) (sym (content_values F k w)) (differ_alone v latch lt));
+            (subst (λ (bits : List Bool). DifferAlone latch (lowest_bits (k * F.inputs) v) bits) (sym (content_values F k w)) (differ_alone v latch lt));
         values = told.2;
       }
 

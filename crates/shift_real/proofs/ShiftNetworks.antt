@@ -10,7 +10,7 @@ use Rattle.std.proofs.lemmas.Option.{get_or_from_slice_get, slice_get_within}
 use Rattle.std.proofs.lemmas.Simd.{map-map}
 use Rattle.list_facts.specs.Laws.Everywhere.{all_at, all_from_map, all_one, map_same}
 use Rattle.dependence.specs.declared.sets.ReadSet.{ReadSet}
-use Rattle.gate_rows.specs.Bits.{code_bits}
+use Rattle.cubes.specs.Symbol.{lowest_bits}
 use Rattle.gate_rows.specs.Columns.{input_of}
 use Rattle.gate_rows.specs.Latches.{AreLatches}
 use Rattle.gate_rows.specs.Names.{name_at}

@@ -3,7 +3,7 @@ use Rattle.std.proofs.Common.{◌≡◌, ℕ, ◌+◌, ◌*◌, ◌^◌, ◌<◌
 use Rattle.std.proofs.lemmas.Bool.{cases_eq}
 use Rattle.std.proofs.lemmas.List.{get_or-set_other, get_or-set_same, get_or_default}
 use Rattle.std.proofs.lemmas.Option.{slice_get_within}
-use Rattle.gate_rows.specs.Bits.{code_bits}
+use Rattle.cubes.specs.Symbol.{lowest_bits}
 use Rattle.kiss_file.specs.declared.file.KissFile.{KissFile}
 use Rattle.shift_real.specs.declared.contents.Content.{Content}
 use Rattle.shift_real.specs.Inner.Contents.{AreContents}
@@ -17,7 +17,7 @@ module _ (F : KissFile) (k : ℕ) (contents : List Content) (are : AreContents F
   one_state i j content other at there same =
       let first = are.right i content at in
       let second = are.right j other there in
-      let values = sym first.3.latches ∙ (ap (λ (n : ℕ). code_bits (k * F.inputs) n) same ∙ second.3.latches) in
+      let values = sym first.3.latches ∙ (ap (λ (n : ℕ). lowest_bits (k * F.inputs) n) same ∙ second.3.latches) in
       first.3.state ∙ (ap (state_after F) (one_word F k first.0 second.0 first.1 second.1 values) ∙ sym second.3.state)
 
   abbrev pub AreWritten : ℕ → List ℕ → Type 0

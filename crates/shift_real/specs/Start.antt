@@ -1,6 +1,6 @@
 -- What the latches of the register start at.
 use Rattle.std.specs.Prelude.{◌≡◌, ℕ, ◌*◌, ◌^◌, ◌<◌, ⊤, Bool, List}
-use Rattle.gate_rows.specs.Bits.{code_bits}
+use Rattle.cubes.specs.Symbol.{lowest_bits}
 use Rattle.kiss_file.specs.declared.file.KissFile.{KissFile}
 use Rattle.shift_real.specs.declared.starts.RegisterFail.{RegisterFail}
 use Rattle.shift_real.specs.declared.starts.RegisterFail.TheVariants.{NotReached, NoMemory}
@@ -11,7 +11,7 @@ use Rattle.shift_real.specs.Register.{IsNotReached, IsStart, latch_values}
 pub record WritesStart (F : KissFile) (k number : ℕ) : Type 0 where
   pub word : List (List Bool)
   pub is_start : IsStart F k word
-  pub latches : code_bits (k * F.inputs) number ≡ latch_values word
+  pub latches : lowest_bits (k * F.inputs) number ≡ latch_values word
   pub no_more : number < 2 ^ (k * F.inputs)
 
 -- why a definite machine has no register

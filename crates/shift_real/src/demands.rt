@@ -5,8 +5,9 @@ ghost use Rattle.std.specs.List.{filter_map};
 ghost use Rattle.shift_real.specs.Inner.ContentDemands.{AreClassDemands, IsOfClassBelow, IsWithinMask, asked_by};
 
 use crate::tables::is_among;
+use cubes::bit;
 use dependence::filled_rows;
-use gate_rows::{Demand, bit};
+use gate_rows::Demand;
 use kiss_file::KissRow;
 use machine_table::Machine;
 use std::alloc::{AllocError, Global};

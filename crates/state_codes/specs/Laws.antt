@@ -4,3 +4,4 @@ pub mod InnerLabels
 pub mod Places
 pub mod Codes
 pub mod Splits
+pub mod OwnCarriers

@@ -86,8 +86,7 @@ pub fn one_part(alloc: Global, n: usize) -> Result<Split, AllocError>
 
 /// The split of kind `Assign` that has these partitions for parts; each may read all others.
 pub fn given(alloc: Global, parts: Vec<Partition>) -> Result<Split, AllocError>
-    requires some { 0 < vec_len parts }
-    requires count { vec_len parts ≤ 256 }
+    requires { vec_len parts ≤ 256 }
     ensures kind { IfOk result (λ split. split.kind ≡ Kind.Assign) }
     ensures parts { IfOk result (λ split. split.parts ≡ given_parts (vec_len parts) 0 parts.items) }
     ensures few { IfOk result (λ split. length split.parts ≤ 256) }

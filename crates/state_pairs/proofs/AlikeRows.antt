@@ -4,8 +4,8 @@ use Rattle.std.proofs.lemmas.Bool.{cases_lt, false≢true}
 use Rattle.std.proofs.lemmas.List.{get_or_default}
 use Rattle.std.proofs.lemmas.List.Elements.{Contains-get_or}
 use Rattle.cubes.specs.Cube.{HoldsNumber}
-use Rattle.cubes.proofs.Ends.{least_held}
-use Rattle.cubes.proofs.Held.{held_from_mask, mask_from_held}
+use Rattle.cubes.specs.Laws.Ends.{least_held}
+use Rattle.cubes.specs.Laws.Held.{held_from_mask, mask_from_held}
 use Rattle.kiss_file.specs.declared.file.KissFile.{KissFile}
 use Rattle.kiss_file.specs.declared.file.KissRow.{KissRow}
 use Rattle.state_pairs.specs.Asked.{AllSay, ApartBelow, AreApartAt, HaveOneLabel, MeetsApart, SayApart, SayTwo}

@@ -3,7 +3,7 @@ use Rattle.std.proofs.Common.{◌≡◌, ◌≢◌, ℕ, zero, suc, ◌<◌, ◌
 use Rattle.std.proofs.lemmas.Bool.{cases_Bool, cases_eq, true≢false}
 use Rattle.std.proofs.lemmas.List.Elements.{Contains-append_cases, Contains-append_right}
 use Rattle.cubes.specs.Cube.{HoldsNumber}
-use Rattle.cubes.proofs.Held.{held_from_mask, mask_from_held}
+use Rattle.cubes.specs.Laws.Held.{held_from_mask, mask_from_held}
 use Rattle.kiss_file.specs.declared.file.KissFile.{KissFile}
 use Rattle.kiss_file.specs.declared.file.KissRow.{KissRow}
 use Rattle.state_pairs.specs.Asked.{DifferAt, DifferOpen, NoneIsOpen, IsLabelAt, IsOpenAt}

@@ -17,7 +17,7 @@ use Rattle.state_rows.specs.Places.{IsNumberOf}
 use Rattle.state_pairs.proofs.Asking.{number_of_row}
 use Rattle.state_rows.proofs.RowBundles.{of_row}
 use Rattle.state_rows.proofs.RowPatterns.{none_of_zero}
-use Rattle.cubes.proofs.SharedCubes.{meets_from_held}
+use Rattle.cubes.specs.Laws.SharedCubes.{meets_from_held}
 use Rattle.state_rows.proofs.Least.{if_some_map, lesser_has, met_least, met_left, met_right}
 use Rattle.state_pairs.proofs.Sought.{row_of}
 

@@ -22,7 +22,7 @@ use Rattle.state_pairs.proofs.AddedPairs.{adds_as, adds_none, lengthens_keeps, l
 use Rattle.state_pairs.proofs.MarkedRows.{left_first, left_less, left_none}
 use Rattle.state_rows.proofs.RowBundles.{of_row}
 use Rattle.state_rows.proofs.RowPatterns.{none_of_zero}
-use Rattle.cubes.proofs.SharedCubes.{first_holds, least_below, meets_from_held, second_holds}
+use Rattle.cubes.specs.Laws.SharedCubes.{first_holds, least_below, meets_from_held, second_holds}
 use Rattle.state_pairs.proofs.Sought.{row_of}
 
 -- the states of a pair that two rows name

@@ -4,8 +4,8 @@ use Rattle.std.proofs.lemmas.Bool.{true≢false}
 use Rattle.std.proofs.lemmas.List.Elements.{Contains-get_or}
 use Rattle.cubes.specs.Symbol.{symbol_of}
 use Rattle.cubes.specs.Cube.{HoldsNumber}
-use Rattle.cubes.proofs.Ends.{least_held}
-use Rattle.cubes.proofs.Numbers.{length-symbol_of}
+use Rattle.cubes.specs.Laws.Ends.{least_held}
+use Rattle.cubes.specs.Laws.Numbers.{length-symbol_of}
 use Rattle.kiss_file.specs.declared.file.KissFile.{KissFile}
 use Rattle.kiss_file.specs.declared.file.KissRow.{KissRow}
 use Rattle.kiss_file.specs.Machine.{Conflicting, Specified}
@@ -18,7 +18,7 @@ use Rattle.state_pairs.specs.Table.{IsTable}
 use Rattle.state_pairs.proofs.AlikeRows.{held_by_like}
 use Rattle.state_pairs.proofs.Asking.{lawful_row, number_of_row}
 use Rattle.state_pairs.proofs.Labels.{label_or_open, value_of_some}
-use Rattle.cubes.proofs.SharedCubes.{value_below}
+use Rattle.cubes.specs.Laws.SharedCubes.{value_below}
 use Rattle.state_pairs.proofs.Sought.{at_from_held, held_from_at, row_from_at, row_of}
 
 -- ---- what rows name

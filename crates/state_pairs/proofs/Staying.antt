@@ -1,7 +1,7 @@
 -- A machine never leaves its states, whichever list of bits it reads.
 use Rattle.std.proofs.Common.{◌≡◌, ℕ, ◌<◌, Bool, List, length, subst}
 use Rattle.cubes.specs.Symbol.{number_of, symbol_of}
-use Rattle.cubes.proofs.Numbers.{symbol_of-number_of}
+use Rattle.cubes.specs.Laws.Numbers.{symbol_of-number_of}
 use Rattle.kiss_file.specs.declared.file.KissFile.{KissFile}
 use Rattle.kiss_file.specs.Machine.{Conflicting, next}
 use Rattle.state_pairs.specs.Staying.{NeverLeaves}

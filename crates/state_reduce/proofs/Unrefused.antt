@@ -1,7 +1,7 @@
 -- The partition of alike states is closed and consistent, so it is refused for want of memory alone.
 use Rattle.std.proofs.Common.{◌≡◌, ℕ, ◌<◌, Bool, List, length, refl, arith}
 use Rattle.cubes.specs.Symbol.{symbol_of}
-use Rattle.cubes.proofs.Numbers.{length-symbol_of}
+use Rattle.cubes.specs.Laws.Numbers.{length-symbol_of}
 use Rattle.kiss_file.specs.declared.file.KissFile.{KissFile}
 use Rattle.kiss_file.specs.Machine.{next, out}
 use Rattle.machine_table.specs.Staying.{NeverLeaves}

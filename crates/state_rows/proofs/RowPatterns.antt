@@ -4,9 +4,8 @@ use Rattle.std.specs.Int.{bit_at}
 use Rattle.std.proofs.lemmas.Bool.{cases_eq, cases_lt}
 use Rattle.std.proofs.lemmas.Nat.Bits.{bit_at-lt, bit_at-zero, bit_at_above, bit_at_ones, same_from_bits, same_from_bits_below}
 use Rattle.cubes.specs.declared.cube.Cube.{Cube}
-use Rattle.cubes.specs.Cube.{Meets}
-use Rattle.cubes.specs.Inner.Region.{clash_of}
-use Rattle.cubes.proofs.Meeting.{clash_digit, clash_from_meets, meets_from_clash}
+use Rattle.cubes.specs.Cube.{Meets, clash_of}
+use Rattle.cubes.specs.Laws.Meeting.{clash_digit, clash_from_meets, meets_from_clash}
 use Rattle.kiss_file.specs.declared.file.KissRow.{KissRow}
 use Rattle.kiss_file.specs.Machine.{GiveBoth, NameTwo}
 use Rattle.pattern_bundles.specs.Pattern.{Agree}

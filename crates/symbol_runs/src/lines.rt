@@ -1,19 +1,19 @@
 //! Answers as lines.
 
-ghost use Rattle.std.specs.Prelude.{◌≡◌, ◌<◌, ◌≤◌, ◌++◌, IfOk, OnOk, map};
-ghost use Rattle.cubes.specs.Symbol as symbols;
+ghost use Rattle.std.specs.Prelude.{◌≡◌, ◌≤◌, ◌++◌, IfOk, OnOk, map};
 ghost use Rattle.hs_io.specs.Spelling.{ended};
-ghost use Rattle.machine_table.specs.Walk.{outputs_of};
+ghost use Rattle.cubes.specs.Symbol.{lowest_bits};
 ghost use Rattle.net_sim.specs.BitTexts.{text_of_bits};
 ghost use Rattle.net_sim.specs.Run.{answers_text};
 
+use cubes::bit;
 use net_sim::append_answer;
 use std::alloc::{AllocError, Global};
 
 /// A line for each number, whose bits are `count` outputs.
 pub(crate) fn answer_lines(alloc: Global, count: u8, words: &[u64]) -> Result<Vec<u8>, AllocError>
     requires { count ≤ 64 }
-    ensures { IfOk result (λ text. text.items ≡ answers_text (map (outputs_of count) words.now)) }
+    ensures { IfOk result (λ text. text.items ≡ answers_text (map (lowest_bits count) words.now)) }
 {
     let mut bits = Vec::new(alloc);
     let mut text = Vec::new(alloc);
@@ -31,19 +31,11 @@ fn append_word(
     bits: &mut Vec<bool>,
 ) -> Result<(), AllocError>
     requires { count ≤ 64 }
-    ensures { OnOk result (text.new.items ≡ text.old.items ++ ended (text_of_bits (outputs_of count word))) }
+    ensures { OnOk result (text.new.items ≡ text.old.items ++ ended (text_of_bits (lowest_bits count word))) }
 {
     bits.clear();
     for place in 0..usize::from(count) {
         bits.push(bit(word, place))?;
     }
     append_answer(text, bits)
-}
-
-/// Whether a bit of a number is 1.
-fn bit(value: u64, place: usize) -> bool
-    requires { place < 64 }
-    ensures { result ≡ symbols.bit value place }
-{
-    value >> place & 1 == 1
 }

@@ -8,7 +8,7 @@ use Rattle.dependence.specs.Candidates.{IsBitOfCode, IsCandidate}
 use Rattle.dependence.specs.Permits.{next_value, output_value}
 use Rattle.dependence.specs.ReadRule.{Beside, IsReadRule}
 use Rattle.dependence.specs.Reads.{AreReads, IsReadSet}
-use Rattle.dependence.proofs.Judged.{permits_more}
+use Rattle.dependence.specs.Laws.Judged.{permits_more}
 use Rattle.kiss_file.specs.declared.file.KissFile.{KissFile}
 use Rattle.state_codes.specs.declared.Codes.{Codes}
 use Rattle.state_codes.specs.declared.split.Part.{Part}

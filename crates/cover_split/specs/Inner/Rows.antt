@@ -1,11 +1,10 @@
 -- The rows of pairs.
 use Rattle.std.specs.Prelude.{◌≡◌, ℕ, ◌-◌, ◌<◌, ◌≤◌, ◌^◌, ◌++◌, All, AllPairs, Contains, List, None, Some, length, slice_index}
 use Rattle.cubes.specs.Cube.{HoldsNumber}
-use Rattle.cubes.specs.Symbol.{symbol_of}
+use Rattle.cubes.specs.Symbol.{symbol_of, lowest_bits}
 use Rattle.kiss_file.specs.declared.file.KissFile.{KissFile}
 use Rattle.kiss_file.specs.declared.file.KissRow.{KissRow}
 use Rattle.kiss_file.specs.Machine.{out}
-use Rattle.machine_table.specs.Walk.{outputs_of}
 use Rattle.kiss_file.specs.NumberedNames.{numbered_names}
 use Rattle.cover_split.specs.Cover.{block_at}
 use Rattle.cover_split.specs.Expansion.{IsFirstCopy, IsNextPair, IsPair, pairs_of}
@@ -20,7 +19,7 @@ pub record IsPairRow (F : KissFile) (blocks : List (List ℕ)) (i : ℕ) (row : 
   pub leads : (x : ℕ) → x < 2 ^ F.inputs → HoldsNumber row.cube x → IsNextPair F blocks i (symbol_of F.inputs x) target
   pub care : row.care ≡ 2 ^ F.outputs - 1
   pub value : row.value < 2 ^ F.outputs
-  pub gives : (j s x : ℕ) → IsPair blocks i j s → x < 2 ^ F.inputs → HoldsNumber row.cube x → out F s (symbol_of F.inputs x) ≡ outputs_of F.outputs row.value
+  pub gives : (j s x : ℕ) → IsPair blocks i j s → x < 2 ^ F.inputs → HoldsNumber row.cube x → out F s (symbol_of F.inputs x) ≡ lowest_bits F.outputs row.value
 
 -- some row of the pair with the number i holds the symbol with the number x
 abbrev pub HasRowAt : List KissRow → (i x : ℕ) → Type 0

@@ -3,12 +3,8 @@
 use Rattle.std.specs.Prelude.{ℕ, ◌≡◌, ◌<◌, ◌/◌, ◌^◌, ◌==◌, Bool, true, false, if◌then◌else◌, List, All, bit_and, bit_or, bit_xor}
 use Rattle.cubes.specs.declared.cube.Cube.{Cube}
 use Rattle.cubes.specs.Symbol.{bit}
-use Rattle.cubes.specs.Cube.{HoldsNumber}
+use Rattle.cubes.specs.Cube.{HoldsNumber, clash_of}
 use Rattle.cubes.specs.Gap.{IsHeld}
-
--- the places where both have a bit, and the bits differ
-abbrev pub clash_of : Cube → Cube → ℕ
-clash_of c d = bit_and (bit_and (bit_xor c.value d.value) c.care) d.care
 
 -- there is no place where both the cube and the region have a bit and the bits differ
 abbrev pub touches : Cube → Cube → Bool

@@ -1,8 +1,8 @@
 -- For which gates each input matters.
 use Rattle.std.specs.Prelude.{◌≡◌, ◌≢◌, ◌⊎◌, ◌↔◌, ℕ, ◌+◌, ◌^◌, ◌<◌, ◌≤◌, Bool, true, Contains, List, Option, length, slice_get, Some, bit_xor}
 use Rattle.std.specs.Int.{bit_at}
+use Rattle.cubes.specs.Cube.{clash_of}
 use Rattle.cubes.specs.Symbol.{bit}
-use Rattle.cubes.specs.Inner.Region.{clash_of}
 use Rattle.kiss_file.specs.declared.file.KissFile.{KissFile}
 use Rattle.kiss_file.specs.declared.file.KissRow.{KissRow}
 use Rattle.dependence.specs.declared.effects.Effect.{Effect}
@@ -11,7 +11,7 @@ use Rattle.dependence.specs.declared.bit.Bit.TheVariants.{Latch, Output}
 use Rattle.dependence.specs.Bit.{IsBit, value_of}
 use Rattle.dependence.specs.Inputs.{DifferAlone}
 use Rattle.dependence.specs.Effects.{ActsBy, MattersAt}
-use Rattle.dependence.specs.Inner.Said.{row_value}
+use Rattle.dependence.specs.Said.{row_value}
 
 -- both are given, and they differ
 abbrev pub AreApart : Option Bool → Option Bool → Type 0

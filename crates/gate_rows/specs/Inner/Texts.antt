@@ -4,7 +4,7 @@ use Rattle.std.specs.List.{range_with_len}
 use Rattle.cover_logic.specs.declared.term.Term.{Term}
 use Rattle.cover_logic.specs.Term.{FitsWidth, HoldsWithDash, IsCovered, LooksAt}
 use Rattle.cubes.specs.Field.{byte_of, character}
-use Rattle.gate_rows.specs.Bits.{code_bits}
+use Rattle.cubes.specs.Symbol.{lowest_bits}
 
 -- the character of a term at a column
 abbrev pub byte_at : Term → ℕ → ℕ
@@ -17,9 +17,9 @@ row_text width t = map (byte_at t) (range_with_len 0 width)
 -- an irredundant cover, over the numbers whose bits are what is read, bit c the value of column c
 pub record IsCoverByTerms (On Off : List Bool → Type 0) (width : ℕ) (rows : List Term) : Type 0 where
   pub fits : All (FitsWidth width) rows
-  pub on_held : (v : ℕ) → v < 2 ^ width → On (code_bits width v) → IsCovered rows v
-  pub off_free : (v : ℕ) → v < 2 ^ width → Off (code_bits width v) → IsCovered rows v → ⊥
+  pub on_held : (v : ℕ) → v < 2 ^ width → On (lowest_bits width v) → IsCovered rows v
+  pub off_free : (v : ℕ) → v < 2 ^ width → Off (lowest_bits width v) → IsCovered rows v → ⊥
   pub literals_needed : All (λ row. (column : ℕ) → LooksAt row column →
-      (v : ℕ) × (v < 2 ^ width) × Off (code_bits width v) × HoldsWithDash row column v) rows
+      (v : ℕ) × (v < 2 ^ width) × Off (lowest_bits width v) × HoldsWithDash row column v) rows
   pub rows_needed : EachIndex rows (λ i.
-      (v : ℕ) × (v < 2 ^ width) × On (code_bits width v) × (IsCovered (remove rows i) v → ⊥))
+      (v : ℕ) × (v < 2 ^ width) × On (lowest_bits width v) × (IsCovered (remove rows i) v → ⊥))

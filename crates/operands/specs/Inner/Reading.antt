@@ -2,10 +2,9 @@
 use Rattle.std.specs.Prelude.{◌≡◌, ◌⊎◌, ℕ, List, Some, Result, Ok, Err, map, slice_get}
 use Rattle.answers.specs.declared.refusals.Refusal.{Refusal}
 use Rattle.answers.specs.declared.refusals.Refusal.TheVariants.{NoMemory, Unspecified}
-use Rattle.answers.specs.Digits.{digit}
 use Rattle.answers.specs.Judged.{IsStop}
 use Rattle.blif_in.specs.declared.reading.OrderedNetwork.{OrderedNetwork}
-use Rattle.cubes.specs.Symbol.{symbol_of}
+use Rattle.cubes.specs.Symbol.{digit, symbol_of}
 use Rattle.kiss_file.specs.declared.fill.Fill.{Fill}
 use Rattle.kiss_file.specs.declared.file.KissFile.{KissFile}
 use Rattle.kiss2.specs.Kiss.{Kiss}

@@ -1,8 +1,7 @@
 -- The contents of the register in ascending order of their words.
 use Rattle.std.specs.Prelude.{◌≡◌, ℕ, zero, suc, ◌+◌, ◌*◌, ◌^◌, ◌<◌, if◌then◌else◌, Bool, List, Some, length, map, slice_get}
 use Rattle.std.specs.List.{range_with_len}
-use Rattle.cubes.specs.Symbol.{bit, symbol_of}
-use Rattle.gate_rows.specs.Bits.{code_bits}
+use Rattle.cubes.specs.Symbol.{bit, symbol_of, lowest_bits}
 use Rattle.kiss_file.specs.declared.file.KissFile.{KissFile}
 use Rattle.kiss_file.specs.Machine.{next}
 use Rattle.shift_real.specs.declared.contents.Content.{Content}
@@ -27,7 +26,7 @@ contents_after F content = map (content_after F content) (range_with_len 0 (2 ^ 
 
 -- the content is that of the word
 pub record IsContentOf (F : KissFile) (k : ℕ) (word : List (List Bool)) (content : Content) : Type 0 where
-  pub latches : code_bits (k * F.inputs) content.latches ≡ latch_values word
+  pub latches : lowest_bits (k * F.inputs) content.latches ≡ latch_values word
   pub small : content.latches < 2 ^ (k * F.inputs)
   pub state : content.state ≡ state_after F word
   pub within : content.state < length F.states

@@ -1,6 +1,6 @@
 -- The states after all contents of the register, each at the number of its latches, and the classes of these states.
 use Rattle.std.specs.Prelude.{◌≡◌, ℕ, zero, suc, ◌*◌, ◌^◌, ◌<◌, ◌≤◌, All, Bool, List, [], ◌∷◌, length, slice_index, take, drop}
-use Rattle.gate_rows.specs.Bits.{code_bits}
+use Rattle.cubes.specs.Symbol.{lowest_bits}
 use Rattle.kiss_file.specs.declared.file.KissFile.{KissFile}
 use Rattle.machine_table.specs.Pairs.{AgreeInBit, AtEachSymbol}
 use Rattle.shift_real.specs.Register.{state_after}
@@ -12,7 +12,7 @@ word_of (suc k) inputs bits = drop (k * inputs) bits ∷ word_of k inputs (take 
 
 -- the content with the given number, latch i at 2 ^ i
 abbrev pub content_of : KissFile → ℕ → ℕ → List (List Bool)
-content_of F k number = word_of k F.inputs (code_bits (k * F.inputs) number)
+content_of F k number = word_of k F.inputs (lowest_bits (k * F.inputs) number)
 
 abbrev pub state_at : KissFile → ℕ → ℕ → ℕ
 state_at F k number = state_after F (content_of F k number)

@@ -1,8 +1,7 @@
 use Rattle.std.proofs.Common.{◌≡◌, ◌-◌, ap, ◌∙◌}
-use Rattle.answers.specs.Digits.{digit}
 use Rattle.answers.proofs.DigitsOf.{symbol_done, symbol_more}
 use Rattle.answers.proofs.digits.symbol_text.Goals as goal
-use Rattle.cubes.specs.Symbol.{bit}
+use Rattle.cubes.specs.Symbol.{bit, digit}
 
 pub loop-place-preserved : goal.loop-place-preserved
 loop-place-preserved c =

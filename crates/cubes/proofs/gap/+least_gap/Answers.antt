@@ -2,7 +2,7 @@ use Rattle.std.proofs.Common.{◌≡◌, ℕ, ◌+◌, ◌-◌, ◌≤◌, List,
 use Rattle.cubes.specs.declared.cube.Cube.{Cube}
 use Rattle.cubes.specs.Inner.Region.{HasDashesBelow, IsLeastGapIn}
 use Rattle.cubes.proofs.Least.{dashes_below_half, gap_in_high, least_of_high, least_of_low, least_of_one}
-use Rattle.cubes.proofs.Parts.{half_of_region}
+use Rattle.cubes.specs.Laws.Parts.{half_of_region}
 use Rattle.cubes.proofs.Regions.{ok_on}
 use Rattle.cubes.proofs.gap.+least_gap.Goals as goal
 

@@ -3,7 +3,7 @@ use Rattle.std.proofs.lemmas.Bool.{false≢true}
 use Rattle.cubes.specs.declared.cube.Cube.{Cube}
 use Rattle.cubes.specs.Inner.Region.{AreWanted, HoldsRegion, IsGapIn}
 use Rattle.cubes.proofs.Narrowing.{dashes_fall}
-use Rattle.cubes.proofs.Parts.{half_of_region, whole_from_half}
+use Rattle.cubes.specs.Laws.Parts.{half_of_region, whole_from_half}
 use Rattle.cubes.proofs.Regions.{gap_far, none_near, none_on, some_on, whole_near, widths_near}
 use Rattle.cubes.proofs.Wanting.{against_held, against_inside, halves_held, one_sided_open, same_masks}
 use Rattle.cubes.proofs.gap.+some_gap.Goals as goal

@@ -1,4 +1,4 @@
-use Rattle.cubes.proofs.Ends.{difference, meets_not_from_difference}
+use Rattle.cubes.specs.Laws.Ends.{difference, meets_not_from_difference}
 use Rattle.cubes.proofs.laws.apart_cubes_differ.Goals as goal
 
 pub returns : goal.returns

@@ -1,4 +1,4 @@
-use Rattle.cubes.proofs.Ends.{least_held, greatest_held, greatest_within, value_le, le_greatest}
+use Rattle.cubes.specs.Laws.Ends.{least_held, greatest_held, greatest_within, value_le, le_greatest}
 use Rattle.cubes.proofs.laws.ends_of_a_cube.Goals as goal
 
 pub returns : goal.returns

@@ -1,4 +1,4 @@
-use Rattle.cubes.proofs.Deciding.{held_from_test, test_from_held}
+use Rattle.cubes.specs.Laws.Deciding.{held_from_test, test_from_held}
 use Rattle.cubes.proofs.laws.holding_is_decided.Goals as goal
 
 pub returns : goal.returns

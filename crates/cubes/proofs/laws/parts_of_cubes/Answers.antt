@@ -1,4 +1,4 @@
-use Rattle.cubes.proofs.Parts.{both_from_each, first_from_both, second_from_both, whole_from_half, half_from_whole}
+use Rattle.cubes.specs.Laws.Parts.{both_from_each, first_from_both, second_from_both, whole_from_half, half_from_whole}
 use Rattle.cubes.proofs.laws.parts_of_cubes.Goals as goal
 
 pub returns-clause-both : goal.returns-clause-both

@@ -1,4 +1,4 @@
-use Rattle.cubes.proofs.Held.{agrees_from_held, held_from_agrees, held_from_mask, mask_from_held}
+use Rattle.cubes.specs.Laws.Held.{agrees_from_held, held_from_agrees, held_from_mask, mask_from_held}
 use Rattle.cubes.proofs.laws.places_of_a_cube.Goals as goal
 
 pub returns : goal.returns

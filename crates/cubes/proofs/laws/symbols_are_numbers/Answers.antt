@@ -1,6 +1,6 @@
 use Rattle.std.proofs.Common.{◌∙◌}
 use Rattle.std.proofs.Math.Nat.{mod-eq_of_lt}
-use Rattle.cubes.proofs.Numbers.{length-symbol_of, number_below, number_of-symbol_of, symbol_of-number_of}
+use Rattle.cubes.specs.Laws.Numbers.{length-symbol_of, number_below, number_of-symbol_of, symbol_of-number_of}
 use Rattle.cubes.proofs.laws.symbols_are_numbers.Goals as goal
 
 pub returns : goal.returns

@@ -1,7 +1,7 @@
 use Rattle.std.proofs.Common.{ℕ, List, Bool, length, refl, sym, ◌∙◌, arith}
 use Rattle.std.proofs.lemmas.Bool.{true≢false}
 use Rattle.dependence.specs.Bit.{value_of}
-use Rattle.dependence.proofs.Agreeing.{FirstGives, FirstsGive, first_itself, firsts_more, permits_from_firsts, same_from_permits}
+use Rattle.dependence.specs.Laws.Agreeing.{FirstGives, FirstsGive, first_itself, firsts_more, permits_from_firsts, same_from_permits}
 use Rattle.dependence.proofs.Firsts.{firsts_none}
 use Rattle.dependence.proofs.asking.permits_gate.Goals as goal
 use Rattle.dependence.proofs.asking.permits_gate.Goals.{else-first-s-via-then-first-s+else-not-gives_the_same, else-first-s-via-else-first-s}

@@ -1,6 +1,6 @@
 use Rattle.dependence.specs.Inner.Asking.{AreFirsts}
 use Rattle.dependence.specs.Bit.{value_of}
-use Rattle.dependence.proofs.Agreeing.{FirstsGive}
+use Rattle.dependence.specs.Laws.Agreeing.{FirstsGive}
 use Rattle.dependence.proofs.asking.permits_gate.Given as goal
 
 abbrev pub invariant-loop-s : goal.invariant-loop-s

@@ -4,7 +4,7 @@ use Rattle.dependence.specs.Effects.{ActsBy}
 use Rattle.dependence.specs.declared.effects.Effect.{Effect}
 use Rattle.dependence.specs.Permits.{InWord}
 use Rattle.dependence.proofs.Adding.{acts_from, acts_there, acts_within}
-use Rattle.dependence.proofs.Words.{set_more, set_same}
+use Rattle.dependence.specs.Laws.Words.{set_more, set_same}
 use Rattle.dependence.proofs.effects.inputs_of.Goals as goal
 use Rattle.dependence.proofs.effects.inputs_of.Goals.{then-acts_on, else-acts_on}
 

@@ -1,7 +1,7 @@
 use Rattle.std.proofs.Common.{◌≡◌, ◌+◌, ◌-◌, subst, arith}
 use Rattle.dependence.specs.Bit.{value_of}
 use Rattle.dependence.specs.Inner.Judging.{AreJudgedFrom}
-use Rattle.dependence.proofs.Judged.{judged_all, judged_more, judged_none}
+use Rattle.dependence.specs.Laws.Judged.{judged_all, judged_more, judged_none}
 use Rattle.dependence.proofs.judging.read_bits.Goals as goal
 
 pub loop-c-init : goal.loop-c-init

@@ -1,7 +1,7 @@
 use Rattle.std.proofs.Common.{Contains}
 use Rattle.list_facts.specs.Laws.Members.{among_or_not}
 use Rattle.dependence.specs.Candidates.{IsBitOfCode, IsCandidate}
-use Rattle.dependence.proofs.Irredundant.{rule_least}
+use Rattle.dependence.specs.Laws.Irredundant.{rule_least}
 use Rattle.dependence.proofs.laws.rule_is_irredundant.Goals as goal
 
 pub returns-clause-tests : goal.returns-clause-tests

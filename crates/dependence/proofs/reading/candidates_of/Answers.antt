@@ -2,7 +2,7 @@ use Rattle.std.proofs.Common.{◌≡◌, ◌⊎◌, ◌↔◌, ℕ, ◌+◌, ◌
 use Rattle.std.proofs.lemmas.Bool.{false≢true}
 use Rattle.dependence.specs.Candidates.{IsOpenTo}
 use Rattle.dependence.specs.Permits.{InWord}
-use Rattle.dependence.proofs.Words.{set_more, set_same}
+use Rattle.dependence.specs.Laws.Words.{set_more, set_same}
 use Rattle.dependence.proofs.reading.candidates_of.Goals as goal
 use Rattle.dependence.proofs.reading.candidates_of.Goals.{then-is_open, else-is_open}
 

@@ -1,6 +1,6 @@
 use Rattle.std.proofs.Common.{◌≡◌, ◌==◌, ℕ, bit_and, get_or, Bool, true, false, not, refl}
 use Rattle.std.proofs.lemmas.Bool.{eq-eqb, eqb-true, false≢true}
-use Rattle.dependence.proofs.Agreeing.{agree_from_masks, masks_from_agree}
+use Rattle.dependence.specs.Laws.Agreeing.{agree_from_masks, masks_from_agree}
 use Rattle.least_codes.proofs.choice.differ_on.Goals as goal
 
 -- a test that is not true is false

@@ -1,4 +1,4 @@
-use Rattle.dependence.proofs.Words.{with_bit}
+use Rattle.dependence.specs.Laws.Words.{with_bit}
 use Rattle.least_codes.proofs.choice.with.Goals as goal
 
 pub returns : goal.returns

@@ -1,6 +1,6 @@
 use Rattle.std.proofs.Common.{List, ℕ, sym, subst, arith}
 use Rattle.dependence.specs.Permits.{InWord, PermitsValue}
-use Rattle.dependence.proofs.Words.{bit_within}
+use Rattle.dependence.specs.Laws.Words.{bit_within}
 use Rattle.dependence.specs.Bit.{value_of}
 use Rattle.least_codes.specs.Inner.Apart.{AreApart}
 use Rattle.least_codes.specs.LeastReads.{IsLeastReadSet}

@@ -1,5 +1,5 @@
 use Rattle.std.proofs.Common.{map, ap}
-use Rattle.answers.specs.Digits.{digit}
+use Rattle.cubes.specs.Symbol.{digit}
 use Rattle.machine_reports.proofs.laws.lines_show_outputs.Goals as goal
 
 pub returns : goal.returns

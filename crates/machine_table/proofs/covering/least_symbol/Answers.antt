@@ -1,5 +1,5 @@
-use Rattle.cubes.proofs.Ends.{least_held}
-use Rattle.cubes.proofs.SharedCubes.{value_below}
+use Rattle.cubes.specs.Laws.Ends.{least_held}
+use Rattle.cubes.specs.Laws.SharedCubes.{value_below}
 use Rattle.machine_table.proofs.covering.least_symbol.Goals as goal
 
 pub returns-clause-held : goal.returns-clause-held

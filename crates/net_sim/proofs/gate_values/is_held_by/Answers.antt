@@ -1,4 +1,4 @@
-use Rattle.cubes.proofs.Deciding.{held_from_test, test_from_held}
+use Rattle.cubes.specs.Laws.Deciding.{held_from_test, test_from_held}
 use Rattle.cubes.specs.Symbol.{symbol_of}
 use Rattle.net_sim.proofs.FormValues.{same_test}
 use Rattle.cubes.specs.Cube.{holds}

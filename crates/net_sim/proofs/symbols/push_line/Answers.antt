@@ -1,6 +1,6 @@
 use Rattle.std.proofs.Common.{◌≡◌, ◌<◌, ◌^◌, ℕ, Bool, List, length, inl, inr, refl, sym, ◌∙◌, ap, subst}
 use Rattle.cubes.specs.Symbol.{number_of, symbol_of}
-use Rattle.cubes.proofs.Numbers.{number_below, symbol_of-number_of}
+use Rattle.cubes.specs.Laws.Numbers.{number_below, symbol_of-number_of}
 use Rattle.hs_io.specs.Lines.{line_of}
 use Rattle.net_sim.specs.Symbols.{SaysSymbol}
 use Rattle.net_sim.proofs.symbols.push_line.Goals as goal

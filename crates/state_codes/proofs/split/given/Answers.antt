@@ -10,4 +10,4 @@ returns-clause-lawful c n all =
 
 pub returns-clause-few : goal.returns-clause-few
 returns-clause-few c =
-    omega (arith, ap length c.in_ok-own_carriers.ensures, given_parts-length (vec_len c.args.parts) 0 c.args.parts.items, c.requires.count)
+    omega (arith, ap length c.in_ok-own_carriers.ensures, given_parts-length (vec_len c.args.parts) 0 c.args.parts.items, c.requires)

@@ -1,4 +1,4 @@
-use Rattle.cubes.proofs.SharedCubes.{first_holds, least_below, least_le, second_holds}
+use Rattle.cubes.specs.Laws.SharedCubes.{first_holds, least_below, least_le, second_holds}
 use Rattle.state_pairs.proofs.searching.least_of_both.Goals as goal
 
 pub returns-then-meets-clause-first : goal.returns-then-meets-clause-first

@@ -1,4 +1,4 @@
-use Rattle.cubes.proofs.SharedCubes.{dash_at, inside_of, none_before, other_at, within_at}
+use Rattle.cubes.specs.Laws.SharedCubes.{dash_at, inside_of, none_before, other_at, within_at}
 use Rattle.cubes.proofs.cube.Cube.free_place.Goals as goal
 
 pub returns-then-free-eq0-clause-none : goal.returns-then-free-eq0-clause-none

@@ -1,7 +1,7 @@
 use Rattle.std.proofs.Common.{ℕ, ◌≡◌, ◌<◌, ◌*◌, ◌%◌, ◌^◌, ◌⊎◌, Bool, cond, bit_and, bit_or, inl, inr, refl, sym, ◌∙◌, ap, subst, arith}
 use Rattle.std.proofs.lemmas.Nat.{one_shl}
 use Rattle.cubes.specs.declared.cube.Cube.{Cube}
-use Rattle.cubes.proofs.SharedCubes.{care_grows, care_in_half, value_in_half}
+use Rattle.cubes.specs.Laws.SharedCubes.{care_grows, care_in_half, value_in_half}
 use Rattle.cubes.proofs.cube.Cube.half.Goals.{then-one, else-one}
 use Rattle.cubes.proofs.cube.Cube.half.Goals as goal
 

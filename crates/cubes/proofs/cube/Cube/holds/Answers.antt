@@ -1,5 +1,5 @@
 use Rattle.std.proofs.lemmas.Bool.{eqb-true, eq-eqb}
-use Rattle.cubes.proofs.Held.{held_from_mask, mask_from_held}
+use Rattle.cubes.specs.Laws.Held.{held_from_mask, mask_from_held}
 use Rattle.cubes.proofs.cube.Cube.holds.Goals as goal
 
 pub returns : goal.returns

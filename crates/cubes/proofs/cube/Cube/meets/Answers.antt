@@ -1,5 +1,5 @@
 use Rattle.std.proofs.lemmas.Bool.{eqb-true, eq-eqb}
-use Rattle.cubes.proofs.Meeting.{meets_from_clash, clash_from_meets}
+use Rattle.cubes.specs.Laws.Meeting.{meets_from_clash, clash_from_meets}
 use Rattle.cubes.proofs.cube.Cube.meets.Goals as goal
 
 pub returns : goal.returns

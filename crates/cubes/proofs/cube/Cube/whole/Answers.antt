@@ -1,5 +1,5 @@
 use Rattle.std.proofs.lemmas.Nat.{and_comm}
-use Rattle.cubes.proofs.Held.{held_from_mask}
+use Rattle.cubes.specs.Laws.Held.{held_from_mask}
 use Rattle.cubes.proofs.cube.Cube.whole.Goals as goal
 
 pub returns-clause-all : goal.returns-clause-all

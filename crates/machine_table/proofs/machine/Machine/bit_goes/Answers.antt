@@ -1,7 +1,7 @@
 use Rattle.std.proofs.Common.{ℕ, ◌≡◌, ◌↔◌, ◌∙◌, List, IsTrue, ap, false, not, slice_index, subst, sym}
 use Rattle.std.specs.Int.{bit_at}
 use Rattle.cubes.specs.Symbol.{symbol_of}
-use Rattle.cubes.proofs.Bits.{same_bits, same_digits}
+use Rattle.cubes.specs.Laws.Bits.{same_bits, same_digits}
 use Rattle.kiss_file.specs.declared.file.KissFile.{KissFile}
 use Rattle.kiss_file.specs.Machine.{Conflicting, next}
 use Rattle.state_pairs.specs.Pairs.{AtEachSymbol, GoInto, HaveOneBit}

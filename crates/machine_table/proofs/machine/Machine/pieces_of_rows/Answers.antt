@@ -3,7 +3,7 @@ use Rattle.std.proofs.lemmas.List.Elements.{All-push, Contains-get_or}
 use Rattle.cubes.specs.declared.cube.Cube.{Cube}
 use Rattle.cubes.specs.Cube.{HoldsNumber}
 use Rattle.cubes.specs.Symbol.{symbol_of}
-use Rattle.cubes.proofs.Numbers.{length-symbol_of}
+use Rattle.cubes.specs.Laws.Numbers.{length-symbol_of}
 use Rattle.kiss_file.specs.declared.file.KissRow.{KissRow}
 use Rattle.machine_table.specs.declared.covering.Piece.{Piece}
 use Rattle.machine_table.specs.Covering.{IsHeldByPiece, IsPiece}

@@ -1,8 +1,7 @@
 use Rattle.std.proofs.Common.{ℕ, ◌≡◌, ◌<◌, ◌+◌, ◌^◌, ◌++◌, [], ◌∷◌, List, All, drop, map, sym, subst}
 use Rattle.std.proofs.lemmas.List.Elements.{All-push}
-use Rattle.cubes.specs.Symbol.{symbol_of}
+use Rattle.cubes.specs.Symbol.{symbol_of, lowest_bits}
 use Rattle.kiss_file.specs.Machine.{answers}
-use Rattle.machine_table.specs.Walk.{outputs_of}
 use Rattle.machine_table.proofs.OutputWords.{walked, walked_more}
 use Rattle.machine_table.proofs.machine.Machine.walk.Goals as goal
 
@@ -16,9 +15,9 @@ loop-x-preserved c =
       state = c.step-step.ensures.state;
       below = subst (λ (list : List ℕ). All (λ word. word < 2 ^ F.outputs) list) (sym pushed)
           (All-push (λ word. word < 2 ^ F.outputs) c.loop-x.words.items c.step-step.result.outputs c.loop-x.invariant.below c.step-step.ensures.below);
-      outputs = subst (λ (list : List ℕ). map (outputs_of F.outputs) list ++ answers F c.step-step.result.next (map (symbol_of F.inputs) (drop (i + 1) symbols)) ≡ answers F F.reset (map (symbol_of F.inputs) symbols))
+      outputs = subst (λ (list : List ℕ). map (lowest_bits F.outputs) list ++ answers F c.step-step.result.next (map (symbol_of F.inputs) (drop (i + 1) symbols)) ≡ answers F F.reset (map (symbol_of F.inputs) symbols))
           (sym pushed)
-          (subst (λ (s : ℕ). map (outputs_of F.outputs) (c.loop-x.words.items ++ c.step-step.result.outputs ∷ []) ++ answers F s (map (symbol_of F.inputs) (drop (i + 1) symbols)) ≡ answers F F.reset (map (symbol_of F.inputs) symbols))
+          (subst (λ (s : ℕ). map (lowest_bits F.outputs) (c.loop-x.words.items ++ c.step-step.result.outputs ∷ []) ++ answers F s (map (symbol_of F.inputs) (drop (i + 1) symbols)) ≡ answers F F.reset (map (symbol_of F.inputs) symbols))
           (sym c.step-step.ensures.next_state)
           (walked_more F c.loop-x.s c.loop-x.words.items c.step-step.result.outputs i symbols (answers F F.reset (map (symbol_of F.inputs) symbols)) c.loop-x-test.true c.step-step.ensures.outputs c.loop-x.invariant.outputs));
     }

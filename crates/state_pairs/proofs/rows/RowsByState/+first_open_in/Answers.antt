@@ -2,11 +2,11 @@ use Rattle.std.proofs.Common.{ℕ, ◌<◌, ◌^◌, Option, IfSome, true, false
 use Rattle.std.proofs.lemmas.Bool.{cases_Bool}
 use Rattle.cubes.specs.Cube.{HoldsNumber}
 use Rattle.cubes.specs.Symbol.{bit}
-use Rattle.cubes.proofs.Ends.{least_held, value_le}
-use Rattle.cubes.proofs.Parts.{half_from_whole, whole_from_half}
+use Rattle.cubes.specs.Laws.Ends.{least_held, value_le}
+use Rattle.cubes.specs.Laws.Parts.{half_from_whole, whole_from_half}
 use Rattle.state_pairs.specs.Asked.{AreOpenAt}
 use Rattle.state_rows.specs.Least.{IsMetBy}
-use Rattle.cubes.proofs.SharedCubes.{value_below}
+use Rattle.cubes.specs.Laws.SharedCubes.{value_below}
 use Rattle.state_rows.proofs.Least.{if_some_map, lesser_has, met_left, met_right}
 use Rattle.state_pairs.proofs.rows.RowsByState.+first_open_in.Goals as goal
 

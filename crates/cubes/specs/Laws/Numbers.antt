@@ -6,7 +6,7 @@ use Rattle.std.proofs.lemmas.Nat.{mod-pow-add}
 use Rattle.std.proofs.lemmas.Nat.Bits.{bit_at_cat_low, bit_at_cat_high, bit_at_above}
 use Rattle.std.specs.Int.{bit_at}
 use Rattle.cubes.specs.Symbol.{bit, number_of, symbol_of}
-use Rattle.cubes.proofs.Bits.{one_from_bit, zero_from_bit, bit_from_one, bit_from_zero, same_bits}
+use Rattle.cubes.specs.Laws.Bits.{one_from_bit, zero_from_bit, bit_from_one, bit_from_zero, same_bits}
 
 pub length-symbol_of : (places number : ℕ) → length (symbol_of places number) ≡ places
 unfolding symbol_of

@@ -4,8 +4,8 @@ use Rattle.std.proofs.lemmas.Bool.{cases_Bool, cases_lt}
 use Rattle.std.proofs.lemmas.Nat.Bits.{bit_at_and, bit_at-lt, bit_at_above, same_from_bits}
 use Rattle.std.specs.Int.{bit_at}
 use Rattle.cubes.specs.Symbol.{bit}
-use Rattle.cubes.proofs.Bits.{one_from_bit, zero_from_bit, same_digits, same_bits}
-use Rattle.cubes.proofs.Places.{AgreesAt}
+use Rattle.cubes.specs.Laws.Bits.{one_from_bit, zero_from_bit, same_digits, same_bits}
+use Rattle.cubes.specs.Laws.Places.{AgreesAt}
 
 module _ (places care value number : ℕ) where
   pub agrees_from_mask : bit_and number care ≡ value → AgreesAt places care value number

@@ -5,11 +5,11 @@ use Rattle.std.proofs.lemmas.Nat.Bits.{bit_at_or, bit_at-lt, bit_at-pow_same, bi
 use Rattle.std.specs.Int.{bit_at}
 use Rattle.cubes.specs.declared.cube.Cube.{Cube}
 use Rattle.cubes.specs.Symbol.{bit}
-use Rattle.cubes.specs.Cube.{HoldsNumber, IsBoth, IsHalf, Meets}
-use Rattle.cubes.specs.Inner.Region.{IsHalfOf, clash_of}
-use Rattle.cubes.proofs.Bits.{one_from_bit, zero_from_bit, bit_from_one, bit_from_zero, same_bits}
-use Rattle.cubes.proofs.Held.{agrees_from_held, held_from_agrees}
-use Rattle.cubes.proofs.Meeting.{clash_from_meets, first_holds_both, kept_digit, second_holds_both}
+use Rattle.cubes.specs.Cube.{HoldsNumber, IsBoth, IsHalf, Meets, clash_of}
+use Rattle.cubes.specs.Inner.Region.{IsHalfOf}
+use Rattle.cubes.specs.Laws.Bits.{one_from_bit, zero_from_bit, bit_from_one, bit_from_zero, same_bits}
+use Rattle.cubes.specs.Laws.Held.{agrees_from_held, held_from_agrees}
+use Rattle.cubes.specs.Laws.Meeting.{clash_from_meets, first_holds_both, kept_digit, second_holds_both}
 
 -- ---- the bits of a half
 module _ (c half : Cube) (place : ℕ) (b : Bool) (is : IsHalf c half place b) where

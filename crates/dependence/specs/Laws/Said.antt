@@ -14,7 +14,7 @@ use Rattle.machine_table.specs.Said.{Says, place_of}
 use Rattle.dependence.specs.declared.bit.Bit.{Bit}
 use Rattle.dependence.specs.declared.bit.Bit.TheVariants.{Latch, Output}
 use Rattle.dependence.specs.Bit.{IsBit, value_of}
-use Rattle.dependence.specs.Inner.Said.{row_value}
+use Rattle.dependence.specs.Said.{row_value}
 
 -- the part of which a gate tells
 abbrev pub part_of : Bit → Missing

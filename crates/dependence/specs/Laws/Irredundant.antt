@@ -4,7 +4,7 @@ use Rattle.std.proofs.lemmas.Bool.{cases_eq, cases_order}
 use Rattle.kiss_file.specs.declared.file.KissFile.{KissFile}
 use Rattle.dependence.specs.Permits.{PermitsValue}
 use Rattle.dependence.specs.ReadRule.{Beside, IsIrredundant, IsReadRule, Without}
-use Rattle.dependence.proofs.Judged.{permits_more}
+use Rattle.dependence.specs.Laws.Judged.{permits_more}
 
 -- the candidates below c, and the read bits from it on
 abbrev From : (ℕ → Type 0) → (ℕ → Type 0) → ℕ → ℕ → Type 0

@@ -1,5 +1,5 @@
 use Rattle.dependence.specs.Listed.{AreListed}
-use Rattle.dependence.proofs.judging.numbers_of.Given as goal
+use Rattle.dependence.proofs.words.numbers_of.Given as goal
 
 abbrev pub invariant-loop-c : goal.invariant-loop-c
 invariant-loop-c l = AreListed l.numbers l.set l.c

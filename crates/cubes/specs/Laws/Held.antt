@@ -2,8 +2,8 @@
 use Rattle.std.proofs.Common.{◌≡◌, ℕ, bit_and}
 use Rattle.cubes.specs.declared.cube.Cube.{Cube}
 use Rattle.cubes.specs.Cube.{Holds, HoldsNumber}
-use Rattle.cubes.proofs.Places.{AgreesAt, agrees_from_field, field_from_agrees}
-use Rattle.cubes.proofs.Masks.{agrees_from_mask, mask_from_agrees}
+use Rattle.cubes.specs.Laws.Places.{AgreesAt, agrees_from_field, field_from_agrees}
+use Rattle.cubes.specs.Laws.Masks.{agrees_from_mask, mask_from_agrees}
 
 -- a cube holds a symbol where they agree at each place with care
 abbrev pub Agrees : Cube → ℕ → Type 0

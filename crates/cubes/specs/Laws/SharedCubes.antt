@@ -9,10 +9,10 @@ use Rattle.std.specs.Int.RustNames.{bit_xor}
 use Rattle.cubes.specs.declared.cube.Cube.{Cube}
 use Rattle.cubes.specs.Cube.{Holds, HoldsNumber, Meets}
 use Rattle.cubes.specs.Symbol.{bit, symbol_of}
-use Rattle.cubes.proofs.Bits.{one_from_bit, zero_from_bit, bit_from_one, bit_from_zero}
-use Rattle.cubes.proofs.Ends.{value_le_care}
-use Rattle.cubes.proofs.Held.{agrees_from_held, held_from_agrees, mask_from_held}
-use Rattle.cubes.proofs.Meeting.{clash_from_meets, first_holds_both, second_holds_both}
+use Rattle.cubes.specs.Laws.Bits.{one_from_bit, zero_from_bit, bit_from_one, bit_from_zero}
+use Rattle.cubes.specs.Laws.Ends.{value_le_care}
+use Rattle.cubes.specs.Laws.Held.{agrees_from_held, held_from_agrees, mask_from_held}
+use Rattle.cubes.specs.Laws.Meeting.{clash_from_meets, first_holds_both, second_holds_both}
 
 -- ---- the least symbol that both hold
 module _ (c d : Cube) (widths : c.width ≡ d.width) (meets : Meets c d) where

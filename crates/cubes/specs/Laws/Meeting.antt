@@ -6,12 +6,11 @@ use Rattle.std.specs.Int.{bit_at}
 use Rattle.std.specs.Int.RustNames.{bit_or, bit_xor}
 use Rattle.cubes.specs.declared.cube.Cube.{Cube}
 use Rattle.cubes.specs.Symbol.{symbol_of, number_of}
-use Rattle.cubes.specs.Cube.{Holds, HoldsNumber, Meets, field_of}
-use Rattle.cubes.specs.Inner.Region.{clash_of}
-use Rattle.cubes.proofs.Places.{length-characters, length_allowed}
-use Rattle.cubes.proofs.Bits.{one_from_bit, same_digits, same_bits}
-use Rattle.cubes.proofs.Numbers.{symbol_of-number_of}
-use Rattle.cubes.proofs.Held.{Agrees, agrees_from_held, held_from_agrees}
+use Rattle.cubes.specs.Cube.{Holds, HoldsNumber, Meets, field_of, clash_of}
+use Rattle.cubes.specs.Laws.Places.{length-characters, length_allowed}
+use Rattle.cubes.specs.Laws.Bits.{one_from_bit, same_digits, same_bits}
+use Rattle.cubes.specs.Laws.Numbers.{symbol_of-number_of}
+use Rattle.cubes.specs.Laws.Held.{Agrees, agrees_from_held, held_from_agrees}
 
 -- ---- one place, by its digits
 digits_first : (a b v w : ℕ) → a < 2 → b < 2 → v < 2 → w < 2 → min (min ((v + w) % 2) a) b ≡ 0 → w ≡ min b w → a ≡ 1 → v ≡ max v w

@@ -5,7 +5,7 @@ use Rattle.kiss_file.specs.declared.file.KissFile.{KissFile}
 use Rattle.dependence.specs.Permits.{InWord, PermitsValue}
 use Rattle.dependence.specs.ReadRule.{Beside, IsReadRule, Without}
 use Rattle.dependence.specs.Inner.Judging.{AreJudgedFrom, IsJudged}
-use Rattle.dependence.proofs.Words.{bit_within}
+use Rattle.dependence.specs.Laws.Words.{bit_within}
 
 -- a greater set permits what a smaller one permits
 pub permits_more : (F : KissFile) (words : List ℕ) (R S : ℕ → Type 0) (value : ℕ → List Bool → Bool) → ((c : ℕ) → R c → S c) → PermitsValue F words R value → PermitsValue F words S value

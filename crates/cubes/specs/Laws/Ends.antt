@@ -9,11 +9,10 @@ use Rattle.std.specs.Int.Bits.{and_self}
 use Rattle.std.specs.Int.RustNames.{bit_xor}
 use Rattle.cubes.specs.declared.cube.Cube.{Cube}
 use Rattle.cubes.specs.Symbol.{bit, number_of}
-use Rattle.cubes.specs.Cube.{DiffersAtPlace, HoldsNumber, Meets, greatest_of}
-use Rattle.cubes.specs.Inner.Region.{clash_of}
-use Rattle.cubes.proofs.Bits.{one_from_bit, bit_from_one, same_digits, same_bits}
-use Rattle.cubes.proofs.Held.{agrees_from_held, held_from_agrees, held_from_mask, mask_from_held}
-use Rattle.cubes.proofs.Meeting.{clash_digit, kept_digit, meets_from_clash, number_of_held}
+use Rattle.cubes.specs.Cube.{DiffersAtPlace, HoldsNumber, Meets, greatest_of, clash_of}
+use Rattle.cubes.specs.Laws.Bits.{one_from_bit, bit_from_one, same_digits, same_bits}
+use Rattle.cubes.specs.Laws.Held.{agrees_from_held, held_from_agrees, held_from_mask, mask_from_held}
+use Rattle.cubes.specs.Laws.Meeting.{clash_digit, kept_digit, meets_from_clash, number_of_held}
 
 -- the least symbol
 pub least_held : (c : Cube) → HoldsNumber c c.value

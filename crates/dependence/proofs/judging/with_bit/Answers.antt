@@ -1,5 +1,0 @@
-use Rattle.dependence.proofs.Words.{with_bit}
-use Rattle.dependence.proofs.judging.with_bit.Goals as goal
-
-pub returns : goal.returns
-returns c = with_bit c.args.set c.args.c c.requires
