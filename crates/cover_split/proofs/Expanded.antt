@@ -20,7 +20,7 @@ use Rattle.kiss_file.specs.Names.{AreDistinct, IsPlainName}
 use Rattle.kiss_file.proofs.Machine.{next_said, output_bit_said}
 use Rattle.machine_table.specs.Staying.{NeverLeaves}
 use Rattle.machine_table.specs.Table.{IsTable}
-use Rattle.machine_table.proofs.OutputWords.{same_map, same_values}
+use Rattle.machine_table.specs.Laws.OutputWords.{same_map, same_values}
 use Rattle.kiss_file.proofs.ByState.{IsByState, lawful_by_state, numbered_by_state}
 use Rattle.kiss_file.proofs.NumberedNames.{length-numbered_names}
 use Rattle.cover_split.specs.Cover.{IsCover}

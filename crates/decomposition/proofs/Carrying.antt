@@ -9,7 +9,7 @@ use Rattle.kiss_file.specs.Machine.{Conflicting, next, out}
 use Rattle.kiss_file.proofs.Machine.{next_is_a_state}
 use Rattle.machine_table.specs.Staying.{NeverLeaves}
 use Rattle.machine_table.specs.Table.{IsTable}
-use Rattle.state_pairs.proofs.Lawful.{table_of_lawful}
+use Rattle.state_pairs.specs.Laws.Lawful.{table_of_lawful}
 use Rattle.net_core.specs.declared.Network.{Network}
 use Rattle.net_core.specs.Step.{AreStarts, Step}
 use Rattle.pair_operators.specs.Pair.{Closed}
@@ -25,7 +25,7 @@ use Rattle.state_reduce.proofs.AllNamed.{all_named}
 use Rattle.state_reduce.proofs.Answered.{next_of_block, out_of_block}
 use Rattle.state_reduce.proofs.Numbers.{number_within}
 use Rattle.state_reduce.proofs.Ordered.{blocks_in_order}
-use Rattle.state_reduce.proofs.Unrefused.{alike_closed, alike_consistent}
+use Rattle.state_reduce.specs.Laws.Unrefused.{alike_closed, alike_consistent}
 use Rattle.decomposition.specs.Inner.Headed.{words_by}
 use Rattle.state_reduce.specs.Work.{AreClasses}
 

@@ -24,11 +24,11 @@ use Rattle.state_pairs.specs.Asked.{IsOfState}
 use Rattle.dependence.specs.Inner.Filled.{AreNear, AreRowsOf, AreThoseMet, Fills, FillsPart, IsFilling, SayNothing, alone_of}
 use Rattle.machine_table.specs.Said.{Says, place_of}
 use Rattle.machine_table.specs.Table.{IsTable}
-use Rattle.state_pairs.proofs.Asking.{lawful_row, number_of_row}
-use Rattle.machine_table.proofs.OpenParts.{one_part}
-use Rattle.state_rows.proofs.Outputs.{gives_where_cares, given_in_all, value_of_given}
+use Rattle.state_pairs.specs.Laws.Asking.{lawful_row, number_of_row}
+use Rattle.machine_table.specs.Laws.Parts.{one_part}
+use Rattle.state_rows.specs.Laws.Outputs.{gives_where_cares, given_in_all, value_of_given}
 use Rattle.cubes.specs.Laws.SharedCubes.{meets_from_held}
-use Rattle.state_pairs.proofs.Sought.{at_from_held, held_from_at, row_from_at}
+use Rattle.state_pairs.specs.Laws.Sought.{at_from_held, held_from_at, row_from_at}
 
 -- ---- a row without the parts that another says
 alone_names : (first other : Option ℕ) (t : ℕ) → alone_of first other ≡ Some t → first ≡ Some t

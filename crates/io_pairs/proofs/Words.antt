@@ -11,7 +11,7 @@ use Rattle.kiss_file.specs.declared.file.KissFile.{KissFile}
 use Rattle.kiss_file.specs.Machine.{output_bit}
 use Rattle.machine_table.specs.Covering.{IsPiece}
 use Rattle.machine_table.specs.declared.covering.Piece.{Piece}
-use Rattle.machine_table.proofs.OutputWords.{bits_with_none, bits_with_one, same_values}
+use Rattle.machine_table.specs.Laws.OutputWords.{bits_with_none, bits_with_one, same_values}
 use Rattle.io_pairs.specs.Outputs.{output_word, word_of}
 
 low_bits : (bits : ℕ → Bool) (count n : ℕ) → ((b : ℕ) → b < count → bit n b ≡ bits b) → word_of bits count ≡ n % 2 ^ count

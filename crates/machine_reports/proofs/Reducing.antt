@@ -13,7 +13,7 @@ use Rattle.state_reduce.specs.declared.judging.QuotientFail.TheVariants.{NoMemor
 use Rattle.state_reduce.specs.Alike.{AreUnlike, IsEquivalence}
 use Rattle.state_reduce.specs.Cause.{Caused}
 use Rattle.state_reduce.specs.Quotient.{AnswersAsMembers, AreBlocksInOrder, IsQuotient}
-use Rattle.state_reduce.proofs.Unrefused.{unrefused}
+use Rattle.state_reduce.specs.Laws.Unrefused.{unrefused}
 use Rattle.machine_reports.specs.ReducedText.{IsReduced, IsReducedText}
 
 -- the alike states of the file are those of its machine

@@ -1,11 +1,9 @@
-pub mod Conflicts
 pub mod GatheredOutputs
 pub mod OpenCubes
 pub mod OpenParts
 pub mod OutputLabels
-pub mod OutputWords
 pub mod RowPieces
 pub mod SettledCubes
 pub mod Specified
-pub mod Unrefused
 pub mod WordLabels
+pub mod WorkedFile

@@ -15,8 +15,8 @@ use Rattle.machine_table.specs.declared.missing.Missing.TheVariants.{Next, Outpu
 use Rattle.state_pairs.specs.Asked.{IsOfState}
 use Rattle.machine_table.specs.Inner.OpenSymbol.{AreCubesOf, AreFullCubes, IsFirstOf, IsFull, IsSaidEverywhere}
 use Rattle.state_rows.specs.Places.{IsNumberOf}
-use Rattle.state_pairs.proofs.Asking.{is_row_at, lawful_row, looked_at, number_of_row}
-use Rattle.state_pairs.proofs.Sought.{at_from_held}
+use Rattle.state_pairs.specs.Laws.Asking.{is_row_at, lawful_row, looked_at, number_of_row}
+use Rattle.state_pairs.specs.Laws.Sought.{at_from_held}
 
 module _ (F : KissFile) (s : ℕ) (part : Missing) (numbers : List ℕ) (count : ℕ) (cubes : List Cube) (row : KissRow)
     (known : AreCubesOf F s part numbers count cubes) (inside : count < length numbers)

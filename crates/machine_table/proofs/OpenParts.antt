@@ -5,14 +5,8 @@ use Rattle.kiss_file.specs.declared.file.KissFile.{KissFile}
 use Rattle.machine_table.specs.declared.missing.Missing.{Missing}
 use Rattle.machine_table.specs.declared.missing.Missing.TheVariants.{Next, Output}
 use Rattle.machine_table.specs.Said.{IsEntry, IsFirstOpen, IsSaid, StandsBefore, place_of}
+use Rattle.machine_table.specs.Laws.Parts.{one_part}
 use Rattle.machine_table.specs.Inner.OpenSymbol.{IsFirstAmong, IsFirstOpenAt, IsFirstOpenOf, IsSaidEverywhere, SaysAll}
-
--- a place is that of one part
-pub one_part : (part other : Missing) → place_of part ≡ place_of other → part ≡ other
-one_part Next Next same = refl
-one_part Next (Output b) same = absurd (omega arith)
-one_part (Output b) Next same = absurd (omega arith)
-one_part (Output b) (Output c) same = let it : b ≡ c = omega arith in ap Output it
 
 module _ (F : KissFile) (s : ℕ) (part : Missing) where
   -- what is said of the parts before it and of the part itself is said of all up to it

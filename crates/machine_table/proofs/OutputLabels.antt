@@ -10,10 +10,10 @@ use Rattle.kiss_file.specs.Machine.{Conflicting, Specified, given_bit, output_bi
 use Rattle.kiss_file.proofs.Machine.{output_bit_not_said, output_bit_said}
 use Rattle.state_pairs.specs.Asked.{HaveOneLabel, NoneIsOpen, IsLabelAt, IsOpenAt, digit}
 use Rattle.state_rows.specs.Least.{IsMetBy, lesser_of}
-use Rattle.state_pairs.specs.Pairs.{AgreeAt, AgreeInBit, AtEachSymbol, IsFirstWithout}
-use Rattle.state_pairs.proofs.Labels.{AreLabels, if_some_each}
-use Rattle.machine_table.proofs.OutputWords.{same_map, same_values}
-use Rattle.state_rows.proofs.Least.{lesser_has, met_left, met_right}
+use Rattle.state_pairs.specs.Pairs.{AgreeAt, AgreeInBit, AtEachSymbol, DifferInBit, IsFoundInBits, IsFirstWithout}
+use Rattle.state_pairs.specs.Laws.Labels.{AreLabels, if_some_each}
+use Rattle.machine_table.specs.Laws.OutputWords.{same_map, same_values}
+use Rattle.state_rows.specs.Laws.Least.{lesser_has, met_left, met_right}
 
 -- the bit behind a label
 mapped_bit : (o : Option Bool) (v : ℕ) → option_map digit o ≡ Some v → (bit : Bool) × (o ≡ Some bit) × (digit bit ≡ v)
@@ -67,15 +67,6 @@ module _ (F : KissFile) (b s t x : ℕ) where
   bits_equal agree = ap digit agree
 
 -- ---- all outputs
--- some output differs there
-abbrev pub DiffersAt : KissFile → (s t x : ℕ) → Type 0
-DiffersAt F s t x = (x < 2 ^ F.inputs) × ((b : ℕ) × (b < F.outputs) × (AgreeInBit b F s t x → ⊥))
-
--- the lesser of the first symbols of the outputs so far
-pub record AreFirstOf (F : KissFile) (s t count : ℕ) (found : Option ℕ) : Type 0 where
-  pub some : IfSome found (DiffersAt F s t)
-  pub met : (b y : ℕ) → b < count → y < 2 ^ F.inputs → (AgreeInBit b F s t y → ⊥) → IsMetBy found true y
-
 module _ (F : KissFile) (s t : ℕ) where
   -- outputs that are equal are so in each bit, and the other way round
   pub in_each_bit : (x b : ℕ) → b < F.outputs → AgreeAt F s t x → AgreeInBit b F s t x
@@ -96,13 +87,13 @@ module _ (F : KissFile) (s t : ℕ) where
           | inr no_less ↦ no_less
         ]
 
-  pub first_more : (b : ℕ) (found more result : Option ℕ) → b < F.outputs → AreFirstOf F s t b found → result ≡ lesser_of found more
-      → IfSome more (IsFirstWithout F.inputs (AgreeInBit b F s t)) → IfNone more (AtEachSymbol F.inputs (AgreeInBit b F s t)) → AreFirstOf F s t (b + 1) result
+  pub first_more : (b : ℕ) (found more result : Option ℕ) → b < F.outputs → IsFoundInBits F s t b true found → result ≡ lesser_of found more
+      → IfSome more (IsFirstWithout F.inputs (AgreeInBit b F s t)) → IfNone more (AtEachSymbol F.inputs (AgreeInBit b F s t)) → IsFoundInBits F s t (b + 1) true result
   first_more b found more result inside known is some none =
-      subst (AreFirstOf F s t (b + 1)) (sym is)
+      subst (IsFoundInBits F s t (b + 1) true) (sym is)
       (record {
-        some = lesser_has (DiffersAt F s t) found more known.some
-            (if_some_each (IsFirstWithout F.inputs (AgreeInBit b F s t)) (DiffersAt F s t) more (λ x first. (first.within, (b, inside, first.without))) some);
+        some = lesser_has (DifferInBit F s t) found more known.some
+            (if_some_each (IsFirstWithout F.inputs (AgreeInBit b F s t)) (DifferInBit F s t) more (λ x first. (first.within, (b, inside, first.without))) some);
         met = up_to;
       })
     where
@@ -116,7 +107,7 @@ module _ (F : KissFile) (s t : ℕ) where
           ]
 
   -- the lesser of all is the first symbol at which the outputs are not equal
-  pub first_of_all : (found : Option ℕ) → AreFirstOf F s t F.outputs found → IfSome found (IsFirstWithout F.inputs (AgreeAt F s t))
+  pub first_of_all : (found : Option ℕ) → IsFoundInBits F s t F.outputs true found → IfSome found (IsFirstWithout F.inputs (AgreeAt F s t))
   first_of_all None known = tt
   first_of_all (Some x) known = record {
     within = known.some.0;
@@ -133,9 +124,9 @@ module _ (F : KissFile) (s t : ℕ) where
                 absurd (omega (arith, later))
           ]
 
-  pub none_of_all : (found : Option ℕ) → AreFirstOf F s t F.outputs found → IfNone found (AtEachSymbol F.inputs (AgreeAt F s t))
-  none_of_all (Some x) known = tt
-  none_of_all None known = λ x within. from_each_bit x (λ b inside. each x within b inside) where
+  pub none_of_all : (least : Bool) (found : Option ℕ) → IsFoundInBits F s t F.outputs least found → IfNone found (AtEachSymbol F.inputs (AgreeAt F s t))
+  none_of_all least (Some x) known = tt
+  none_of_all least None known = λ x within. from_each_bit x (λ b inside. each x within b inside) where
     each : (x : ℕ) → x < 2 ^ F.inputs → (b : ℕ) → b < F.outputs → AgreeInBit b F s t x
     each x within b inside =
         elim (one_or_two (output_bit F s (symbol_of F.inputs x) b) (output_bit F t (symbol_of F.inputs x) b)) [

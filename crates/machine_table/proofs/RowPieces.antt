@@ -17,10 +17,10 @@ use Rattle.machine_table.specs.Covering.{IsPiece}
 use Rattle.state_pairs.specs.Asked.{IsOfState}
 use Rattle.machine_table.specs.Inner.OpenSymbol.{SaysAll}
 use Rattle.state_pairs.specs.Table.{IsTable}
-use Rattle.state_pairs.proofs.Asking.{lawful_row, number_of_row}
-use Rattle.state_rows.proofs.Outputs.{given_value}
-use Rattle.machine_table.proofs.OutputWords.{same_map}
-use Rattle.state_pairs.proofs.Sought.{at_from_held}
+use Rattle.state_pairs.specs.Laws.Asking.{lawful_row, number_of_row}
+use Rattle.state_rows.specs.Laws.Outputs.{given_value}
+use Rattle.machine_table.specs.Laws.OutputWords.{same_map}
+use Rattle.state_pairs.specs.Laws.Sought.{at_from_held}
 
 -- a number whose bits are all at low places is small
 pub below_from_bits : (n k : ℕ) → ((b : ℕ) → bit n b ≡ true → b < k) → n < 2 ^ k

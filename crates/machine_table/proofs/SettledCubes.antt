@@ -14,10 +14,10 @@ use Rattle.machine_table.specs.declared.covering.Piece.{Piece}
 use Rattle.machine_table.specs.Covering.{IsHeldByPiece, IsPiece}
 use Rattle.machine_table.specs.Inner.Settled.{AddsPieces, IsSettledIn}
 use Rattle.state_pairs.specs.Table.{IsTable}
-use Rattle.state_pairs.proofs.Labels.{label_or_open}
+use Rattle.state_pairs.specs.Laws.Labels.{label_or_open}
 use Rattle.machine_table.proofs.OutputLabels.{bit_from_digit, given_label, when_given, when_not_given}
-use Rattle.machine_table.proofs.OutputWords.{same_map}
-use Rattle.state_pairs.proofs.Sought.{at_from_held, held_from_at, row_from_at}
+use Rattle.machine_table.specs.Laws.OutputWords.{same_map}
+use Rattle.state_pairs.specs.Laws.Sought.{at_from_held, held_from_at, row_from_at}
 
 module _ (F : KissFile) (table : IsTable F) (no_conflict : Conflicting F → ⊥) (s : ℕ) (cube : Cube) (settled : IsSettledIn F s cube) where
   -- a row at one symbol of the cube is a row at another

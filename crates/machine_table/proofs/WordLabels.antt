@@ -14,11 +14,11 @@ use Rattle.state_pairs.specs.Asked.{HaveOneLabel, IsLabelAt, IsOpenAt}
 use Rattle.machine_table.specs.Inner.OpenSymbol.{SaysAll}
 use Rattle.state_pairs.specs.Pairs.{AgreeAt}
 use Rattle.state_pairs.specs.Table.{IsTable}
-use Rattle.state_pairs.proofs.Asking.{lawful_row, number_of_row}
-use Rattle.state_pairs.proofs.Labels.{AreLabels, label_or_open}
-use Rattle.state_rows.proofs.Outputs.{given_in_all, given_value}
+use Rattle.state_pairs.specs.Laws.Asking.{lawful_row, number_of_row}
+use Rattle.state_pairs.specs.Laws.Labels.{AreLabels, label_or_open}
+use Rattle.state_rows.specs.Laws.Outputs.{given_in_all, given_value}
 use Rattle.machine_table.proofs.OutputLabels.{no_label}
-use Rattle.machine_table.proofs.OutputWords.{same_map, same_values}
+use Rattle.machine_table.specs.Laws.OutputWords.{same_map, same_values}
 use Rattle.machine_table.proofs.RowPieces.{below_from_bits}
 
 -- the word of a row that gives each output

@@ -7,3 +7,5 @@ pub mod Covering
 pub mod Merging
 pub mod Inner
 pub mod Staying
+pub mod Worked
+pub mod Laws

@@ -122,8 +122,7 @@ impl Machine {
         requires settled { IsSettledIn self.now s cube.now }
         ensures { (y : ℕ) → HoldsNumber cube.now y → next self.now s (symbol_of self.now.inputs y) ≡ result }
     {
-        // Naming a field gives the proof what every machine keeps; the same in the function below.
-        let _ = &self.rows;
+        self.keeps_its_states();
         self.next(s, least_symbol(cube)) as u16
     }
 
@@ -135,7 +134,7 @@ impl Machine {
         ensures outputs { (y : ℕ) → HoldsNumber cube.now y → out self.now s (symbol_of self.now.inputs y) ≡ lowest_bits self.now.outputs result }
         ensures below { result < 2 ^ self.now.outputs }
     {
-        let _ = &self.rows;
+        self.keeps_its_states();
         self.output_word(s, least_symbol(cube))
     }
 

@@ -7,7 +7,7 @@ ghost use Rattle.state_pairs.specs.AddedPairs.{AddsPairs};
 
 use crate::Machine;
 use partition::Partition;
-use state_pairs::{NextState, PairList, least_of_both};
+use state_pairs::{NextState, PairList, Search, least_of_both};
 use std::alloc::{AllocError, Global};
 
 impl Machine {
@@ -36,9 +36,15 @@ impl Machine {
         ensures { IfOk result (λ pairs. (u v : ℕ) → Contains pairs.items (u, v) ↔ IsImage self.now s t u v) }
     {
         let question = NextState::new(self.states());
+        let any = Search {
+            question: &question,
+            s,
+            t,
+            least: false,
+        };
         let complete = self.is_complete();
         if complete
-            && let Some(rows) = self.rows.aligned_rows(&question, s, t, false)
+            && let Some(rows) = self.rows.aligned_rows(&any)
             && self.rows.all_say(&question, rows.second)
         {
             return self.rows.pairs_by_places(alloc, rows.first, rows.second);
@@ -53,7 +59,13 @@ impl Machine {
         ensures { IfSome result (λ x. x < 2 ^ self.now.inputs) }
     {
         let question = NextState::new(self.states());
-        let rows = self.rows.aligned_rows(&question, s, s, false)?;
+        let own = Search {
+            question: &question,
+            s,
+            t: s,
+            least: false,
+        };
+        let rows = self.rows.aligned_rows(&own)?;
         let number = rows.first.get(k)?;
         let row = self.row(*number);
         least_of_both(&row.cube, &row.cube)

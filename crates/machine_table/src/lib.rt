@@ -11,7 +11,8 @@
 //! that a machine never leaves its states, `specs/Pairs` what is
 //! asked of two states at all symbols, `specs/Covering` what the images and pieces list and what filled rows
 //! say, and `specs/Merging` what becomes of a partition in which the next states of two states are merged. The
-//! definitions of `Table`, `Staying`, `Pairs` and `Merging` are those of `state_pairs`.
+//! definitions of `Table`, `Staying`, `Pairs` and `Merging` are those of `state_pairs`. `specs/Worked` has a small file,
+//! and [`worked_file`] says what these definitions make of it.
 #![tactic(auto)]
 
 mod building;
@@ -27,7 +28,8 @@ mod walking;
 
 pub use building::BuildFail;
 pub use covering::Piece;
-pub use laws::lawful_is_a_table;
+pub use kiss_file::Fill;
+pub use laws::{lawful_is_a_table, worked_file};
 pub use machine::Machine;
 pub use missing::Missing;
 pub use open_entry::{all_outputs, says};

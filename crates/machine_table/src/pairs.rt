@@ -10,34 +10,28 @@ ghost use Rattle.state_pairs.specs.Pairs.{AgreeAt, AgreeInBit, AtEachSymbol, GoI
 use crate::Machine;
 use crate::open_entry::all_outputs;
 use partition::Partition;
-use state_pairs::{OutputBit, OutputWord, Question, WordBits, is_settled, lesser};
+use state_pairs::{OutputBit, OutputWord, Question, Search, WordBits, is_settled, lesser};
 
 impl Machine {
-    /// A symbol at which the answer differs between the states; the least one, if `least` is set.
-    fn first_differing<Q: Question>(
-        &self,
-        question: &Q,
-        s: usize,
-        t: usize,
-        least: bool,
-    ) -> Option<u32>
-        requires s { s < length self.now.states }
-        requires t { t < length self.now.states }
-        requires known { length self.now.states ≤ Q.states question.now }
-        requires one { HaveOneLabel (Q.said question.now) self.now }
-        requires none_open { Specified self.now → NoneIsOpen (Q.said question.now) self.now s t }
-        ensures some { IfSome result (DifferAt (Q.said question.now) (Q.unsaid question.now) self.now s t) }
+    /// A symbol at which the answer differs between the states.
+    fn first_differing<Q: Question>(&self, search: &Search<'_, Q>) -> Option<u32>
+        requires s { search.now.s < length self.now.states }
+        requires t { search.now.t < length self.now.states }
+        requires known { length self.now.states ≤ Q.states search.now.question.now }
+        requires one { HaveOneLabel (Q.said search.now.question.now) self.now }
+        requires none_open { Specified self.now → NoneIsOpen (Q.said search.now.question.now) self.now search.now.s search.now.t }
+        ensures some { IfSome result (DifferAt (Q.said search.now.question.now) (Q.unsaid search.now.question.now) self.now search.now.s search.now.t) }
         ensures within { IfSome result (λ x. x < 2 ^ self.now.inputs) }
-        ensures met { (y : ℕ) → DifferAt (Q.said question.now) (Q.unsaid question.now) self.now s t y → IsMetBy result least y }
+        ensures met { (y : ℕ) → DifferAt (Q.said search.now.question.now) (Q.unsaid search.now.question.now) self.now search.now.s search.now.t y → IsMetBy result search.now.least y }
     {
-        let found = self.rows.first_said(question, s, t, least);
-        if is_settled(found, least) {
+        let found = self.rows.first_said(search);
+        if is_settled(found, search.least) {
             return found;
         }
         if self.is_complete() {
             return found;
         }
-        lesser(found, self.rows.first_open_differing(question, s, t, least))
+        lesser(found, self.rows.first_open_differing(search))
     }
 
     /// Whether the next states are together in the partition at each symbol.
@@ -47,9 +41,14 @@ impl Machine {
         requires states { length q.now ≡ length self.now.states }
         ensures { IsTrue result ↔ AtEachSymbol self.now.inputs (GoInto (Together q.now) self.now s t) }
     {
-        // Naming a field gives the proof what every machine keeps; the same in the functions below.
-        let _ = &self.rows;
-        self.first_differing(q, s, t, false).is_none()
+        self.keeps_its_states();
+        let any = Search {
+            question: q,
+            s,
+            t,
+            least: false,
+        };
+        self.first_differing(&any).is_none()
     }
 
     /// The least symbol at which the next states are not together in the partition.
@@ -60,8 +59,14 @@ impl Machine {
         ensures some { IfSome result (IsFirstWithout self.now.inputs (GoInto (Together q.now) self.now s t)) }
         ensures none { IfNone result (AtEachSymbol self.now.inputs (GoInto (Together q.now) self.now s t)) }
     {
-        let _ = &self.rows;
-        self.first_differing(q, s, t, true)
+        self.keeps_its_states();
+        let first = Search {
+            question: q,
+            s,
+            t,
+            least: true,
+        };
+        self.first_differing(&first)
     }
 
     /// Whether at each symbol the words of the next states have the same bit at 2^at. There is one word for
@@ -73,9 +78,15 @@ impl Machine {
         requires at { at < 64 }
         ensures { IsTrue result ↔ AtEachSymbol self.now.inputs (GoInto (HaveOneBit words.now at) self.now s t) }
     {
-        let _ = &self.rows;
-        self.first_differing(&WordBits::new(words, at), s, t, false)
-            .is_none()
+        self.keeps_its_states();
+        let question = WordBits::new(words, at);
+        let any = Search {
+            question: &question,
+            s,
+            t,
+            least: false,
+        };
+        self.first_differing(&any).is_none()
     }
 
     /// Whether output `b` is the same at each symbol.
@@ -85,9 +96,15 @@ impl Machine {
         requires b { b < self.now.outputs }
         ensures { IsTrue result ↔ AtEachSymbol self.now.inputs (AgreeInBit b self.now s t) }
     {
-        let _ = &self.rows;
-        self.first_differing(&OutputBit::new(b), s, t, false)
-            .is_none()
+        self.keeps_its_states();
+        let question = OutputBit::new(b);
+        let any = Search {
+            question: &question,
+            s,
+            t,
+            least: false,
+        };
+        self.first_differing(&any).is_none()
     }
 
     /// The least symbol at which output `b` differs.
@@ -98,8 +115,15 @@ impl Machine {
         ensures some { IfSome result (IsFirstWithout self.now.inputs (AgreeInBit b self.now s t)) }
         ensures none { IfNone result (AtEachSymbol self.now.inputs (AgreeInBit b self.now s t)) }
     {
-        let _ = &self.rows;
-        self.first_differing(&OutputBit::new(b), s, t, true)
+        self.keeps_its_states();
+        let question = OutputBit::new(b);
+        let first = Search {
+            question: &question,
+            s,
+            t,
+            least: true,
+        };
+        self.first_differing(&first)
     }
 
     /// A symbol at which the outputs differ, for states whose rows give every part; the least one, if `least`
@@ -112,9 +136,16 @@ impl Machine {
         ensures least { IsTrue least → IfSome result (IsFirstWithout self.now.inputs (AgreeAt self.now s t)) }
         ensures none { IsNone result ↔ AtEachSymbol self.now.inputs (AgreeAt self.now s t) }
     {
-        let _ = &self.rows;
+        self.keeps_its_states();
         let all = all_outputs(self.outputs());
-        self.first_differing(&OutputWord::new(all), s, t, least)
+        let question = OutputWord::new(all);
+        let search = Search {
+            question: &question,
+            s,
+            t,
+            least,
+        };
+        self.first_differing(&search)
     }
 
     /// Whether the outputs are the same at each symbol.
@@ -123,6 +154,9 @@ impl Machine {
         requires t { t < length self.now.states }
         ensures { IsTrue result ↔ AtEachSymbol self.now.inputs (AgreeAt self.now s t) }
     {
+        if let Some(found) = self.rows.first_placed_apart(s, t, false) {
+            return found.is_none();
+        }
         if self.says_all(s) && self.says_all(t) {
             return self.first_word_apart(s, t, false).is_none();
         }
@@ -141,6 +175,9 @@ impl Machine {
         ensures some { IfSome result (IsFirstWithout self.now.inputs (AgreeAt self.now s t)) }
         ensures none { IfNone result (AtEachSymbol self.now.inputs (AgreeAt self.now s t)) }
     {
+        if let Some(found) = self.rows.first_placed_apart(s, t, true) {
+            return found;
+        }
         if self.says_all(s) && self.says_all(t) {
             return self.first_word_apart(s, t, true);
         }

@@ -68,7 +68,7 @@ impl Machine {
         }
     }
 
-    /// The same, if a row in the tree gives it.
+    /// The step that a row in the tree gives, if one does.
     fn step_in(&self, tree: &RowTree, s: usize, x: u32) -> Option<Step>
         requires x { x < 2 ^ self.now.inputs }
         ensures { IfSome result (λ step. IsStep self.now s x step.next step.outputs) }
@@ -90,7 +90,7 @@ impl Machine {
         }
     }
 
-    /// The same, if a row with one of these numbers gives it.
+    /// The step that a row with one of these numbers gives, if one does.
     fn step_among(&self, numbers: &[usize], s: usize, x: u32) -> Option<Step>
         requires x { x < 2 ^ self.now.inputs }
         ensures { IfSome result (λ step. IsStep self.now s x step.next step.outputs) }
@@ -103,8 +103,8 @@ impl Machine {
         None
     }
 
-    /// The same, if the row with that number is a row of the state that holds the symbol, names a next state
-    /// and gives every output.
+    /// The step that the row with that number gives, if it is a row of the state that holds the symbol, names a
+    /// next state and gives every output.
     fn step_of_row(&self, number: usize, s: usize, x: u32) -> Option<Step>
         requires x { x < 2 ^ self.now.inputs }
         ensures { IfSome result (λ step. IsStep self.now s x step.next step.outputs) }

@@ -10,7 +10,7 @@ use Rattle.machine_table.specs.Covering.{IsImage}
 use Rattle.state_pairs.specs.AddedPairs.{BelowCount, IsFound}
 use Rattle.machine_table.specs.Merging.{MergesImages, MergesPairs}
 use Rattle.machine_table.specs.Staying.{NeverLeaves}
-use Rattle.state_pairs.proofs.MergedPairs.{merges_as, merges_below_none, merges_more, merges_pair}
+use Rattle.state_pairs.specs.Laws.MergedPairs.{merges_as, merges_below_none, merges_more, merges_pair}
 use Rattle.mm_lattice.specs.Generators.{IsRightOf}
 use Rattle.mm_lattice.proofs.Holds.{right_held}
 use Rattle.partition.specs.Inner.Relabelled.{relabelled}

@@ -7,11 +7,11 @@ use Rattle.std.proofs.lemmas.Option.{slice_get_within}
 use Rattle.kiss_file.specs.declared.file.KissFile.{KissFile}
 use Rattle.kiss_file.specs.declared.file.KissRow.{KissRow}
 use Rattle.state_pairs.specs.Asked.{IsOfState}
-use Rattle.state_pairs.specs.Aligned.{AreAligned}
+use Rattle.state_pairs.specs.Aligned.{AreAligned, HoldAllRows}
 use Rattle.state_rows.specs.Columns.{AreColumns, ArePicked, HaveSameCubes, RepresentBoth, IsAtPlace}
 use Rattle.state_rows.specs.Places.{IsNumberOf, ListRows, places_of}
-use Rattle.state_pairs.proofs.Asking.{number_of_row}
-use Rattle.state_pairs.proofs.Sought.{row_of}
+use Rattle.state_pairs.specs.Laws.Asking.{number_of_row}
+use Rattle.state_pairs.specs.Laws.Sought.{row_of}
 
 module _ (F : KissFile) (places : List (List ℕ)) (stand : ListRows F.rows (length F.states) places) where
   -- a row of a state is at a place of its list
@@ -53,6 +53,9 @@ module _ (F : KissFile) (places : List (List ℕ)) (stand : ListRows F.rows (len
             },
           );
     }
+
+    pub all_held : HoldAllRows F s t (places_of places s) (places_of places t)
+    all_held = record { own_first = stand.own s; own_second = stand.own t; each_first = stands s; each_second = stands t; cubes = same }
 
     pub columns_aligned : (few others : List ℕ) → RepresentBoth F.rows (places_of places s) (places_of places t) few others
         → ((row other : KissRow) → row.to ≡ other.to → said row ≡ said other) → AreAligned F s t few others said false
@@ -131,6 +134,12 @@ module _ (F G : KissFile) (view : G ≡ F) (places columns : List (List ℕ)) (l
       subst (λ (numbers : List ℕ). AreAligned F s t numbers others said least) (sym first)
       (subst (λ (numbers : List ℕ). AreAligned F s t (places_of places s) numbers said least) (sym second)
       (all_aligned F places lists s t said (kept.alike s t s_inside t_inside same) least))
+
+  pub held_of_two : few ≡ places_of places s → others ≡ places_of places t → HoldAllRows F s t few others
+  held_of_two first second =
+      subst (λ (numbers : List ℕ). HoldAllRows F s t numbers others) (sym first)
+      (subst (λ (numbers : List ℕ). HoldAllRows F s t (places_of places s) numbers) (sym second)
+      (all_held F places lists s t said (kept.alike s t s_inside t_inside same)))
 
   pub columns_of_two : few ≡ places_of columns s → others ≡ places_of columns t → ((row other : KissRow) → row.to ≡ other.to → said row ≡ said other)
       → (least : Bool) → least ≡ false → AreAligned F s t few others said least

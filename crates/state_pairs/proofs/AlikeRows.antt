@@ -1,20 +1,20 @@
 -- Aligned rows of two states.
-use Rattle.std.proofs.Common.{◌≡◌, ℕ, ◌+◌, ◌<◌, Bool, true, false, refl, IsTrue, None, List, length, get_or, Option, Some, slice_get, inl, inr, sym, ◌∙◌, subst, arith, ap, bit_and}
+use Rattle.std.proofs.Common.{◌≡◌, ℕ, ◌+◌, ◌<◌, Bool, true, false, refl, IsTrue, None, List, length, get_or, Option, Some, slice_get, inl, inr, sym, ◌∙◌, subst, arith, ap}
 use Rattle.std.proofs.lemmas.Bool.{cases_lt, false≢true}
 use Rattle.std.proofs.lemmas.List.{get_or_default}
 use Rattle.std.proofs.lemmas.List.Elements.{Contains-get_or}
 use Rattle.cubes.specs.Cube.{HoldsNumber}
 use Rattle.cubes.specs.Laws.Ends.{least_held}
-use Rattle.cubes.specs.Laws.Held.{held_from_mask, mask_from_held}
 use Rattle.kiss_file.specs.declared.file.KissFile.{KissFile}
 use Rattle.kiss_file.specs.declared.file.KissRow.{KissRow}
 use Rattle.state_pairs.specs.Asked.{AllSay, ApartBelow, AreApartAt, HaveOneLabel, MeetsApart, SayApart, SayTwo}
 use Rattle.state_rows.specs.Least.{IsMetBy}
 use Rattle.state_pairs.specs.Aligned.{AreAligned, Represents}
 use Rattle.state_rows.specs.Columns.{HaveOneCube}
+use Rattle.state_rows.specs.Laws.OneCube.{held_by_like}
 use Rattle.state_pairs.specs.Table.{IsTable}
-use Rattle.state_pairs.proofs.Labels.{value_of_some}
-use Rattle.state_pairs.proofs.Sought.{apart_wanted, at_from_held, row_of, two_of_row}
+use Rattle.state_pairs.specs.Laws.Labels.{value_of_some}
+use Rattle.state_pairs.specs.Laws.Sought.{apart_wanted, at_from_held, row_of, two_of_row}
 
 -- the rows at one more place have what those before it have
 pub pair_more : (rows : List KissRow) (first second : List ℕ) (i : ℕ) (P : KissRow → KissRow → Type 0) (row other : KissRow) → i < length first → i < length second
@@ -34,11 +34,6 @@ pair_more rows first second i P row other inside also at_row at_other has known 
           let that : other ≡ o = cc in
           subst (λ (a : KissRow). P a o) it (subst (λ (b : KissRow). P row b) that has)
     ]
-
--- a row with the cube of another holds what that holds
-pub held_by_like : (row other : KissRow) (y : ℕ) → HaveOneCube row other → HoldsNumber row.cube y → HoldsNumber other.cube y
-held_by_like row other y cubes held =
-    held_from_mask other.cube y (ap (bit_and y) (sym cubes.care) ∙ mask_from_held row.cube y held ∙ cubes.value)
 
 module _ (said : KissRow → Option ℕ) (a b row other : KissRow) (y : ℕ) (cubes : HaveOneCube a b) (differ : SayApart said a b) where
   -- rows that show two rows are apart at some symbol, and where they are these rows, at each that the first of them holds

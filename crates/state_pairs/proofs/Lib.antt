@@ -1,14 +1,6 @@
-pub mod AddedPairs
 pub mod Alignment
 pub mod AlikeRows
-pub mod Asking
-pub mod Labels
-pub mod Lawful
 pub mod MarkedRows
-pub mod MergedPairs
 pub mod NamedIn
-pub mod NamedPairs
-pub mod NextLabels
 pub mod PairsOnce
-pub mod Sought
-pub mod Staying
+pub mod PlacedOutputs

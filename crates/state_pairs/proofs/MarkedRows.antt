@@ -3,6 +3,7 @@ use Rattle.std.proofs.Common.{◌≡◌, ℕ, ◌+◌, ◌<◌, ◌≤◌, ◌^�
 use Rattle.std.specs.Int.{bit_at}
 use Rattle.std.proofs.lemmas.Bool.{cases_eq, cases_lt}
 use Rattle.std.proofs.lemmas.List.{get_or_default}
+use Rattle.list_facts.specs.Laws.Everywhere.{all_at}
 use Rattle.cubes.specs.Cube.{Meets}
 use Rattle.kiss_file.specs.declared.file.KissFile.{KissFile}
 use Rattle.kiss_file.specs.declared.file.KissRow.{KissRow}
@@ -14,12 +15,11 @@ use Rattle.state_pairs.specs.MarkedRows.{AreLeft, IsApartIn, IsSearchedIn, IsSea
 use Rattle.state_rows.specs.Bundles.{IsFit, IsInBundles, MarksRows}
 use Rattle.state_rows.specs.Columns.{IsAtPlace}
 use Rattle.state_rows.specs.Places.{IsNumberOf}
-use Rattle.state_pairs.proofs.Asking.{number_of_row}
-use Rattle.state_rows.proofs.RowBundles.{of_row}
-use Rattle.state_rows.proofs.RowPatterns.{none_of_zero}
+use Rattle.state_pairs.specs.Laws.Asking.{number_of_row}
+use Rattle.state_rows.specs.Laws.Marks.{none_of_zero}
 use Rattle.cubes.specs.Laws.SharedCubes.{meets_from_held}
-use Rattle.state_rows.proofs.Least.{if_some_map, lesser_has, met_least, met_left, met_right}
-use Rattle.state_pairs.proofs.Sought.{row_of}
+use Rattle.state_rows.specs.Laws.Least.{if_some_map, lesser_has, met_least, met_left, met_right}
+use Rattle.state_pairs.specs.Laws.Sought.{row_of}
 
 module _ (rows : List KissRow) (numbers : List ℕ) (P : KissRow → Type 0) where
   -- at first all marked rows are left
@@ -92,7 +92,7 @@ module _ (said : KissRow → Option ℕ) (F : KissFile) (numbers : List ℕ) (ro
     within = known.within;
     met = λ k other at y apart.
         left_none F.rows numbers (λ other. Meets row.cube other.cube) (MeetsEach said row found least) word none known.left k other at
-        (meets_from_held row.cube other.cube y (sym (of_row F.rows (IsFit row.cube.width) (get_or numbers k 0) other widths at.1).cube_width) apart.first apart.second) y apart;
+        (meets_from_held row.cube other.cube y (sym (all_at (IsFit row.cube.width) F.rows (get_or numbers k 0) other widths at.1).cube_width) apart.first apart.second) y apart;
   }
 
 -- ---- the rows of a state in its bundles

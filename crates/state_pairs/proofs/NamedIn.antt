@@ -6,6 +6,7 @@ use Rattle.std.proofs.lemmas.List.{get_or_default}
 use Rattle.std.proofs.lemmas.Nat.{and_le_l}
 use Rattle.std.proofs.lemmas.Nat.Bits.{bit_at-lt, bit_at-zero, bit_at_and, bit_at_not}
 use Rattle.std.proofs.lemmas.Option.{slice_get_cases}
+use Rattle.list_facts.specs.Laws.Everywhere.{all_at}
 use Rattle.cubes.specs.declared.cube.Cube.{Cube}
 use Rattle.cubes.specs.Cube.{Meets}
 use Rattle.kiss_file.specs.declared.file.KissFile.{KissFile}
@@ -17,13 +18,12 @@ use Rattle.state_rows.specs.Bundles.{NamesNoOther, IsBundle, IsFit, IsInBundles,
 use Rattle.state_pairs.specs.MarkedRows.{AreLeft}
 use Rattle.state_rows.specs.Columns.{IsAtPlace}
 use Rattle.state_rows.specs.Places.{IsNumberOf}
-use Rattle.state_pairs.proofs.Asking.{number_of_row}
-use Rattle.state_pairs.proofs.AddedPairs.{adds_as, adds_none, lengthens_keeps, lengthens_none, lengthens_then}
+use Rattle.state_pairs.specs.Laws.Asking.{number_of_row}
+use Rattle.state_pairs.specs.Laws.AddedPairs.{adds_as, adds_none, lengthens_keeps, lengthens_none, lengthens_then}
 use Rattle.state_pairs.proofs.MarkedRows.{left_first, left_less, left_none}
-use Rattle.state_rows.proofs.RowBundles.{of_row}
-use Rattle.state_rows.proofs.RowPatterns.{none_of_zero}
+use Rattle.state_rows.specs.Laws.Marks.{none_of_zero}
 use Rattle.cubes.specs.Laws.SharedCubes.{first_holds, least_below, meets_from_held, second_holds}
-use Rattle.state_pairs.proofs.Sought.{row_of}
+use Rattle.state_pairs.specs.Laws.Sought.{row_of}
 
 -- the states of a pair that two rows name
 pub named_states : (states : ℕ) (row other : KissRow) → IfSome row.to (λ t. t < states) → IfSome other.to (λ t. t < states) → (u v : ℕ) → AreNamedBy row other u v
@@ -162,7 +162,7 @@ module _ (rows : List KissRow) (numbers : List ℕ) (next place : ℕ) (row : Ki
 
 -- ---- the bundles of a state
 pub fit_among : (F : KissFile) (row : KissRow) → row.cube.width ≡ F.inputs → All (IsFit F.inputs) F.rows → (other : KissRow) → Contains F.rows other → row.cube.width ≡ other.cube.width
-fit_among F row width fit other among = width ∙ sym (of_row F.rows (IsFit F.inputs) among.0 other fit (number_of_row F other among)).cube_width
+fit_among F row width fit other among = width ∙ sym (all_at (IsFit F.inputs) F.rows among.0 other fit (number_of_row F other among)).cube_width
 
 pub at_this_bundle : (rows : List KissRow) (bundles : List RowBundle) (cube : Cube) (next i : ℕ) (bundle : RowBundle) → bundle ≡ get_or bundles i bundle → i < length bundles
     → (u v : ℕ) → AreNamedIn rows bundle.numbers cube next u v ↔ AtBundle rows bundles cube next i u v

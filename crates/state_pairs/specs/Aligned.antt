@@ -2,7 +2,7 @@
 use Rattle.std.specs.Prelude.{ℕ, ◌≡◌, Bool, Contains, IsTrue, List, Option, length}
 use Rattle.kiss_file.specs.declared.file.KissFile.{KissFile}
 use Rattle.kiss_file.specs.declared.file.KissRow.{KissRow}
-use Rattle.state_rows.specs.Columns.{HaveOneCube, IsAtPlace}
+use Rattle.state_rows.specs.Columns.{HaveOneCube, HaveSameCubes, IsAtPlace}
 use Rattle.state_rows.specs.Places.{IsNumberOf}
 use Rattle.state_pairs.specs.Asked.{IsOfState}
 
@@ -30,3 +30,11 @@ pub record AreAligned (F : KissFile) (s t : ℕ) (first second : List ℕ) (said
   pub count : length first ≡ length second
   pub each : (row : KissRow) → IsOfState F s row
       → (other : KissRow) × IsOfState F t other × HaveOneCube row other × AreRepresented F.rows first second said least row other
+
+-- two lists hold all rows of two states, and rows at one place have the same cube
+pub record HoldAllRows (F : KissFile) (s t : ℕ) (first second : List ℕ) : Type 0 where
+  pub own_first : (i : ℕ) → Contains first i → IsNumberOf F s i
+  pub own_second : (i : ℕ) → Contains second i → IsNumberOf F t i
+  pub each_first : (row : KissRow) → IsOfState F s row → (k : ℕ) × IsAtPlace F.rows first k row
+  pub each_second : (row : KissRow) → IsOfState F t row → (k : ℕ) × IsAtPlace F.rows second k row
+  pub cubes : HaveSameCubes F.rows first second

@@ -7,3 +7,4 @@ pub mod MarkedRows
 pub mod AddedPairs
 pub mod SeenPairs
 pub mod Merging
+pub mod Laws

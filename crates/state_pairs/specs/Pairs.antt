@@ -1,8 +1,9 @@
 -- Two states at all symbols, each symbol given by its number.
-use Rattle.std.specs.Prelude.{ℕ, ◌≡◌, ◌<◌, ◌^◌, List, slice_index}
+use Rattle.std.specs.Prelude.{ℕ, ◌≡◌, ◌<◌, ◌^◌, Bool, IfSome, List, Option, slice_index}
 use Rattle.cubes.specs.Symbol.{bit, symbol_of}
 use Rattle.kiss_file.specs.declared.file.KissFile.{KissFile}
 use Rattle.kiss_file.specs.Machine.{next, out, output_bit}
+use Rattle.state_rows.specs.Least.{IsMetBy}
 
 -- the relation holds between the next states at the symbol with that number
 abbrev pub GoInto : (ℕ → ℕ → Type 0) → KissFile → (s t x : ℕ) → Type 0
@@ -33,3 +34,12 @@ pub record IsFirstWithout (inputs : ℕ) (P : ℕ → Type 0) (x : ℕ) : Type 0
 -- the words of two states have the same bit at a place
 abbrev pub HaveOneBit : List ℕ → (at : ℕ) → (s t : ℕ) → Type 0
 HaveOneBit words at s t = bit (slice_index words s) at ≡ bit (slice_index words t) at
+
+-- some output differs there
+abbrev pub DifferInBit : KissFile → (s t x : ℕ) → Type 0
+DifferInBit F s t x = (x < 2 ^ F.inputs) × ((b : ℕ) × (b < F.outputs) × (AgreeInBit b F s t x → ⊥))
+
+-- a search found a symbol at which one of so many outputs differs, the least one if that is asked for, or there is none
+pub record IsFoundInBits (F : KissFile) (s t count : ℕ) (least : Bool) (found : Option ℕ) : Type 0 where
+  pub some : IfSome found (DifferInBit F s t)
+  pub met : (b y : ℕ) → b < count → y < 2 ^ F.inputs → (AgreeInBit b F s t y → ⊥) → IsMetBy found least y

@@ -1,12 +1,13 @@
 //! The rows of two states, paired place by place.
 ghost use Rattle.std.specs.Prelude.{ℕ, ◌≡◌, ◌<◌, All, IfSome, length};
 ghost use Rattle.kiss_file.specs.Machine.{Conflicting};
-ghost use Rattle.state_pairs.specs.Aligned.{AreAligned};
+ghost use Rattle.state_pairs.specs.Aligned.{AreAligned, HoldAllRows};
 ghost use Rattle.state_rows.specs.Places.{places_of};
 ghost use Rattle.state_pairs.specs.Table.{IsTable};
 
 use crate::RowsByState;
 use crate::question::Question;
+use crate::search::Search;
 use hs_list::Items;
 use state_rows::list_of;
 
@@ -35,16 +36,30 @@ fn lists_of_two(lists: &[Items<usize>], s: usize, t: usize) -> AlignedRows<'_>
 impl RowsByState {
     /// The rows of two states to be compared place by place, if the states have the same cubes. When any
     /// symbol will do and only the next state matters, one place for each column of next states is enough.
-    pub fn aligned_rows<Q: Question>(
-        &self,
-        question: &Q,
-        s: usize,
-        t: usize,
-        least: bool,
-    ) -> Option<AlignedRows<'_>>
+    pub fn aligned_rows<Q: Question>(&self, search: &Search<'_, Q>) -> Option<AlignedRows<'_>>
+        requires s { search.now.s < length self.now.states }
+        requires t { search.now.t < length self.now.states }
+        ensures aligned { IfSome result (λ rows. AreAligned self.now search.now.s search.now.t rows.first.now rows.second.now (Q.said search.now.question.now) search.now.least) }
+        ensures first { IfSome result (λ rows. All (λ i. i < length self.now.rows) rows.first.now) }
+        ensures second { IfSome result (λ rows. All (λ i. i < length self.now.rows) rows.second.now) }
+        ensures count { IfSome result (λ rows. length rows.first.now ≡ length rows.second.now) }
+        ensures table { IsTable self.now }
+        ensures no_conflict { Conflicting self.now → ⊥ }
+    {
+        if self.leaders[search.s] != self.leaders[search.t] {
+            return None;
+        }
+        if search.question.is_of_next() && !search.least {
+            return Some(lists_of_two(&self.columns, search.s, search.t));
+        }
+        Some(lists_of_two(&self.places, search.s, search.t))
+    }
+
+    /// All rows of two states, paired place by place, if the states have the same cubes.
+    pub(crate) fn rows_of_both(&self, s: usize, t: usize) -> Option<AlignedRows<'_>>
         requires s { s < length self.now.states }
         requires t { t < length self.now.states }
-        ensures aligned { IfSome result (λ rows. AreAligned self.now s t rows.first.now rows.second.now (Q.said question.now) least) }
+        ensures all { IfSome result (λ rows. HoldAllRows self.now s t rows.first.now rows.second.now) }
         ensures first { IfSome result (λ rows. All (λ i. i < length self.now.rows) rows.first.now) }
         ensures second { IfSome result (λ rows. All (λ i. i < length self.now.rows) rows.second.now) }
         ensures count { IfSome result (λ rows. length rows.first.now ≡ length rows.second.now) }
@@ -53,9 +68,6 @@ impl RowsByState {
     {
         if self.leaders[s] != self.leaders[t] {
             return None;
-        }
-        if question.is_of_next() && !least {
-            return Some(lists_of_two(&self.columns, s, t));
         }
         Some(lists_of_two(&self.places, s, t))
     }

@@ -1,7 +1,7 @@
 //! Two states of a KISS2 file compared at all symbols, by their rows.
 //!
 //! [`RowsByState`] keeps the rows of a file without conflicts, as `state_rows` arranges them. A [`Question`] asks for
-//! one part of what rows give. A search finds a symbol at which the answers of two states differ, or one at which both
+//! one part of what rows give. A [`Search`] finds a symbol at which the answers of two states differ, or one at which both
 //! leave the part open. The pairs of next states that the rows of two states name are listed, or merged in a partition.
 //! Symbols are never enumerated: only rows that share a symbol are compared, and what rows leave open is found by
 //! halving cubes.
@@ -14,13 +14,17 @@
 mod aligned;
 mod merging;
 mod naming;
+mod open_parts;
 mod pair_list;
+mod placed_outputs;
 mod question;
+mod row_pairs;
 mod rows;
-mod searching;
+mod search;
 
 pub use aligned::AlignedRows;
 pub use pair_list::PairList;
 pub use question::{NextState, OutputBit, OutputWord, Question, WordBits, given};
+pub use row_pairs::{is_settled, least_of_both, lesser};
 pub use rows::RowsByState;
-pub use searching::{is_settled, least_of_both, lesser};
+pub use search::Search;

@@ -12,6 +12,7 @@ use crate::RowsByState;
 use crate::naming::named_pair;
 use crate::pair_list::PairList;
 use crate::question::NextState;
+use crate::search::Search;
 use kiss_file::KissRow;
 use partition::Partition;
 use std::alloc::{AllocError, Global};
@@ -62,7 +63,13 @@ impl RowsByState {
         ensures { OnOk result (MergesPairs (AreNamed self.now s t) part.old part.new) }
     {
         let question = NextState::new(self.states());
-        if let Some(rows) = self.aligned_rows(&question, s, t, false)
+        let any = Search {
+            question: &question,
+            s,
+            t,
+            least: false,
+        };
+        if let Some(rows) = self.aligned_rows(&any)
             && self.all_say(&question, rows.second)
         {
             self.merge_by_places(rows.first, rows.second, part);

@@ -10,7 +10,8 @@ ghost use Rattle.state_pairs.specs.SeenPairs.{AreStates};
 use crate::RowsByState;
 use crate::pair_list::PairList;
 use crate::question::NextState;
-use crate::searching::least_of_both;
+use crate::row_pairs::least_of_both;
+use crate::search::Search;
 use cubes::Cube;
 use kiss_file::KissRow;
 use pattern_bundles::take_first;
@@ -80,7 +81,13 @@ impl RowsByState {
         ensures states { pairs.new.states ≡ pairs.old.states }
     {
         let question = NextState::new(self.states());
-        if let Some(rows) = self.aligned_rows(&question, s, t, false)
+        let any = Search {
+            question: &question,
+            s,
+            t,
+            least: false,
+        };
+        if let Some(rows) = self.aligned_rows(&any)
             && self.all_say(&question, rows.second)
         {
             return self.add_by_places(rows.first, rows.second, pairs);
@@ -218,7 +225,13 @@ impl RowsByState {
         ensures { (u v : ℕ) → IsFound result u v ↔ AreBothOpen self.now s t u v }
     {
         let question = NextState::new(self.states());
-        self.first_open_in(&question, s, t, Cube::whole(self.inputs()), false)?;
+        let any = Search {
+            question: &question,
+            s,
+            t,
+            least: false,
+        };
+        self.first_open_in(&any, Cube::whole(self.inputs()))?;
         Some((s as u16, t as u16))
     }
 
@@ -252,7 +265,13 @@ impl RowsByState {
     {
         let next = row.to?;
         let question = NextState::new(self.states());
-        self.first_open_in(&question, t, t, row.cube, false)?;
+        let any = Search {
+            question: &question,
+            s: t,
+            t,
+            least: false,
+        };
+        self.first_open_in(&any, row.cube)?;
         Some(in_order(next, t as u16, turned))
     }
 }

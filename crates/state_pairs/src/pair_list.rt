@@ -1,7 +1,7 @@
 //! Pairs of states in a list that has each of them once.
 //!
 //! A table with a bit for each pair of states says which pairs are in the list.
-ghost use Rattle.std.specs.Prelude.{◌≡◌, ◌≢◌, ◌<◌, ◌≤◌, AllPairs, IfOk, OnOk, Some, []};
+ghost use Rattle.std.specs.Prelude.{◌≡◌, ◌≢◌, ◌<◌, ◌≤◌, ◌↔◌, AllPairs, Contains, IfOk, IsTrue, OnErr, OnOk, Some, []};
 ghost use Rattle.state_pairs.specs.AddedPairs.{AddsPairs, IsFound};
 
 use std::alloc::{AllocError, Global};
@@ -41,11 +41,13 @@ impl PairList {
     }
 
     /// Adds the pair, unless it is in the list. The answer is whether it was added.
-    pub fn add(&mut self, pair: (u16, u16)) -> Result<bool, AllocError>
+    pub(crate) fn add(&mut self, pair: (u16, u16)) -> Result<bool, AllocError>
         requires first { pair.0 < self.old.states }
         requires second { pair.1 < self.old.states }
         ensures pairs { OnOk result (AddsPairs (IsFound (Some pair)) self.old.pairs self.new.pairs) }
+        ensures added { IfOk result (λ added. IsTrue added ↔ (¬ Contains self.old.pairs pair)) }
         ensures states { self.new.states ≡ self.old.states }
+        ensures err { OnErr result (self.new ≡ self.old) }
     {
         let word = usize::from(pair.0) * 4 + usize::from(pair.1) / 64;
         let place = pair.1 % 64;

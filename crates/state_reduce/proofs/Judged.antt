@@ -11,7 +11,8 @@ use Rattle.partition.specs.Partition.{Together}
 use Rattle.state_reduce.specs.declared.judging.Demand.TheVariants.{NextStates, Outputs}
 use Rattle.state_reduce.specs.Inner.Demanded.{IsMetByAll}
 use Rattle.machine_table.specs.Staying.{NeverLeaves}
-use Rattle.state_reduce.proofs.Rounds.{at_symbol, together_turned}
+use Rattle.state_reduce.specs.Laws.Alike.{at_symbol}
+use Rattle.state_reduce.proofs.Rounds.{together_turned}
 
 -- the partition is closed
 pub closed_from_demand : (F : KissFile) (p : List ℕ) → length p ≡ length F.states → NeverLeaves F → IsMetByAll NextStates F p → Closed F p

@@ -10,6 +10,5 @@ pub mod Names
 pub mod Numbers
 pub mod Ordered
 pub mod Rounds
-pub mod Unrefused
 pub mod Working
 pub mod Works

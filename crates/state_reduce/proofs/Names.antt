@@ -160,13 +160,7 @@ put_more names name old new are known last =
     put_once names name new (λ there. known (subst (λ ns. Contains ns name) (sym are) there) ∙ are)
     (λ absent. last (λ there. absent (subst (λ ns. Contains ns name) are there)) ∙ ap (λ ns. ns ++ name ∷ []) are)
 
-module _ (F : KissFile) (p : List ℕ) (s : ℕ) (old new : List (List ℕ)) (are : old ≡ block_names F p) (there : Contains (block_names F p) (block_name F p s)) (known : Contains old (block_name F p s) → new ≡ old) where
-  -- a block that has its name adds none
-  pub names_stay : new ≡ block_names F p
-  names_stay = known (subst (λ names. Contains names (block_name F p s)) (sym are) there) ∙ are
-
-  -- and its number is the place of its name
-  pub number_found : (number : ℕ) → AreDistinct new → slice_get new number ≡ Some (block_name F p s) → number ≡ block_number F p s
-  number_found number distinct here =
-      sym (place_is (block_names F p) (block_name F p s) number (subst AreDistinct names_stay distinct)
-      (subst (λ names. slice_get names number ≡ Some (block_name F p s)) names_stay here))
+-- the name at the least state of a block is that of the block
+pub name_read : (F : KissFile) (p : List ℕ) (s from least : ℕ) (name : List ℕ) → slice_get F.states least ≡ Some name → least ≡ least_of p from → from ≡ s → name ≡ block_name F p s
+name_read F p s from least name here is same =
+    sym (get_or_from_slice_get F.states least name [] here) ∙ ap (λ (k : ℕ). get_or F.states k []) (is ∙ ap (least_of p) same)

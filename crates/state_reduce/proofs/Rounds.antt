@@ -8,6 +8,7 @@ use Rattle.kiss_file.specs.Machine.{answers, next, out}
 use Rattle.partition.specs.Partition.{Le, Together}
 use Rattle.state_reduce.specs.Alike.{Alike, IsEquivalence, IsWord}
 use Rattle.machine_table.specs.Staying.{NeverLeaves}
+use Rattle.state_reduce.specs.Laws.Alike.{alike_agree, alike_next, at_symbol}
 use Rattle.state_reduce.specs.Inner.Refining.{AgreeAlways, IsRound, StayTogether}
 use Rattle.partition.specs.Inner.Splitting.{IsSplitBy}
 
@@ -29,25 +30,6 @@ stay_turned F p s t stay = (together_turned p s t stay.0, λ x within. together_
 
 pub stay_on : (F : KissFile) (p : List ℕ) (s t u : ℕ) → StayTogether F p s t → StayTogether F p t u → StayTogether F p s u
 stay_on F p s t u one two = (together_on p s t u one.0 two.0, λ x within. together_on p _ _ _ (one.1 x within) (two.1 x within))
-
--- the first answers are equal, and the others
-first_of : (a b : List Bool) (more others : List (List Bool)) → a ∷ more ≡ b ∷ others → a ≡ b
-first_of a b more others e = cc
-
-rest_of : (a b : List Bool) (more others : List (List Bool)) → a ∷ more ≡ b ∷ others → more ≡ others
-rest_of a b more others e = cc
-
-word_more : (inputs : ℕ) (x : List Bool) (word : List (List Bool)) → length x ≡ inputs → IsWord inputs word → IsWord inputs (x ∷ word)
-word_more inputs x word size is = All-cons (λ y. length y ≡ inputs) x word size is
-
--- alike states agree at each symbol, and go to alike states
-pub alike_agree : (F : KissFile) (s t : ℕ) → Alike F s t → AgreeAlways F s t
-alike_agree F s t alike x within =
-    first_of _ _ _ _ (alike (symbol_of F.inputs x ∷ []) (word_more F.inputs _ [] (length-symbol_of F.inputs x) (All-nil (λ y. length y ≡ F.inputs))))
-
-pub alike_next : (F : KissFile) (s t x : ℕ) → Alike F s t → Alike F (next F s (symbol_of F.inputs x)) (next F t (symbol_of F.inputs x))
-alike_next F s t x alike word is =
-    rest_of _ _ _ _ (alike (symbol_of F.inputs x ∷ word) (word_more F.inputs _ word (length-symbol_of F.inputs x) is))
 
 -- the first round
 pub first_round : (F : KissFile) (p : List ℕ) → IsSplitBy (AgreeAlways F) (length F.states) p → IsRound F p
@@ -80,13 +62,6 @@ next_round F p q inside last split = record {
     λ x within. last.alike _ _ (inside s (symbol_of F.inputs x) in_s (length-symbol_of F.inputs x)) (inside t (symbol_of F.inputs x) in_t (length-symbol_of F.inputs x)) (alike_next F s t x alike),
   );
 }
-
--- the number of a symbol, and the symbol again
-pub at_symbol : (F : KissFile) (P : List Bool → Type 0) (x : List Bool) → length x ≡ F.inputs → ((y : ℕ) → y < 2 ^ F.inputs → P (symbol_of F.inputs y)) → P x
-at_symbol F P x size each =
-    let below : number_of x < 2 ^ F.inputs = subst (λ (n : ℕ). number_of x < 2 ^ n) size (number_below x) in
-    let again : symbol_of F.inputs (number_of x) ≡ x = subst (λ (n : ℕ). symbol_of n (number_of x) ≡ x) size (symbol_of-number_of x) in
-    subst P again (each (number_of x) below)
 
 module _ (F : KissFile) (p q : List ℕ) (last : IsRound F p) (split : IsSplitBy (StayTogether F p) (length F.states) q) (stable : q ≡ p) where
   -- states that are together go to states that are, or are one

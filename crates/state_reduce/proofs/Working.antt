@@ -6,13 +6,13 @@ use Rattle.kiss_file.specs.Machine.{Conflicting, answers}
 use Rattle.kiss_file.proofs.Machine.{next_is_a_state}
 use Rattle.machine_table.specs.Staying.{NeverLeaves}
 use Rattle.machine_table.specs.Table.{IsTable}
-use Rattle.state_pairs.proofs.Lawful.{table_of_lawful}
+use Rattle.state_pairs.specs.Laws.Lawful.{table_of_lawful}
 use Rattle.pair_operators.specs.Pair.{Closed}
 use Rattle.state_reduce.specs.WorkMachine.{ClassesAnswerAlike}
 use Rattle.state_reduce.specs.Inner.Named.{AreAllNamed}
 use Rattle.state_reduce.proofs.AllNamed.{all_named}
 use Rattle.state_reduce.proofs.Answered.{answers_as_members}
-use Rattle.state_reduce.proofs.Unrefused.{alike_closed, alike_consistent}
+use Rattle.state_reduce.specs.Laws.Unrefused.{alike_closed, alike_consistent}
 
 pub classes_answer_alike : ClassesAnswerAlike
 classes_answer_alike true F W class lawful no_conflict work s word inside words =

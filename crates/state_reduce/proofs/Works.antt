@@ -10,7 +10,7 @@ use Rattle.state_reduce.specs.Alike.{IsEquivalence}
 use Rattle.state_reduce.specs.Cause as causes
 use Rattle.state_reduce.specs.Quotient.{AreBlocksInOrder, IsQuotient, block_number}
 use Rattle.state_reduce.specs.Work.{AreClasses, AreWorkNames, IsWork}
-use Rattle.state_reduce.proofs.Unrefused.{unrefused}
+use Rattle.state_reduce.specs.Laws.Unrefused.{unrefused}
 
 -- the quotient by alike states is refused for want of memory alone
 pub quotient_unrefused : (F : KissFile) (p : List ℕ) (fail : QuotientFail) → IsLawful F → IsEquivalence F p → fail ≢ quotients.NoMemory → causes.Caused F p fail → ⊥

@@ -1,2 +1,4 @@
 -- What follows from the definitions.
+pub mod Alike
+pub mod Unrefused
 pub mod Works

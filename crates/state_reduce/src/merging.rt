@@ -1,8 +1,7 @@
 //! The machine of the blocks of a partition.
-ghost use Rattle.std.specs.Prelude.{◌≡◌, ◌<◌, ◌≤◌, ◌==◌, ◌++◌, ◌∷◌, [], Contains, IfErr, IfOk, IfSome, OnOk, Some, length, map, slice_get};
+ghost use Rattle.std.specs.Prelude.{◌≡◌, ◌<◌, ◌≤◌, ◌==◌, ◌++◌, ◌∷◌, [], Contains, IfErr, IfOk, IfSome, OnOk, length, map};
 ghost use Rattle.kiss_file.specs.Lawful.{AreNumbered, IsLawful};
 ghost use Rattle.kiss_file.specs.Machine.{Accepted};
-ghost use Rattle.kiss_file.specs.Names.{AreDistinct};
 ghost use Rattle.kiss2.specs.Standing.{each_once};
 ghost use Rattle.kiss_file.specs.declared.fill.Fill.{Fill};
 ghost use Rattle.machine_table.specs.Table.{IsTable};
@@ -94,7 +93,7 @@ fn name_blocks(
 {
     add_currents(states, file, p)?;
     add_nexts(states, file, p)?;
-    let reset = number_of(states, file, p, file.reset)?;
+    let reset = number_of(states, file, p, file.reset);
     let rows = rows_of_blocks(alloc, states, file, p)?;
     Ok((reset, rows))
 }
@@ -108,7 +107,7 @@ fn add_currents(states: &mut StateNames, file: &KissFile, p: &Partition) -> Resu
 {
     for row in file.rows.as_slice() {
         if is_kept(p, row) {
-            number_of(states, file, p, row.from)?;
+            add_block(states, file, p, row.from)?;
         }
     }
     Ok(())
@@ -126,7 +125,7 @@ fn add_nexts(states: &mut StateNames, file: &KissFile, p: &Partition) -> Result<
             continue;
         }
         if let Some(t) = row.to {
-            number_of(states, file, p, t)?;
+            add_block(states, file, p, t)?;
         }
     }
     Ok(())
@@ -135,54 +134,47 @@ fn add_nexts(states: &mut StateNames, file: &KissFile, p: &Partition) -> Result<
 /// The rows of the blocks, where the name of each block is among the states.
 fn rows_of_blocks(
     alloc: Global,
-    states: &mut StateNames,
+    states: &StateNames,
     file: &KissFile,
     p: &Partition,
 ) -> Result<Rows, AllocError>
     requires table { IsTable file.now }
     requires p { length p.now ≡ length file.now.states }
-    requires names { states.old ≡ block_names file.now p.now }
+    requires names { states.now ≡ block_names file.now p.now }
     requires each { AreAllNamed file.now p.now }
-    ensures rows { IfOk result (λ rows. rows ≡ map (row_of_blocks file.now p.now) (kept_rows file.now p.now)) }
-    ensures names { OnOk result (states.new ≡ states.old) }
+    ensures { IfOk result (λ rows. rows ≡ map (row_of_blocks file.now p.now) (kept_rows file.now p.now)) }
 {
     let mut rows = Rows::new(alloc);
     for row in file.rows.as_slice() {
         if is_kept(p, row) {
-            rows.push(row_of(states, file, p, row)?)?;
+            rows.push(row_of(states, file, p, row))?;
         }
     }
     Ok(rows)
 }
 
 /// The row with its states replaced by their blocks.
-fn row_of(
-    states: &mut StateNames,
-    file: &KissFile,
-    p: &Partition,
-    row: &KissRow,
-) -> Result<KissRow, AllocError>
+fn row_of(states: &StateNames, file: &KissFile, p: &Partition, row: &KissRow) -> KissRow
     requires table { IsTable file.now }
     requires p { length p.now ≡ length file.now.states }
-    requires names { states.old ≡ block_names file.now p.now }
+    requires names { states.now ≡ block_names file.now p.now }
     requires each { AreAllNamed file.now p.now }
     requires from { row.now.from < length file.now.states }
     requires to { IfSome row.now.to (λ t. t < length file.now.states) }
-    ensures row { IfOk result (λ it. it ≡ row_of_blocks file.now p.now row.now) }
-    ensures names { OnOk result (states.new ≡ states.old) }
+    ensures { result ≡ row_of_blocks file.now p.now row.now }
 {
-    let from = number_of(states, file, p, row.from)?;
+    let from = number_of(states, file, p, row.from);
     let to = match row.to {
-        Some(t) => Some(number_of(states, file, p, t)?),
+        Some(t) => Some(number_of(states, file, p, t)),
         None => None,
     };
-    Ok(KissRow {
+    KissRow {
         cube: row.cube,
         from,
         to,
         care: row.care,
         value: row.value,
-    })
+    }
 }
 
 /// Whether the row is kept: its current state is the least of its block.
@@ -194,21 +186,35 @@ fn is_kept(p: &Partition, row: &KissRow) -> bool
     p.least_of(from) == from
 }
 
-/// The number of the block of a state: the place of its name among the names. A new name is added at the end.
-fn number_of(
+/// Adds the name of the block of a state at the end, unless it is among the names.
+fn add_block(
     states: &mut StateNames,
     file: &KissFile,
     p: &Partition,
     s: u16,
-) -> Result<u16, AllocError>
+) -> Result<(), AllocError>
     requires s { s < length file.now.states }
     requires p { length p.now ≡ length file.now.states }
     requires few { length states.old < 65535 }
-    ensures number { IfOk result (λ number. slice_get states.new number ≡ Some (block_name file.now p.now s)) }
     ensures known { Contains states.old (block_name file.now p.now s) → OnOk result (states.new ≡ states.old) }
     ensures last { (¬ Contains states.old (block_name file.now p.now s))
         → OnOk result (states.new ≡ states.old ++ block_name file.now p.now s ∷ []) }
-    ensures distinct { AreDistinct states.new }
 {
-    states.add(file.states.name(p.least_of(usize::from(s))))
+    states.add(file.states.name(p.least_of(usize::from(s))))?;
+    Ok(())
+}
+
+/// The number of the block of a state: the place of its name among the names.
+fn number_of(states: &StateNames, file: &KissFile, p: &Partition, s: u16) -> u16
+    requires table { IsTable file.now }
+    requires s { s < length file.now.states }
+    requires p { length p.now ≡ length file.now.states }
+    requires names { states.now ≡ block_names file.now p.now }
+    requires each { AreAllNamed file.now p.now }
+    ensures { result ≡ block_number file.now p.now s }
+{
+    match states.number(file.states.name(p.least_of(usize::from(s)))) {
+        Some(number) => number,
+        None => unreachable!(),
+    }
 }

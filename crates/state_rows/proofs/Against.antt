@@ -1,19 +1,20 @@
 -- The numbers of the rows of one state, and which of them contradict a row.
-use Rattle.std.proofs.Common.{◌≡◌, ℕ, ◌+◌, ◌<◌, ◌≤◌, ◌⊎◌, true, List, [], length, get_or, Option, None, Some, IfNone, IfSome, Contains, All, slice_get, inl, inr, sym, ◌∙◌, subst, refl, arith, ap}
+use Rattle.std.proofs.Common.{◌≡◌, ℕ, ◌+◌, ◌<◌, ◌≤◌, ◌⊎◌, true, List, length, get_or, Option, None, Some, IfNone, IfSome, Contains, All, slice_get, inl, inr, sym, ◌∙◌, subst, refl, arith, ap}
 use Rattle.std.specs.Int.{bit_at}
 use Rattle.std.proofs.lemmas.Bool.{cases_lt}
 use Rattle.std.proofs.lemmas.List.{get_or_default}
 use Rattle.std.proofs.lemmas.Option.{get_or_from_slice_get, slice_get_read}
+use Rattle.list_facts.specs.Laws.Everywhere.{all_at}
 use Rattle.kiss_file.specs.declared.file.KissRow.{KissRow}
 use Rattle.pattern_bundles.specs.Pattern.{IsFirstMark}
 use Rattle.state_rows.specs.declared.bundles.RowBundle.{RowBundle}
 use Rattle.state_rows.specs.Conflict.{AreFirstTwo, ContradictAt, Contradicts}
 use Rattle.state_rows.specs.Least.{lesser_of}
 use Rattle.state_rows.specs.Bundles.{AreFit, IsComparable, IsFirstAgainst, IsFit, IsInBundles, ListBundles, MarksRows, bundles_of}
-use Rattle.state_rows.specs.Places.{ContradictsRow, places_of}
-use Rattle.state_rows.proofs.RowBundles.{IsInFirst, of_row}
-use Rattle.state_rows.proofs.RowPatterns.{none_of_zero}
-use Rattle.state_rows.proofs.Least.{lesser_has, met_left, met_right}
+use Rattle.state_rows.specs.Places.{ContradictsRow}
+use Rattle.state_rows.proofs.RowBundles.{IsInFirst}
+use Rattle.state_rows.specs.Laws.Marks.{none_of_zero}
+use Rattle.state_rows.specs.Laws.Least.{lesser_has, met_left, met_right}
 
 -- one row stands at a number
 pub one_row : (rows : List KissRow) (i : ℕ) (row other : KissRow) → slice_get rows i ≡ Some row → slice_get rows i ≡ Some other → row ≡ other
@@ -132,7 +133,7 @@ module _ (rows : List KissRow) (bundles : List (List RowBundle)) (stand : ListBu
   pub comparable : AreFit rows → (number : ℕ) (row : KissRow) → slice_get rows number ≡ Some row
       → (bundle : RowBundle) → Contains (bundles_of bundles row.from) bundle → IsComparable rows row bundle
   comparable (width, fit) number row at_row bundle among =
-      let own = of_row rows (IsFit width) number row fit at_row in
+      let own = all_at (IsFit width) rows number row fit at_row in
       record {
         right = stand.right row.from bundle among;
         state = λ i within. stand.own row.from i (bundle, among, within);
@@ -175,17 +176,6 @@ module _ (rows : List KissRow) (bundles : List (List RowBundle)) (stand : ListBu
                       inr (same, first.least k among.0 earlier among.1 refl)
                 ]
           ]
-
--- the list that was read at a state
-pub list_at : (places : List (List ℕ)) (state at : ℕ) (list read : List ℕ) → state < length places → at ≡ state → list ≡ get_or places at list → read ≡ list
-    → read ≡ places_of places state
-list_at places state at list read inside same is given =
-    given ∙ is ∙ ap (λ (s : ℕ). get_or places s list) same ∙ get_or_default places state list [] inside
-
-pub bundles_at : (bundles : List (List RowBundle)) (state at : ℕ) (list read : List RowBundle) → state < length bundles → at ≡ state → list ≡ get_or bundles at list → read ≡ list
-    → read ≡ bundles_of bundles state
-bundles_at bundles state at list read inside same is given =
-    given ∙ is ∙ ap (λ (s : ℕ). get_or bundles s list) same ∙ get_or_default bundles state list [] inside
 
 -- the row that was read at a number
 pub row_at : (rows : List KissRow) (i : ℕ) (row : KissRow) → i < length rows → row ≡ get_or rows i row → slice_get rows i ≡ Some row

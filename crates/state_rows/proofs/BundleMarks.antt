@@ -2,6 +2,7 @@
 use Rattle.std.proofs.Common.{◌≡◌, ℕ, ◌<◌, ◌^◌, ◌⊎◌, List, All, Contains, get_or, Some, inl, inr, slice_get, sym, ap, ◌∙◌, refl, bit_and}
 use Rattle.std.proofs.lemmas.List.Elements.{Contains-get_or}
 use Rattle.std.specs.Int.{bit_at, bit_not, w64}
+use Rattle.list_facts.specs.Laws.Everywhere.{all_at}
 use Rattle.cubes.specs.declared.cube.Cube.{Cube}
 use Rattle.cubes.specs.Cube.{Meets}
 use Rattle.kiss_file.specs.declared.file.KissRow.{KissRow}
@@ -12,7 +13,7 @@ use Rattle.state_rows.specs.declared.bundles.RowBundle.{RowBundle}
 use Rattle.state_rows.specs.Conflict.{Contradicts}
 use Rattle.state_rows.specs.Bundles.{AreFit, IsBundle, IsComparable, IsFit, MarksRows, NamesNoOther, cube_pattern, next_pattern, output_pattern}
 use Rattle.state_rows.specs.Columns.{IsAtPlace}
-use Rattle.state_rows.proofs.RowBundles.{marks_as, marks_fewer, marks_of, marks_without, of_row}
+use Rattle.state_rows.proofs.RowBundles.{marks_as, marks_fewer, marks_of, marks_without}
 use Rattle.state_rows.proofs.RowPatterns.{agree_from_meets, meets_from_agree, not_both, one_from_agree, said_or_agree}
 
 module _ (rows : List KissRow) (bundle : RowBundle) where
@@ -22,7 +23,7 @@ module _ (rows : List KissRow) (bundle : RowBundle) where
   marks_meeting cube word right fit marks =
       marks_as rows bundle.numbers (λ row. Agree (cube_pattern cube) (cube_pattern row.cube)) (λ row. Meets cube row.cube) word
       (λ k row at.
-      let widths : cube.width ≡ row.cube.width = sym (of_row rows (IsFit cube.width) (get_or bundle.numbers k 0) row fit at.1).cube_width in
+      let widths : cube.width ≡ row.cube.width = sym (all_at (IsFit cube.width) rows (get_or bundle.numbers k 0) row fit at.1).cube_width in
       ((λ agree. meets_from_agree cube row.cube widths agree), (λ meets. agree_from_meets cube row.cube widths meets)))
       (marks_of rows bundle.numbers Symbols bundle.cubes (Agree (cube_pattern cube)) word right.cubes marks)
 
@@ -48,7 +49,7 @@ module _ (rows : List KissRow) (bundle : RowBundle) where
       (marks_of rows numbers Outputs bundle.outputs (Agree (output_pattern row)) b right.outputs second)
       (λ k other at contradicts.
       let shared = contradicts.symbol in
-      let fit = of_row rows (IsFit row.cube.width) (get_or numbers k 0) other known.fit at.1 in (
+      let fit = all_at (IsFit row.cube.width) rows (get_or numbers k 0) other known.fit at.1 in (
         (shared.0, shared.2, shared.1),
         not_both row other known.row_fit.next_state fit.next_state (turned other row contradicts.said),
       ))
@@ -78,4 +79,4 @@ pub names_no_other : (rows : List KissRow) (bundle : RowBundle) (next word : ℕ
     → Marks bundle.nexts (Agree (next_pattern (Some next))) word → (k : ℕ) (row : KissRow) → IsAtPlace rows bundle.numbers k row → bit_at word k ≡ 1 → NamesNoOther next row
 names_no_other rows bundle next word small right (width, fit) marks k row at one v names =
     let agree = (marks.each k (next_pattern row.to) (right.nexts.each k row at.0 at.1)).0 one in
-    sym (one_from_agree (Some next) row.to next v small (of_row rows (IsFit width) (get_or bundle.numbers k 0) row fit at.1).next_state refl names agree)
+    sym (one_from_agree (Some next) row.to next v small (all_at (IsFit width) rows (get_or bundle.numbers k 0) row fit at.1).next_state refl names agree)

@@ -1,9 +1,7 @@
 pub mod Against
 pub mod BundleMarks
 pub mod KeptColumns
-pub mod Least
 pub mod Ordered
-pub mod Outputs
 pub mod RowBundles
 pub mod RowNumbers
 pub mod RowPatterns

@@ -16,11 +16,7 @@ use Rattle.state_rows.specs.declared.bundles.RowBundle.{RowBundle}
 use Rattle.state_rows.specs.Bundles.{AreBundles, ArePatterns, IsBundle, IsInBundles, ListBundles, MarksRows, bundles_of, pattern_of}
 use Rattle.state_rows.specs.Columns.{IsAtPlace}
 use Rattle.state_rows.specs.Places.{ArePlaces, places_of}
-use Rattle.state_rows.proofs.RowPatterns.{none_of_zero}
-
--- what holds of all rows holds of the row at a number
-pub of_row : (rows : List KissRow) (P : KissRow → Type 0) (i : ℕ) (row : KissRow) → All P rows → slice_get rows i ≡ Some row → P row
-of_row rows P i row all at = subst P (get_or_from_slice_get rows i row row at) (all i row (slice_get_within rows i row at))
+use Rattle.state_rows.specs.Laws.Marks.{none_of_zero}
 
 module _ (rows : List KissRow) (numbers : List ℕ) where
   -- marks of patterns are marks of rows

@@ -10,12 +10,10 @@ use Rattle.kiss_file.specs.declared.file.KissRow.{KissRow}
 use Rattle.kiss_file.specs.Machine.{GiveBoth, NameTwo}
 use Rattle.pattern_bundles.specs.Pattern.{Agree}
 use Rattle.state_rows.specs.Bundles.{cube_pattern, next_pattern, output_pattern}
-use Rattle.state_rows.proofs.Outputs as outputs
+use Rattle.state_rows.specs.Laws.Marks.{none_of_zero}
+use Rattle.state_rows.specs.Laws.Outputs as outputs
 
 -- ---- bits
-pub none_of_zero : (k : ℕ) → bit_at 0 k ≡ 1 → ⊥
-none_of_zero k one = let none = bit_at-zero k in omega (arith, none, one)
-
 zero_unless_one : (n k : ℕ) → (bit_at n k ≡ 1 → ⊥) → bit_at n k ≡ 0
 zero_unless_one n k not_one = let below = bit_at-lt n k in omega (arith, below, not_one)
 

@@ -9,13 +9,15 @@
 //!
 //! `specs/Places` says which lists of numbers are those of the states, `specs/Columns` what leaders and columns are,
 //! `specs/Bundles` what a bundle holds and marks, `specs/Conflict` which two rows are the first that contradict one
-//! another, and `specs/Least` what a search for the least number has found.
+//! another, `specs/Least` what a search for the least number has found, and `specs/Worked` three rows to try this on.
+//! [`worked_conflict`] is a law: which two of these rows contradict one another.
 #![tactic(auto)]
 
 mod bundles;
 mod classes;
 mod columns;
 mod contradiction;
+mod laws;
 mod order;
 mod places;
 
@@ -23,5 +25,6 @@ pub use bundles::{RowBundle, bundles_of_states};
 pub use classes::leaders_of_states;
 pub use columns::columns_of_states;
 pub use contradiction::first_conflict;
+pub use laws::worked_conflict;
 pub use order::places_by_cubes;
 pub use places::{list_of, places_of_states};

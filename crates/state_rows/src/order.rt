@@ -1,6 +1,7 @@
-//! The order in which a machine keeps the rows of a state: by their cubes.
+//! The order in which a machine keeps the rows of a state: by their cubes, and then by the outputs that they give.
 //!
-//! States whose rows have the same cubes then have equal cubes at equal places, whatever the order in the file.
+//! States whose rows have the same cubes then have equal cubes at equal places, whatever the order in the file. If rows
+//! with one cube share the outputs among them, those that give the same outputs are at equal places too.
 ghost use Rattle.std.specs.Prelude.{ℕ, ◌↔◌, Contains, IfOk, length};
 ghost use Rattle.state_rows.specs.Places.{ArePlaces, ListRows};
 
@@ -8,10 +9,10 @@ use hs_list::Items;
 use kiss_file::KissRow;
 use std::alloc::{AllocError, Global};
 
-/// The value and the care of the cube of the row with that number.
-fn cube_key(rows: &[KissRow], number: usize) -> Option<(u32, u32)> {
+/// The value and the care of the cube of the row with that number, and which outputs it gives.
+fn cube_key(rows: &[KissRow], number: usize) -> Option<(u32, u32, u64)> {
     let row = rows.get(number)?;
-    Some((row.cube.value, row.cube.care))
+    Some((row.cube.value, row.cube.care, row.care))
 }
 
 /// The numbers in the order of the cubes of their rows.

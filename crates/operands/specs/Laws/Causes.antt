@@ -12,8 +12,8 @@ use Rattle.kiss_file.specs.declared.file.KissFile.{KissFile}
 use Rattle.kiss2.specs.Kiss.{Kiss}
 use Rattle.kiss_file.specs.Machine.{Accepted, Conflicting}
 use Rattle.machine_table.specs.Conflict.{IsFirstConflict}
-use Rattle.machine_table.proofs.Conflicts.{conflicting_at}
-use Rattle.machine_table.proofs.Unrefused.{none_open}
+use Rattle.machine_table.specs.Laws.Conflicts.{conflicting_at}
+use Rattle.machine_table.specs.Laws.Unrefused.{none_open}
 use Rattle.net_core.specs.declared.Network.{Network}
 use Rattle.net_core.specs.Blif.{Blif}
 use Rattle.net_core.proofs.Determined.{blif_one}

@@ -1,7 +1,7 @@
 use Rattle.std.proofs.Common.{ℕ, ◌<◌, length, ◌∙◌, sym, subst, arith}
 use Rattle.partition.specs.Partition.{IsPartition}
 use Rattle.partition.specs.Laws.Merging.{merged_above, merged_held}
-use Rattle.state_pairs.proofs.MergedPairs.{one_block}
+use Rattle.state_pairs.specs.Laws.MergedPairs.{one_block}
 use Rattle.closed_lattice.proofs.Blocks.{fewer_blocks}
 use Rattle.closed_lattice.proofs.Joining.{growing_joined}
 use Rattle.closed_lattice.proofs.Growing.{growing_begun, growing_merged, growing_ended, growing_one}

@@ -2,10 +2,10 @@ use Rattle.std.proofs.Common.{ℕ, ◌≡◌, ◌∷◌, ◌++◌, List, [], All
 use Rattle.std.proofs.lemmas.List.Elements.{All-push, Contains-append_left, Contains-append_right, Contains-get_or}
 use Rattle.kiss_file.specs.declared.file.KissRow.{KissRow}
 use Rattle.machine_table.specs.Covering.{IsRightRow}
-use Rattle.state_pairs.proofs.Asking.{looked_at, number_of_row}
+use Rattle.state_pairs.specs.Laws.Asking.{looked_at, number_of_row}
 use Rattle.dependence.proofs.FilledRows.{own_is_right}
 use Rattle.list_facts.specs.Laws.Members.{Contains-here}
-use Rattle.state_pairs.proofs.Sought.{row_of}
+use Rattle.state_pairs.specs.Laws.Sought.{row_of}
 use Rattle.dependence.proofs.filled.rows_of.Goals as goal
 
 pub loop-number-init : goal.loop-number-init

@@ -1,5 +1,5 @@
 use Rattle.std.proofs.Common.{◌<◌, ℕ, length, refl, arith}
-use Rattle.state_rows.proofs.Against.{list_at}
+use Rattle.state_rows.specs.Laws.Lists.{list_at}
 use Rattle.io_pairs.specs.Inner.Families.{functions_of}
 use Rattle.io_pairs.proofs.Parting.{parted_more}
 use Rattle.io_pairs.proofs.greatest.greatest_partner.Goals as goal

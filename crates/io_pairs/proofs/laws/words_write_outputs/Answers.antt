@@ -1,6 +1,6 @@
 use Rattle.cubes.specs.Symbol.{bit, symbol_of}
 use Rattle.kiss_file.specs.Machine.{output_bit}
-use Rattle.machine_table.proofs.OutputWords.{same_map}
+use Rattle.machine_table.specs.Laws.OutputWords.{same_map}
 use Rattle.io_pairs.specs.Outputs.{output_word}
 use Rattle.io_pairs.proofs.Words.{word_below, word_bits}
 use Rattle.io_pairs.proofs.laws.words_write_outputs.Goals as goal

@@ -1,5 +1,5 @@
 use Rattle.std.proofs.Common.{◌≡◌, ◌<◌, ◌∙◌, ℕ, List, ap, get_or, length, refl, arith}
-use Rattle.state_rows.proofs.Against.{list_at}
+use Rattle.state_rows.specs.Laws.Lists.{list_at}
 use Rattle.io_pairs.specs.Inner.Families.{functions_of, value_at}
 use Rattle.io_pairs.proofs.Tying.{ties_more}
 use Rattle.io_pairs.proofs.least.tie.Goals as goal

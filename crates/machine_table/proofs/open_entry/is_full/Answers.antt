@@ -1,5 +1,5 @@
 use Rattle.std.proofs.Common.{◌∙◌}
-use Rattle.state_rows.proofs.Outputs.{given_in_all}
+use Rattle.state_rows.specs.Laws.Outputs.{given_in_all}
 use Rattle.machine_table.proofs.open_entry.is_full.Goals as goal
 
 pub returns : goal.returns

@@ -1,7 +1,7 @@
 use Rattle.std.proofs.Common.{ℕ, Option, sym, subst}
 use Rattle.state_pairs.specs.AddedPairs.{IsFound}
 use Rattle.state_pairs.specs.Merging.{MergesPairs}
-use Rattle.state_pairs.proofs.MergedPairs.{merges_none}
+use Rattle.state_pairs.specs.Laws.MergedPairs.{merges_none}
 use Rattle.state_pairs.proofs.merging.merge_found.Goals as goal
 
 pub merge_pair-requires-clause-first : goal.merge_pair-requires-clause-first

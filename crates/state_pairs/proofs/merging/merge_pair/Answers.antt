@@ -1,6 +1,6 @@
 use Rattle.std.proofs.Common.{ℕ, subst}
 use Rattle.partition.specs.Merging.{IsMerged}
-use Rattle.state_pairs.proofs.MergedPairs.{merges_pair}
+use Rattle.state_pairs.specs.Laws.MergedPairs.{merges_pair}
 use Rattle.state_pairs.proofs.merging.merge_pair.Goals as goal
 
 pub returns : goal.returns

@@ -3,7 +3,7 @@ use Rattle.std.proofs.lemmas.List.{get_or_default}
 use Rattle.std.proofs.lemmas.List.Elements.{Contains-get_or}
 use Rattle.state_pairs.specs.AddedPairs.{BelowCount, IsFound, IsPairAt}
 use Rattle.state_pairs.specs.Merging.{MergesPairs}
-use Rattle.state_pairs.proofs.MergedPairs.{at_this_pair, merges_below_none, merges_more}
+use Rattle.state_pairs.specs.Laws.MergedPairs.{at_this_pair, merges_below_none, merges_more}
 use Rattle.state_pairs.proofs.merging.merge_pairs.Goals as goal
 
 pub loop-pair-init : goal.loop-pair-init

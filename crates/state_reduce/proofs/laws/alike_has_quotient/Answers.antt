@@ -1,4 +1,4 @@
-use Rattle.state_reduce.proofs.Unrefused.{unrefused}
+use Rattle.state_reduce.specs.Laws.Unrefused.{unrefused}
 use Rattle.state_reduce.proofs.laws.alike_has_quotient.Goals as goal
 
 pub returns : goal.returns

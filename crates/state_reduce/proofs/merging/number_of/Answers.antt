@@ -1,31 +1,30 @@
-use Rattle.std.proofs.Common.{ℕ, ◌≡◌, ◌∙◌, ◌++◌, ◌∷◌, [], List, Contains, OnOk, ap, get_or, subst, sym, IfOk, Some, slice_get, arith}
-use Rattle.std.proofs.lemmas.Option.{get_or_from_slice_get}
-use Rattle.partition.specs.Inside.{least_of}
+use Rattle.std.proofs.Common.{◌≡◌, ◌∙◌, ◌++◌, ℕ, List, Contains, Some, slice_get, length, ap, subst, sym, arith}
+use Rattle.state_reduce.specs.Inner.Named.{currents_of, nexts_of}
 use Rattle.state_reduce.specs.Quotient.{block_name}
+use Rattle.state_reduce.proofs.Appearing.{place_at}
+use Rattle.state_reduce.proofs.Names.{few_blocks, name_read}
 use Rattle.state_reduce.proofs.merging.number_of.Goals as goal
 
--- the name that is added
-added : (c : goal.After-add) → c.name.result.now ≡ block_name c.args.file.now c.args.p.now c.args.s
-added c =
-    sym (get_or_from_slice_get c.args.file.now.states c.least_of.result c.name.result.now [] c.name.ensures)
-    ∙ ap (λ (k : ℕ). get_or c.args.file.now.states k []) (c.least_of.ensures.least ∙ ap (least_of c.args.p.now) c.from.ensures)
+pub returns : goal.returns
+returns c =
+    let F = c.args.file.now in
+    let p = c.args.p.now in
+    let name = name_read F p c.args.s c.from.result c.least_of.result c.name.result.now c.name.ensures c.least_of.ensures.least c.from.ensures in
+    sym (place_at (currents_of F p F.rows ++ nexts_of F p F.rows) (block_name F p c.args.s) c.in-Some.number
+    (subst (λ (names : List (List ℕ)). slice_get names c.in-Some.number ≡ Some (block_name F p c.args.s)) c.requires.names
+    (subst (λ (it : List ℕ). slice_get c.args.states.now c.in-Some.number ≡ Some it) name c.in-Some.ensures.some)))
 
-pub returns-clause-known : goal.returns-clause-known
-returns-clause-known c there = c.add.ensures.known (subst (Contains c.args.states.now) (sym (added c)) there)
+pub unreachable-requires : goal.unreachable-requires
+unreachable-requires c =
+    let F = c.args.file.now in
+    let p = c.args.p.now in
+    let name = name_read F p c.args.s c.from.result c.least_of.result c.name.result.now c.name.ensures c.least_of.ensures.least c.from.ensures in
+    c.in-None.ensures.none
+    (subst (λ (it : List ℕ). Contains c.args.states.now it) (sym name)
+    (subst (λ (names : List (List ℕ)). Contains names (block_name F p c.args.s)) (sym c.requires.names) (c.requires.each c.args.s c.requires.s)))
 
-pub returns-clause-last : goal.returns-clause-last
-returns-clause-last c absent =
-    subst (λ (name : List ℕ). OnOk c.add.result (c.add.new.self ≡ c.args.states.now ++ name ∷ [])) (added c)
-    (c.add.ensures.last (λ there. absent (subst (Contains c.args.states.now) (added c) there)))
-
-pub returns-clause-number : goal.returns-clause-number
-returns-clause-number c = subst (λ (name : List ℕ). IfOk c.add.result (λ number. slice_get c.add.new.self number ≡ Some name)) (added c) c.add.ensures.number
-
-pub returns-clause-distinct : goal.returns-clause-distinct
-returns-clause-distinct c = c.add.ensures.distinct
-
-pub add-requires : goal.add-requires
-add-requires c = c.requires.few
+pub number-requires : goal.number-requires
+number-requires c = omega (arith, few_blocks c.args.file.now c.args.p.now c.requires.table, ap length c.requires.names)
 
 pub name-requires : goal.name-requires
 name-requires c = omega (arith, c.least_of.ensures.below, c.from.ensures, c.requires.s)

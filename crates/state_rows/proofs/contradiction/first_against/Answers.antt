@@ -1,6 +1,6 @@
 use Rattle.std.proofs.Common.{ℕ, ◌<◌, IfSome, Option, sym, subst}
 use Rattle.state_rows.proofs.Against.{first_of_all, first_of_more}
-use Rattle.state_rows.proofs.Least.{lesser_has}
+use Rattle.state_rows.specs.Laws.Least.{lesser_has}
 use Rattle.state_rows.proofs.contradiction.first_against.Goals as goal
 
 pub loop-bundle-preserved : goal.loop-bundle-preserved

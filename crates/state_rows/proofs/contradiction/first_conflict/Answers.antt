@@ -5,7 +5,8 @@ use Rattle.kiss_file.specs.declared.file.KissRow.{KissRow}
 use Rattle.state_rows.specs.declared.bundles.RowBundle.{RowBundle}
 use Rattle.state_rows.specs.Conflict.{ContradictAt}
 use Rattle.state_rows.specs.Bundles.{IsComparable, IsFirstAgainst, IsInBundles}
-use Rattle.state_rows.proofs.Against.{bundles_at, comparable, earlier_among, first_two, row_at}
+use Rattle.state_rows.specs.Laws.Lists.{bundles_at}
+use Rattle.state_rows.proofs.Against.{comparable, earlier_among, first_two, row_at}
 use Rattle.state_rows.proofs.contradiction.first_conflict.Goals as goal
 
 -- the state of the row that is read is one of the states

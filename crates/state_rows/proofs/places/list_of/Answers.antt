@@ -1,5 +1,5 @@
 use Rattle.std.proofs.Common.{refl}
-use Rattle.state_rows.proofs.Against.{list_at}
+use Rattle.state_rows.specs.Laws.Lists.{list_at}
 use Rattle.state_rows.proofs.places.list_of.Goals as goal
 
 pub returns : goal.returns

@@ -2,8 +2,8 @@ use Rattle.std.proofs.Common.{◌⊎◌, OnOk, subst}
 use Rattle.kiss_file.specs.declared.file.KissFile.{KissFile}
 use Rattle.state_pairs.specs.Pairs.{IsImage}
 use Rattle.state_pairs.specs.AddedPairs.{AddsPairs, AreNamed, IsOpenImage}
-use Rattle.state_pairs.proofs.AddedPairs.{adds_as, adds_then, on_ok}
-use Rattle.state_pairs.proofs.NamedPairs.{image_is, image_is_named}
+use Rattle.state_pairs.specs.Laws.AddedPairs.{adds_as, adds_then, on_ok}
+use Rattle.state_pairs.specs.Laws.NamedPairs.{image_is, image_is_named}
 use Rattle.machine_table.proofs.machine.Machine.add_images.Goals as goal
 
 pub returns-then-complete-clause-pairs : goal.returns-then-complete-clause-pairs

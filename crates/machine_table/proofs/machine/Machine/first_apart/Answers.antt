@@ -1,19 +1,16 @@
-use Rattle.std.proofs.Common.{ℕ, ◌≡◌, true, slice_index, subst}
-use Rattle.kiss_file.specs.declared.file.KissFile.{KissFile}
-use Rattle.kiss_file.specs.Machine.{Conflicting}
+use Rattle.std.proofs.Common.{ℕ, ◌≡◌, true, slice_index}
 use Rattle.partition.specs.Partition.{Together}
 use Rattle.state_pairs.specs.Pairs.{AtEachSymbol, GoInto}
-use Rattle.state_pairs.specs.Table.{IsTable}
-use Rattle.state_pairs.proofs.Labels.{each_from_none, first_not_so, if_none_given}
-use Rattle.state_pairs.proofs.NextLabels.{label_of_next, named, named_everywhere, next_labels, one_named, together_in}
+use Rattle.state_pairs.specs.Laws.Labels.{each_from_none, first_not_so, if_none_given}
+use Rattle.state_pairs.specs.Laws.NextLabels.{label_of_next, named, named_everywhere, next_labels, one_named, together_in}
 use Rattle.machine_table.proofs.machine.Machine.first_apart.Goals as goal
 
 pub returns-clause-some : goal.returns-clause-some
 returns-clause-some c =
     let F = c.args.self.now in
     let q = c.args.q.now in
-    let table = subst IsTable c.self.view_is c.self.invariant.0 in
-    let no_conflict = subst (λ (G : KissFile). Conflicting G → ⊥) c.self.view_is c.self.invariant.1 in
+    let table = c.keeps_its_states.ensures.table in
+    let no_conflict = c.keeps_its_states.ensures.no_conflict in
     let alike = (λ (x : ℕ) (same : label_of_next (slice_index q) F c.args.s x ≡ label_of_next (slice_index q) F c.args.t x).
     together_in F table no_conflict q c.args.s c.args.t c.requires.s c.requires.t c.requires.states x same) in
     let equal = (λ (x : ℕ) (goes : GoInto (Together q) F c.args.s c.args.t x). goes.2) in
@@ -23,8 +20,8 @@ pub returns-clause-none : goal.returns-clause-none
 returns-clause-none c =
     let F = c.args.self.now in
     let q = c.args.q.now in
-    let table = subst IsTable c.self.view_is c.self.invariant.0 in
-    let no_conflict = subst (λ (G : KissFile). Conflicting G → ⊥) c.self.view_is c.self.invariant.1 in
+    let table = c.keeps_its_states.ensures.table in
+    let no_conflict = c.keeps_its_states.ensures.no_conflict in
     let alike = (λ (x : ℕ) (same : label_of_next (slice_index q) F c.args.s x ≡ label_of_next (slice_index q) F c.args.t x).
     together_in F table no_conflict q c.args.s c.args.t c.requires.s c.requires.t c.requires.states x same) in
     let equal = (λ (x : ℕ) (goes : GoInto (Together q) F c.args.s c.args.t x). goes.2) in
@@ -33,7 +30,7 @@ returns-clause-none c =
 
 pub first_differing-requires-clause-one : goal.first_differing-requires-clause-one
 first_differing-requires-clause-one c =
-    one_named c.args.self.now (subst (λ (G : KissFile). Conflicting G → ⊥) c.self.view_is c.self.invariant.1) (slice_index c.args.q.now)
+    one_named c.args.self.now c.keeps_its_states.ensures.no_conflict (slice_index c.args.q.now)
 
 pub first_differing-requires-clause-none_open : goal.first_differing-requires-clause-none_open
 first_differing-requires-clause-none_open c = named_everywhere c.args.self.now (slice_index c.args.q.now) c.args.s c.args.t c.requires.s c.requires.t

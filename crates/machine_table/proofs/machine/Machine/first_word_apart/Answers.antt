@@ -1,10 +1,7 @@
 use Rattle.std.proofs.Common.{ℕ, ◌≡◌, ◌-◌, ◌^◌, ◌∙◌, ap, subst}
-use Rattle.kiss_file.specs.declared.file.KissFile.{KissFile}
-use Rattle.kiss_file.specs.Machine.{Conflicting}
 use Rattle.state_rows.specs.Least.{IsMetBy}
 use Rattle.state_pairs.specs.Pairs.{AgreeAt}
-use Rattle.state_pairs.specs.Table.{IsTable}
-use Rattle.state_pairs.proofs.Labels.{each_from_none, first_not_so, none_from_each}
+use Rattle.state_pairs.specs.Laws.Labels.{each_from_none, first_not_so, none_from_each}
 use Rattle.machine_table.proofs.OutputLabels.{no_label}
 use Rattle.machine_table.proofs.WordLabels.{one_word_said, word_at, word_label, word_labels, word_not_open, words_alike, words_equal}
 use Rattle.machine_table.proofs.machine.Machine.first_word_apart.Goals as goal
@@ -12,10 +9,10 @@ use Rattle.machine_table.proofs.machine.Machine.first_word_apart.Goals as goal
 pub returns-clause-least : goal.returns-clause-least
 returns-clause-least c asked =
     let F = c.args.self.now in
-    let table = subst IsTable c.self.view_is c.self.invariant.0 in
-    let no_conflict = subst (λ (G : KissFile). Conflicting G → ⊥) c.self.view_is c.self.invariant.1 in
-    let whole : c.new.result.all ≡ 2 ^ F.outputs - 1 = c.new.ensures ∙ c.all_outputs-all.ensures ∙ ap (λ (n : ℕ). 2 ^ n - 1) c.outputs.ensures.count in
-    let all = c.new.result.all in
+    let table = c.keeps_its_states.ensures.table in
+    let no_conflict = c.keeps_its_states.ensures.no_conflict in
+    let whole : c.new-question.result.all ≡ 2 ^ F.outputs - 1 = c.new-question.ensures ∙ c.all_outputs-all.ensures ∙ ap (λ (n : ℕ). 2 ^ n - 1) c.outputs.ensures.count in
+    let all = c.new-question.result.all in
     let found = c.first_differing in
     first_not_so F table (word_label all) no_label (word_at F table no_conflict all whole) (word_labels F table no_conflict all whole) c.args.s c.args.t (AgreeAt F c.args.s c.args.t)
     (words_alike F table no_conflict all whole c.args.s c.args.t c.requires.first c.requires.second) (words_equal F table no_conflict all whole c.args.s c.args.t c.requires.first c.requires.second)
@@ -25,10 +22,10 @@ returns-clause-least c asked =
 pub returns-clause-none : goal.returns-clause-none
 returns-clause-none c =
     let F = c.args.self.now in
-    let table = subst IsTable c.self.view_is c.self.invariant.0 in
-    let no_conflict = subst (λ (G : KissFile). Conflicting G → ⊥) c.self.view_is c.self.invariant.1 in
-    let whole : c.new.result.all ≡ 2 ^ F.outputs - 1 = c.new.ensures ∙ c.all_outputs-all.ensures ∙ ap (λ (n : ℕ). 2 ^ n - 1) c.outputs.ensures.count in
-    let all = c.new.result.all in
+    let table = c.keeps_its_states.ensures.table in
+    let no_conflict = c.keeps_its_states.ensures.no_conflict in
+    let whole : c.new-question.result.all ≡ 2 ^ F.outputs - 1 = c.new-question.ensures ∙ c.all_outputs-all.ensures ∙ ap (λ (n : ℕ). 2 ^ n - 1) c.outputs.ensures.count in
+    let all = c.new-question.result.all in
     let found = c.first_differing in
     let alike = words_alike F table no_conflict all whole c.args.s c.args.t c.requires.first c.requires.second in
     let equal = words_equal F table no_conflict all whole c.args.s c.args.t c.requires.first c.requires.second in (
@@ -39,15 +36,15 @@ returns-clause-none c =
 pub first_differing-requires-clause-one : goal.first_differing-requires-clause-one
 first_differing-requires-clause-one c =
     let F = c.args.self.now in
-    one_word_said F (subst IsTable c.self.view_is c.self.invariant.0) (subst (λ (G : KissFile). Conflicting G → ⊥) c.self.view_is c.self.invariant.1) c.new.result.all
-    (c.new.ensures ∙ c.all_outputs-all.ensures ∙ ap (λ (n : ℕ). 2 ^ n - 1) c.outputs.ensures.count)
+    one_word_said F c.keeps_its_states.ensures.table c.keeps_its_states.ensures.no_conflict c.new-question.result.all
+    (c.new-question.ensures ∙ c.all_outputs-all.ensures ∙ ap (λ (n : ℕ). 2 ^ n - 1) c.outputs.ensures.count)
 
 pub first_differing-requires-clause-none_open : goal.first_differing-requires-clause-none_open
 first_differing-requires-clause-none_open c specified x =
     let F = c.args.self.now in
-    let table = subst IsTable c.self.view_is c.self.invariant.0 in
-    let no_conflict = subst (λ (G : KissFile). Conflicting G → ⊥) c.self.view_is c.self.invariant.1 in
-    let whole : c.new.result.all ≡ 2 ^ F.outputs - 1 = c.new.ensures ∙ c.all_outputs-all.ensures ∙ ap (λ (n : ℕ). 2 ^ n - 1) c.outputs.ensures.count in (
-      word_not_open F table no_conflict c.new.result.all whole c.args.s c.requires.first specified c.requires.s x,
-      word_not_open F table no_conflict c.new.result.all whole c.args.t c.requires.second specified c.requires.t x,
+    let table = c.keeps_its_states.ensures.table in
+    let no_conflict = c.keeps_its_states.ensures.no_conflict in
+    let whole : c.new-question.result.all ≡ 2 ^ F.outputs - 1 = c.new-question.ensures ∙ c.all_outputs-all.ensures ∙ ap (λ (n : ℕ). 2 ^ n - 1) c.outputs.ensures.count in (
+      word_not_open F table no_conflict c.new-question.result.all whole c.args.s c.requires.first specified c.requires.s x,
+      word_not_open F table no_conflict c.new-question.result.all whole c.args.t c.requires.second specified c.requires.t x,
     )

@@ -3,7 +3,7 @@ use Rattle.std.proofs.lemmas.List.Elements.{All-push, Contains-get_or}
 use Rattle.cubes.specs.declared.cube.Cube.{Cube}
 use Rattle.machine_table.specs.Inner.OpenSymbol.{AreFullCubes, IsFull}
 use Rattle.machine_table.proofs.OpenCubes.{with_full_cube}
-use Rattle.state_pairs.proofs.Sought.{row_of}
+use Rattle.state_pairs.specs.Laws.Sought.{row_of}
 use Rattle.machine_table.proofs.machine.Machine.full_cubes.Goals.{else-is_full, then-is_full+in_ok-push}
 use Rattle.machine_table.proofs.machine.Machine.full_cubes.Goals as goal
 

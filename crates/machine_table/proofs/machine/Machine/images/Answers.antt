@@ -1,7 +1,7 @@
 use Rattle.std.proofs.Common.{ℕ, Contains, List, ◌↔◌, sym, subst}
 use Rattle.state_pairs.specs.Pairs.{IsImage}
 use Rattle.state_pairs.specs.AddedPairs.{AddsPairs}
-use Rattle.state_pairs.proofs.AddedPairs.{listed_alone}
+use Rattle.state_pairs.specs.Laws.AddedPairs.{listed_alone}
 use Rattle.machine_table.proofs.machine.Machine.images.Goals as goal
 
 pub returns-clause-listed : goal.returns-clause-listed

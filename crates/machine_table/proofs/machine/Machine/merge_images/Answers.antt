@@ -6,9 +6,9 @@ use Rattle.state_pairs.specs.Pairs.{IsImage}
 use Rattle.state_pairs.specs.AddedPairs.{AreNamed, IsOpenImage}
 use Rattle.state_pairs.specs.Merging.{MergesPairs}
 use Rattle.state_pairs.specs.SeenPairs.{AreStates}
-use Rattle.state_pairs.proofs.AddedPairs.{on_ok}
-use Rattle.state_pairs.proofs.MergedPairs.{merges_as, merges_then, open_are_states}
-use Rattle.state_pairs.proofs.NamedPairs.{image_is, image_is_named}
+use Rattle.state_pairs.specs.Laws.AddedPairs.{on_ok}
+use Rattle.state_pairs.specs.Laws.MergedPairs.{merges_as, merges_then, open_are_states}
+use Rattle.state_pairs.specs.Laws.NamedPairs.{image_is, image_is_named}
 use Rattle.machine_table.proofs.machine.Machine.merge_images.Goals as goal
 
 pub returns-then-complete : goal.returns-then-complete

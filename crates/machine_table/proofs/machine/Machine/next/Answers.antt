@@ -3,7 +3,7 @@ use Rattle.std.proofs.lemmas.List.Elements.{Contains-get_or}
 use Rattle.cubes.specs.Symbol.{symbol_of}
 use Rattle.kiss_file.specs.declared.file.KissRow.{KissRow}
 use Rattle.kiss_file.proofs.Machine.{next_not_said, next_said}
-use Rattle.state_pairs.proofs.Asking.{is_row_at, of_each_row}
+use Rattle.state_pairs.specs.Laws.Asking.{is_row_at, of_each_row}
 use Rattle.machine_table.proofs.machine.Machine.next.Goals as goal
 
 pub returns-in-loop-number-clause-next : goal.returns-in-loop-number-clause-next

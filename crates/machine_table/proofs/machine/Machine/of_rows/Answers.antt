@@ -7,8 +7,8 @@ use Rattle.kiss_file.specs.Machine.{Conflicting, Specified}
 use Rattle.state_rows.specs.Conflict.{ContradictAt}
 use Rattle.state_pairs.specs.Table.{IsTable}
 use Rattle.state_rows.specs.Bundles.{IsFit, ListBundles}
-use Rattle.state_pairs.proofs.Lawful.{fit_of_table}
-use Rattle.machine_table.proofs.Conflicts.{few_rows, none_conflicting}
+use Rattle.state_pairs.specs.Laws.Lawful.{fit_of_table}
+use Rattle.machine_table.specs.Laws.Conflicts.{few_rows, none_conflicting}
 use Rattle.machine_table.proofs.machine.Machine.of_rows.Goals as goal
 
 pub overflow_cast-result : goal.overflow_cast-result

@@ -1,8 +1,19 @@
-use Rattle.std.proofs.Common.{ℕ, ◌≡◌, ◌<◌, ◌∙◌, inl, inr, subst, sym, arith, refl}
-use Rattle.std.proofs.lemmas.Bool.{cases_lt, false≢true}
-use Rattle.state_pairs.specs.Pairs.{AgreeInBit, AtEachSymbol}
-use Rattle.machine_table.proofs.OutputLabels.{from_each_bit, in_each_bit}
+use Rattle.std.proofs.Common.{ℕ, ◌≡◌, ◌<◌, ◌∙◌, Option, None, Some, IfNone, IfSome, IsNone, false, ap, not, inl, inr, subst, sym, arith, refl}
+use Rattle.std.proofs.lemmas.Bool.{cases_lt, false≢true, true≢false}
+use Rattle.state_pairs.specs.Pairs.{AgreeAt, AgreeInBit, AtEachSymbol, DifferInBit, IsFoundInBits}
+use Rattle.kiss_file.specs.declared.file.KissFile.{KissFile}
+use Rattle.state_pairs.specs.Laws.Labels.{true_from_not}
+use Rattle.machine_table.proofs.OutputLabels.{from_each_bit, in_each_bit, none_of_all}
 use Rattle.machine_table.proofs.machine.Machine.outputs_agree.Goals as goal
+
+-- where a search found no symbol, the outputs agree at each
+all_agree : (F : KissFile) (s t : ℕ) (found : Option ℕ) → IsNone found → IfNone found (AtEachSymbol F.inputs (AgreeAt F s t)) → AtEachSymbol F.inputs (AgreeAt F s t)
+all_agree F s t None none agree = agree
+all_agree F s t (Some x) none agree = absurd (true≢false none)
+
+none_if_agree : (F : KissFile) (s t : ℕ) (found : Option ℕ) → IfSome found (DifferInBit F s t) → AtEachSymbol F.inputs (AgreeAt F s t) → IsNone found
+none_if_agree F s t None first agree = refl
+none_if_agree F s t (Some x) (within, (b, inside, two)) agree = absurd (two (in_each_bit F s t x b inside (agree x within)))
 
 pub loop-b-preserved : goal.loop-b-preserved
 loop-b-preserved c k below =
@@ -28,3 +39,11 @@ returns c = (
       from_each_bit c.args.self.now c.args.s c.args.t x (λ b inside. c.loop-b.invariant b (omega (arith, inside, c.loop-b-test.false)) x within),
   λ _. refl,
 )
+
+pub returns-in-Some : goal.returns-in-Some
+returns-in-Some c =
+    let F = c.args.self.now in
+    let first = subst (λ (H : KissFile). IsFoundInBits H c.args.s c.args.t H.outputs false c.in-Some.found) c.self.view_is c.in-Some.ensures in (
+      λ none. all_agree F c.args.s c.args.t c.in-Some.found (c.is_none.ensures ∙ ap not none) (none_of_all F c.args.s c.args.t false c.in-Some.found first),
+      λ agree. true_from_not c.is_none.result (sym c.is_none.ensures ∙ none_if_agree F c.args.s c.args.t c.in-Some.found first.some agree),
+    )

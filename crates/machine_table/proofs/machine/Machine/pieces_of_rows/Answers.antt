@@ -8,10 +8,10 @@ use Rattle.kiss_file.specs.declared.file.KissRow.{KissRow}
 use Rattle.machine_table.specs.declared.covering.Piece.{Piece}
 use Rattle.machine_table.specs.Covering.{IsHeldByPiece, IsPiece}
 use Rattle.state_pairs.specs.Asked.{IsOfState}
-use Rattle.state_pairs.proofs.Asking.{looked_at, of_each_row}
+use Rattle.state_pairs.specs.Laws.Asking.{looked_at, of_each_row}
 use Rattle.machine_table.proofs.RowPieces.{row_is_piece}
 use Rattle.machine_table.proofs.SettledCubes.{held_by_last, held_still, no_pieces}
-use Rattle.state_pairs.proofs.Sought.{row_of}
+use Rattle.state_pairs.specs.Laws.Sought.{row_of}
 use Rattle.machine_table.proofs.machine.Machine.pieces_of_rows.Goals.{After-row}
 use Rattle.machine_table.proofs.machine.Machine.pieces_of_rows.Goals as goal
 

@@ -1,6 +1,6 @@
 use Rattle.std.proofs.Common.{ℕ, ◌≡◌, slice_get, Some, sym, subst, arith}
 use Rattle.machine_table.specs.Inner.OpenSymbol.{IsFull}
-use Rattle.state_pairs.proofs.Asking.{looked_at, number_of_row}
+use Rattle.state_pairs.specs.Laws.Asking.{looked_at, number_of_row}
 use Rattle.machine_table.proofs.machine.Machine.says_all.Goals as goal
 
 pub loop-number-preserved : goal.loop-number-preserved

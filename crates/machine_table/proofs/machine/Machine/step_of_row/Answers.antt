@@ -5,7 +5,7 @@ use Rattle.kiss_file.specs.declared.file.KissFile.{KissFile}
 use Rattle.kiss_file.specs.Machine.{Conflicting}
 use Rattle.kiss_file.proofs.Machine.{next_said}
 use Rattle.state_pairs.specs.Table.{IsTable}
-use Rattle.state_pairs.proofs.Asking.{is_row_at}
+use Rattle.state_pairs.specs.Laws.Asking.{is_row_at}
 use Rattle.machine_table.proofs.WordLabels.{said_word, word_label}
 use Rattle.machine_table.proofs.machine.Machine.step_of_row.Goals as goal
 

@@ -1,7 +1,7 @@
 use Rattle.std.proofs.Common.{ℕ, ◌≡◌, slice_get, Some, subst, sym, arith}
 use Rattle.kiss_file.specs.declared.file.KissRow.{KissRow}
 use Rattle.machine_table.specs.Inner.Settled.{IsAllOrNone}
-use Rattle.state_pairs.proofs.Asking.{looked_at, number_of_row}
+use Rattle.state_pairs.specs.Laws.Asking.{looked_at, number_of_row}
 use Rattle.machine_table.proofs.machine.Machine.unsettled_place.Goals as goal
 
 pub loop-number-preserved : goal.loop-number-preserved

@@ -2,7 +2,7 @@ use Rattle.std.proofs.Common.{ℕ, ◌≡◌, ◌<◌, ◌+◌, ◌^◌, ◌++�
 use Rattle.std.proofs.lemmas.List.Elements.{All-push}
 use Rattle.cubes.specs.Symbol.{symbol_of, lowest_bits}
 use Rattle.kiss_file.specs.Machine.{answers}
-use Rattle.machine_table.proofs.OutputWords.{walked, walked_more}
+use Rattle.machine_table.specs.Laws.OutputWords.{walked, walked_more}
 use Rattle.machine_table.proofs.machine.Machine.walk.Goals as goal
 
 pub loop-x-preserved : goal.loop-x-preserved

@@ -1,6 +1,6 @@
 use Rattle.std.proofs.Common.{ℕ, ◌≡◌, ◌<◌, IfSome, Option, length, ◌∙◌, subst, arith}
 use Rattle.state_pairs.specs.AddedPairs.{AddsPairs, AtPlace, BelowCount, OfSomeRow, NamesAlone, IsFound}
-use Rattle.state_pairs.proofs.AddedPairs.{adds_as, adds_more, at_some_row, at_this_place}
+use Rattle.state_pairs.specs.Laws.AddedPairs.{adds_as, adds_more, at_some_row, at_this_place}
 use Rattle.state_pairs.proofs.NamedIn.{alone_states}
 use Rattle.state_pairs.proofs.rows.RowsByState.add_alone.Goals as goal
 

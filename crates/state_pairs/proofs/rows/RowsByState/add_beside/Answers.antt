@@ -1,6 +1,6 @@
 use Rattle.std.proofs.Common.{ℕ, ◌≡◌, length, sym, ◌∙◌, subst, arith}
 use Rattle.state_pairs.specs.AddedPairs.{AddsPairs, AreNamedIn, AtBundle, BelowCount, IsNamedBeside}
-use Rattle.state_pairs.proofs.AddedPairs.{adds_as, adds_more, adds_none}
+use Rattle.state_pairs.specs.Laws.AddedPairs.{adds_as, adds_more, adds_none}
 use Rattle.state_pairs.proofs.NamedIn.{at_some_bundle, at_this_bundle, fit_among}
 use Rattle.state_pairs.proofs.rows.RowsByState.add_beside.Goals as goal
 

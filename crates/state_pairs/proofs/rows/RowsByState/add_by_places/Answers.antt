@@ -1,6 +1,6 @@
 use Rattle.std.proofs.Common.{ℕ, ◌≡◌, length, ◌∙◌, subst, arith}
 use Rattle.state_pairs.specs.AddedPairs.{AddsPairs, AreNamedBy, AtBothPlaces, BelowCount, IsFound}
-use Rattle.state_pairs.proofs.AddedPairs.{adds_as, adds_more, at_these_places}
+use Rattle.state_pairs.specs.Laws.AddedPairs.{adds_as, adds_more, at_these_places}
 use Rattle.state_pairs.proofs.NamedIn.{named_states}
 use Rattle.state_pairs.proofs.rows.RowsByState.add_by_places.Goals as goal
 

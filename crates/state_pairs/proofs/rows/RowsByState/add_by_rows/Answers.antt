@@ -1,6 +1,6 @@
 use Rattle.std.proofs.Common.{ℕ, ◌≡◌, length, ◌∙◌, subst, arith}
 use Rattle.state_pairs.specs.AddedPairs.{AddsPairs, AtPlace, BelowCount, OfSomeRow, IsNamedBeside}
-use Rattle.state_pairs.proofs.AddedPairs.{adds_as, adds_more, at_some_row, at_this_place}
+use Rattle.state_pairs.specs.Laws.AddedPairs.{adds_as, adds_more, at_some_row, at_this_place}
 use Rattle.state_pairs.proofs.rows.RowsByState.add_by_rows.Goals as goal
 
 pub loop-number-preserved : goal.loop-number-preserved

@@ -1,6 +1,6 @@
 use Rattle.state_pairs.specs.AddedPairs.{AddsPairs, AreNamed, AreNamedAtPlaces, IsNamedBeside, OfSomeRow}
-use Rattle.state_pairs.proofs.AddedPairs.{adds_as, on_ok}
-use Rattle.state_pairs.proofs.NamedPairs.{named_by_places, named_by_rows, one_next}
+use Rattle.state_pairs.specs.Laws.AddedPairs.{adds_as, on_ok}
+use Rattle.state_pairs.specs.Laws.NamedPairs.{named_by_places, named_by_rows, one_next}
 use Rattle.state_pairs.proofs.rows.RowsByState.add_named.Goals as goal
 
 pub returns-clause-pairs : goal.returns-clause-pairs

@@ -1,6 +1,6 @@
 use Rattle.std.proofs.Common.{◌≡◌, ◌⊎◌, true, false, length, ◌∙◌, arith}
 use Rattle.state_pairs.specs.AddedPairs.{AddsPairs, AreBothOpen, IsFound, IsOpenImage, NamesAlone, OfSomeRow}
-use Rattle.state_pairs.proofs.AddedPairs.{adds_as, adds_then, on_ok}
+use Rattle.state_pairs.specs.Laws.AddedPairs.{adds_as, adds_then, on_ok}
 use Rattle.state_pairs.proofs.rows.RowsByState.add_open.Goals as goal
 
 pub returns-clause-pairs : goal.returns-clause-pairs

@@ -3,8 +3,8 @@ use Rattle.kiss_file.specs.declared.file.KissFile.{KissFile}
 use Rattle.state_rows.specs.declared.bundles.RowBundle.{RowBundle}
 use Rattle.state_rows.specs.Bundles.{IsInBundles, ListBundles, bundles_of}
 use Rattle.state_pairs.specs.Table.{IsTable}
-use Rattle.state_rows.proofs.Against.{bundles_at}
-use Rattle.state_pairs.proofs.Lawful.{fit_of_table}
+use Rattle.state_rows.specs.Laws.Lists.{bundles_at}
+use Rattle.state_pairs.specs.Laws.Lawful.{fit_of_table}
 use Rattle.state_pairs.proofs.rows.RowsByState.bundles_of.Goals as goal
 
 -- what stands in the bundles of a machine

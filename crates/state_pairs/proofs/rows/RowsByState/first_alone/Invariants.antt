@@ -3,4 +3,4 @@ use Rattle.state_pairs.proofs.rows.RowsByState.first_alone.Given as goal
 
 abbrev pub invariant-loop-number : goal.invariant-loop-number
 invariant-loop-number g l =
-    IsSearched l.self l.number-items l.number-index (IsAloneAt (g.Q.Question.said l.question) l.self l.t (g.Q.Question.unsaid l.question l.t)) (SaysAlone (g.Q.Question.said l.question) l.self l.s l.t (g.Q.Question.unsaid l.question l.t)) l.found l.least
+    IsSearched l.self l.number-items l.number-index (IsAloneAt (g.Q.Question.said l.search.question.now) l.self l.search.t (g.Q.Question.unsaid l.search.question.now l.search.t)) (SaysAlone (g.Q.Question.said l.search.question.now) l.self l.search.s l.search.t (g.Q.Question.unsaid l.search.question.now l.search.t)) l.found l.search.least

@@ -4,29 +4,29 @@ use Rattle.state_rows.specs.Least.{lesser_of}
 use Rattle.state_pairs.specs.MarkedRows.{IsApartIn, MeetsEach}
 use Rattle.state_rows.specs.Bundles.{IsFit}
 use Rattle.state_pairs.proofs.MarkedRows.{IsSearchedOver, apart_of_state, meets_each_row, meets_first_more}
-use Rattle.state_rows.proofs.Least.{if_some_map, lesser_has, met_left, met_right}
+use Rattle.state_rows.specs.Laws.Least.{if_some_map, lesser_has, met_left, met_right}
 use Rattle.state_pairs.proofs.rows.RowsByState.first_apart_from.Goals.{After-lesser-found}
 use Rattle.state_pairs.proofs.rows.RowsByState.first_apart_from.Given as given
 use Rattle.state_pairs.proofs.rows.RowsByState.first_apart_from.Goals as goal
 
 searched : (g : given.Over) (c : After-lesser-found g)
-    → IsSearchedOver (g.Q.Question.said c.args.question.now) c.args.self.now c.args.t c.bundles_of-bundle-items.result.now (c.loop-bundle.bundle-index + 1) c.args.row.now c.args.least c.lesser-found.result
+    → IsSearchedOver (g.Q.Question.said c.args.search.now.question.now) c.args.self.now c.args.search.now.t c.bundles_of-bundle-items.result.now (c.loop-bundle.bundle-index + 1) c.args.row.now c.args.search.now.least c.lesser-found.result
 searched g c =
     let F = c.args.self.now in
-    let said = g.Q.Question.said c.args.question.now in
+    let said = g.Q.Question.said c.args.search.now.question.now in
     let row = c.args.row.now in
-    let least = c.args.least in
+    let least = c.args.search.now.least in
     let bundles = c.bundles_of-bundle-items.result.now in
     let bundle = c.bundle-item.result in
     let old = c.loop-bundle.found in
     let more = c.first_apart_in.result in
     let among : Contains bundles bundle = (c.loop-bundle.bundle-index, c.loop-bundle-test.true, sym c.bundle-item.is) in
     let inner = c.first_apart_in.ensures in
-    subst (IsSearchedOver said F c.args.t bundles (c.loop-bundle.bundle-index + 1) row least) (sym c.lesser-found.ensures)
+    subst (IsSearchedOver said F c.args.search.now.t bundles (c.loop-bundle.bundle-index + 1) row least) (sym c.lesser-found.ensures)
     (record {
-      some = lesser_has (IsApartAt said F c.args.t row) old more c.loop-bundle.invariant.some
-          (if_some_map (IsApartIn said F.rows bundle.numbers row) (IsApartAt said F c.args.t row) more
-          (apart_of_state said F c.args.t bundles bundle row c.bundles_of-bundle-items.ensures.own among) inner.some);
+      some = lesser_has (IsApartAt said F c.args.search.now.t row) old more c.loop-bundle.invariant.some
+          (if_some_map (IsApartIn said F.rows bundle.numbers row) (IsApartAt said F c.args.search.now.t row) more
+          (apart_of_state said F c.args.search.now.t bundles bundle row c.bundles_of-bundle-items.ensures.own among) inner.some);
       within = lesser_has (λ x. x < 2 ^ F.inputs) old more c.loop-bundle.invariant.within inner.within;
       met = meets_first_more F.rows bundles c.loop-bundle.bundle-index bundle (MeetsEach said row old least) (MeetsEach said row (lesser_of old more) least)
           c.bundle-item.is c.loop-bundle-test.true c.loop-bundle.invariant.met
@@ -55,5 +55,5 @@ pub returns-clause-met : goal.returns-clause-met
 returns-clause-met g c y (other, of_state, apart) =
     let F = c.args.self.now in
     let asked = c.bundles_of-bundle-items in
-    meets_each_row F c.args.t asked.result.now c.loop-bundle.bundle-index (MeetsEach (g.Q.Question.said c.args.question.now) c.args.row.now c.loop-bundle.found c.args.least)
+    meets_each_row F c.args.search.now.t asked.result.now c.loop-bundle.bundle-index (MeetsEach (g.Q.Question.said c.args.search.now.question.now) c.args.row.now c.loop-bundle.found c.args.search.now.least)
     asked.ensures.each c.loop-bundle-test.false c.loop-bundle.invariant.met other of_state y apart

@@ -1,25 +1,25 @@
 use Rattle.std.proofs.Common.{◌+◌, get_or}
 use Rattle.std.proofs.lemmas.List.Elements.{Contains-get_or}
 use Rattle.state_pairs.specs.Asked.{IsApartAt, IsSearched, SayTwo}
-use Rattle.state_pairs.proofs.Sought.{apart_wanted, meets_all, row_of, searched_more, two_of_row}
-use Rattle.state_rows.proofs.Least.{if_some_map}
+use Rattle.state_pairs.specs.Laws.Sought.{apart_wanted, meets_all, row_of, searched_more, two_of_row}
+use Rattle.state_rows.specs.Laws.Least.{if_some_map}
 use Rattle.state_pairs.proofs.rows.RowsByState.first_by_pairs.Goals.{After-lesser-found}
 use Rattle.state_pairs.proofs.rows.RowsByState.first_by_pairs.Given as given
 use Rattle.state_pairs.proofs.rows.RowsByState.first_by_pairs.Goals as goal
 
 searched : (g : given.Over) (c : After-lesser-found g) → IsSearched c.args.self.now c.numbers_of-number-items.result.now (c.loop-number.number-index + 1)
-    (IsApartAt (g.Q.Question.said c.args.question.now) c.args.self.now c.args.t) (SayTwo (g.Q.Question.said c.args.question.now) c.args.self.now c.args.s c.args.t) c.lesser-found.result c.args.least
+    (IsApartAt (g.Q.Question.said c.args.search.now.question.now) c.args.self.now c.args.search.now.t) (SayTwo (g.Q.Question.said c.args.search.now.question.now) c.args.self.now c.args.search.now.s c.args.search.now.t) c.lesser-found.result c.args.search.now.least
 searched g c =
     let F = c.args.self.now in
     let asked = c.numbers_of-number-items in
     let i = get_or asked.result.now c.loop-number.number-index 0 in
     let row = c.row.result.now in
     let own = asked.ensures.own i (Contains-get_or asked.result.now c.loop-number.number-index 0 c.loop-number-test.true) in
-    searched_more F asked.result.now c.loop-number.number-index (IsApartAt (g.Q.Question.said c.args.question.now) c.args.self.now c.args.t) (SayTwo (g.Q.Question.said c.args.question.now) c.args.self.now c.args.s c.args.t)
-    c.loop-number.found c.first_apart_from.result c.lesser-found.result c.args.least row
+    searched_more F asked.result.now c.loop-number.number-index (IsApartAt (g.Q.Question.said c.args.search.now.question.now) c.args.self.now c.args.search.now.t) (SayTwo (g.Q.Question.said c.args.search.now.question.now) c.args.self.now c.args.search.now.s c.args.search.now.t)
+    c.loop-number.found c.first_apart_from.result c.lesser-found.result c.args.search.now.least row
     c.loop-number.invariant c.lesser-found.ensures c.loop-number-test.true c.row.ensures.row
-    (if_some_map (IsApartAt (g.Q.Question.said c.args.question.now) c.args.self.now c.args.t row) (SayTwo (g.Q.Question.said c.args.question.now) c.args.self.now c.args.s c.args.t) c.first_apart_from.result
-    (two_of_row F asked.ensures.table (g.Q.Question.said c.args.question.now) c.args.s c.args.t row (row_of F c.args.s i row own c.row.ensures.row)) c.first_apart_from.ensures.some)
+    (if_some_map (IsApartAt (g.Q.Question.said c.args.search.now.question.now) c.args.self.now c.args.search.now.t row) (SayTwo (g.Q.Question.said c.args.search.now.question.now) c.args.self.now c.args.search.now.s c.args.search.now.t) c.first_apart_from.result
+    (two_of_row F asked.ensures.table (g.Q.Question.said c.args.search.now.question.now) c.args.search.now.s c.args.search.now.t row (row_of F c.args.search.now.s i row own c.row.ensures.row)) c.first_apart_from.ensures.some)
     c.first_apart_from.ensures.within c.first_apart_from.ensures.met
 
 pub loop-number-preserved : goal.loop-number-preserved
@@ -34,7 +34,7 @@ returns-then-is_settled-clause-within g c = (searched g (goal.at.returns-then-is
 pub returns-clause-met : goal.returns-clause-met
 returns-clause-met g c y wants =
     let asked = c.numbers_of-number-items in
-    let said = g.Q.Question.said c.args.question.now in
-    let there = apart_wanted c.args.self.now asked.ensures.table said c.args.s c.args.t y wants in
-    meets_all c.args.self.now c.args.s asked.result.now c.loop-number.number-index (IsApartAt (g.Q.Question.said c.args.question.now) c.args.self.now c.args.t)
-    c.loop-number.found c.args.least asked.ensures.each c.loop-number.invariant.met c.loop-number-test.false there.0 there.1 y there.2
+    let said = g.Q.Question.said c.args.search.now.question.now in
+    let there = apart_wanted c.args.self.now asked.ensures.table said c.args.search.now.s c.args.search.now.t y wants in
+    meets_all c.args.self.now c.args.search.now.s asked.result.now c.loop-number.number-index (IsApartAt (g.Q.Question.said c.args.search.now.question.now) c.args.self.now c.args.search.now.t)
+    c.loop-number.found c.args.search.now.least asked.ensures.each c.loop-number.invariant.met c.loop-number-test.false there.0 there.1 y there.2

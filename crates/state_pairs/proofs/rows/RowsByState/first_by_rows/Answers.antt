@@ -3,15 +3,15 @@ use Rattle.kiss_file.specs.declared.file.KissRow.{KissRow}
 use Rattle.state_pairs.specs.Asked.{ApartBelow, AreApartAt, MeetsApart}
 use Rattle.state_rows.specs.Least.{IsMetBy, lesser_of}
 use Rattle.state_pairs.proofs.AlikeRows.{pair_more}
-use Rattle.state_rows.proofs.Least.{if_some_map, lesser_has, met_least, met_left, met_right, met_settled}
+use Rattle.state_rows.specs.Laws.Least.{if_some_map, lesser_has, met_least, met_left, met_right, met_settled}
 use Rattle.state_pairs.proofs.rows.RowsByState.first_by_rows.Goals.{After-lesser-found}
 use Rattle.state_pairs.proofs.rows.RowsByState.first_by_rows.Given as given
 use Rattle.state_pairs.proofs.rows.RowsByState.first_by_rows.Goals as goal
 
 found_some : (g : given.Over) (c : After-lesser-found g)
-    → IfSome c.lesser-found.result (ApartBelow (g.Q.Question.said c.args.question.now) c.args.self.now.rows c.args.first.now c.args.second.now (length c.args.first.now))
+    → IfSome c.lesser-found.result (ApartBelow (g.Q.Question.said c.args.search.now.question.now) c.args.self.now.rows c.args.first.now c.args.second.now (length c.args.first.now))
 found_some g c =
-    let said = g.Q.Question.said c.args.question.now in
+    let said = g.Q.Question.said c.args.search.now.question.now in
     let inside : c.loop-i.i < length c.args.first.now = omega arith in
     let Apart : ℕ → Type 0 = ApartBelow said c.args.self.now.rows c.args.first.now c.args.second.now (length c.args.first.now) in
     subst (λ (o : Option ℕ). IfSome o Apart) (sym c.lesser-found.ensures)
@@ -27,12 +27,12 @@ found_within g c =
 
 pub loop-i-preserved : goal.loop-i-preserved
 loop-i-preserved g c =
-    let said = g.Q.Question.said c.args.question.now in
+    let said = g.Q.Question.said c.args.search.now.question.now in
     let rows = c.args.self.now.rows in
     let first = c.args.first.now in
     let second = c.args.second.now in
     let i = c.loop-i.i in
-    let least = c.args.least in
+    let least = c.args.search.now.least in
     let old = c.loop-i.found in
     let more = c.first_between.result in
     let inside : i < length first = omega arith in
@@ -55,7 +55,7 @@ returns-then-is_settled-clause-within g c = found_within g (goal.at.returns-then
 
 pub returns-then-is_settled-clause-met : goal.returns-then-is_settled-clause-met
 returns-then-is_settled-clause-met g c k d e row other within at_row at_other y apart =
-    met_settled c.lesser-found.result c.args.least y (c.is_settled.ensures.some c.if-is_settled.true) (c.is_settled.ensures.any c.if-is_settled.true)
+    met_settled c.lesser-found.result c.args.search.now.least y (c.is_settled.ensures.some c.if-is_settled.true) (c.is_settled.ensures.any c.if-is_settled.true)
 
 pub returns-clause-met : goal.returns-clause-met
 returns-clause-met g c k d e row other within at_row at_other y apart =

@@ -4,10 +4,10 @@ use Rattle.partition.specs.Laws.Labels.{IsPartition-of}
 use Rattle.state_pairs.specs.AddedPairs.{AreNamed, AtPlace, BelowCount, IsNamedBeside, OfSomeRow}
 use Rattle.state_pairs.specs.SeenPairs.{AreStates}
 use Rattle.state_pairs.specs.Merging.{MergesPairs}
-use Rattle.state_pairs.proofs.AddedPairs.{at_some_row, at_this_place}
-use Rattle.state_pairs.proofs.MergedPairs.{merges_as, merges_below_none, merges_more, merges_rest, named_are_states}
-use Rattle.state_pairs.proofs.NamedPairs.{named_by_rows}
-use Rattle.state_pairs.proofs.Sought.{row_of}
+use Rattle.state_pairs.specs.Laws.AddedPairs.{at_some_row, at_this_place}
+use Rattle.state_pairs.specs.Laws.MergedPairs.{merges_as, merges_below_none, merges_more, merges_rest, named_are_states}
+use Rattle.state_pairs.specs.Laws.NamedPairs.{named_by_rows}
+use Rattle.state_pairs.specs.Laws.Sought.{row_of}
 use Rattle.state_pairs.proofs.rows.RowsByState.merge_by_rows.Goals as goal
 
 pub loop-number-init : goal.loop-number-init

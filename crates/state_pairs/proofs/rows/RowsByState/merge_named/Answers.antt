@@ -2,8 +2,8 @@ use Rattle.std.proofs.Common.{ℕ, sym, subst}
 use Rattle.partition.specs.Laws.Labels.{IsPartition-of}
 use Rattle.state_pairs.specs.AddedPairs.{AreNamed, AreNamedAtPlaces}
 use Rattle.state_pairs.specs.SeenPairs.{AreStates}
-use Rattle.state_pairs.proofs.MergedPairs.{merges_as, named_are_states}
-use Rattle.state_pairs.proofs.NamedPairs.{named_by_places, one_next}
+use Rattle.state_pairs.specs.Laws.MergedPairs.{merges_as, named_are_states}
+use Rattle.state_pairs.specs.Laws.NamedPairs.{named_by_places, one_next}
 use Rattle.state_pairs.proofs.rows.RowsByState.merge_named.Goals as goal
 
 pub merge_by_places-requires-clause-states : goal.merge_by_places-requires-clause-states

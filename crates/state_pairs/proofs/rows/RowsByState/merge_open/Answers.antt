@@ -2,8 +2,8 @@ use Rattle.std.proofs.Common.{ℕ, ◌↔◌, List, ◌∙◌, sym, subst, arith
 use Rattle.partition.specs.Laws.Labels.{IsPartition-of}
 use Rattle.state_pairs.specs.AddedPairs.{AddsPairs, IsListedPair, IsOpenImage}
 use Rattle.state_pairs.specs.SeenPairs.{AreStates}
-use Rattle.state_pairs.proofs.AddedPairs.{listed_alone}
-use Rattle.state_pairs.proofs.MergedPairs.{merges_as, merges_none, merges_rest}
+use Rattle.state_pairs.specs.Laws.AddedPairs.{listed_alone}
+use Rattle.state_pairs.specs.Laws.MergedPairs.{merges_as, merges_none, merges_rest}
 use Rattle.state_pairs.proofs.rows.RowsByState.merge_open.Goals.{After-as_slice}
 use Rattle.state_pairs.proofs.rows.RowsByState.merge_open.Goals as goal
 

@@ -5,7 +5,7 @@ use Rattle.kiss_file.specs.declared.file.KissFile.{KissFile}
 use Rattle.kiss_file.specs.Machine.{Conflicting}
 use Rattle.state_rows.specs.Places.{IsNumberOf, ListRows, places_of}
 use Rattle.state_pairs.specs.Table.{IsTable}
-use Rattle.state_rows.proofs.Against.{list_at}
+use Rattle.state_rows.specs.Laws.Lists.{list_at}
 use Rattle.state_pairs.proofs.rows.RowsByState.numbers_of.Goals as goal
 
 -- what stands in the places of a machine

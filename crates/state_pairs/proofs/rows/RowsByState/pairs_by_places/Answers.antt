@@ -1,6 +1,6 @@
 use Rattle.std.proofs.Common.{ℕ, ◌≡◌, ◌++◌, ◌∷◌, [], List, Option, Some, length, ap, sym, ◌∙◌, subst, arith}
 use Rattle.state_pairs.specs.AddedPairs.{AddsPairs, AreNamedAtPlaces, AreNamedBy, AtBothPlaces, BelowCount, IsFound}
-use Rattle.state_pairs.proofs.AddedPairs.{adds_as, adds_found, adds_more, adds_nothing, at_these_places, listed_alone}
+use Rattle.state_pairs.specs.Laws.AddedPairs.{adds_as, adds_found, adds_more, adds_nothing, at_these_places, listed_alone}
 use Rattle.state_pairs.proofs.rows.RowsByState.pairs_by_places.Goals as goal
 use Rattle.state_pairs.proofs.rows.RowsByState.pairs_by_places.Goals.{in-Some+in_ok-push, in_default}
 

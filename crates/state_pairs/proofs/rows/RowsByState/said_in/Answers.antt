@@ -3,9 +3,9 @@ use Rattle.std.proofs.lemmas.Bool.{cases_Bool, true≢false}
 use Rattle.std.proofs.lemmas.List.Elements.{Contains-get_or}
 use Rattle.cubes.specs.Cube.{HoldsNumber}
 use Rattle.kiss_file.specs.declared.file.KissRow.{KissRow}
-use Rattle.state_pairs.proofs.Asking.{looked_at, of_each_row}
+use Rattle.state_pairs.specs.Laws.Asking.{looked_at, of_each_row}
 use Rattle.cubes.specs.Laws.SharedCubes.{meets_from_held}
-use Rattle.state_pairs.proofs.Sought.{at_from_held, row_of}
+use Rattle.state_pairs.specs.Laws.Sought.{at_from_held, row_of}
 use Rattle.state_pairs.proofs.rows.RowsByState.said_in.Goals as goal
 
 pub returns-then-says_in-clause-some : goal.returns-then-says_in-clause-some

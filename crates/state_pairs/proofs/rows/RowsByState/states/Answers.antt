@@ -1,7 +1,7 @@
 use Rattle.std.proofs.Common.{subst}
 use Rattle.kiss_file.specs.declared.file.KissFile.{KissFile}
 use Rattle.state_pairs.specs.Staying.{NeverLeaves}
-use Rattle.state_pairs.proofs.Staying.{never_leaves}
+use Rattle.state_pairs.specs.Laws.Staying.{never_leaves}
 use Rattle.state_pairs.proofs.rows.RowsByState.states.Goals as goal
 
 pub returns-clause-inside : goal.returns-clause-inside

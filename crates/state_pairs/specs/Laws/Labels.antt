@@ -10,7 +10,7 @@ use Rattle.state_pairs.specs.Asked.{DifferAt, DifferOpen, NoneIsOpen, IsLabelAt,
 use Rattle.state_rows.specs.Least.{IsMetBy}
 use Rattle.state_pairs.specs.Pairs.{AtEachSymbol, IsFirstWithout}
 use Rattle.state_pairs.specs.Table.{IsTable}
-use Rattle.state_pairs.proofs.Sought.{at_from_held, held_from_at}
+use Rattle.state_pairs.specs.Laws.Sought.{at_from_held, held_from_at}
 
 -- some row of a list has a property, or none has
 module _ (P : KissRow → Type 0) (decide : (row : KissRow) → P row ⊎ (P row → ⊥)) where

@@ -12,7 +12,7 @@ use Rattle.machine_table.specs.declared.missing.Missing.{Missing}
 use Rattle.machine_table.specs.declared.missing.Missing.TheVariants.{Next, Output}
 use Rattle.machine_table.specs.Cause.{Caused}
 use Rattle.machine_table.specs.Said.{IsFirstOpen, IsSaid}
-use Rattle.machine_table.proofs.Conflicts.{conflicting_at}
+use Rattle.machine_table.specs.Laws.Conflicts.{conflicting_at}
 
 -- of a specified file each entry is said
 said_of : (F : KissFile) (s x : ℕ) (part : Missing) → IsSpecifiedAt F s (symbol_of F.inputs x) → IsFirstOpen F s x part → IsSaid F s x part

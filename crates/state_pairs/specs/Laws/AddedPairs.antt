@@ -7,8 +7,8 @@ use Rattle.kiss_file.specs.declared.file.KissFile.{KissFile}
 use Rattle.kiss_file.specs.declared.file.KissRow.{KissRow}
 use Rattle.state_pairs.specs.AddedPairs.{AddsPairs, AreNamedBy, AtBothPlaces, AtPlace, BelowCount, IsFound, Lengthens, OfSomeRow}
 use Rattle.state_rows.specs.Places.{IsNumberOf}
-use Rattle.state_pairs.proofs.Asking.{number_of_row}
-use Rattle.state_pairs.proofs.Sought.{row_of}
+use Rattle.state_pairs.specs.Laws.Asking.{number_of_row}
+use Rattle.state_pairs.specs.Laws.Sought.{row_of}
 
 -- what an Ok brings, told in another way
 pub on_ok : {T E : Type 0} (r : Result T E) (P Q : Type 0) → (P → Q) → OnOk r P → OnOk r Q

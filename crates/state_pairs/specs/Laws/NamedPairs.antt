@@ -15,11 +15,11 @@ use Rattle.state_pairs.specs.AddedPairs.{AreNamed, AreNamedAtPlaces, AreNamedBy,
 use Rattle.state_pairs.specs.Asked.{AllSay, HaveOneLabel, IsOpenAt, IsOfState}
 use Rattle.state_pairs.specs.Aligned.{AreAligned}
 use Rattle.state_pairs.specs.Table.{IsTable}
-use Rattle.state_pairs.proofs.AlikeRows.{held_by_like}
-use Rattle.state_pairs.proofs.Asking.{lawful_row, number_of_row}
-use Rattle.state_pairs.proofs.Labels.{label_or_open, value_of_some}
+use Rattle.state_rows.specs.Laws.OneCube.{held_by_like}
+use Rattle.state_pairs.specs.Laws.Asking.{lawful_row, number_of_row}
+use Rattle.state_pairs.specs.Laws.Labels.{label_or_open, value_of_some}
 use Rattle.cubes.specs.Laws.SharedCubes.{value_below}
-use Rattle.state_pairs.proofs.Sought.{at_from_held, held_from_at, row_from_at, row_of}
+use Rattle.state_pairs.specs.Laws.Sought.{at_from_held, held_from_at, row_from_at, row_of}
 
 -- ---- what rows name
 module _ (F : KissFile) (table : IsTable F) where

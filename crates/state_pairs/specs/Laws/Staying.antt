@@ -6,7 +6,7 @@ use Rattle.kiss_file.specs.declared.file.KissFile.{KissFile}
 use Rattle.kiss_file.specs.Machine.{Conflicting, next}
 use Rattle.state_pairs.specs.Staying.{NeverLeaves}
 use Rattle.state_pairs.specs.Table.{IsTable}
-use Rattle.state_pairs.proofs.NextLabels.{next_in_states}
+use Rattle.state_pairs.specs.Laws.NextLabels.{next_in_states}
 
 pub never_leaves : (F : KissFile) → IsTable F → (Conflicting F → ⊥) → NeverLeaves F
 never_leaves F table no_conflict s x within size =

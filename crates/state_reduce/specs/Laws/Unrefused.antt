@@ -12,7 +12,7 @@ use Rattle.state_reduce.specs.declared.judging.QuotientFail.{QuotientFail}
 use Rattle.state_reduce.specs.declared.judging.QuotientFail.TheVariants.{NotClosed, NotConsistent, NoMemory}
 use Rattle.state_reduce.specs.Alike.{Alike, IsEquivalence}
 use Rattle.state_reduce.specs.Cause.{Caused}
-use Rattle.state_reduce.proofs.Rounds.{alike_agree, alike_next, at_symbol}
+use Rattle.state_reduce.specs.Laws.Alike.{alike_agree, alike_next, at_symbol}
 
 module _ (F : KissFile) (p : List ℕ) (is : IsEquivalence F p) where
   alike_of : (s t : ℕ) → Together p s t → Alike F s t

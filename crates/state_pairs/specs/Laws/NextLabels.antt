@@ -12,8 +12,8 @@ use Rattle.partition.specs.Partition.{Together}
 use Rattle.state_pairs.specs.Asked.{HaveOneLabel, NoneIsOpen, IsLabelAt, IsOpenAt}
 use Rattle.state_pairs.specs.Pairs.{GoInto}
 use Rattle.state_pairs.specs.Table.{IsTable}
-use Rattle.state_pairs.proofs.Asking.{lawful_row, number_of_row}
-use Rattle.state_pairs.proofs.Labels.{AreLabels, label_or_open}
+use Rattle.state_pairs.specs.Laws.Asking.{lawful_row, number_of_row}
+use Rattle.state_pairs.specs.Laws.Labels.{AreLabels, label_or_open}
 
 -- the value behind a label
 mapped : (f : ℕ → ℕ) (o : Option ℕ) (v : ℕ) → option_map f o ≡ Some v → (u : ℕ) × (o ≡ Some u) × (f u ≡ v)

@@ -6,7 +6,7 @@ use Rattle.kiss_file.specs.declared.file.KissFile.{KissFile}
 use Rattle.kiss_file.specs.declared.file.KissRow.{KissRow}
 use Rattle.kiss_file.specs.Machine.{Conflicting, GiveBoth, NameTwo}
 use Rattle.state_rows.specs.Conflict.{AreFirstTwo, ContradictAt}
-use Rattle.state_pairs.proofs.Asking.{number_of_row}
+use Rattle.state_pairs.specs.Laws.Asking.{number_of_row}
 
 module _ (F : KissFile) where
   stands : (i : ℕ) (row : KissRow) → slice_get F.rows i ≡ Some row → Contains F.rows row

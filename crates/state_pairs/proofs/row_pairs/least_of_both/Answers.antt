@@ -1,5 +1,5 @@
 use Rattle.cubes.specs.Laws.SharedCubes.{first_holds, least_below, least_le, second_holds}
-use Rattle.state_pairs.proofs.searching.least_of_both.Goals as goal
+use Rattle.state_pairs.proofs.row_pairs.least_of_both.Goals as goal
 
 pub returns-then-meets-clause-first : goal.returns-then-meets-clause-first
 returns-then-meets-clause-first c = first_holds c.args.cube.now c.args.other.now c.requires (c.meets.ensures.0 c.if-meets.true)

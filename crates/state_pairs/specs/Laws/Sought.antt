@@ -10,8 +10,8 @@ use Rattle.state_pairs.specs.Asked.{IsAloneAt, IsApartAt, IsOfState, IsSearched,
 use Rattle.state_rows.specs.Least.{IsMetBy, lesser_of}
 use Rattle.state_rows.specs.Places.{IsNumberOf}
 use Rattle.state_pairs.specs.Table.{IsTable}
-use Rattle.state_pairs.proofs.Asking.{lawful_row, looked_at, number_of_row}
-use Rattle.state_rows.proofs.Least.{lesser_has, met_left, met_right}
+use Rattle.state_pairs.specs.Laws.Asking.{lawful_row, looked_at, number_of_row}
+use Rattle.state_rows.specs.Laws.Least.{lesser_has, met_left, met_right}
 
 module _ (rows : List KissRow) (numbers : List ℕ) (count : ℕ) (Wanted : KissRow → ℕ → Type 0) (found other : Option ℕ) (least : Bool) (row : KissRow) where
   -- one more row was searched
@@ -100,3 +100,7 @@ module _ (F : KissFile) (table : IsTable F) (said : KissRow → Option ℕ) (s t
   pub alone_wanted : (label x : ℕ) → SaysAlone said F s t label x → (row : KissRow) × IsOfState F s row × IsAloneAt said F t label row x
   alone_wanted label x (v, (row, at, says), two, silent) =
       (row, row_from_at F table s x row at, (v, held_from_at F table s x row at, says, two, silent))
+
+-- two labels that differ, told of the states the other way round
+pub two_turned : (F : KissFile) (said : KissRow → Option ℕ) (s t x : ℕ) → SayTwo said F s t x → SayTwo said F t s x
+two_turned F said s t x (v, w, first, second, two) = (w, v, second, first, λ same. two (sym same))

@@ -1,0 +1,5 @@
+-- What follows from the definitions alone.
+pub mod Conflicts
+pub mod OutputWords
+pub mod Parts
+pub mod Unrefused
