@@ -1,17 +1,28 @@
 #!/usr/bin/env bash
 # What each decomposition of the controllers in examples/ costs, as rows of the table in docs/RESULTS.md: latches,
 # literals of the gates' rows, and AND nodes after one script of Berkeley ABC. Beside them the binary and the one-hot
-# coding of the same table that Yosys makes. ABC proves each network equal to that of `code`.
+# coding of the same table that Yosys makes. ABC proves each network equal to that of `code`. Given files of KISS2 as
+# words, it makes the rows of these machines instead.
 #
 # Needs the packages berkeley-abc and yosys. It takes about five minutes, most of them for the 60 states.
 set -eu
 for tool in berkeley-abc yosys awk; do
     command -v "$tool" >/dev/null || { echo "results.sh: $tool is missing" >&2; exit 2; }
 done
+files=()
+for file in "$@"; do
+    [ -f "$file" ] && [ -r "$file" ] || { echo "results.sh: no such file: $file" >&2; exit 2; }
+    files+=("$(realpath "$file")")
+done
+set --
 . "$(dirname "$0")/timing.sh"
 use_program hsdec --version
-examples=$PWD/../../examples
 make_room
+if [ ${#files[@]} -eq 0 ]; then
+    for machine in traffic uart jtag detector shift3 decade elevator arbiter vending counter8 seconds; do
+        files+=("$PWD/../../examples/$machine.kiss")
+    done
+fi
 
 resyn='balance; rewrite; refactor; balance; rewrite; rewrite -z; balance; refactor -z; rewrite -z; balance'
 
@@ -70,30 +81,32 @@ verilog() {
 
 # latches and AND nodes of the coding that the tool makes
 coded() {
-    local machine=$1 coding=$2
-    verilog "$examples/$machine.kiss" >"$room/$machine.v"
-    yosys -q -p "read_verilog $room/$machine.v; proc; opt; fsm_detect; fsm_extract; fsm_opt; fsm_recode -encoding $coding; fsm_map; opt -full; expose -evert-dff; opt -full; techmap; opt -full; aigmap; opt_clean; write_blif $room/$machine.$coding.blif" >"$room/yosys.log" 2>&1 || { echo "failed"; return; }
-    echo "$(awk '/^\.outputs/ { for (i = 2; i <= NF; i++) if ($i ~ /\.d\[?|\.d$/) latches++ } END { printf "%d", latches }' "$room/$machine.$coding.blif") / $(nodes "$room/$machine.$coding.blif")"
+    local file=$1 coding=$2
+    verilog "$file" >"$room/machine.v"
+    yosys -q -p "read_verilog $room/machine.v; proc; opt; fsm_detect; fsm_extract; fsm_opt; fsm_recode -encoding $coding; fsm_map; opt -full; expose -evert-dff; opt -full; techmap; opt -full; aigmap; opt_clean; write_blif $room/$coding.blif" >"$room/yosys.log" 2>&1 || { echo "failed"; return; }
+    echo "$(awk '/^\.outputs/ { for (i = 2; i <= NF; i++) if ($i ~ /\.d\[?|\.d$/) latches++ } END { printf "%d", latches }' "$room/$coding.blif") / $(nodes "$room/$coding.blif")"
 }
 
 # the network of a command, or why there is none
 network() {
-    local machine=$1 command=$2 out=$room/$1.$2.blif status=0
-    "$program" "$command" "$examples/$machine.kiss" --fill hold >"$out" 2>"$room/err" || status=$?
+    local file=$1 command=$2 out=$room/$2.blif status=0
+    "$program" "$command" "$file" --fill hold >"$out" 2>"$room/err" || status=$?
     case $status in
-        0) proved_equal "$room/$machine.code.blif" "$out" && figures "$out" || echo "not shown equal" ;;
+        0) proved_equal "$room/code.blif" "$out" && figures "$out" || echo "not shown equal" ;;
         1) echo "none" ;;
         *) echo "status $status" ;;
     esac
 }
 
 echo "machine | states | code | parallel | serial | cascade | feedback | binary | one-hot"
-for machine in ${MACHINES:-traffic uart jtag detector shift3 decade elevator arbiter vending counter8 seconds}; do
+for file in "${files[@]}"; do
+    machine=$(basename "$file" .kiss)
     echo "results.sh: $machine" >&2
-    states=$("$program" check "$examples/$machine.kiss" --fill hold | sed -n 's/^states //p')
+    states=$("$program" check "$file" --fill hold | sed -n 's/^states //p')
+    [ -n "$states" ] || { echo "results.sh: $file is no machine" >&2; continue; }
     line="$machine | $states"
     for command in code parallel serial cascade feedback; do
-        line="$line | $(network "$machine" "$command")"
+        line="$line | $(network "$file" "$command")"
     done
-    echo "$line | $(coded "$machine" binary) | $(coded "$machine" one-hot)"
+    echo "$line | $(coded "$file" binary) | $(coded "$file" one-hot)"
 done
