@@ -11,7 +11,7 @@ use Rattle.net_core.specs.declared.Network.{Network}
 use Rattle.net_core.specs.Faults.{AreFaultless, names_another}
 use Rattle.net_core.specs.Faults as faults
 use Rattle.net_core.specs.Statements.{NumberedStatement, Statement, clocks_in}
-use Rattle.net_core.proofs.Members.{is_same_name, same_name}
+use Rattle.net_core.specs.Laws.Members.{is_same_name, same_name}
 use Rattle.blif_in.specs.declared.fault.BlifFault.{BlifFault}
 use Rattle.blif_in.specs.declared.fault.BlifKind.TheVariants.{Clocks}
 use Rattle.blif_in.specs.Text.{clock_fault, driven_within, names_clock}

@@ -1,10 +1,9 @@
 //! Joins lines that end in a backslash with the next ones, and gives the lines that are statements one by one.
 ghost use Rattle.std.specs.Prelude.{◌≡◌, ◌++◌, ◌∷◌, ◌-◌, [], IfNone, IfOk, IfSome, OnOk, Some, length, take};
 ghost use Rattle.std.specs.List.{list_any};
-ghost use Rattle.hs_io.specs.Lines.{fields_in};
+ghost use Rattle.hs_io.specs.Lines.{fields_in, is_skipped};
 ghost use Rattle.net_core.specs.Joined.{is_backslash, is_continued, ends_in_backslash, ends_text, joined, part_of, without_backslash};
 ghost use Rattle.net_core.specs.Joined as joining;
-ghost use Rattle.net_core.specs.Statements.{is_skipped};
 ghost use Rattle.blif_in.specs.Inner.Joining.{behind, lines_behind, merged, statement_lines};
 
 use hs_io::{Fields, Line, LineReader, Name};
@@ -55,8 +54,6 @@ fn join_lines(
             return Ok(());
         }
     }
-    // No line is left, but the contract of `next_line` does not say so of the reader.
-    *lines = LineReader::new(&[]);
     Ok(())
 }
 
@@ -103,7 +100,7 @@ fn ends(line: &Line) -> bool
 fn is_blank(line: &Line) -> bool
     ensures { result ≡ is_skipped line.now }
 {
-    line.fields.as_slice().is_empty() && !line.bad
+    !line.bad && line.fields.as_slice().is_empty()
 }
 
 /// The part of a joined line that a line gives, after the parts before it.

@@ -1,1 +1,2 @@
 mod Structures
+pub mod Accepted

@@ -13,18 +13,18 @@ use Rattle.net_core.specs.declared.failing.NetFail.TheVariants.{Cycle, NoMemory,
 use Rattle.net_core.specs.Causes.{AreOnce, IsCause, IsCycle, uses_of}
 use Rattle.net_core.specs.Sound.{driven_by, drivers_of}
 use Rattle.net_core.specs.Worked.{gate, network}
-use Rattle.net_core.proofs.Counted.{cond_of, counted-cons, counted_none}
-use Rattle.net_core.proofs.Members.{is_same_name, same_name}
+use Rattle.net_core.specs.Laws.Counted.{cond_of, counted-cons, counted_none}
+use Rattle.net_core.specs.Laws.Members.{is_same_name, same_name}
 use Rattle.blif_in.specs.declared.fault.BlifKind.{BlifKind}
 use Rattle.blif_in.specs.declared.fault.BlifKind.TheVariants.{Structure}
 use Rattle.blif_in.specs.Text.{IsStructureFault}
 use Rattle.blif_laws.specs.Worked.{IsRefused, cycle_lines}
 
-both : (a b : Bool) → (a && b) ≡ true → (a ≡ true) × (b ≡ true)
+pub both : (a b : Bool) → (a && b) ≡ true → (a ≡ true) × (b ≡ true)
 both true b h = (refl, h)
 both false b h = absurd (false≢true h)
 
-no_more : (a : Bool) → not a ≡ true → a ≡ false
+pub no_more : (a : Bool) → not a ≡ true → a ≡ false
 no_more true h = absurd (false≢true h)
 no_more false h = refl
 
@@ -32,7 +32,7 @@ neither : (a b : Bool) → (a || b) ≡ false → (a ≡ false) × (b ≡ false)
 neither true b h = absurd (false≢true (sym h))
 neither false b h = (refl, h)
 
-among : (name : List ℕ) (names : List (List ℕ)) → list_any (bytes_eq name) names ≡ true → Contains names name
+pub among : (name : List ℕ) (names : List (List ℕ)) → list_any (bytes_eq name) names ≡ true → Contains names name
 among name [] h = absurd (false≢true h)
 among name (x ∷ xs) h =
     elim (bytes_eq name x) as (λ b. bytes_eq name x ≡ b → (b || list_any (bytes_eq name) xs) ≡ true → Contains (x ∷ xs) name) [
@@ -40,7 +40,7 @@ among name (x ∷ xs) h =
       | false ↦ λ other found. Contains-there x name xs (among name xs found)
     ] refl h
 
-outside : (name : List ℕ) (names : List (List ℕ)) → list_any (bytes_eq name) names ≡ false → Contains names name → ⊥
+pub outside : (name : List ℕ) (names : List (List ℕ)) → list_any (bytes_eq name) names ≡ false → Contains names name → ⊥
 outside name [] h k = Contains-none name k
 outside name (x ∷ xs) h k =
     let parts = neither (bytes_eq name x) (list_any (bytes_eq name) xs) h in
@@ -49,20 +49,20 @@ outside name (x ∷ xs) h k =
       | inr there ↦ outside name xs parts.1 there
     ]
 
-abbrev all_among : List (List ℕ) → List (List ℕ) → Bool
+abbrev pub all_among : List (List ℕ) → List (List ℕ) → Bool
 all_among these [] = true
 all_among these (name ∷ names) = list_any (bytes_eq name) these && all_among these names
 
-each_among : (these names : List (List ℕ)) → all_among these names ≡ true → All (Contains these) names
+pub each_among : (these names : List (List ℕ)) → all_among these names ≡ true → All (Contains these) names
 each_among these [] h k d lt = absurd (omega arith)
 each_among these (x ∷ xs) h zero d lt = among x these (both (list_any (bytes_eq x) these) (all_among these xs) h).0
 each_among these (x ∷ xs) h (suc k) d lt = each_among these xs (both (list_any (bytes_eq x) these) (all_among these xs) h).1 k d (omega arith)
 
-abbrev all_once : List (List ℕ) → Bool
+abbrev pub all_once : List (List ℕ) → Bool
 all_once [] = true
 all_once (name ∷ names) = not (list_any (bytes_eq name) names) && all_once names
 
-once : (names : List (List ℕ)) → all_once names ≡ true → AreOnce names
+pub once : (names : List (List ℕ)) → all_once names ≡ true → AreOnce names
 once [] h name = omega arith
 once (x ∷ xs) h name =
     let parts = both (not (list_any (bytes_eq x) xs)) (all_once xs) h in

@@ -2,6 +2,8 @@
 use Rattle.std.specs.Prelude.{ℕ, List, [], ◌∷◌, codes, replicate}
 use Rattle.std.specs.List.{flat_map}
 use Rattle.hs_io.specs.Spelling.{ended}
+use Rattle.net_core.specs.declared.Network.{Network}
+use Rattle.net_core.specs.Blif.{Blif}
 use Rattle.blif_in.specs.declared.fault.BlifKind.{BlifKind}
 use Rattle.blif_in.specs.Text.{IsBlifFault}
 
@@ -12,6 +14,10 @@ text lines = flat_map ended lines
 -- the text is refused for a fault of this kind at this line
 abbrev pub IsRefused : List (List ℕ) → ℕ → BlifKind → Type 0
 IsRefused lines number kind = IsBlifFault (text lines) (record { line = number; kind = kind })
+
+-- the text is that of this network, which is sound and within the limits
+abbrev pub IsRead : List (List ℕ) → Network → Type 0
+IsRead lines N = Blif (text lines) N
 
 -- a name of n bytes
 abbrev pub long : ℕ → List ℕ

@@ -1,10 +1,13 @@
 //! Worked texts, and the faults for which they are refused.
 
-ghost use Rattle.std.specs.Prelude.{◌≡◌, List, [], ◌∷◌, ◌++◌, None, Some, codes, count_by, replicate};
+ghost use Rattle.std.specs.Prelude.{◌≡◌, List, [], ◌∷◌, ◌++◌, None, Some, codes, count_by, replicate, true};
 ghost use Rattle.net_core.specs.Limits.{is_names};
 ghost use Rattle.net_core.specs.Statements.{Names, Statement};
 ghost use Rattle.blif_in.specs.Faults.{form_fault};
-ghost use Rattle.blif_laws.specs.Worked.{IsRefused, cycle_lines, long, many};
+ghost use Rattle.blif_laws.specs.Worked.{IsRead, IsRefused, cycle_lines, long, many};
+ghost use Rattle.net_core.specs.Blif.{Blif};
+ghost use Rattle.net_core.specs.Worked.{gate, latch, network};
+ghost use Rattle.net_core.specs.declared.Start.TheVariants.{Free, One, Zero};
 ghost use Rattle.net_core.specs.declared.failing.NetFail.TheVariants.{Cycle, TwoDrivers, Undriven};
 ghost use Rattle.blif_in.specs.declared.fault.BlifKind.TheVariants.{BadByte, BadFields, BadRow, Clocks, LatchKind, MixedCover, NoModel, OverLimit, Structure, Unsupported};
 ghost use Rattle.blif_in.specs.declared.fault.NetLimit.TheVariants.{GateInputs, Gates, Inputs, Latches, NameBytes, Outputs};
@@ -45,6 +48,11 @@ pub fn worked_forms()
     ensures two_digits { IsRefused (codes ".model m" ∷ codes ".latch a b 00" ∷ []) 2 BadFields }
     ensures type_alone { IsRefused (codes ".model m" ∷ codes ".latch a b re" ∷ []) 2 BadFields }
     ensures active_high { IsRefused (codes ".model m" ∷ codes ".latch a b ah c" ∷ []) 2 LatchKind }
+    ensures long_word { IsRefused (codes ".model m" ∷ (codes "." ++ long 64) ∷ []) 2 Unsupported }
+    ensures long_type { IsRefused (codes ".model m" ∷ (codes ".latch a b " ++ (long 65 ++ codes " c 0")) ∷ []) 2 LatchKind }
+    ensures latch_fields_before_long { IsRefused (codes ".model m" ∷ (codes ".latch " ++ long 65) ∷ []) 2 BadFields }
+    ensures start_before_long { IsRefused (codes ".model m" ∷ (codes ".latch " ++ (long 65 ++ codes " b 4")) ∷ []) 2 BadFields }
+    ensures kind_before_clocks { IsRefused (codes ".model m" ∷ codes ".clock c" ∷ codes ".latch a b fe d" ∷ []) 3 LatchKind }
 {}
 
 /// Rows that do not fit their gate.
@@ -57,6 +65,11 @@ pub fn worked_rows()
     ensures mixed_joined { IsRefused (codes ".model m" ∷ codes ".names \\" ∷ codes "a z" ∷ codes "1 1" ∷ codes "0\\" ∷ codes "0" ∷ []) 5 MixedCover }
     ensures skipped_between { IsRefused (codes ".model m" ∷ codes ".names a z" ∷ [] ∷ codes "# rows" ∷ codes "11 1" ∷ []) 5 BadRow }
     ensures row_after_clock { IsRefused (codes ".model m" ∷ codes ".names a z" ∷ codes ".clock c" ∷ codes "11 1" ∷ []) 4 BadFields }
+    ensures few_characters { IsRefused (codes ".model m" ∷ codes ".names a b z" ∷ codes "1 1" ∷ []) 3 BadRow }
+    ensures letter_in_a_plane { IsRefused (codes ".model m" ∷ codes ".names a z" ∷ codes "x 1" ∷ []) 3 BadRow }
+    ensures two_output_bits { IsRefused (codes ".model m" ∷ codes ".names a z" ∷ codes "1 11" ∷ []) 3 BadRow }
+    ensures dash_of_a_constant { IsRefused (codes ".model m" ∷ codes ".names z" ∷ codes "-" ∷ []) 3 BadRow }
+    ensures two_bits_of_a_constant { IsRefused (codes ".model m" ∷ codes ".names z" ∷ codes "11" ∷ []) 3 BadRow }
 {}
 
 /// Clocks, and lines that are joined.
@@ -79,6 +92,8 @@ pub fn worked_clocks()
     ensures line_before_driven_clock { IsRefused (codes ".model m" ∷ codes ".clock c" ∷ codes ".names c" ∷ codes "1" ∷ codes ".gate x" ∷ []) 5 Unsupported }
     ensures driven_before_structure { IsRefused (codes ".model m" ∷ codes ".outputs z" ∷ codes ".clock c" ∷ codes ".names c" ∷ []) 3 Clocks }
     ensures comment_backslash { IsRefused (codes ".model m" ∷ codes "# \\" ∷ codes ".gate x" ∷ []) 3 Unsupported }
+    ensures joined_past_a_tab { IsRefused (codes ".model m" ∷ codes ".inputs a\\\t" ∷ codes ".gate x" ∷ codes ".gate y" ∷ []) 4 Unsupported }
+    ensures backslash_before_a_tab { IsRefused (codes ".model m" ∷ codes ".inputs a\\\tb" ∷ codes ".gate x" ∷ []) 2 BadByte }
 {}
 
 /// Limits, and which fault of a line comes first.
@@ -94,6 +109,8 @@ pub fn worked_limits()
     ensures inputs_one_by_one { IsRefused (codes ".model m" ∷ (codes ".inputs" ++ many 300) ∷ []) 2 (OverLimit Inputs 257) }
     ensures outputs_one_by_one { IsRefused (codes ".model m" ∷ (codes ".outputs" ++ many 300) ∷ []) 2 (OverLimit Outputs 257) }
     ensures gate_inputs_one_by_one { IsRefused (codes ".model m" ∷ (codes ".names" ++ many 300) ∷ []) 2 (OverLimit GateInputs 257) }
+    ensures first_of_two_long_names { IsRefused (codes ".model m" ∷ (codes ".names " ++ (long 65 ++ (codes " " ++ long 66))) ∷ []) 2 (OverLimit NameBytes 65) }
+    ensures longer_name { IsRefused (codes ".model m" ∷ (codes ".inputs " ++ long 300) ∷ []) 2 (OverLimit NameBytes 300) }
 {}
 
 /// Lines with several faults: which of them is named, and where.
@@ -120,6 +137,7 @@ pub fn worked_reaches()
     ensures latches { IsRefused (codes ".model m" ∷ (replicate 256 (codes ".latch a b") ++ codes ".gate x" ∷ [])) 258 Unsupported }
     ensures gate_inputs { IsRefused (codes ".model m" ∷ (codes ".names" ++ many 257) ∷ codes ".gate x" ∷ []) 3 Unsupported }
     ensures names_of_each_word { IsRefused (codes ".model m" ∷ (codes ".outputs " ++ long 64) ∷ (codes ".clock " ++ long 64) ∷ (codes ".latch " ++ (long 64 ++ (codes " " ++ (long 64 ++ (codes " re " ++ long 64))))) ∷ (codes ".names " ++ (long 64 ++ (codes " " ++ long 64))) ∷ codes ".gate x" ∷ []) 6 Unsupported }
+    ensures row_of_65_characters { IsRefused (codes ".model m" ∷ (codes ".names" ++ many 66) ∷ (replicate 65 49 ++ codes " 1") ∷ codes ".gate x" ∷ []) 4 Unsupported }
 {}
 
 /// The limit of gates, and that a fault of the names of a gate comes before it.
@@ -146,4 +164,17 @@ pub fn worked_structures()
     ensures undriven_before_cycle { IsRefused (codes ".model m" ∷ codes ".outputs z" ∷ codes ".names y y" ∷ []) 0 (Structure (Undriven (codes "z"))) }
     ensures cycle { IsRefused cycle_lines 0 (Structure (Cycle (codes "a" ∷ codes "b" ∷ codes "c" ∷ []))) }
     ensures cycle_from_later_gate { ¬ IsRefused cycle_lines 0 (Structure (Cycle (codes "b" ∷ codes "c" ∷ codes "a" ∷ []))) }
+{}
+
+/// Texts that are read whole. An output may be an input, and stand twice. A latch may take an input or its own
+/// value, and its clock may be driven by nothing. What comes after the end is not looked at.
+pub fn worked_texts()
+    ensures output_of_an_input { IsRead (codes ".model m" ∷ codes ".inputs a b" ∷ codes ".outputs b" ∷ []) (network (codes "ab") (codes "b") [] []) }
+    ensures two_outputs_of_one_name { IsRead (codes ".model m" ∷ codes ".inputs a" ∷ codes ".outputs a a" ∷ []) (network (codes "a") (codes "aa") [] []) }
+    ensures latch_of_an_input { IsRead (codes ".model m" ∷ codes ".inputs a b" ∷ codes ".outputs p" ∷ codes ".latch b p 0" ∷ []) (network (codes "ab") (codes "p") (latch (codes "b") (codes "p") Zero ∷ []) []) }
+    ensures latch_of_itself { IsRead (codes ".model m" ∷ codes ".outputs p" ∷ codes ".latch p p 1" ∷ []) (network [] (codes "p") (latch (codes "p") (codes "p") One ∷ []) []) }
+    ensures clock_of_nothing { IsRead (codes ".model m" ∷ codes ".inputs a" ∷ codes ".latch a p re c 2" ∷ []) (network (codes "a") [] (latch (codes "a") (codes "p") Free ∷ []) []) }
+    ensures equal_rows { IsRead (codes ".model m" ∷ codes ".inputs a b" ∷ codes ".outputs z" ∷ codes ".names b a z" ∷ codes "10 1" ∷ codes "10 1" ∷ codes ".end" ∷ []) (network (codes "ab") (codes "z") [] (gate (codes "ba") (codes "z") (codes "10" ∷ codes "10" ∷ []) true ∷ [])) }
+    ensures bad_byte_after_the_end { IsRead (codes ".model m" ∷ codes ".inputs a" ∷ codes ".end" ∷ codes "\u{1}" ∷ []) (network (codes "a") [] [] []) }
+    ensures end_joined_with_nothing { Blif (codes ".model m\n.inputs a\n.end\\") (network (codes "a") [] [] []) }
 {}

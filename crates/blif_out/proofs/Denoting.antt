@@ -4,12 +4,12 @@ use Rattle.std.specs.List.{flat_map, AllByRecursion, take_while, filter}
 use Rattle.std.proofs.lemmas.Grind.{flat_map-append}
 use Rattle.std.proofs.lemmas.List.Folds.{flat_map-map}
 use Rattle.list_facts.specs.Laws.Everywhere.{each_append, each_weaker}
-use Rattle.hs_io.specs.Lines.{lines_of, lines_from}
+use Rattle.hs_io.specs.Lines.{is_skipped, lines_of, lines_from}
 use Rattle.hs_io.specs.Spelling.{ended, line_text, ArePlainFields, IsPlainField, IsComment}
-use Rattle.hs_io.proofs.Spelled.{IsLineByte, line_bytes, physical_lines-all}
+use Rattle.hs_io.specs.Laws.Spelled.{IsLineByte, line_bytes, physical_lines-all}
 use Rattle.net_core.specs.declared.Network.{Network}
 use Rattle.net_core.specs.Joined.{joined, read_lines, ends_text}
-use Rattle.net_core.specs.Statements.{numbered_of, is_skipped, statements_of, said_in, inputs_in, outputs_in, clocks_in}
+use Rattle.net_core.specs.Statements.{numbered_of, statements_of, said_in, inputs_in, outputs_in, clocks_in}
 use Rattle.net_core.specs.Words.{end_word}
 use Rattle.blif_out.specs.NetText.{net_fields, net_text}
 use Rattle.blif_out.specs.Writable.{IsSignalName, IsWritable}

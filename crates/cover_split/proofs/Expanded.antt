@@ -17,12 +17,12 @@ use Rattle.kiss_file.specs.declared.file.KissRow.{KissRow}
 use Rattle.kiss_file.specs.Lawful.{AreGiven, AreNumbered, IsLawful, IsLawfulRow, appearances, given_names}
 use Rattle.kiss_file.specs.Machine.{Conflicting, IsRowAt, Specified, answers, given_bit, next, out, output_bit}
 use Rattle.kiss_file.specs.Names.{AreDistinct, IsPlainName}
-use Rattle.kiss_file.proofs.Machine.{next_said, output_bit_said}
+use Rattle.kiss_file.specs.Laws.Machine.{next_said, output_bit_said}
 use Rattle.machine_table.specs.Staying.{NeverLeaves}
 use Rattle.machine_table.specs.Table.{IsTable}
 use Rattle.machine_table.specs.Laws.OutputWords.{same_map, same_values}
-use Rattle.kiss_file.proofs.ByState.{IsByState, lawful_by_state, numbered_by_state}
-use Rattle.kiss_file.proofs.NumberedNames.{length-numbered_names}
+use Rattle.kiss_file.specs.Laws.ByState.{IsByState, lawful_by_state, numbered_by_state}
+use Rattle.kiss_file.specs.Laws.NumberedNames.{length-numbered_names}
 use Rattle.cover_split.specs.Cover.{IsCover}
 use Rattle.cover_split.specs.Expansion.{AnswersAlike, AnswersAsStates, IsExpansion, IsNextPair, IsPair, IsTarget, pairs_of}
 use Rattle.cover_split.specs.Inner.Rows.{IsBuilt, IsPairRow}

@@ -10,7 +10,7 @@ use Rattle.decomposition.specs.Flow.{Flows}
 use Rattle.kiss_file.specs.declared.file.KissFile.{KissFile}
 use Rattle.kiss_file.specs.Machine.{next}
 use Rattle.machine_table.specs.Staying.{NeverLeaves}
-use Rattle.kiss_file.proofs.NumberedNames.{length-numbered_names}
+use Rattle.kiss_file.specs.Laws.NumberedNames.{length-numbered_names}
 use Rattle.pair_operators.specs.Pair.{Closed}
 use Rattle.partition.specs.Partition.{IsPartition, Together}
 use Rattle.state_codes.specs.declared.split.Part.{Part}

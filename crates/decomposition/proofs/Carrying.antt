@@ -6,7 +6,7 @@ use Rattle.std.proofs.lemmas.List.{get_or-map, get_or_default, length-map}
 use Rattle.kiss_file.specs.declared.file.KissFile.{KissFile}
 use Rattle.kiss_file.specs.Lawful.{IsLawful}
 use Rattle.kiss_file.specs.Machine.{Conflicting, next, out}
-use Rattle.kiss_file.proofs.Machine.{next_is_a_state}
+use Rattle.kiss_file.specs.Laws.Machine.{next_is_a_state}
 use Rattle.machine_table.specs.Staying.{NeverLeaves}
 use Rattle.machine_table.specs.Table.{IsTable}
 use Rattle.state_pairs.specs.Laws.Lawful.{table_of_lawful}

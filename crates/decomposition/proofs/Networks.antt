@@ -11,7 +11,7 @@ use Rattle.machine_table.specs.Table.{IsTable}
 use Rattle.net_core.specs.declared.Network.{Network}
 use Rattle.net_core.specs.declared.SignalNames.{SignalNames}
 use Rattle.net_core.specs.Flat.{IsFlat}
-use Rattle.net_core.proofs.Flat.{flat_sound}
+use Rattle.net_core.specs.Laws.Flat.{flat_sound}
 use Rattle.partition.specs.Partition.{IsStateCount}
 use Rattle.realise.specs.Codes.{code_of}
 use Rattle.realise.specs.Laws.{ArePairwiseDistinct}

@@ -12,7 +12,7 @@ use Rattle.hs_io.specs.Spelling.{ended, ArePlainFields}
 use Rattle.kiss_file.specs.declared.file.KissFile.{KissFile}
 use Rattle.kiss_file.specs.Lawful.{IsLawful}
 use Rattle.kiss_file.specs.Machine.{Conflicting}
-use Rattle.kiss_file.proofs.Machine.{next_is_a_state}
+use Rattle.kiss_file.specs.Laws.Machine.{next_is_a_state}
 use Rattle.machine_table.specs.Staying.{NeverLeaves}
 use Rattle.net_core.specs.declared.Network.{Network}
 use Rattle.net_core.specs.declared.SignalNames.{SignalNames}

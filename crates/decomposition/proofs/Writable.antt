@@ -17,7 +17,7 @@ use Rattle.dependence.specs.declared.sets.Reads.{Reads}
 use Rattle.hs_io.specs.Spelling.{ArePlainFields, IsFieldByte, IsPlainField}
 use Rattle.kiss_file.specs.declared.file.KissFile.{KissFile}
 use Rattle.kiss_file.specs.Lawful.{AreGiven, IsGivenName, IsLawful}
-use Rattle.kiss_file.specs.Names.{IsNameByte, IsPlainName}
+use Rattle.kiss_file.specs.Names.{IsPlainName}
 use Rattle.net_core.specs.declared.Gate.{Gate}
 use Rattle.net_core.specs.declared.Latch.{Latch}
 use Rattle.net_core.specs.declared.Network.{Network}
@@ -80,14 +80,14 @@ own_are_names count letter is many = All-map IsSignalName (own_name count letter
 
 -- ---- given names
 -- a byte of a given name is such a byte
-given_byte : (b : ℕ) → IsNameByte b → (b ≡ 92 → ⊥) → is_name_byte b ≡ true
+given_byte : (b : ℕ) → IsFieldByte b → (b ≡ 92 → ⊥) → is_name_byte b ≡ true
 given_byte b is other =
     let low : 33 ≤ b = is.low in
     let high : b ≤ 126 = is.high in
     let plain : b ≡ 35 → ⊥ = is.no_comment in
     grind (arith, nat_tests)
 
-given_bytes : (bytes : List ℕ) → AllByRecursion IsNameByte bytes → AllByRecursion (λ b. b ≢ 92) bytes → AreNameBytes bytes
+given_bytes : (bytes : List ℕ) → AllByRecursion IsFieldByte bytes → AllByRecursion (λ b. b ≢ 92) bytes → AreNameBytes bytes
 given_bytes [] visible other = tt
 given_bytes (b ∷ bytes) (one, visible) (plain, other) = (given_byte b one plain, given_bytes bytes visible other)
 
@@ -95,7 +95,7 @@ given_bytes (b ∷ bytes) (one, visible) (plain, other) = (given_byte b one plai
 given_is_name : (name : List ℕ) → IsGivenName name → IsSignalName name
 given_is_name name is =
     name_from_bytes name is.some
-    (given_bytes name (recursion_from_All IsNameByte name is.visible) (recursion_from_All (λ b. b ≢ 92) name is.no_backslash))
+    (given_bytes name (recursion_from_All IsFieldByte name is.visible) (recursion_from_All (λ b. b ≢ 92) name is.no_backslash))
 
 -- names are given or own
 either_are_names : (given : Option (List (List ℕ))) (own : List (List ℕ)) (many : ℕ) → AreGiven many given → All IsSignalName own → All IsSignalName (unwrap_or given own)
@@ -236,15 +236,11 @@ known_starts (latch ∷ latches) (b ∷ bits) are =
     (known_start latch.start b here, known_starts latches bits rest)
 
 -- ---- the names of the states
--- a byte of a state's name is one of a field
-name_byte_field : (byte : ℕ) → IsNameByte byte → IsFieldByte byte
-name_byte_field byte is = record { low = is.low; high = is.high; no_comment = is.no_comment }
-
 -- a state's name stands as a field
 plain_field : (name : List ℕ) → IsPlainName name → IsPlainField name
 plain_field name is = record {
   some = is.some;
-  visible = recursion_from_All IsFieldByte name (All-weaker IsNameByte IsFieldByte name_byte_field name is.visible);
+  visible = recursion_from_All IsFieldByte name is.visible;
 }
 
 -- the names of the states stand as fields

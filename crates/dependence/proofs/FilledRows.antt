@@ -16,7 +16,7 @@ use Rattle.cubes.specs.Laws.Parts.{half_from_whole, whole_from_half}
 use Rattle.kiss_file.specs.declared.file.KissFile.{KissFile}
 use Rattle.kiss_file.specs.declared.file.KissRow.{KissRow}
 use Rattle.kiss_file.specs.Machine.{Conflicting, IsRowAt, Specified, given_bit}
-use Rattle.kiss_file.proofs.Machine.{next_not_said, next_said, output_bit_not_said, output_bit_said}
+use Rattle.kiss_file.specs.Laws.Machine.{next_not_said, next_said, output_bit_not_said, output_bit_said}
 use Rattle.machine_table.specs.declared.missing.Missing.{Missing}
 use Rattle.machine_table.specs.declared.missing.Missing.TheVariants.{Next, Output}
 use Rattle.machine_table.specs.Covering.{IsRightRow, IsSaidBy}

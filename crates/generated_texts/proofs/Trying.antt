@@ -14,7 +14,7 @@ use Rattle.kiss_file.specs.declared.file.KissFile.{KissFile}
 use Rattle.machine_gen.specs.MachineOf.{AreSizes}
 use Rattle.net_core.specs.declared.Network.{Network}
 use Rattle.net_core.specs.Denotes.{Denotes}
-use Rattle.net_core.proofs.Determined.{denotes_one}
+use Rattle.net_core.specs.Laws.Determined.{denotes_one}
 use Rattle.split_texts.specs.Splits.{HasNoPlan, IsPlanned, IsSplitOf, LacksSplit, Refuses}
 use Rattle.split_texts.specs.Causes.{HasLongCode, HasNoCode, OfParts}
 use Rattle.split_texts.specs.Written.{AreCodes, IsTextOfParts}

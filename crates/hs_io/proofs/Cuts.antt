@@ -7,16 +7,12 @@ use Rattle.std.proofs.lemmas.List.{take_all, drop_all}
 use Rattle.std.proofs.lemmas.List.Splits.{slice_split_none, slice_split_first, length-slice_split}
 use Rattle.std.proofs.lemmas.List.Sums.{fails_before_first}
 use Rattle.std.proofs.lemmas.List.Elements.{filter-append}
+use Rattle.hs_io.specs.Laws.Spelled.{lines_of_pieces-cons}
 use Rattle.hs_io.specs.Lines.{fields_in, fields_of, is_field, is_blank, ends_line, lines_of_pieces, physical_lines}
 
 -- where no byte cuts it, the text is one piece
 pub slice_split_uncut : (p : ℕ → Bool) (xs : List ℕ) → length xs ≤ position_or_len p xs → slice_split p xs ≡ xs ∷ []
 slice_split_uncut p xs past = slice_split_none p xs (λ k d lt. fails_before_first p xs k d (omega arith))
-
--- a piece with others behind it is a line
-pub lines_of_pieces-cons : (piece : List ℕ) (pieces : List (List ℕ)) → 0 < length pieces → lines_of_pieces (piece ∷ pieces) ≡ piece ∷ lines_of_pieces pieces
-lines_of_pieces-cons piece [] some = absurd (omega arith)
-lines_of_pieces-cons piece (next ∷ more) some = refl
 
 -- the last piece is a line where it is not empty
 pub lines_of_pieces-last : (piece : List ℕ) → 0 < length piece → lines_of_pieces (piece ∷ []) ≡ piece ∷ []

@@ -1,4 +1,2 @@
 pub mod Lookups
 pub mod Cuts
-pub mod Spelled
-pub mod Known

@@ -6,3 +6,4 @@ pub mod Lines
 pub mod Spelling
 pub mod Worked
 pub mod Inner
+pub mod Laws

@@ -57,3 +57,7 @@ lines_from number (line ∷ more) = line_of number line ∷ lines_from (number +
 -- the lines of a text, numbered from 1
 abbrev pub lines_of : List ℕ → List Line
 lines_of bytes = lines_from 1 (physical_lines bytes)
+
+-- a line without fields is skipped, if it is not bad
+abbrev pub is_skipped : Line → Bool
+is_skipped line = not line.bad && length line.fields == 0

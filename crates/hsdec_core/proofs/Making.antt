@@ -34,7 +34,7 @@ use Rattle.job_words.specs.declared.jobs.Job.{Job}
 use Rattle.kiss_file.specs.declared.file.KissFile.{KissFile}
 use Rattle.kiss2.specs.Written.{kiss_text}
 use Rattle.net_core.specs.declared.Network.{Network}
-use Rattle.net_core.proofs.Determined.{blif_one}
+use Rattle.net_core.specs.Laws.Determined.{blif_one}
 use Rattle.net_sim.specs.Run.{IsRun}
 use Rattle.symbol_runs.specs.Causes.{BadSymbolRow, NoStart}
 use Rattle.symbol_runs.specs.Laws.Causes.{bad_symbol_is_of, no_start_is_of}

@@ -15,7 +15,7 @@ use Rattle.hs_io.specs.declared.lines.Line.{Line}
 use Rattle.kiss2.specs.Inner.Judging.{names_in_columns, once_after}
 use Rattle.kiss2.specs.Standing.{each_once, names_in_column, row_lines, state_names}
 use Rattle.kiss2.specs.Words.{field_at, is_character, is_character_field, is_name}
-use Rattle.kiss2.proofs.Once.{among, each_once-append}
+use Rattle.kiss2.specs.Laws.Once.{among, each_once-append}
 
 -- the fields of characters
 pub field_length : (count : ℕ) (field : List ℕ) → is_character_field count field ≡ true → length field ≡ count

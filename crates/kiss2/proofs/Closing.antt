@@ -16,8 +16,8 @@ use Rattle.kiss2.specs.Inner.Judging.{Stands, reset_line}
 use Rattle.kiss2.specs.Kiss.{IsRowOf, closing_fault, reset_unknown}
 use Rattle.kiss2.specs.Standing.{line_with, reset_name, row_lines, state_names}
 use Rattle.kiss2.specs.Words.{current_field, field_at}
-use Rattle.kiss2.proofs.Finding.{absent_test, contained_from_test, contained_test}
-use Rattle.kiss2.proofs.Once.{among, seen_among}
+use Rattle.kiss2.specs.Laws.Finding.{absent_test, contained_from_test, contained_test}
+use Rattle.kiss2.specs.Laws.Once.{among, seen_among}
 
 kept_from : (line : Option Line) (reset : ResetLine) → Some reset ≡ option_map reset_line line → (l : Line) × (line ≡ Some l) × (reset ≡ reset_line l)
 kept_from None reset e = absurd (none-some reset (sym e))

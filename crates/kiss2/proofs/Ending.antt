@@ -1,11 +1,11 @@
 -- The lines before the ending word, and faults among them.
-use Rattle.std.proofs.Common.{◌≡◌, ℕ, zero, suc, ◌+◌, ◌<◌, ◌≤◌, ◌^◌, true, false, not, List, [], ◌∷◌, ◌++◌, length, get_or, take, drop, drop-cons, length-drop, add-one, Some, None, ap, sym, ◌∙◌, refl, subst, inl, inr, arith}
+use Rattle.std.proofs.Common.{◌≡◌, ℕ, suc, ◌+◌, ◌<◌, ◌≤◌, ◌^◌, true, false, not, List, [], ◌∷◌, ◌++◌, length, get_or, take, drop, drop-cons, length-drop, add-one, Some, ap, sym, ◌∙◌, refl, subst, inl, inr, arith}
 use Rattle.std.specs.Prelude.{slice_get}
 use Rattle.std.specs.List.{prefix_len}
 use Rattle.std.proofs.lemmas.Bool.{cases_lt, false≢true, not_from_false, not_from_true}
-use Rattle.std.proofs.lemmas.List.{get_or_read, get_or-take, length-take-le, length_push, take-append-le, take_more, take-take, take_all, take_at}
+use Rattle.std.proofs.lemmas.List.{get_or_read, get_or-take, length-take-le, take_more, take-take, take_all}
 use Rattle.std.proofs.lemmas.List.Sums.{prefix_len-le-length, prefix_len_is, prefix_len_stops}
-use Rattle.std.proofs.lemmas.Option.{none-some, same_Some, slice_get-get_or, slice_get_within}
+use Rattle.std.proofs.lemmas.Option.{slice_get-get_or}
 use Rattle.std.proofs.lemmas.List.Elements.{All-weaker}
 use Rattle.hs_io.specs.declared.lines.Line.{Line}
 use Rattle.hs_io.specs.Lines.{lines_of}
@@ -68,32 +68,6 @@ no_end lines before = all lines before where
       let count : prefix_len (λ m. not (is_ending m)) (l ∷ ls) ≡ length (l ∷ ls) =
       prefix_len_is (λ m. not (is_ending m)) (l ∷ ls) (length (l ∷ ls)) l (omega arith) (λ k lt. not_from_false _ (h k l lt)) (λ lt. absurd (omega arith)) in
       ap (λ n. take n (l ∷ ls)) count ∙ take_all (length (l ∷ ls)) (l ∷ ls) (omega arith)
-
--- one line more without a fault
-pub faultless_push : (before : List Line) (line : Line) → HaveNoFault before → fault_in before line ≡ None → HaveNoFault (before ++ line ∷ [])
-faultless_push before line none here place other stands =
-    elim (cases_lt place (length before)) [
-      | inl less ↦
-          let there : slice_get before place ≡ Some other = sym (get_left before line place less) ∙ stands in
-          subst (λ front. fault_in front other ≡ None) (sym (take-append-le place before (line ∷ []) (omega arith))) (none place other there)
-      | inr more ↦
-          let within : place < length (before ++ line ∷ []) = slice_get_within (before ++ line ∷ []) place other stands in
-          let last : place ≡ length before = omega (arith, length_push before line) in
-          let same : line ≡ other = same_Some line other (sym (get_last before line) ∙ (ap (λ n. slice_get (before ++ line ∷ []) n) (sym last) ∙ stands)) in
-          subst (λ l. fault_in (take place (before ++ line ∷ [])) l ≡ None) same
-          (subst (λ front. fault_in front line ≡ None) (sym (take_at before (line ∷ []) place (sym last))) here)
-    ] where
-      get_left : (xs : List Line) (y : Line) (k : ℕ) → k < length xs → slice_get (xs ++ y ∷ []) k ≡ slice_get xs k
-      get_left [] y k lt = absurd (omega arith)
-      get_left (x ∷ xs) y zero lt = refl
-      get_left (x ∷ xs) y (suc k) lt = get_left xs y k (omega arith)
-
-      get_last : (xs : List Line) (y : Line) → slice_get (xs ++ y ∷ []) (length xs) ≡ Some y
-      get_last [] y = refl
-      get_last (x ∷ xs) y = get_last xs y
-
-pub faultless_none : HaveNoFault []
-faultless_none place line stands = absurd (none-some line stands)
 
 -- the first of the lines that are left
 pub left_first : (lines : List Line) (count : ℕ) (line : Line) (more : List Line) → drop count lines ≡ line ∷ more → (count < length lines) × (line ≡ get_or lines count line) × (drop (count + 1) lines ≡ more)

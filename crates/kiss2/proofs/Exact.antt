@@ -9,7 +9,7 @@ use Rattle.kiss_file.specs.declared.file.KissFile.{KissFile}
 use Rattle.kiss2.specs.Kiss.{IsKissFault, Kiss, NeverBoth, OneFile, lines_read}
 use Rattle.kiss2.proofs.Closing.{some_rows}
 use Rattle.kiss2.proofs.OneFault.{never_both, one_fault}
-use Rattle.kiss2.proofs.SameRecord.{one_record}
+use Rattle.kiss2.specs.Laws.SameRecord.{one_record}
 
 -- an answer of the reader
 pub record IsRight (bytes : List ℕ) (result : Result KissFile KissFail) : Type 0 where

@@ -11,7 +11,7 @@ use Rattle.std.proofs.lemmas.List.Sums.{AllPass-from_list_all, fails_before_firs
 use Rattle.list_facts.specs.Laws.Everywhere.{each_weaker}
 use Rattle.hs_io.specs.declared.lines.Line.{Line}
 use Rattle.hs_io.specs.Lines.{begins_comment, content, ends_line, fields_of, is_allowed, is_blank, is_field, line_of, lines_from, lines_of, lines_of_pieces, physical_lines}
-use Rattle.kiss_file.specs.Names.{IsNameByte}
+use Rattle.hs_io.specs.Spelling.{IsFieldByte}
 
 -- a part of a text that is cut: it is no longer, no byte of it cuts, and its bytes are the text's
 record IsPart (p : ℕ → Bool) (Q : ℕ → Type 0) (most : ℕ) (part : List ℕ) : Type 0 where
@@ -80,14 +80,14 @@ content_uncommented line = before (strip_carriage_return line) where
 -- the fields of a line
 pub record HasGoodFields (most : ℕ) (line : Line) : Type 0 where
   pub short : All (λ field. length field ≤ most) line.fields
-  pub visible : line.bad ≡ false → All (λ field. (0 < length field) × All IsNameByte field) line.fields
+  pub visible : line.bad ≡ false → All (λ field. (0 < length field) × All IsFieldByte field) line.fields
 
-name_byte : (b : ℕ) → is_blank b ≡ false → begins_comment b ≡ false → is_allowed b ≡ true → IsNameByte b
+name_byte : (b : ℕ) → is_blank b ≡ false → begins_comment b ≡ false → is_allowed b ≡ true → IsFieldByte b
 name_byte b apart plain allowed = record { low = grind (arith, nat_tests); high = grind (arith, nat_tests); no_comment = grind (arith, nat_tests) }
 
-bytes_named : (field : List ℕ) → AllByRecursion (λ b. is_blank b ≡ false) field → AllByRecursion (λ b. (begins_comment b ≡ false) × (is_allowed b ≡ true)) field → All IsNameByte field
-bytes_named field uncut held = All-from_recursion IsNameByte field (both field uncut held) where
-  both : (bs : List ℕ) → AllByRecursion (λ b. is_blank b ≡ false) bs → AllByRecursion (λ b. (begins_comment b ≡ false) × (is_allowed b ≡ true)) bs → AllByRecursion IsNameByte bs
+bytes_named : (field : List ℕ) → AllByRecursion (λ b. is_blank b ≡ false) field → AllByRecursion (λ b. (begins_comment b ≡ false) × (is_allowed b ≡ true)) field → All IsFieldByte field
+bytes_named field uncut held = All-from_recursion IsFieldByte field (both field uncut held) where
+  both : (bs : List ℕ) → AllByRecursion (λ b. is_blank b ≡ false) bs → AllByRecursion (λ b. (begins_comment b ≡ false) × (is_allowed b ≡ true)) bs → AllByRecursion IsFieldByte bs
   both [] u h = tt
   both (b ∷ bs) (u, us) (h, hs) = (name_byte b u h.0 h.1, both bs us hs)
 
@@ -108,8 +108,8 @@ line_good number most line le =
           let allowed = AllPass-from_list_all is_allowed text (not-false (list_all is_allowed text) clean) in
           let held : All (λ b. (begins_comment b ≡ false) × (is_allowed b ≡ true)) text = λ k d lt. (content_uncommented line k d lt, allowed k d lt) in
           let parts = parts_of is_blank (λ b. (begins_comment b ≡ false) × (is_allowed b ≡ true)) text (recursion_from_All (λ b. (begins_comment b ≡ false) × (is_allowed b ≡ true)) text held) in
-          All-from_recursion (λ field. (0 < length field) × All IsNameByte field) (fields_of text)
-          (each_weaker (λ run. IsPart is_blank (λ b. (begins_comment b ≡ false) × (is_allowed b ≡ true)) (length text) run × (is_field run ≡ true)) (λ field. (0 < length field) × All IsNameByte field)
+          All-from_recursion (λ field. (0 < length field) × All IsFieldByte field) (fields_of text)
+          (each_weaker (λ run. IsPart is_blank (λ b. (begins_comment b ≡ false) × (is_allowed b ≡ true)) (length text) run × (is_field run ≡ true)) (λ field. (0 < length field) × All IsFieldByte field)
           (λ run h. (some_byte run h.1, bytes_named run h.0.uncut h.0.held)) (fields_of text)
           (filter_kept (IsPart is_blank (λ b. (begins_comment b ≡ false) × (is_allowed b ≡ true)) (length text)) is_field (slice_split is_blank text) parts));
     } where

@@ -10,7 +10,7 @@ use Rattle.kiss2.specs.declared.fault.KissKind.TheVariants.{AnyState, BadCube, B
 use Rattle.kiss2.specs.declared.fault.KissLimit.TheVariants.{NameBytes, Rows, States}
 use Rattle.kiss2.specs.Faults.{fault_where, first_of, long_name, row_fault}
 use Rattle.kiss2.specs.Words.{current_field, input_field, is_character_field, is_name, is_open, next_field, output_field}
-use Rattle.kiss2.proofs.Finding.{find_first, none_long}
+use Rattle.kiss2.specs.Laws.Finding.{find_first, none_long}
 use Rattle.kiss2.proofs.Stood.{skip}
 
 -- the number of inputs or that of outputs is missing

@@ -23,8 +23,8 @@ use Rattle.kiss2.specs.Inner.Good.{IsGoodRow, IsKnownRow}
 use Rattle.kiss2.specs.Kiss.{HaveNoFault}
 use Rattle.kiss2.specs.Standing.{each_once, inputs_said, line_with, names_in_column, outputs_said, row_lines, state_names}
 use Rattle.kiss2.specs.Words.{current_field, field_at, input_field, is_character_field, is_name, is_decimal, is_of_kind, is_open, line_kind_of, next_field, decimal_value, operands, output_field, same_kind}
-use Rattle.kiss2.proofs.Finding.{contained_from_test}
-use Rattle.kiss2.proofs.Once.{among, among-each_once, itself, names_same}
+use Rattle.kiss2.specs.Laws.Finding.{contained_from_test}
+use Rattle.kiss2.specs.Laws.Once.{among, among-each_once, itself, names_same}
 use Rattle.kiss2.proofs.Stood.{operand_field, rows_more, rows_stay}
 
 -- no fault of a list: none of the first, and none of the rest

@@ -1,8 +1,6 @@
 pub mod Digits
-pub mod Finding
 pub mod Stood
 pub mod Taken
-pub mod Once
 pub mod RowStands
 pub mod Front
 pub mod Ending
@@ -11,7 +9,6 @@ pub mod GoodLines
 pub mod Building
 pub mod FieldBytes
 pub mod OneFault
-pub mod SameRecord
 pub mod Made
 pub mod Exact
 pub mod Written

@@ -9,7 +9,7 @@ use Rattle.kiss2.specs.declared.fault.KissFault.{KissFault}
 use Rattle.kiss2.specs.declared.fault.KissKind.{KissKind}
 use Rattle.kiss2.specs.Faults.{fault_in}
 use Rattle.kiss2.specs.Kiss.{HaveNoFault, IsFaultOf, IsFirstFault, IsLineFault, closing_fault}
-use Rattle.kiss2.proofs.Ending.{faultless_push}
+use Rattle.kiss2.specs.Laws.Faultless.{faultless_push}
 use Rattle.kiss2.proofs.GoodLines.{take_step}
 
 -- a place among the first ones

@@ -4,3 +4,4 @@ pub mod Faults
 pub mod Kiss
 pub mod Written
 pub mod Inner
+pub mod Laws

@@ -12,7 +12,7 @@ use Rattle.std.proofs.lemmas.List.Sums.{take_while-cons}
 use Rattle.hs_io.specs.declared.lines.Line.{Line}
 use Rattle.hs_io.specs.Lines.{lines_from, lines_of}
 use Rattle.hs_io.specs.Spelling.{ArePlainFields, IsFieldByte, IsPlainField, ended, line_text, spelled}
-use Rattle.hs_io.proofs.Spelled.{IsLineByte, line_bytes, line_of-fields, physical_lines-all}
+use Rattle.hs_io.specs.Laws.Spelled.{IsLineByte, line_bytes, line_of-fields, physical_lines-all}
 use Rattle.kiss2.specs.Kiss.{before_end}
 use Rattle.kiss2.specs.Words.{is_decimal, decimal_value, is_ending}
 

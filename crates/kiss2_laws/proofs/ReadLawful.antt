@@ -17,6 +17,7 @@ use Rattle.list_facts.specs.Laws.Everywhere.{all_at}
 use Rattle.cubes.specs.Symbol.{bit}
 use Rattle.hs_io.specs.declared.lines.Line.{Line}
 use Rattle.hs_io.specs.Lines.{lines_of}
+use Rattle.hs_io.specs.Spelling.{IsFieldByte}
 use Rattle.kiss2.specs.declared.fault.KissKind.TheVariants.{BadFields, MissingCounts, OverLimit, Repeated}
 use Rattle.kiss2.specs.declared.fault.KissKind.{KissKind}
 use Rattle.kiss2.specs.declared.fault.KissLimit.TheVariants.{NameBytes}
@@ -29,19 +30,19 @@ use Rattle.kiss2.specs.Inner.Good.{IsGoodRow}
 use Rattle.kiss2.specs.Inner.Judging.{once_after}
 use Rattle.kiss2.specs.Kiss.{HaveNoFault, IsNextOf, IsRecordOf, IsRowOf, Kiss, lines_read}
 use Rattle.kiss_file.specs.Lawful.{AreGiven, AreNumbered, IsGivenName, IsLawful, IsLawfulRow, appearances}
-use Rattle.kiss_file.specs.Names.{AreDistinct, IsNameByte, IsPlainName}
+use Rattle.kiss_file.specs.Names.{AreDistinct, IsPlainName}
 use Rattle.kiss2.specs.Standing.{each_once, inputs_said, line_with, names_in_column, names_said, outputs_said, row_lines, state_names}
 use Rattle.kiss2.specs.Words.{care_in, current_field, field_at, has_backslash, is_ending, is_name, is_of_kind, is_open, line_kind_of, next_field, operands, output_field, same_kind, value_in}
 use Rattle.kiss2.proofs.Building.{field_length}
 use Rattle.kiss2.proofs.Closing.{some_rows}
 use Rattle.kiss2.proofs.FieldBytes.{HasGoodFields, fields_good}
-use Rattle.kiss2.proofs.Finding.{contained_from_test, contained_test}
+use Rattle.kiss2.specs.Laws.Finding.{contained_from_test, contained_test}
 use Rattle.kiss2.proofs.GoodLines.{IsFound, all_kept, few, fine, form_at, found, inputs_on, inputs_range, none_first, outputs_on, outputs_range, passes, rows_good}
-use Rattle.kiss2.proofs.Once.{among, among-each_once, distinct_from_once, each_once-append, itself, once-each_once}
-use Rattle.kiss2.proofs.SameRecord.{length-text, number_once, reset_there, states_distinct}
+use Rattle.kiss2.specs.Laws.Once.{among, among-each_once, distinct_from_once, each_once-append, itself, once-each_once}
+use Rattle.kiss2.specs.Laws.SameRecord.{length-text, number_once, reset_there, states_distinct}
 
 -- names of states
-plain_name : (name : List ℕ) → 0 < length name → length name ≤ 64 → All IsNameByte name → is_open name ≡ false → IsPlainName name
+plain_name : (name : List ℕ) → 0 < length name → length name ≤ 64 → All IsFieldByte name → is_open name ≡ false → IsPlainName name
 plain_name name some short visible named =
     let parts = or_parts (bytes_eq name (codes "*")) (bytes_eq name (codes "-")) named in
     record {
@@ -59,13 +60,13 @@ read_good bytes = All-take (HasGoodFields (length bytes)) (prefix_len (λ line. 
 
 module _ (most : ℕ) (lines : List Line) (fields : All (HasGoodFields most) lines) (faultless : HaveNoFault lines) where
   -- the bytes of a line's fields
-  visible_at : (place : ℕ) (line : Line) → slice_get lines place ≡ Some line → All (λ field. (0 < length field) × All IsNameByte field) line.fields
+  visible_at : (place : ℕ) (line : Line) → slice_get lines place ≡ Some line → All (λ field. (0 < length field) × All IsFieldByte field) line.fields
   visible_at place line stands =
       (all_at (HasGoodFields most) lines place line fields stands).visible (fine (take place lines) line (faultless place line stands)).clean
 
   record HasNames (line : Line) : Type 0 where
-    current : (0 < length (current_field line)) × All IsNameByte (current_field line)
-    next : (0 < length (next_field line)) × All IsNameByte (next_field line)
+    current : (0 < length (current_field line)) × All IsFieldByte (current_field line)
+    next : (0 < length (next_field line)) × All IsFieldByte (next_field line)
 
   rows_named : (k o : ℕ) → All (IsGoodRow k o) (row_lines lines) → All (λ line. length line.fields ≡ 4 → HasNames line) (row_lines lines)
   rows_named k o good =
@@ -227,7 +228,7 @@ module _ (most : ℕ) (lines : List Line) (fields : All (HasGoodFields most) lin
 
   given_at : (place : ℕ) (line : Line) → slice_get lines place ≡ Some line → All (λ name. length name ≤ 64) (operands line) → All (λ name. All (λ byte. byte ≢ 92) name) (operands line) → All IsGivenName (operands line)
   given_at place line stands short plain i d lt =
-      let visible = All-drop (λ field. (0 < length field) × All IsNameByte field) 1 line.fields (visible_at most lines fields faultless place line stands) i d lt in
+      let visible = All-drop (λ field. (0 < length field) × All IsFieldByte field) 1 line.fields (visible_at most lines fields faultless place line stands) i d lt in
       record { some = visible.0; short = short i d lt; visible = visible.1; no_backslash = plain i d lt }
 
   inputs_given : (k : ℕ) → inputs_said lines ≡ Some k → AreGiven k (names_said InputNames lines)

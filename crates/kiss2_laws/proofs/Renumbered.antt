@@ -7,9 +7,9 @@ use Rattle.std.proofs.lemmas.Option.{slice_get-get_or}
 use Rattle.kiss2.specs.Inner.Judging.{once_after}
 use Rattle.kiss_file.specs.Names.{AreDistinct, name_of}
 use Rattle.kiss2.specs.Standing.{each_once}
-use Rattle.kiss2.proofs.Finding.{contained_from_test, contained_test}
-use Rattle.kiss2.proofs.Once.{among, among-each_once, each_once-append}
-use Rattle.kiss2.proofs.SameRecord.{number_once}
+use Rattle.kiss2.specs.Laws.Finding.{contained_from_test, contained_test}
+use Rattle.kiss2.specs.Laws.Once.{among, among-each_once, each_once-append}
+use Rattle.kiss2.specs.Laws.SameRecord.{number_once}
 
 named : List (List ℕ) → List ℕ → List (List ℕ)
 named states numbers = map (name_of states) numbers

@@ -7,7 +7,7 @@ use Rattle.std.specs.Option.{IfSome, is_some, option_map, option_or}
 use Rattle.std.proofs.lemmas.Bool.{false≢true, ne_eqb}
 use Rattle.std.proofs.lemmas.List.{map-append}
 use Rattle.std.proofs.lemmas.List.Folds.{find-append}
-use Rattle.std.proofs.lemmas.List.Elements.{All-append, All-cons, All-head, All-nil, Contains-get_or, All-map, All-tail, filter-append}
+use Rattle.std.proofs.lemmas.List.Elements.{All-append, All-cons, All-head, All-nil, Contains-get_or, All-map, All-tail, filter-append, recursion_from_All}
 use Rattle.std.proofs.lemmas.List.Sums.{count_by-le-length}
 use Rattle.std.proofs.lemmas.List.FromFn.{length-map-range_with_len, length-range_with_len}
 use Rattle.cubes.specs.Cube.{text_of}
@@ -26,17 +26,17 @@ use Rattle.kiss2.specs.declared.line_kind.LineKind.TheVariants.{InputCount, Inpu
 use Rattle.kiss2.specs.Faults.{has_twice, names_fault}
 use Rattle.kiss2.specs.Kiss.{HaveNoFault, IsReadAs, IsRowOf, Kiss, before_end, closing_fault, lines_read, reset_unknown}
 use Rattle.kiss_file.specs.Lawful.{AreGiven, IsGivenName, IsLawful, IsLawfulRow, appearances, given_names}
-use Rattle.kiss_file.specs.Names.{IsNameByte, IsPlainName, name_of}
+use Rattle.kiss_file.specs.Names.{IsPlainName, name_of}
 use Rattle.kiss2.specs.Standing.{each_once, has_stood, inputs_said, line_with, names_in_column, names_said, outputs_said, row_lines, state_names}
 use Rattle.kiss2.specs.Words.{decimal_value, field_at, is_ending, is_of_kind, kind_of_field, operands, same_kind}
 use Rattle.kiss2.specs.Written.{fields_of_row, given_line, kiss_lines, kiss_text, next_name, output_characters, states_standing}
-use Rattle.kiss2.proofs.Ending.{faultless_none, faultless_push}
-use Rattle.kiss2.proofs.Finding.{contained_test, once_from_distinct}
+use Rattle.kiss2.specs.Laws.Faultless.{faultless_none, faultless_push}
+use Rattle.kiss2.specs.Laws.Finding.{contained_test, once_from_distinct}
 use Rattle.kiss2_laws.proofs.Header.{count_written, names_written, number_written, reset_written}
-use Rattle.kiss2.proofs.Once.{among}
+use Rattle.kiss2.specs.Laws.Once.{among}
 use Rattle.kiss2_laws.proofs.ReadBack.{before_end-cons, decimal_plain, decimal_read, lines_of-spelled, numbered}
 use Rattle.kiss2_laws.proofs.ReadLawful.{twice_parts}
-use Rattle.kiss2.proofs.SameRecord.{length-text}
+use Rattle.kiss2.specs.Laws.SameRecord.{length-text}
 use Rattle.kiss2_laws.proofs.RowsBack.{Ready, all_pushed, column_from, column_to, row_texts, rows_are, rows_go, rows_without, rows_zip}
 use Rattle.kiss2_laws.proofs.Renumbered.{renumbered}
 use Rattle.kiss2.proofs.Stood.{fault_form, or_none, other}
@@ -183,14 +183,8 @@ word_plain first second one two = record { some = omega arith; visible = (one, (
 letter : (b : ℕ) → 36 ≤ b → b ≤ 126 → IsFieldByte b
 letter b low high = record { low = omega arith; high = high; no_comment = λ e. absurd (omega arith) }
 
-name_bytes : (name : List ℕ) → All IsNameByte name → AllByRecursion IsFieldByte name
-name_bytes [] all = tt
-name_bytes (b ∷ bs) all =
-    let here = All-head IsNameByte b bs all in
-    (record { low = here.low; high = here.high; no_comment = here.no_comment }, name_bytes bs (All-tail IsNameByte b bs all))
-
-name_field : (name : List ℕ) → 0 < length name → All IsNameByte name → IsPlainField name
-name_field name some all = record { some = some; visible = name_bytes name all }
+name_field : (name : List ℕ) → 0 < length name → All IsFieldByte name → IsPlainField name
+name_field name some all = record { some = some; visible = recursion_from_All IsFieldByte name all }
 
 given_fields : (names : List (List ℕ)) → All IsGivenName names → ArePlainFields names
 given_fields [] all = tt

@@ -6,7 +6,7 @@ use Rattle.kiss2.specs.declared.fault.KissKind.{KissKind}
 use Rattle.kiss2.specs.Faults.{fault_in}
 use Rattle.kiss_file.specs.declared.file.KissRow.{KissRow}
 use Rattle.kiss2.specs.Kiss.{HaveNoFault, IsFaultOf, IsRowOf, closing_fault}
-use Rattle.kiss2.proofs.Ending.{faultless_push}
+use Rattle.kiss2.specs.Laws.Faultless.{faultless_push}
 use Rattle.std.specs.Prelude.{slice_get, take}
 use Rattle.std.specs.List.{AllZip}
 use Rattle.std.proofs.lemmas.List.{take_at}

@@ -1,8 +1,11 @@
 -- Worked texts: what they say, and what they are refused for.
-use Rattle.std.specs.Prelude.{ℕ, false, List, [], ◌∷◌, ◌++◌, codes, map, replicate}
+use Rattle.std.specs.Prelude.{◌≡◌, ℕ, false, List, [], ◌∷◌, ◌++◌, Option, Some, None, codes, map, replicate}
 use Rattle.std.specs.List.{flat_map, range_with_len}
+use Rattle.cubes.specs.declared.cube.Cube.{Cube}
+use Rattle.cubes.specs.Cube.{text_of}
 use Rattle.hs_io.specs.declared.lines.Line.{Line}
 use Rattle.hs_io.specs.Spelling.{ended}
+use Rattle.kiss_file.specs.declared.file.KissFile.{KissFile}
 use Rattle.kiss2.specs.declared.fault.KissKind.{KissKind}
 use Rattle.kiss2.specs.Kiss.{IsKissFault}
 
@@ -104,3 +107,48 @@ rows_of_256_states = flat_map (λ a. map (λ b. state_line (a ∷ b ∷ []) (b �
 abbrev pub lines_of_256_states : List Line
 lines_of_256_states =
     word_line (codes ".i") (codes "1") ∷ word_line (codes ".o") (codes "1") ∷ state_line (codes "aA") (codes "*") ∷ rows_of_256_states
+
+-- the cubes -0 and 01
+pub record AreWritten (first second : Cube) : Type 0 where
+  pub first_is : text_of first ≡ codes "-0"
+  pub second_is : text_of second ≡ codes "01"
+
+-- a file of the states b, c and a with two rows, the second of which names no next state; it starts at a
+abbrev pub written_file : Cube → Cube → Option (List (List ℕ)) → Option (List (List ℕ)) → KissFile
+written_file first second input_names output_names =
+    record {
+      inputs = 2;
+      outputs = 2;
+      reset = 2;
+      states = codes "b" ∷ codes "c" ∷ codes "a" ∷ [];
+      rows = record { cube = first; from = 0; to = Some 2; care = 3; value = 2 } ∷ record { cube = second; from = 1; to = None; care = 1; value = 1 } ∷ [];
+      input_names = input_names;
+      output_names = output_names;
+    }
+
+-- its lines with names of inputs, and with names of outputs
+abbrev pub lines_with_input_names : List (List ℕ)
+lines_with_input_names =
+    codes ".i 2"
+    ∷ codes ".o 2"
+    ∷ codes ".ilb x y"
+    ∷ codes ".p 2"
+    ∷ codes ".s 3"
+    ∷ codes ".r a"
+    ∷ codes "-0 b a 01"
+    ∷ codes "01 c - 1-"
+    ∷ codes ".e"
+    ∷ []
+
+abbrev pub lines_with_output_names : List (List ℕ)
+lines_with_output_names =
+    codes ".i 2"
+    ∷ codes ".o 2"
+    ∷ codes ".ob u v"
+    ∷ codes ".p 2"
+    ∷ codes ".s 3"
+    ∷ codes ".r a"
+    ∷ codes "-0 b a 01"
+    ∷ codes "01 c - 1-"
+    ∷ codes ".e"
+    ∷ []

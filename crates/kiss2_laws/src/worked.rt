@@ -3,12 +3,14 @@ ghost use Rattle.hs_io.specs.declared.lines.Line.{Line};
 ghost use Rattle.kiss2.specs.Faults.{fault_in, row_fault};
 ghost use Rattle.kiss2.specs.Kiss.{Kiss};
 ghost use Rattle.std.specs.Prelude.{◌≡◌, ◌<◌, ◌≤◌, ◌++◌, ℕ, List, [], ◌∷◌, None, Some, codes, length, map, replicate};
+ghost use Rattle.cubes.specs.declared.cube.Cube.{Cube};
 ghost use Rattle.cubes.specs.Cube.{text_of};
 ghost use Rattle.kiss_file.specs.declared.file.KissFile.{KissFile};
 ghost use Rattle.kiss2.specs.declared.fault.KissKind.TheVariants.{AnyState, BadByte, BadCube, BadFields, BadNumber, BadOutput, MissingCounts, NoRows, OverLimit, Repeated, ResetUnknown, UnknownWord};
 ghost use Rattle.kiss2.specs.declared.fault.KissLimit.TheVariants.{Inputs, NameBytes, Outputs, Rows, States};
 ghost use Rattle.kiss2.specs.Standing.{inputs_said, outputs_said, row_lines};
-ghost use Rattle.kiss2_laws.specs.Worked.{IsRefused, bad_cube_line, bad_output_line, lines_of_256_states, long_state_line, passing_lines, row_to, state_line, text, three_fields_line, unset_lines, words_last_lines, worked_lines};
+ghost use Rattle.kiss2.specs.Written.{kiss_text};
+ghost use Rattle.kiss2_laws.specs.Worked.{AreWritten, lines_with_input_names, lines_with_output_names, written_file, IsRefused, bad_cube_line, bad_output_line, lines_of_256_states, long_state_line, passing_lines, row_to, state_line, text, three_fields_line, unset_lines, words_last_lines, worked_lines};
 
 /// Texts that are refused, each with the line and the kind of its first fault.
 pub fn worked_faults()
@@ -24,6 +26,8 @@ pub fn worked_faults()
     ensures unknown_word { IsRefused (codes ".i 1" ∷ codes ".o 1" ∷ codes ".type fr" ∷ []) 3 UnknownWord }
     ensures bad_fields { IsRefused (codes ".i 1" ∷ codes ".o 1" ∷ codes "0 a a 0" ∷ codes "1 a" ∷ []) 4 BadFields }
     ensures bad_byte { IsRefused ((0 ∷ []) ∷ []) 1 BadByte }
+    ensures byte_order_mark { IsRefused ((239 ∷ 187 ∷ 191 ∷ codes ".i 1") ∷ codes ".o 1" ∷ []) 1 BadByte }
+    ensures end_of_file_byte { IsRefused (codes ".i 1" ∷ codes ".o 1" ∷ codes "0 a a 0" ∷ (26 ∷ []) ∷ []) 4 BadByte }
 {}
 
 /// Lines with several faults, and words before what they need: the first fault of the line's entry is named.
@@ -38,6 +42,10 @@ pub fn worked_orders()
     ensures names_need_counts { IsRefused (codes ".ob a" ∷ codes ".i 1" ∷ codes ".o 1" ∷ []) 1 MissingCounts }
     ensures shared_name { IsRefused (codes ".i 1" ∷ codes ".o 1" ∷ codes ".ob a" ∷ codes ".ilb a" ∷ []) 4 Repeated }
     ensures rows_past_their_count { IsRefused (codes ".i 1" ∷ codes ".o 1" ∷ codes ".p 1" ∷ codes "0 a a 0" ∷ codes "1 a a 2" ∷ []) 5 BadOutput }
+    ensures outputs_again_before_form { IsRefused (codes ".o 2" ∷ codes ".o" ∷ []) 2 Repeated }
+    ensures row_count_again_before_form { IsRefused (codes ".i 1" ∷ codes ".p 2" ∷ codes ".p 1 1" ∷ []) 3 Repeated }
+    ensures state_count_again_before_number { IsRefused (codes ".s 2" ∷ codes ".s x" ∷ []) 2 Repeated }
+    ensures reset_again_before_form { IsRefused (codes ".r a" ∷ codes ".r" ∷ []) 2 Repeated }
 {}
 
 /// Limits, each reached and gone over, and what is named first beside them.
@@ -91,6 +99,14 @@ pub fn worked_words()
     ensures short_end { IsRefused (codes ".i 1" ∷ codes ".e x" ∷ codes ".type" ∷ []) 0 NoRows }
     ensures bytes_after_end { IsRefused (codes ".i 1" ∷ codes ".e" ∷ codes "\u{1}" ∷ []) 0 NoRows }
     ensures blank_lines_are_numbered { IsRefused (codes "# a" ∷ [] ∷ codes "  # b" ∷ codes ".i 0" ∷ []) 4 BadNumber }
+    ensures sign { IsRefused (codes ".i +1" ∷ []) 1 BadNumber }
+    ensures zeros { IsRefused (codes ".i 00" ∷ []) 1 BadNumber }
+    ensures zero_before_many { IsRefused (codes ".i 041" ∷ []) 1 (OverLimit Inputs 41) }
+    ensures whole_count_of_outputs { IsRefused (codes ".o 999999999" ∷ []) 1 (OverLimit Outputs 999999999) }
+    ensures dash_reset { IsRefused (codes ".i 1" ∷ codes ".o 1" ∷ codes ".r -" ∷ codes "0 a - 0" ∷ []) 3 ResetUnknown }
+    ensures start_word { IsRefused (codes ".start_kiss" ∷ codes ".i 1" ∷ []) 1 UnknownWord }
+    ensures model_word { IsRefused (codes ".i 1" ∷ codes ".model m" ∷ []) 2 UnknownWord }
+    ensures bad_short_end { IsRefused (codes ".i 1" ∷ codes ".e \u{1}" ∷ []) 2 BadByte }
 {}
 
 /// The names of inputs and outputs.
@@ -139,6 +155,8 @@ pub fn worked_rows()
         → fault_in before bad_cube_line ≡ Some (OverLimit Rows 65537) }
     ensures states_reached { fault_in lines_of_256_states (state_line (codes "aA") (codes "Hp")) ≡ None }
     ensures states_counted { fault_in lines_of_256_states (state_line (codes "aA") (codes "a")) ≡ Some (OverLimit States 257) }
+    ensures letter_in_an_input { IsRefused (codes ".i 1" ∷ codes ".o 1" ∷ codes "x a a 0" ∷ []) 3 BadCube }
+    ensures tilde_in_an_output { IsRefused (codes ".i 1" ∷ codes ".o 1" ∷ codes "0 a a ~" ∷ []) 3 BadOutput }
 {}
 
 /// Rows and states past the numbers that a text gives, and the order of states: those that are no current state come last.
@@ -180,4 +198,12 @@ pub fn worked_text()
     ensures to { (F : KissFile) → Kiss (text worked_lines) F → map (λ row. row.to) F.rows ≡ Some 1 ∷ None ∷ Some 1 ∷ [] }
     ensures care { (F : KissFile) → Kiss (text worked_lines) F → map (λ row. row.care) F.rows ≡ 1 ∷ 3 ∷ 2 ∷ [] }
     ensures value { (F : KissFile) → Kiss (text worked_lines) F → map (λ row. row.value) F.rows ≡ 0 ∷ 3 ∷ 2 ∷ [] }
+{}
+
+/// The nine lines of a record of two rows and three states. It has names of its inputs, and then instead of its
+/// outputs. A next state is open, an input and an output are dashes, and the last state is the reset state.
+pub fn worked_writing()
+    ensures input_names { (first second : Cube) → AreWritten first second → kiss_text (written_file first second (Some (codes "x" ∷ codes "y" ∷ [])) None) ≡ text lines_with_input_names }
+    ensures output_names { (first second : Cube) → AreWritten first second → kiss_text (written_file first second None (Some (codes "u" ∷ codes "v" ∷ []))) ≡ text lines_with_output_names }
+    ensures some { (first : Cube) × (second : Cube) × AreWritten first second }
 {}

@@ -1,4 +1,2 @@
 pub mod Copying
-pub mod Machine
-pub mod NumberedNames
-pub mod ByState
+pub mod WorkedMachine

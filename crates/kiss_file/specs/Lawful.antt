@@ -2,15 +2,16 @@
 use Rattle.std.specs.Prelude.{ℕ, ◌≡◌, ◌≢◌, ◌<◌, ◌≤◌, true, All, Contains, IfSome, List, [], ◌++◌, Option, length, map, slice_index, take, unwrap_or}
 use Rattle.std.specs.List.{filter_map}
 use Rattle.cubes.specs.Symbol.{bit}
+use Rattle.hs_io.specs.Spelling.{IsFieldByte}
 use Rattle.kiss_file.specs.declared.file.KissFile.{KissFile}
 use Rattle.kiss_file.specs.declared.file.KissRow.{KissRow}
-use Rattle.kiss_file.specs.Names.{AreDistinct, IsNameByte, IsPlainName}
+use Rattle.kiss_file.specs.Names.{AreDistinct, IsPlainName}
 
 -- a name that a text may give to an input or an output
 pub record IsGivenName (name : List ℕ) : Type 0 where
   pub some : 0 < length name
   pub short : length name ≤ 64
-  pub visible : All IsNameByte name
+  pub visible : All IsFieldByte name
   pub no_backslash : All (λ byte. byte ≢ 92) name
 
 -- if names are given, there are as many as inputs or outputs

@@ -2,3 +2,5 @@ pub mod Names
 pub mod NumberedNames
 pub mod Lawful
 pub mod Machine
+pub mod Worked
+pub mod Laws

@@ -6,7 +6,8 @@
 //!
 //! `specs/Names` says which names a state may have, `specs/NumberedNames` what the names of numbers are, and
 //! `specs/Lawful` which records a text can have. `specs/Machine` is the machine of a file: its next states and outputs,
-//! its answers to words, and which files have one. The functions of `laws` state what follows from these definitions.
+//! its answers to words, and which files have one. The functions of `laws` state what follows from these definitions,
+//! and what they come to for a file of three rows.
 #![tactic(auto)]
 
 mod copies;
@@ -19,6 +20,6 @@ mod state_names;
 pub use copies::{copied_file, copied_given, copied_states};
 pub use file::{KissFile, KissRow, Rows};
 pub use fill::Fill;
-pub use laws::{next_is_a_state, rows_decide};
+pub use laws::{next_is_a_state, rows_decide, worked_machine};
 pub use numbered::numbered_names;
 pub use state_names::StateNames;

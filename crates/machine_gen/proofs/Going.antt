@@ -6,7 +6,7 @@ use Rattle.cubes.specs.Symbol.{bit, number_of}
 use Rattle.kiss_file.specs.declared.file.KissFile.{KissFile}
 use Rattle.kiss_file.specs.declared.file.KissRow.{KissRow}
 use Rattle.kiss_file.specs.Machine.{IsRowAt, given_bit, next, out, output_bit}
-use Rattle.kiss_file.proofs.Machine.{next_said, output_bit_said}
+use Rattle.kiss_file.specs.Laws.Machine.{next_said, output_bit_said}
 use Rattle.machine_gen.specs.Going.{GoByParts}
 use Rattle.machine_gen.specs.MachineOf.{AreSizes, IsMachineOf, next_first, next_second}
 use Rattle.machine_gen.proofs.Accepting.{no_conflict}

@@ -10,7 +10,7 @@ use Rattle.cubes.specs.Symbol.{bit}
 use Rattle.kiss_file.specs.declared.file.KissFile.{KissFile}
 use Rattle.kiss_file.specs.declared.file.KissRow.{KissRow}
 use Rattle.kiss_file.specs.Lawful.{IsLawful, IsLawfulRow}
-use Rattle.kiss_file.proofs.ByState.{IsByState, lawful_by_state}
+use Rattle.kiss_file.specs.Laws.ByState.{IsByState, lawful_by_state}
 use Rattle.machine_gen.specs.Inner.Drawing.{next_of, place_of}
 use Rattle.machine_gen.specs.MachineOf.{AreSizes, IsMachineOf}
 use Rattle.machine_gen.proofs.Accepting.{state_count}

@@ -6,7 +6,7 @@ use Rattle.kiss2.specs.Kiss.{Kiss}
 use Rattle.kiss_file.specs.Lawful.{IsLawful}
 use Rattle.kiss_file.specs.Machine.{Accepted, answers}
 use Rattle.kiss2.specs.Written.{kiss_text}
-use Rattle.kiss_file.proofs.Machine.{next_is_a_state}
+use Rattle.kiss_file.specs.Laws.Machine.{next_is_a_state}
 use Rattle.kiss2_laws.proofs.RoundTrip.{says_again}
 use Rattle.state_reduce.specs.declared.judging.QuotientFail.{QuotientFail}
 use Rattle.state_reduce.specs.declared.judging.QuotientFail.TheVariants.{NoMemory}

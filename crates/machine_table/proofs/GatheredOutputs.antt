@@ -9,7 +9,7 @@ use Rattle.kiss_file.specs.declared.file.KissFile.{KissFile}
 use Rattle.kiss_file.specs.declared.file.KissRow.{KissRow}
 use Rattle.kiss_file.specs.Lawful.{IsLawfulRow}
 use Rattle.kiss_file.specs.Machine.{Conflicting, IsRowAt, given_bit, out, output_bit}
-use Rattle.kiss_file.proofs.Machine.{output_bit_said}
+use Rattle.kiss_file.specs.Laws.Machine.{output_bit_said}
 use Rattle.machine_table.specs.Laws.OutputWords.{same_map}
 use Rattle.machine_table.proofs.RowPieces.{below_from_bits}
 

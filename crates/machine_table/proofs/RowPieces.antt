@@ -11,7 +11,7 @@ use Rattle.cubes.specs.Laws.Bits.{zero_from_bit}
 use Rattle.kiss_file.specs.declared.file.KissFile.{KissFile}
 use Rattle.kiss_file.specs.declared.file.KissRow.{KissRow}
 use Rattle.kiss_file.specs.Machine.{Conflicting, IsRowAt, output_bit}
-use Rattle.kiss_file.proofs.Machine.{next_said, output_bit_said}
+use Rattle.kiss_file.specs.Laws.Machine.{next_said, output_bit_said}
 use Rattle.machine_table.specs.declared.covering.Piece.{Piece}
 use Rattle.machine_table.specs.Covering.{IsPiece}
 use Rattle.state_pairs.specs.Asked.{IsOfState}

@@ -9,7 +9,7 @@ use Rattle.cubes.specs.Laws.Parts.{half_from_whole}
 use Rattle.kiss_file.specs.declared.file.KissFile.{KissFile}
 use Rattle.kiss_file.specs.declared.file.KissRow.{KissRow}
 use Rattle.kiss_file.specs.Machine.{Conflicting, IsRowAt, next, out, output_bit}
-use Rattle.kiss_file.proofs.Machine.{next_not_said, next_said}
+use Rattle.kiss_file.specs.Laws.Machine.{next_not_said, next_said}
 use Rattle.machine_table.specs.declared.covering.Piece.{Piece}
 use Rattle.machine_table.specs.Covering.{IsHeldByPiece, IsPiece}
 use Rattle.machine_table.specs.Inner.Settled.{AddsPieces, IsSettledIn}

@@ -9,7 +9,7 @@ use Rattle.cubes.specs.Laws.Numbers.{length-symbol_of}
 use Rattle.kiss_file.specs.declared.file.KissFile.{KissFile}
 use Rattle.kiss_file.specs.declared.file.KissRow.{KissRow}
 use Rattle.kiss_file.specs.Machine.{Conflicting, IsRowAt, Specified, given_bit, out, output_bit}
-use Rattle.kiss_file.proofs.Machine.{output_bit_not_said, output_bit_said}
+use Rattle.kiss_file.specs.Laws.Machine.{output_bit_not_said, output_bit_said}
 use Rattle.state_pairs.specs.Asked.{HaveOneLabel, IsLabelAt, IsOpenAt}
 use Rattle.machine_table.specs.Inner.OpenSymbol.{SaysAll}
 use Rattle.state_pairs.specs.Pairs.{AgreeAt}

@@ -1,5 +1,5 @@
 -- What the parts of the work tell, put together.
-use Rattle.std.proofs.Common.{◌≡◌, ℕ, zero, suc, ◌+◌, ◌<◌, List, [], ◌∷◌, ◌++◌, length, length-append, map, All, Contains, subst, arith}
+use Rattle.std.proofs.Common.{◌≡◌, ℕ, zero, suc, ◌+◌, ◌<◌, List, [], ◌∷◌, ◌++◌, length, map, All, Contains, subst, arith}
 use Rattle.std.specs.List.{AllZip, flat_map}
 use Rattle.std.specs.List.Sorted.{IsPermutation}
 use Rattle.std.proofs.lemmas.List.{get_or-map, length-map}
@@ -14,18 +14,9 @@ use Rattle.net_core.specs.Order.{AreAt, IsNumbered}
 use Rattle.net_core.specs.Sound.{IsOrdered, Sound, driven_by, drivers_of}
 use Rattle.net_core.specs.Inner.Told.{TellsAgain, TellsOutside}
 use Rattle.net_core.specs.Inner.Walk.{reads_of, ReadsWithin}
-use Rattle.net_core.proofs.Numbered.{all_stand, all_within, numbered_stand, outside_behind, outside_more, zip_lengths}
-
-pub count_drivers : (N : Network) → length (drivers_of N) ≡ (length N.inputs + length N.latches) + length N.gates
-count_drivers N =
-    let outs = map (λ latch. latch.output) N.latches in
-    omega (
-      arith,
-      length-append N.inputs (outs ++ driven_by N.gates),
-      length-append outs (driven_by N.gates),
-      length-map N.latches (λ latch. latch.output),
-      length-map N.gates (λ gate. gate.output),
-    )
+use Rattle.net_core.specs.Laws.Drivers.{count_drivers}
+use Rattle.net_core.specs.Laws.Zipped.{zip_lengths}
+use Rattle.net_core.proofs.Numbered.{all_stand, all_within, numbered_stand, outside_behind, outside_more}
 
 pub inputs_within : (drivers : List (List ℕ)) (gates : List Gate) (numbered : List NumberedGate) → AllZip (IsNumbered drivers) gates numbered → All (λ gate. All (λ s. s < length drivers) gate.inputs.items) numbered
 inputs_within drivers [] [] zip k d lt = absurd (omega arith)

@@ -14,7 +14,7 @@ use Rattle.net_core.specs.declared.failing.NetFail.TheVariants.{TwoDrivers, Undr
 use Rattle.net_core.specs.declared.ordering.Order.{Order}
 use Rattle.net_core.specs.Causes.{AcceptsSound, AreOnce, CausesAreAlike, IsCause, IsCycle, IsFirstAgain, IsFirstOutside, GateReads, ReadsAlong, SoundHasNoCause, uses_of}
 use Rattle.net_core.specs.Sound.{IsOrdered, Sound, driven_by, drivers_of}
-use Rattle.net_core.proofs.Counted.{once_place, once_right, twice}
+use Rattle.net_core.specs.Laws.Counted.{once_place, once_right, twice}
 use Rattle.net_core.proofs.Numbered.{stands_at}
 use Rattle.net_core.proofs.Ordered.{name_of_gate}
 

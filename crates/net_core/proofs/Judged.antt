@@ -9,7 +9,7 @@ use Rattle.net_core.specs.Denotes.{Denotes}
 use Rattle.net_core.specs.Faults.{StatementFault, BadByte, NoModel, Unsupported, BadFields, BadRow, MixedCover, LatchKind, Clocks, has_fault, AreFaultless}
 use Rattle.net_core.specs.Statements.{Statement, NumberedStatement, statements_of, said_in, inputs_in, outputs_in, latch_in, clocks_in, gates_of}
 use Rattle.net_core.specs.Worked.{DenotesNothing}
-use Rattle.net_core.proofs.Members.{is_same_name}
+use Rattle.net_core.specs.Laws.Members.{is_same_name}
 
 -- none of the faults
 abbrev none_of : (StatementFault → Bool) → Bool

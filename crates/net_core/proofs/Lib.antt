@@ -1,11 +1,6 @@
-pub mod Members
-pub mod Determined
-pub mod Valuations
-pub mod Flat
 pub mod Judged
 pub mod WorkedSteps
 pub mod Limits
-pub mod Counted
 pub mod Numbered
 pub mod Stages
 pub mod Turning

@@ -7,30 +7,12 @@ use Rattle.std.proofs.lemmas.List.Elements.{All-append}
 use Rattle.std.proofs.lemmas.Option.{get_or_from_slice_get, slice_get_within}
 use Rattle.net_core.specs.Causes.{AreOnce, IsFirstAgain, IsFirstOutside}
 use Rattle.net_core.specs.Order.{AreAt, IsNumbered}
+use Rattle.net_core.specs.Laws.Zipped.{zip_push}
 use Rattle.net_core.specs.Inner.Told.{TellsAgain, TellsOutside}
 use Rattle.net_core.specs.declared.Gate.{Gate}
 use Rattle.net_core.specs.declared.ordering.NumberedGate.{NumberedGate}
 use Rattle.net_core.specs.declared.failing.NetFail.{NetFail}
 use Rattle.net_core.specs.declared.failing.NetFail.TheVariants.{TwoDrivers, Undriven, Cycle, NoMemory}
-
--- one more item on either side
-pub zip_push : {A B : Type 0} (R : A → B → Type 0) (xs : List A) (ys : List B) (x : A) (y : B) → AllZip R xs ys → R x y → AllZip R (xs ++ x ∷ []) (ys ++ y ∷ [])
-zip_push R [] [] x y zip r = (r, tt)
-zip_push R [] (b ∷ ys) x y zip r = absurd zip
-zip_push R (a ∷ xs) [] x y zip r = absurd zip
-zip_push R (a ∷ xs) (b ∷ ys) x y (here, zip) r = (here, zip_push R xs ys x y zip r)
-
-pub zip_lengths : {A B : Type 0} (R : A → B → Type 0) (xs : List A) (ys : List B) → AllZip R xs ys → length xs ≡ length ys
-zip_lengths R [] [] zip = refl
-zip_lengths R [] (b ∷ ys) zip = absurd zip
-zip_lengths R (a ∷ xs) [] zip = absurd zip
-zip_lengths R (a ∷ xs) (b ∷ ys) (here, zip) = ap suc (zip_lengths R xs ys zip)
-
-pub zip_at : {A B : Type 0} (R : A → B → Type 0) (xs : List A) (ys : List B) (i : ℕ) (a : A) (b : B) → AllZip R xs ys → i < length xs → R (get_or xs i a) (get_or ys i b)
-zip_at R [] ys i a b zip lt = absurd (omega arith)
-zip_at R (x ∷ xs) [] i a b zip lt = absurd zip
-zip_at R (x ∷ xs) (y ∷ ys) zero a b (here, zip) lt = here
-zip_at R (x ∷ xs) (y ∷ ys) (suc i) a b (here, zip) lt = zip_at R xs ys i a b zip (omega arith)
 
 -- what a part of the work tells at its exit
 pub at_exit : {T : Type 0} (Q : NetFail → Type 0) (r : Result T NetFail) (fail : NetFail) → IsErrAnd r (λ e. e ≡ fail) → Q fail → IfErr r Q

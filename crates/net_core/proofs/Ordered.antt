@@ -17,8 +17,9 @@ use Rattle.net_core.specs.Causes.{AreOnce, GateReads, ReadsAlong, IsCycle}
 use Rattle.net_core.specs.Order.{AreAt, IsNumbered}
 use Rattle.net_core.specs.Sound.{IsOrdered, driven_by, drivers_of}
 use Rattle.net_core.specs.Inner.Walk.{read_by, reads_of, Needs, NeedsAlong, StandOnce, IsBehind, IsGateCycle, IsSequence}
-use Rattle.net_core.proofs.Counted.{once_apart, once_place, once_right, counted-cons, counted_none, cond_of}
-use Rattle.net_core.proofs.Numbered.{stands_at, zip_lengths}
+use Rattle.net_core.specs.Laws.Counted.{once_apart, once_place, once_right, counted-cons, counted_none, cond_of}
+use Rattle.net_core.specs.Laws.Zipped.{zip_lengths}
+use Rattle.net_core.proofs.Numbered.{stands_at}
 use Rattle.net_core.proofs.Permuted.{permuted}
 
 -- the items at places within a list

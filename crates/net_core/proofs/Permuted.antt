@@ -10,7 +10,7 @@ use Rattle.std.proofs.lemmas.List.Sorted.{IsPermutation-cons, IsPermutation-map,
 use Rattle.std.proofs.lemmas.Option.{get_or_from_slice_get, none-some}
 use Rattle.net_core.specs.Order.{AreAt}
 use Rattle.net_core.specs.Inner.Walk.{StandOnce}
-use Rattle.net_core.proofs.Counted.{cond_of, contained_counted, counted-append, counted-cons, counted-here, counted_none, counted_some}
+use Rattle.net_core.specs.Laws.Counted.{cond_of, contained_counted, counted-append, counted-cons, counted-here, counted_none, counted_some}
 
 -- lists with the same numbers as often
 permutation_from_counts : (xs ys : List ℕ) → ((g : ℕ) → count_by (nat_eq g) xs ≡ count_by (nat_eq g) ys) → IsPermutation xs ys

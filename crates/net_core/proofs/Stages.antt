@@ -13,7 +13,7 @@ use Rattle.net_core.specs.declared.walking.Stop.{Stop}
 use Rattle.net_core.specs.declared.walking.Look.{Look}
 use Rattle.net_core.specs.declared.walking.Look.TheVariants.{Whole, Settled, New, Open}
 use Rattle.net_core.specs.Inner.Walk.{read_by, reads_of, Needs, IsPath, IsBehind, IsWalk, IsLook, IsStanding, IsSequence, TellsCycle, last_stage}
-use Rattle.net_core.proofs.Counted.{once_left, once_push, twice}
+use Rattle.net_core.specs.Laws.Counted.{once_left, once_push, twice}
 
 -- a list whose last item is known
 pub split_last : (xs : List ℕ) (x : ℕ) → slice_get xs (length xs - 1) ≡ Some x → xs ≡ take (length xs - 1) xs ++ x ∷ []

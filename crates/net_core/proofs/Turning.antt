@@ -5,7 +5,7 @@ use Rattle.std.proofs.lemmas.List.{append-nil, drop_more, drop-append-le, take-a
 use Rattle.std.proofs.lemmas.List.Elements.{All-append, All-drop, All-take, Contains-get_or}
 use Rattle.net_core.specs.Inner.Cycle.{IsTurned}
 use Rattle.net_core.specs.Inner.Walk.{Needs, NeedsAlong, StandOnce, IsPath, IsGateCycle, IsWalk}
-use Rattle.net_core.proofs.Counted.{once_right, once_turned}
+use Rattle.net_core.specs.Laws.Counted.{once_right, once_turned}
 use Rattle.net_core.proofs.Stages.{path_push, split_last}
 
 module _ (base : ℕ) (reads : List (List ℕ)) where

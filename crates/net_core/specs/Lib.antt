@@ -13,3 +13,4 @@ pub mod Worked
 pub mod Causes
 pub mod Order
 pub mod Inner
+pub mod Laws

@@ -1,8 +1,9 @@
 -- The statements of a BLIF text: what its lines say (source: the SIS manual).
-use Rattle.std.specs.Prelude.{ℕ, ◌-◌, ◌==◌, Bool, true, false, not, ◌&&◌, ◌||◌, if◌then◌else◌, Option, Some, None, List, [], ◌∷◌, length, filter, map, slice_index, slice_index_or, take}
+use Rattle.std.specs.Prelude.{ℕ, ◌-◌, ◌==◌, Bool, true, false, not, ◌||◌, if◌then◌else◌, Option, Some, None, List, [], ◌∷◌, length, filter, map, slice_index, slice_index_or, take}
 use Rattle.std.specs.Option.{option_or}
 use Rattle.std.specs.Str.{bytes_eq}
 use Rattle.hs_io.specs.declared.lines.Line.{Line}
+use Rattle.hs_io.specs.Lines.{is_skipped}
 use Rattle.net_core.specs.declared.Gate.{Gate}
 use Rattle.net_core.specs.declared.Latch.{Latch}
 use Rattle.net_core.specs.declared.Start.{Start}
@@ -47,10 +48,6 @@ pub record NumberedStatement : Type 0 where
 
 abbrev pub numbered_of : Line → NumberedStatement
 numbered_of line = record { number = line.number; bad = line.bad; says = statement_of line.fields }
-
--- a line without fields is skipped, unless it is bad
-abbrev pub is_skipped : Line → Bool
-is_skipped line = length line.fields == 0 && not line.bad
 
 -- the statements that are read
 abbrev pub statements_of : List ℕ → List NumberedStatement

@@ -90,6 +90,12 @@ toggle =
     network (codes "a") (codes "d") (latch (codes "c") (codes "b") Zero ∷ [])
     (gate (codes "ab") (codes "c") (codes "01" ∷ codes "10" ∷ []) true ∷ gate (codes "ab") (codes "d") (codes "01" ∷ codes "10" ∷ []) true ∷ [])
 
+-- the first output is 1 where the first input is 1 and the second is 0, and the second output is the second input
+abbrev pub unlike : Network
+unlike =
+    network (codes "ab") (codes "yz") []
+    (gate (codes "ab") (codes "y") (codes "10" ∷ []) true ∷ gate (codes "b") (codes "z") (codes "1" ∷ []) true ∷ [])
+
 -- a gate that reads a later one
 abbrev pub reads_later : Network
 reads_later =

@@ -42,8 +42,8 @@ pub use laws::{
 };
 pub use ordering::{NumberedGate, Order};
 pub use worked::{
-    worked_gates, worked_latches, worked_lines, worked_models, worked_readings, worked_steps,
-    worked_values,
+    worked_answers, worked_gates, worked_latches, worked_lines, worked_models, worked_readings,
+    worked_steps, worked_values,
 };
 
 /// The value of a latch before the first symbol.

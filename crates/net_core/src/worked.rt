@@ -5,8 +5,8 @@ ghost use Rattle.std.specs.Prelude.{◌≡◌, true, false, [], ◌∷◌, ◌++
 ghost use Rattle.net_core.specs.declared.Start.TheVariants.{Zero};
 ghost use Rattle.net_core.specs.Denotes.{Denotes};
 ghost use Rattle.net_core.specs.Statements.{statements_of};
-ghost use Rattle.net_core.specs.Step.{Step, gate_value};
-ghost use Rattle.net_core.specs.Worked.{DenotesNothing, HasNoStep, empty_network, gate, network, toggle, reads_later, own_contrary, own_value, joined_text, joined_network, starts_text, starts_network, controls_text, controls_network, gates_text, gates_network, latch, long_name, one_input};
+ghost use Rattle.net_core.specs.Step.{NetAnswers, Step, gate_value};
+ghost use Rattle.net_core.specs.Worked.{DenotesNothing, HasNoStep, empty_network, gate, network, toggle, unlike, reads_later, own_contrary, own_value, joined_text, joined_network, starts_text, starts_network, controls_text, controls_network, gates_text, gates_network, latch, long_name, one_input};
 
 /// Lines that are joined, skipped, bad, or after the end of the text.
 pub fn worked_lines()
@@ -103,6 +103,10 @@ pub fn worked_values()
     ensures no_rows { gate_value (gate (codes "a") (codes "z") [] true) (true ∷ []) ≡ false }
     ensures constant { gate_value (gate [] (codes "z") ([] ∷ []) true) [] ≡ true }
     ensures off_constant { gate_value (gate [] (codes "z") ([] ∷ []) false) [] ≡ false }
+    ensures first_input_first { gate_value (gate (codes "ab") (codes "z") (codes "10" ∷ []) true) (true ∷ false ∷ []) ≡ true }
+    ensures second_input_second { gate_value (gate (codes "ab") (codes "z") (codes "10" ∷ []) true) (false ∷ true ∷ []) ≡ false }
+    ensures two_rows_hold { gate_value (gate (codes "ab") (codes "z") (codes "1-" ∷ codes "11" ∷ codes "00" ∷ []) true) (true ∷ true ∷ []) ≡ true }
+    ensures off_two_rows_hold { gate_value (gate (codes "ab") (codes "z") (codes "1-" ∷ codes "11" ∷ codes "00" ∷ []) false) (true ∷ true ∷ []) ≡ false }
 {}
 
 /// Steps of networks, and networks without a step: no valuation fits, or two valuations differ.
@@ -112,4 +116,11 @@ pub fn worked_steps()
     ensures reads_later { Step reads_later [] (false ∷ []) (true ∷ []) [] }
     ensures own_contrary { HasNoStep own_contrary [] (false ∷ []) }
     ensures own_value { HasNoStep own_value [] (false ∷ []) }
+    ensures first_alone { Step unlike [] (true ∷ false ∷ []) (true ∷ false ∷ []) [] }
+    ensures second_alone { Step unlike [] (false ∷ true ∷ []) (false ∷ true ∷ []) [] }
+{}
+
+/// The answers of a network of two unlike inputs and two unlike outputs to three symbols.
+pub fn worked_answers()
+    ensures { NetAnswers unlike [] ((true ∷ false ∷ []) ∷ (true ∷ true ∷ []) ∷ (false ∷ false ∷ []) ∷ []) ((true ∷ false ∷ []) ∷ (false ∷ true ∷ []) ∷ (false ∷ false ∷ []) ∷ []) }
 {}

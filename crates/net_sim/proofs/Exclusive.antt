@@ -4,15 +4,15 @@ use Rattle.std.specs.List.{AllZip}
 use Rattle.std.proofs.lemmas.Bool.{cases_lt, cases_eq, false≢true}
 use Rattle.std.proofs.lemmas.Option.{none-some, same_Some, slice_get-map}
 use Rattle.hs_io.specs.declared.lines.Line.{Line}
-use Rattle.hs_io.specs.Lines.{lines_of}
+use Rattle.hs_io.specs.Lines.{is_skipped, lines_of}
 use Rattle.net_core.specs.declared.Latch.{Latch}
 use Rattle.net_core.specs.declared.Network.{Network}
 use Rattle.net_core.specs.Step.{AreStarts, NetAnswers, bit_of_start}
-use Rattle.net_core.proofs.Determined.{same_answers}
+use Rattle.net_core.specs.Laws.Determined.{same_answers}
 use Rattle.net_sim.specs.declared.failing.SimFail.{SimFail}
 use Rattle.net_sim.specs.declared.failing.SimFail.TheVariants.{BadStart, UnknownStart, BadSymbol, NoMemory}
 use Rattle.net_sim.specs.BitTexts.{IsBitText, text_of_bits, character_of}
-use Rattle.net_sim.specs.Symbols.{IsFirstRefused, SaysSymbol, SayWord, is_skipped}
+use Rattle.net_sim.specs.Symbols.{IsFirstRefused, SaysSymbol, SayWord}
 use Rattle.net_sim.specs.Starts.{IsFirstUnknown, IsStart}
 use Rattle.net_sim.specs.Run.{IsRunCause, IsOfInput, IsRun, answers_text}
 

@@ -14,8 +14,8 @@ use Rattle.net_core.specs.Causes.{AreOnce}
 use Rattle.net_core.specs.Order.{AreAt, IsNumbered}
 use Rattle.net_core.specs.Sound.{IsOrdered, driven_by}
 use Rattle.net_core.specs.Step.{gate_value, row_holds}
-use Rattle.net_core.proofs.Counted.{once_place}
-use Rattle.net_core.proofs.Valuations.{FitsGate, ReadsDriven}
+use Rattle.net_core.specs.Laws.Counted.{once_place}
+use Rattle.net_core.specs.Laws.Valuations.{FitsGate, ReadsDriven}
 use Rattle.net_sim.specs.Inner.Evaluated.{bits_at, evaluated, value_at, with_value}
 
 -- of two lists of which the items belong together, the item of the one at a place and that of the other

@@ -13,3 +13,4 @@ pub mod ReadSymbols
 pub mod WorkedRuns
 pub mod WideRows
 pub mod SmallGates
+pub mod WorkedRefusals

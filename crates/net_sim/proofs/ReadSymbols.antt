@@ -6,11 +6,11 @@ use Rattle.std.proofs.lemmas.List.{map-append}
 use Rattle.std.proofs.lemmas.List.Elements.{All-push}
 use Rattle.cubes.specs.Symbol.{symbol_of}
 use Rattle.hs_io.specs.declared.lines.Line.{Line}
-use Rattle.hs_io.specs.Lines.{line_of, lines_of, physical_lines}
-use Rattle.net_core.proofs.Numbered.{zip_push}
+use Rattle.hs_io.specs.Lines.{is_skipped, line_of, lines_of, physical_lines}
+use Rattle.net_core.specs.Laws.Zipped.{zip_push}
 use Rattle.net_sim.specs.declared.symbols.SymbolFail.{SymbolFail}
 use Rattle.net_sim.specs.declared.symbols.SymbolFail.TheVariants.{NoMemory, Refused}
-use Rattle.net_sim.specs.Symbols.{IsRefusedLine, IsSymbolFault, IsSymbolFile, SaysSymbol, SayWord, TellsRefused, is_skipped}
+use Rattle.net_sim.specs.Symbols.{IsRefusedLine, IsSymbolFault, IsSymbolFile, SaysSymbol, SayWord, TellsRefused}
 use Rattle.net_sim.specs.Inner.Numbers.{AddedLine, HasReadTo, TellsRefusedLine}
 use Rattle.net_sim.proofs.Exclusive.{none_refused, refused_once, word_once}
 use Rattle.net_sim.proofs.Taking.{more_taken, said_skipped, said_symbol, symbol_said}

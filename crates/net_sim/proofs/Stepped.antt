@@ -18,8 +18,8 @@ use Rattle.net_core.specs.Flat.{base_of}
 use Rattle.net_core.specs.Order.{AreAt, IsOrderOf}
 use Rattle.net_core.specs.Sound.{HasOneValuation, Sound, driven_by, drivers_of}
 use Rattle.net_core.specs.Step.{Gives, IsValuation, Step}
-use Rattle.net_core.proofs.Counted.{once_place}
-use Rattle.net_core.proofs.Valuations.{FitsGate, ReadsDriven, reads_driven, sound_one}
+use Rattle.net_core.specs.Laws.Counted.{once_place}
+use Rattle.net_core.specs.Laws.Valuations.{FitsGate, ReadsDriven, reads_driven, sound_one}
 use Rattle.net_sim.specs.Inner.Evaluated.{bits_at, evaluated}
 use Rattle.net_sim.proofs.Known.{Knows, bits_known, evaluated_known}
 

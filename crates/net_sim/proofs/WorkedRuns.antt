@@ -5,9 +5,12 @@ use Rattle.std.proofs.lemmas.List.Elements.{All-from_recursion}
 use Rattle.net_core.specs.declared.Gate.{Gate}
 use Rattle.net_core.specs.declared.Network.{Network}
 use Rattle.net_core.specs.Step.{gate_value, Step}
-use Rattle.net_core.specs.Worked.{gate}
+use Rattle.net_core.specs.declared.Start.{Start}
+use Rattle.net_core.specs.declared.Start.TheVariants.{Free, One, Unknown, Zero}
+use Rattle.net_core.specs.Worked.{gate, unlike}
+use Rattle.net_core.specs.Laws.Unlike.{unlike_answers}
 use Rattle.net_sim.specs.Run.{IsRun}
-use Rattle.net_sim.specs.Worked.{RunsOnlyTo, behind_buffer, latched, shifted}
+use Rattle.net_sim.specs.Worked.{RunsOnlyTo, behind_buffer, latched, shifted, started}
 use Rattle.net_sim.proofs.Exclusive.{run_once}
 
 -- the bits of a list of one or two
@@ -70,6 +73,22 @@ latched_step x q d z next_is shown_is =
                 (v.gates 0 next_gate (omega arith)
                 ∙ (ap (λ b. gate_value next_gate (b ∷ other (codes "q") ∷ [])) on_x ∙ (ap (λ b. gate_value next_gate (x ∷ b ∷ [])) on_q ∙ next_is)));
           };
+    }
+
+-- the latches are the outputs
+pub shown_step : (s t : Start) (a p q : Bool) → Step (started (codes "pq") s t) (p ∷ q ∷ []) (a ∷ []) (p ∷ q ∷ []) (a ∷ p ∷ [])
+shown_step s t a p q =
+    let value : List ℕ → Bool = λ name. cond (bytes_eq name (codes "a")) a (cond (bytes_eq name (codes "p")) p q) in
+    record {
+      some = (
+        value,
+        record { inputs = refl; latches = refl; gates = All-from_recursion (agrees value) (started (codes "pq") s t).gates tt },
+        record { outputs = refl; latch_inputs = refl },
+      );
+      every = λ other v.
+          let on_a : other (codes "a") ≡ a = first v.inputs in
+          let on_p : other (codes "p") ≡ p = first v.latches in
+          record { outputs = v.latches; latch_inputs = ap (λ b. b ∷ other (codes "p") ∷ []) on_a ∙ ap (λ b. a ∷ b ∷ []) on_p };
     }
 
 pub shifted_step : (a p q : Bool) → Step shifted (p ∷ q ∷ []) (a ∷ []) (q ∷ []) (a ∷ p ∷ [])
@@ -196,5 +215,61 @@ first_bit_first_run =
         shifted_step false true false,
         (true ∷ [], false ∷ false ∷ [], [], refl, shifted_step false false true, refl),
       );
+      is = refl;
+    })
+
+pub start_at_one_run : RunsOnlyTo (started (codes "pq") One Zero) None (codes "0\n1\n") (codes "10\n01\n")
+start_at_one_run =
+    only (started (codes "pq") One Zero) None (codes "0\n1\n") (codes "10\n01\n")
+    (record {
+      state = true ∷ false ∷ [];
+      word = (false ∷ []) ∷ (true ∷ []) ∷ [];
+      answers = (true ∷ false ∷ []) ∷ (false ∷ true ∷ []) ∷ [];
+      begins = refl;
+      reads = (record { good = refl; field = refl; as_wide = refl }, (record { good = refl; field = refl; as_wide = refl }, tt));
+      answered = (
+        true ∷ false ∷ [],
+        false ∷ true ∷ [],
+        (false ∷ true ∷ []) ∷ [],
+        refl,
+        shown_step One Zero false true false,
+        (false ∷ true ∷ [], true ∷ false ∷ [], [], refl, shown_step One Zero true false true, refl),
+      );
+      is = refl;
+    })
+
+pub given_for_unknown_run : RunsOnlyTo (started (codes "pq") Unknown Free) (Some (codes "01")) (codes "1\n0\n") (codes "01\n10\n")
+given_for_unknown_run =
+    only (started (codes "pq") Unknown Free) (Some (codes "01")) (codes "1\n0\n") (codes "01\n10\n")
+    (record {
+      state = false ∷ true ∷ [];
+      word = (true ∷ []) ∷ (false ∷ []) ∷ [];
+      answers = (false ∷ true ∷ []) ∷ (true ∷ false ∷ []) ∷ [];
+      begins = record { as_many = refl; is = refl };
+      reads = (record { good = refl; field = refl; as_wide = refl }, (record { good = refl; field = refl; as_wide = refl }, tt));
+      answered = (
+        false ∷ true ∷ [],
+        true ∷ false ∷ [],
+        (true ∷ false ∷ []) ∷ [],
+        refl,
+        shown_step Unknown Free true false true,
+        (true ∷ false ∷ [], false ∷ true ∷ [], [], refl, shown_step Unknown Free false true false, refl),
+      );
+      is = refl;
+    })
+
+pub unlike_run : RunsOnlyTo unlike None (codes "10\n11\n00\n") (codes "10\n01\n00\n")
+unlike_run =
+    only unlike None (codes "10\n11\n00\n") (codes "10\n01\n00\n")
+    (record {
+      state = [];
+      word = (true ∷ false ∷ []) ∷ (true ∷ true ∷ []) ∷ (false ∷ false ∷ []) ∷ [];
+      answers = (true ∷ false ∷ []) ∷ (false ∷ true ∷ []) ∷ (false ∷ false ∷ []) ∷ [];
+      begins = refl;
+      reads = (
+        record { good = refl; field = refl; as_wide = refl },
+        (record { good = refl; field = refl; as_wide = refl }, (record { good = refl; field = refl; as_wide = refl }, tt)),
+      );
+      answered = unlike_answers;
       is = refl;
     })

@@ -1,15 +1,11 @@
 -- The symbols of a file, line by line (source: this product's profile).
-use Rattle.std.specs.Prelude.{◌≡◌, ◌==◌, ℕ, ◌<◌, ⊤, Bool, false, not, ◌&&◌, List, [], ◌∷◌, Some, filter, length, slice_get}
+use Rattle.std.specs.Prelude.{◌≡◌, ℕ, ◌<◌, ⊤, Bool, false, not, List, [], ◌∷◌, Some, filter, length, slice_get}
 use Rattle.std.specs.List.{AllZip}
 use Rattle.hs_io.specs.declared.lines.Line.{Line}
-use Rattle.hs_io.specs.Lines.{lines_of}
+use Rattle.hs_io.specs.Lines.{is_skipped, lines_of}
 use Rattle.net_sim.specs.declared.symbols.SymbolFail.{SymbolFail}
 use Rattle.net_sim.specs.declared.symbols.SymbolFail.TheVariants.{NoMemory, Refused}
 use Rattle.net_sim.specs.BitTexts.{text_of_bits}
-
--- a line without fields is skipped, if it is not bad
-abbrev pub is_skipped : Line → Bool
-is_skipped line = not line.bad && length line.fields == 0
 
 -- the only field of the line is the text of the symbol, which has `width` bits
 pub record SaysSymbol (width : ℕ) (line : Line) (symbol : List Bool) : Type 0 where

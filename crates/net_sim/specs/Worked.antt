@@ -1,6 +1,7 @@
 -- Small networks, whose names are letters, and the only text of a run.
 use Rattle.std.specs.Prelude.{◌≡◌, ℕ, Bool, true, List, [], ◌∷◌, Option, codes}
 use Rattle.net_core.specs.declared.Network.{Network}
+use Rattle.net_core.specs.declared.Start.{Start}
 use Rattle.net_core.specs.declared.Start.TheVariants.{Zero}
 use Rattle.net_core.specs.Worked.{gate, latch, network}
 use Rattle.net_sim.specs.Run.{IsRun}
@@ -21,7 +22,11 @@ latched =
     network (codes "x") (codes "z") (latch (codes "d") (codes "q") Zero ∷ [])
     (gate (codes "xq") (codes "d") (codes "01" ∷ codes "10" ∷ []) true ∷ gate (codes "q") (codes "z") (codes "1" ∷ []) true ∷ [])
 
--- two latches in a row, the second of which reads the first
+-- two latches in a row with these starts, the second of which reads the first, and these outputs
+abbrev pub started : List ℕ → Start → Start → Network
+started outputs first second =
+    network (codes "a") outputs (latch (codes "a") (codes "p") first ∷ latch (codes "p") (codes "q") second ∷ []) []
+
+-- the second is the output
 abbrev pub shifted : Network
-shifted =
-    network (codes "a") (codes "q") (latch (codes "a") (codes "p") Zero ∷ latch (codes "p") (codes "q") Zero ∷ []) []
+shifted = started (codes "q") Zero Zero

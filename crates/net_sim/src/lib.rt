@@ -31,7 +31,7 @@ mod symbols;
 
 pub use bit_texts::append_answer;
 pub use failing::SimFail;
-pub use laws::{worked_runs, worked_texts};
+pub use laws::{worked_refusals, worked_runs, worked_texts};
 pub use running::run;
 pub use stepping::step_into;
 pub use symbols::{SymbolFail, read_symbols};

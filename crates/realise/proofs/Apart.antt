@@ -12,7 +12,7 @@ use Rattle.kiss_file.specs.declared.file.KissFile.{KissFile}
 use Rattle.kiss_file.specs.Lawful.{AreGiven, IsLawful, given_names}
 use Rattle.kiss_file.specs.Names.{AreDistinct}
 use Rattle.net_core.specs.declared.SignalNames.{SignalNames}
-use Rattle.net_core.proofs.Members.{same_name, times, times-append, times-cons}
+use Rattle.net_core.specs.Laws.Members.{same_name, times, times-append, times-cons}
 use Rattle.realise.specs.Laws.{ArePairwiseDistinct, NamesAreApart}
 use Rattle.realise.specs.Names.{AreNames, input_letter, next_letter, output_letter, own_name, own_names, prefix, state_letter, unless_given, used_names}
 

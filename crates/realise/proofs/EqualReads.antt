@@ -9,7 +9,7 @@ use Rattle.cubes.specs.Laws.Bits.{same_digits}
 use Rattle.dependence.specs.declared.sets.ReadSet.{ReadSet}
 use Rattle.gate_rows.specs.Columns.{input_of}
 use Rattle.kiss_file.specs.declared.file.KissFile.{KissFile}
-use Rattle.net_core.proofs.Valuations.{parts_of_append}
+use Rattle.net_core.specs.Laws.Valuations.{parts_of_append}
 use Rattle.realise.specs.Laws.{EqualReads}
 use Rattle.realise.specs.Realised.{IsEnough}
 

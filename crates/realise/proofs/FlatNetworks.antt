@@ -10,7 +10,7 @@ use Rattle.net_core.specs.declared.Network.{Network}
 use Rattle.net_core.specs.declared.SignalNames.{SignalNames}
 use Rattle.net_core.specs.Flat.{base_of}
 use Rattle.net_core.specs.Sound.{driven_by, drivers_of}
-use Rattle.net_core.proofs.Members.{times, times-append}
+use Rattle.net_core.specs.Laws.Members.{times, times-append}
 use Rattle.realise.specs.Laws.{ArePairwiseDistinct, RealisedIsFlat}
 use Rattle.realise.specs.Realised.{AreCounted, AreEnough, IsRealised, name_at}
 use Rattle.realise.proofs.Gates.{IsSomeGate, driven_names, each_gate}

@@ -9,7 +9,7 @@ use Rattle.std.proofs.lemmas.List.Elements.{All-append, All-from_recursion}
 use Rattle.std.proofs.lemmas.List.Folds.{Any-from_list_any, list_any_at}
 use Rattle.kiss_file.specs.declared.file.KissFile.{KissFile}
 use Rattle.kiss_file.specs.Lawful.{AreGiven, IsGivenName, IsLawful, given_names}
-use Rattle.net_core.proofs.Members.{is_same_name, same_name}
+use Rattle.net_core.specs.Laws.Members.{is_same_name, same_name}
 use Rattle.realise.specs.Inner.Free.{are_free, first_free, is_given, first_count}
 use Rattle.realise.specs.Names.{AreFree, IsPrefixCount, input_letter, next_letter, output_letter, own_name, own_names, prefix, state_letter, unless_given, used_names}
 

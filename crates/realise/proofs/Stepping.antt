@@ -18,8 +18,8 @@ use Rattle.net_core.specs.declared.Latch.{Latch}
 use Rattle.net_core.specs.declared.Network.{Network}
 use Rattle.net_core.specs.declared.SignalNames.{SignalNames}
 use Rattle.net_core.specs.Step.{AreStarts, Gives, IsValuation, Step, gate_value, row_holds}
-use Rattle.net_core.proofs.Flat.{flat_sound, given_step}
-use Rattle.net_core.proofs.Valuations.{FitsGate}
+use Rattle.net_core.specs.Laws.Flat.{flat_sound, given_step}
+use Rattle.net_core.specs.Laws.Valuations.{FitsGate}
 use Rattle.realise.specs.Codes.{code_of}
 use Rattle.realise.specs.Laws.{ArePairwiseDistinct, RealisedCarries}
 use Rattle.realise.specs.Realised.{AreCounted, AreEnough, HasGate, IsGateFor, IsRealised, IsWithin, name_at}

@@ -30,7 +30,7 @@ use Rattle.gate_rows.proofs.TermCovers.{same_cover}
 use Rattle.kiss_file.specs.declared.file.KissFile.{KissFile}
 use Rattle.net_core.specs.declared.Gate.{Gate}
 use Rattle.net_core.specs.declared.SignalNames.{SignalNames}
-use Rattle.net_core.proofs.Valuations.{parts_of_append}
+use Rattle.net_core.specs.Laws.Valuations.{parts_of_append}
 use Rattle.shift_real.specs.Gates.{GivesAfter, InputMatters, IsOutputGate, IsReadAfter, LatchMatters, output_after}
 use Rattle.shift_real.specs.Inner.ContentDemands.{AreClassDemands, IsClassDemand, IsWithinMask}
 use Rattle.shift_real.specs.declared.reading.OutputReading.{OutputReading}

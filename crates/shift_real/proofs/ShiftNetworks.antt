@@ -24,9 +24,9 @@ use Rattle.net_core.specs.declared.SignalNames.{SignalNames}
 use Rattle.net_core.specs.Flat.{base_of}
 use Rattle.net_core.specs.Sound.{Sound, driven_by, drivers_of}
 use Rattle.net_core.specs.Step.{AreStarts, Gives, IsValuation, NetAnswers, gate_value, row_holds}
-use Rattle.net_core.proofs.Flat.{flat_sound, given_step}
-use Rattle.net_core.proofs.Members.{times, times-append}
-use Rattle.net_core.proofs.Valuations.{FitsGate}
+use Rattle.net_core.specs.Laws.Flat.{flat_sound, given_step}
+use Rattle.net_core.specs.Laws.Members.{times, times-append}
+use Rattle.net_core.specs.Laws.Valuations.{FitsGate}
 use Rattle.shift_real.specs.Inner.Along.{outputs_along}
 use Rattle.shift_real.proofs.Along.{answers_from}
 use Rattle.shift_real.specs.Definite.{Definite, IsOrder}

@@ -11,7 +11,7 @@ use Rattle.kiss_file.specs.declared.file.KissFile.{KissFile}
 use Rattle.kiss_file.specs.declared.file.KissRow.{KissRow}
 use Rattle.kiss_file.specs.Lawful.{IsLawfulRow}
 use Rattle.kiss_file.specs.Machine.{Conflicting, IsRowAt, given_bit, output_bit}
-use Rattle.kiss_file.proofs.Machine.{output_bit_not_said, output_bit_said}
+use Rattle.kiss_file.specs.Laws.Machine.{output_bit_not_said, output_bit_said}
 use Rattle.state_rows.specs.Columns.{IsAtPlace}
 use Rattle.state_rows.specs.Least.{IsMetBy}
 use Rattle.state_rows.specs.Laws.OneCube.{held_by_like}

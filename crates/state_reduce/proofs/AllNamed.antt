@@ -15,7 +15,7 @@ use Rattle.kiss_file.specs.declared.file.KissRow.{KissRow}
 use Rattle.kiss_file.specs.Lawful.{AreNumbered, IsLawfulRow}
 use Rattle.kiss_file.specs.Machine.{Conflicting, IsRowAt, next, rows_at}
 use Rattle.kiss_file.specs.Names.{name_of}
-use Rattle.kiss_file.proofs.Machine.{next_said}
+use Rattle.kiss_file.specs.Laws.Machine.{next_said}
 use Rattle.machine_table.specs.Table.{IsTable}
 use Rattle.pair_operators.specs.Pair.{Closed}
 use Rattle.partition.proofs.Nesting.{least_of-same}

@@ -10,8 +10,8 @@ use Rattle.list_facts.specs.Laws.Members.{Contains-map}
 use Rattle.kiss2.specs.Inner.Judging.{once_after}
 use Rattle.kiss_file.specs.Names.{AreDistinct}
 use Rattle.kiss2.specs.Standing.{each_once}
-use Rattle.kiss2.proofs.Finding.{contained_from_test}
-use Rattle.kiss2.proofs.Once.{among, distinct_from_once, each_once-append, once-each_once}
+use Rattle.kiss2.specs.Laws.Finding.{contained_from_test}
+use Rattle.kiss2.specs.Laws.Once.{among, distinct_from_once, each_once-append, once-each_once}
 use Rattle.state_reduce.proofs.Names.{has_once, place_is}
 
 -- names that are added go behind those that are there

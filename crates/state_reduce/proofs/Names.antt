@@ -15,8 +15,8 @@ use Rattle.kiss_file.specs.declared.file.KissRow.{KissRow}
 use Rattle.kiss_file.specs.Lawful.{IsLawfulRow}
 use Rattle.kiss_file.specs.Names.{AreDistinct}
 use Rattle.kiss2.specs.Standing.{each_once}
-use Rattle.kiss2.proofs.Finding.{contained_from_test, contained_test}
-use Rattle.kiss2.proofs.Once.{among, among-each_once, each_once-append, no_more, once-each_once}
+use Rattle.kiss2.specs.Laws.Finding.{contained_from_test, contained_test}
+use Rattle.kiss2.specs.Laws.Once.{among, among-each_once, each_once-append, no_more, once-each_once}
 use Rattle.machine_table.specs.Table.{IsTable}
 use Rattle.partition.proofs.Nesting.{least_of-le}
 use Rattle.partition.specs.Inside.{least_of}

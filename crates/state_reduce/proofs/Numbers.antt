@@ -9,7 +9,7 @@ use Rattle.std.proofs.lemmas.Option.{same_Some, slice_get-get_or, slice_get_with
 use Rattle.std.proofs.lemmas.Slice.Eq.{bytes_eq-Decides}
 use Rattle.kiss_file.specs.declared.file.KissFile.{KissFile}
 use Rattle.kiss_file.specs.Names.{AreDistinct, name_of}
-use Rattle.kiss2.proofs.SameRecord.{number_once}
+use Rattle.kiss2.specs.Laws.SameRecord.{number_once}
 use Rattle.partition.proofs.Nesting.{least_of-le, least_of-same}
 use Rattle.partition.specs.Inside.{least_of}
 use Rattle.partition.specs.Partition.{Together}

@@ -13,8 +13,8 @@ use Rattle.kiss_file.specs.Lawful.{AreNumbered, IsLawfulRow}
 use Rattle.kiss_file.specs.Machine.{answers, given_bit, next, out, rows_at}
 use Rattle.kiss_file.specs.Names.{AreDistinct, name_of}
 use Rattle.kiss2.specs.Standing.{each_once}
-use Rattle.kiss2.proofs.Finding.{contained_test}
-use Rattle.kiss2.proofs.Once.{among, each_once-append}
+use Rattle.kiss2.specs.Laws.Finding.{contained_test}
+use Rattle.kiss2.specs.Laws.Once.{among, each_once-append}
 use Rattle.machine_table.specs.Table.{IsTable}
 use Rattle.partition.proofs.Nesting.{least_of-same}
 use Rattle.partition.specs.Inside.{least_of}

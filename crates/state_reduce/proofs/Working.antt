@@ -3,7 +3,7 @@ use Rattle.std.proofs.Common.{◌≡◌, ℕ, ◌<◌, Bool, true, false, List, 
 use Rattle.kiss_file.specs.declared.file.KissFile.{KissFile}
 use Rattle.kiss_file.specs.Lawful.{IsLawful}
 use Rattle.kiss_file.specs.Machine.{Conflicting, answers}
-use Rattle.kiss_file.proofs.Machine.{next_is_a_state}
+use Rattle.kiss_file.specs.Laws.Machine.{next_is_a_state}
 use Rattle.machine_table.specs.Staying.{NeverLeaves}
 use Rattle.machine_table.specs.Table.{IsTable}
 use Rattle.state_pairs.specs.Laws.Lawful.{table_of_lawful}

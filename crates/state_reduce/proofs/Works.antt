@@ -2,7 +2,7 @@
 use Rattle.std.proofs.Common.{◌≡◌, ◌≢◌, ℕ, true, false, List, Option, Some, None, refl, sym, ap, ◌∙◌, subst}
 use Rattle.kiss_file.specs.declared.file.KissFile.{KissFile}
 use Rattle.kiss_file.specs.Lawful.{IsLawful}
-use Rattle.kiss_file.proofs.Machine.{next_is_a_state}
+use Rattle.kiss_file.specs.Laws.Machine.{next_is_a_state}
 use Rattle.state_reduce.specs.declared.judging.QuotientFail.{QuotientFail}
 use Rattle.state_reduce.specs.declared.judging.QuotientFail.TheVariants as quotients
 use Rattle.state_reduce.specs.declared.work.WorkMachine.{WorkMachine}

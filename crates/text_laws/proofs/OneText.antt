@@ -5,7 +5,7 @@ use Rattle.std.proofs.lemmas.List.Elements.{All-cons, All-nil}
 use Rattle.hs_io.specs.declared.lines.Line.{Line}
 use Rattle.kiss_file.specs.declared.file.KissFile.{KissFile}
 use Rattle.net_core.specs.declared.Network.{Network}
-use Rattle.net_core.proofs.Determined.{denotes_one}
+use Rattle.net_core.specs.Laws.Determined.{denotes_one}
 use Rattle.net_sim.specs.Run.{IsRun}
 use Rattle.net_sim.specs.Symbols.{IsSymbolFile, SaysSymbol}
 use Rattle.net_sim.proofs.Exclusive.{run_once}

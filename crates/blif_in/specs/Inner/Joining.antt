@@ -1,9 +1,8 @@
 -- Joined lines, part by part, and those of them that are statements.
 use Rattle.std.specs.Prelude.{ℕ, ◌||◌, if◌then◌else◌, Option, Some, None, List, [], ◌∷◌, ◌++◌}
 use Rattle.hs_io.specs.declared.lines.Line.{Line}
-use Rattle.hs_io.specs.Lines.{lines_of}
+use Rattle.hs_io.specs.Lines.{is_skipped, lines_of}
 use Rattle.net_core.specs.Joined.{ends_text, in_front, joined}
-use Rattle.net_core.specs.Statements.{is_skipped}
 
 -- the front of a joined line with one more part
 abbrev pub merged : Line → Line → Line

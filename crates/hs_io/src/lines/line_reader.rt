@@ -43,6 +43,7 @@ impl<'a> LineReader<'a> {
     pub fn next_line(&mut self, alloc: Global) -> Result<Option<Line>, AllocError>
         ensures some { IfOk result (λ next. IfSome next (λ line. self.old ≡ line ∷ self.new)) }
         ensures none { IfOk result (λ next. IfNone next (self.old ≡ [])) }
+        ensures nothing_left { IfOk result (λ next. IfNone next (self.new ≡ [])) }
         ensures unchanged { OnErr result (self.new ≡ self.old) }
     {
         if self.rest.is_empty() {

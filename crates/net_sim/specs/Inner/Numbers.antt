@@ -2,9 +2,10 @@
 use Rattle.std.specs.Prelude.{◌≡◌, ℕ, ◌^◌, ◌<◌, ◌⊎◌, true, ⊤, All, List, [], ◌∷◌, ◌++◌, map}
 use Rattle.cubes.specs.Symbol.{symbol_of}
 use Rattle.hs_io.specs.declared.lines.Line.{Line}
+use Rattle.hs_io.specs.Lines.{is_skipped}
 use Rattle.net_sim.specs.declared.symbols.SymbolFail.{SymbolFail}
 use Rattle.net_sim.specs.declared.symbols.SymbolFail.TheVariants.{NoMemory, Refused}
-use Rattle.net_sim.specs.Symbols.{IsRefusedLine, SaysSymbol, SayWord, is_skipped}
+use Rattle.net_sim.specs.Symbols.{IsRefusedLine, SaysSymbol, SayWord}
 use Rattle.net_sim.specs.Inner.Ran.{HasTaken}
 
 -- the line is skipped and the list stayed as it was, or the number of the line's symbol was appended

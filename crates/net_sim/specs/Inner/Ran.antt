@@ -1,7 +1,7 @@
 -- A network that has run on some lines.
 use Rattle.std.specs.Prelude.{◌≡◌, ℕ, ◌+◌, ◌⊎◌, Bool, true, List, Some, [], ◌∷◌, ◌++◌, length, slice_get}
 use Rattle.hs_io.specs.declared.lines.Line.{Line}
-use Rattle.hs_io.specs.Lines.{lines_from, lines_of, physical_lines}
+use Rattle.hs_io.specs.Lines.{is_skipped, lines_from, lines_of, physical_lines}
 use Rattle.hs_io.specs.Spelling.{ended}
 use Rattle.net_core.specs.declared.Network.{Network}
 use Rattle.net_core.specs.declared.ordering.Order.{Order}
@@ -10,7 +10,7 @@ use Rattle.net_core.specs.Sound.{Sound}
 use Rattle.net_core.specs.Step.{Step}
 use Rattle.net_sim.specs.declared.running.Runner.{Runner}
 use Rattle.net_sim.specs.BitTexts.{text_of_bits}
-use Rattle.net_sim.specs.Symbols.{IsRefusedLine, SaysSymbol, SayWord, is_skipped}
+use Rattle.net_sim.specs.Symbols.{IsRefusedLine, SaysSymbol, SayWord}
 use Rattle.net_sim.specs.Run.{answers_text}
 use Rattle.net_sim.specs.Inner.Forms.{AreForms}
 

@@ -16,7 +16,7 @@ use Rattle.machine_table.specs.Laws.Conflicts.{conflicting_at}
 use Rattle.machine_table.specs.Laws.Unrefused.{none_open}
 use Rattle.net_core.specs.declared.Network.{Network}
 use Rattle.net_core.specs.Blif.{Blif}
-use Rattle.net_core.proofs.Determined.{blif_one}
+use Rattle.net_core.specs.Laws.Determined.{blif_one}
 use Rattle.operands.specs.Causes.{Conflicts, LeavesOpen, Never, NoMachineOf, NoNetworkOf, OfFile, OfMachine, OfNetwork, SaysNoMachine, SaysNoNetwork}
 use Rattle.kiss2.proofs.Exact.{machine_or_fault, one_file}
 use Rattle.operands.specs.Loading.{IsShortText, Lengthy}

@@ -9,7 +9,7 @@ use Rattle.cubes.specs.Laws.Numbers.{length-symbol_of}
 use Rattle.kiss_file.specs.declared.file.KissFile.{KissFile}
 use Rattle.kiss_file.specs.declared.file.KissRow.{KissRow}
 use Rattle.kiss_file.specs.Machine.{Conflicting, Specified}
-use Rattle.kiss_file.proofs.Machine.{next_not_said, next_said}
+use Rattle.kiss_file.specs.Laws.Machine.{next_not_said, next_said}
 use Rattle.state_pairs.specs.Pairs.{IsImage}
 use Rattle.state_pairs.specs.AddedPairs.{AreNamed, AreNamedAtPlaces, AreNamedBy, IsNamedBeside, IsOpenImage, OfSomeRow, to_of}
 use Rattle.state_pairs.specs.Asked.{AllSay, HaveOneLabel, IsOpenAt, IsOfState}

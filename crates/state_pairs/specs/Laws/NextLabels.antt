@@ -7,7 +7,7 @@ use Rattle.cubes.specs.Laws.Numbers.{length-symbol_of}
 use Rattle.kiss_file.specs.declared.file.KissFile.{KissFile}
 use Rattle.kiss_file.specs.declared.file.KissRow.{KissRow}
 use Rattle.kiss_file.specs.Machine.{Conflicting, Specified, next}
-use Rattle.kiss_file.proofs.Machine.{next_not_said, next_said}
+use Rattle.kiss_file.specs.Laws.Machine.{next_not_said, next_said}
 use Rattle.partition.specs.Partition.{Together}
 use Rattle.state_pairs.specs.Asked.{HaveOneLabel, NoneIsOpen, IsLabelAt, IsOpenAt}
 use Rattle.state_pairs.specs.Pairs.{GoInto}

@@ -27,7 +27,8 @@ returns-then-not-goes_on-clause-none c = some_here c.loop-line.front c.add_line.
 pub returns-clause-some : goal.returns-clause-some
 returns-clause-some c =
     let none : c.loop-line.lines ≡ [] = rw c.in_default.is at c.in_ok-line.ensures.none in
-    joined_last c.loop-line.front c.loop-line.lines _ (lines_behind c.args.front.now (joined c.args.lines.now)) c.loop-line.invariant none c.new.ensures
+    let left : c.next_line.new.self ≡ [] = rw c.in_default.is at c.in_ok-line.ensures.nothing_left in
+    joined_last c.loop-line.front c.loop-line.lines c.next_line.new.self (lines_behind c.args.front.now (joined c.args.lines.now)) c.loop-line.invariant none left
 
 pub returns-clause-none : goal.returns-clause-none
 returns-clause-none c =

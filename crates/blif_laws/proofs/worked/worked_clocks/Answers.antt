@@ -54,3 +54,9 @@ returns-clause-joined_comment c = inl refl
 
 pub returns-clause-driven_before_it_is_named : goal.returns-clause-driven_before_it_is_named
 returns-clause-driven_before_it_is_named c = inl refl
+
+pub returns-clause-joined_past_a_tab : goal.returns-clause-joined_past_a_tab
+returns-clause-joined_past_a_tab c = inl refl
+
+pub returns-clause-backslash_before_a_tab : goal.returns-clause-backslash_before_a_tab
+returns-clause-backslash_before_a_tab c = inl refl

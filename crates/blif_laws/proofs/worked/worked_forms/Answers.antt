@@ -57,3 +57,18 @@ returns-clause-clock_names_before_long c = inl refl
 
 pub returns-clause-dot_alone : goal.returns-clause-dot_alone
 returns-clause-dot_alone c = inl refl
+
+pub returns-clause-long_word : goal.returns-clause-long_word
+returns-clause-long_word c = inl refl
+
+pub returns-clause-long_type : goal.returns-clause-long_type
+returns-clause-long_type c = inl refl
+
+pub returns-clause-latch_fields_before_long : goal.returns-clause-latch_fields_before_long
+returns-clause-latch_fields_before_long c = inl refl
+
+pub returns-clause-start_before_long : goal.returns-clause-start_before_long
+returns-clause-start_before_long c = inl refl
+
+pub returns-clause-kind_before_clocks : goal.returns-clause-kind_before_clocks
+returns-clause-kind_before_clocks c = inl refl

@@ -33,3 +33,9 @@ returns-clause-outputs_one_by_one c = inl refl
 
 pub returns-clause-gate_inputs_one_by_one : goal.returns-clause-gate_inputs_one_by_one
 returns-clause-gate_inputs_one_by_one c = inl refl
+
+pub returns-clause-first_of_two_long_names : goal.returns-clause-first_of_two_long_names
+returns-clause-first_of_two_long_names c = inl refl
+
+pub returns-clause-longer_name : goal.returns-clause-longer_name
+returns-clause-longer_name c = inl refl

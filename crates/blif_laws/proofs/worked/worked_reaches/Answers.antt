@@ -18,3 +18,6 @@ returns-clause-gate_inputs c = inl refl
 
 pub returns-clause-names_of_each_word : goal.returns-clause-names_of_each_word
 returns-clause-names_of_each_word c = inl refl
+
+pub returns-clause-row_of_65_characters : goal.returns-clause-row_of_65_characters
+returns-clause-row_of_65_characters c = inl refl

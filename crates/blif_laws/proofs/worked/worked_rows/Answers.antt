@@ -24,3 +24,18 @@ returns-clause-skipped_between c = inl refl
 
 pub returns-clause-row_after_clock : goal.returns-clause-row_after_clock
 returns-clause-row_after_clock c = inl refl
+
+pub returns-clause-few_characters : goal.returns-clause-few_characters
+returns-clause-few_characters c = inl refl
+
+pub returns-clause-letter_in_a_plane : goal.returns-clause-letter_in_a_plane
+returns-clause-letter_in_a_plane c = inl refl
+
+pub returns-clause-two_output_bits : goal.returns-clause-two_output_bits
+returns-clause-two_output_bits c = inl refl
+
+pub returns-clause-dash_of_a_constant : goal.returns-clause-dash_of_a_constant
+returns-clause-dash_of_a_constant c = inl refl
+
+pub returns-clause-two_bits_of_a_constant : goal.returns-clause-two_bits_of_a_constant
+returns-clause-two_bits_of_a_constant c = inl refl

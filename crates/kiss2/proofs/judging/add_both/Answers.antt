@@ -1,6 +1,6 @@
 use Rattle.std.proofs.Common.{◌≡◌, ◌++◌, false, not, sym, ◌∙◌, ap}
 use Rattle.kiss2.specs.Faults.{has_twice}
-use Rattle.kiss2.proofs.Finding.{twice_more}
+use Rattle.kiss2.specs.Laws.Finding.{twice_more}
 use Rattle.kiss2.proofs.judging.add_both.Goals as goal
 
 pub returns-then-not-branch : goal.returns-then-not-branch

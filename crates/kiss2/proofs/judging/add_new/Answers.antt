@@ -1,7 +1,7 @@
 use Rattle.std.proofs.Common.{◌≡◌, ◌+◌, [], ◌∷◌, ◌++◌, take, Contains, append_assoc, sym, ◌∙◌, subst, ap, arith}
 use Rattle.kiss_file.specs.Names.{AreDistinct}
 use Rattle.std.proofs.lemmas.List.{take_all, take_more}
-use Rattle.kiss2.proofs.Finding.{contained_at, not_contained, once_from_distinct, twice_at}
+use Rattle.kiss2.specs.Laws.Finding.{contained_at, not_contained, once_from_distinct, twice_at}
 use Rattle.kiss2.proofs.judging.add_new.Goals as goal
 
 pub returns-then-is_some-clause-twice : goal.returns-then-is_some-clause-twice

@@ -1,5 +1,5 @@
 use Rattle.std.proofs.Common.{◌<◌, length, subst, arith}
-use Rattle.kiss2.proofs.Finding.{long_first, none_long}
+use Rattle.kiss2.specs.Laws.Finding.{long_first, none_long}
 use Rattle.kiss2.proofs.judging.judge_lengths.Goals as goal
 
 pub returns-then-found-gt64 : goal.returns-then-found-gt64

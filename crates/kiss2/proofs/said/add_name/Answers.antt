@@ -1,5 +1,5 @@
 use Rattle.std.proofs.Common.{not, ap, sym, ◌∙◌}
-use Rattle.kiss2.proofs.Once.{put_once}
+use Rattle.kiss2.specs.Laws.Once.{put_once}
 use Rattle.kiss2.proofs.said.add_name.Goals as goal
 
 pub returns-in_ok-add : goal.returns-in_ok-add

@@ -3,7 +3,7 @@ use Rattle.kiss2.specs.Faults.{fault_in}
 use Rattle.kiss2.specs.Kiss.{lines_read}
 use Rattle.kiss2.specs.Standing.{each_once, state_names}
 use Rattle.kiss2.specs.Words.{kind_of_field}
-use Rattle.kiss2.proofs.Ending.{faultless_none}
+use Rattle.kiss2.specs.Laws.Faultless.{faultless_none}
 use Rattle.kiss2_laws.proofs.Scanning.{scanned}
 use Rattle.kiss2_laws.proofs.worked.worked_faults.Goals as goal
 
@@ -54,3 +54,11 @@ returns-clause-bad_fields c = scanned [] _ _ faultless_none refl
 pub returns-clause-bad_byte : goal.returns-clause-bad_byte
 unfolding lines_read fault_in kind_of_field state_names each_once
 returns-clause-bad_byte c = scanned [] _ _ faultless_none refl
+
+pub returns-clause-byte_order_mark : goal.returns-clause-byte_order_mark
+unfolding lines_read fault_in kind_of_field state_names each_once
+returns-clause-byte_order_mark c = scanned [] _ _ faultless_none refl
+
+pub returns-clause-end_of_file_byte : goal.returns-clause-end_of_file_byte
+unfolding lines_read fault_in kind_of_field state_names each_once
+returns-clause-end_of_file_byte c = scanned [] _ _ faultless_none refl

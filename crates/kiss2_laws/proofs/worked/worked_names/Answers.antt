@@ -3,7 +3,7 @@ use Rattle.kiss2.specs.Faults.{fault_in}
 use Rattle.kiss2.specs.Kiss.{lines_read}
 use Rattle.kiss2.specs.Standing.{each_once, state_names}
 use Rattle.kiss2.specs.Words.{kind_of_field}
-use Rattle.kiss2.proofs.Ending.{faultless_none}
+use Rattle.kiss2.specs.Laws.Faultless.{faultless_none}
 use Rattle.kiss2_laws.proofs.Scanning.{scanned}
 use Rattle.kiss2_laws.proofs.worked.worked_names.Goals as goal
 

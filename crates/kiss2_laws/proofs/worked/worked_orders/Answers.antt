@@ -3,7 +3,7 @@ use Rattle.kiss2.specs.Faults.{fault_in}
 use Rattle.kiss2.specs.Kiss.{lines_read}
 use Rattle.kiss2.specs.Standing.{each_once, state_names}
 use Rattle.kiss2.specs.Words.{kind_of_field}
-use Rattle.kiss2.proofs.Ending.{faultless_none}
+use Rattle.kiss2.specs.Laws.Faultless.{faultless_none}
 use Rattle.kiss2_laws.proofs.Scanning.{scanned}
 use Rattle.kiss2_laws.proofs.worked.worked_orders.Goals as goal
 
@@ -46,3 +46,19 @@ returns-clause-shared_name c = scanned [] _ _ faultless_none refl
 pub returns-clause-rows_past_their_count : goal.returns-clause-rows_past_their_count
 unfolding lines_read fault_in kind_of_field state_names each_once
 returns-clause-rows_past_their_count c = scanned [] _ _ faultless_none refl
+
+pub returns-clause-outputs_again_before_form : goal.returns-clause-outputs_again_before_form
+unfolding lines_read fault_in kind_of_field state_names each_once
+returns-clause-outputs_again_before_form c = scanned [] _ _ faultless_none refl
+
+pub returns-clause-row_count_again_before_form : goal.returns-clause-row_count_again_before_form
+unfolding lines_read fault_in kind_of_field state_names each_once
+returns-clause-row_count_again_before_form c = scanned [] _ _ faultless_none refl
+
+pub returns-clause-state_count_again_before_number : goal.returns-clause-state_count_again_before_number
+unfolding lines_read fault_in kind_of_field state_names each_once
+returns-clause-state_count_again_before_number c = scanned [] _ _ faultless_none refl
+
+pub returns-clause-reset_again_before_form : goal.returns-clause-reset_again_before_form
+unfolding lines_read fault_in kind_of_field state_names each_once
+returns-clause-reset_again_before_form c = scanned [] _ _ faultless_none refl

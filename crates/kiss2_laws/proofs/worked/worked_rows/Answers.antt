@@ -7,7 +7,7 @@ use Rattle.kiss2.specs.Kiss.{lines_read}
 use Rattle.kiss2.specs.Standing.{each_once, inputs_said, outputs_said, row_lines, state_names}
 use Rattle.kiss2_laws.specs.Worked.{bad_cube_line}
 use Rattle.kiss2.specs.Words.{kind_of_field}
-use Rattle.kiss2.proofs.Ending.{faultless_none}
+use Rattle.kiss2.specs.Laws.Faultless.{faultless_none}
 use Rattle.kiss2_laws.proofs.Scanning.{scanned}
 use Rattle.kiss2_laws.proofs.worked.worked_rows.Goals as goal
 
@@ -81,3 +81,11 @@ returns-clause-again_after_a_row c = scanned [] _ _ faultless_none refl
 pub returns-clause-number_after_a_row : goal.returns-clause-number_after_a_row
 unfolding lines_read fault_in kind_of_field state_names each_once
 returns-clause-number_after_a_row c = scanned [] _ _ faultless_none refl
+
+pub returns-clause-letter_in_an_input : goal.returns-clause-letter_in_an_input
+unfolding lines_read fault_in kind_of_field state_names each_once
+returns-clause-letter_in_an_input c = scanned [] _ _ faultless_none refl
+
+pub returns-clause-tilde_in_an_output : goal.returns-clause-tilde_in_an_output
+unfolding lines_read fault_in kind_of_field state_names each_once
+returns-clause-tilde_in_an_output c = scanned [] _ _ faultless_none refl

@@ -3,7 +3,7 @@ use Rattle.kiss2.specs.Faults.{fault_in}
 use Rattle.kiss2.specs.Kiss.{lines_read}
 use Rattle.kiss2.specs.Standing.{each_once, state_names}
 use Rattle.kiss2.specs.Words.{kind_of_field}
-use Rattle.kiss2.proofs.Ending.{faultless_none}
+use Rattle.kiss2.specs.Laws.Faultless.{faultless_none}
 use Rattle.kiss2_laws.proofs.Scanning.{scanned}
 use Rattle.kiss2_laws.proofs.worked.worked_words.Goals as goal
 
@@ -130,3 +130,35 @@ returns-clause-dot_alone c = scanned [] _ _ faultless_none refl
 pub returns-clause-bytes_after_end : goal.returns-clause-bytes_after_end
 unfolding lines_read fault_in kind_of_field state_names each_once
 returns-clause-bytes_after_end c = scanned [] _ _ faultless_none refl
+
+pub returns-clause-sign : goal.returns-clause-sign
+unfolding lines_read fault_in kind_of_field state_names each_once
+returns-clause-sign c = scanned [] _ _ faultless_none refl
+
+pub returns-clause-zeros : goal.returns-clause-zeros
+unfolding lines_read fault_in kind_of_field state_names each_once
+returns-clause-zeros c = scanned [] _ _ faultless_none refl
+
+pub returns-clause-zero_before_many : goal.returns-clause-zero_before_many
+unfolding lines_read fault_in kind_of_field state_names each_once
+returns-clause-zero_before_many c = scanned [] _ _ faultless_none refl
+
+pub returns-clause-whole_count_of_outputs : goal.returns-clause-whole_count_of_outputs
+unfolding lines_read fault_in kind_of_field state_names each_once
+returns-clause-whole_count_of_outputs c = scanned [] _ _ faultless_none refl
+
+pub returns-clause-dash_reset : goal.returns-clause-dash_reset
+unfolding lines_read fault_in kind_of_field state_names each_once
+returns-clause-dash_reset c = scanned [] _ _ faultless_none refl
+
+pub returns-clause-start_word : goal.returns-clause-start_word
+unfolding lines_read fault_in kind_of_field state_names each_once
+returns-clause-start_word c = scanned [] _ _ faultless_none refl
+
+pub returns-clause-model_word : goal.returns-clause-model_word
+unfolding lines_read fault_in kind_of_field state_names each_once
+returns-clause-model_word c = scanned [] _ _ faultless_none refl
+
+pub returns-clause-bad_short_end : goal.returns-clause-bad_short_end
+unfolding lines_read fault_in kind_of_field state_names each_once
+returns-clause-bad_short_end c = scanned [] _ _ faultless_none refl

@@ -1,4 +1,4 @@
-use Rattle.kiss_file.proofs.Machine.{next_is_a_state}
+use Rattle.kiss_file.specs.Laws.Machine.{next_is_a_state}
 use Rattle.kiss_file.proofs.laws.next_is_a_state.Goals as goal
 
 pub returns : goal.returns

@@ -1,6 +1,6 @@
 use Rattle.std.proofs.Common.{◌≡◌, ◌<◌, ◌^◌, All, length, sym, ap, ◌∙◌, subst, arith}
 use Rattle.kiss_file.specs.Names.{AreDistinct, IsPlainName}
-use Rattle.kiss_file.proofs.NumberedNames.{length-numbered_names, name_added, numbered_names-distinct, numbered_names-plain}
+use Rattle.kiss_file.specs.Laws.NumberedNames.{length-numbered_names, name_added, numbered_names-distinct, numbered_names-plain}
 use Rattle.kiss_file.proofs.numbered.numbered_names.Goals as goal
 
 pub add-requires : goal.add-requires

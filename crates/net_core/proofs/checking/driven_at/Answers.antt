@@ -4,7 +4,7 @@ use Rattle.std.proofs.lemmas.Option.{slice_get-get_or}
 use Rattle.net_core.specs.declared.Gate.{Gate}
 use Rattle.net_core.specs.Order.{AreAt}
 use Rattle.net_core.specs.Sound.{driven_by}
-use Rattle.net_core.proofs.Numbered.{zip_push}
+use Rattle.net_core.specs.Laws.Zipped.{zip_push}
 use Rattle.net_core.proofs.Ordered.{name_of_gate}
 use Rattle.net_core.proofs.checking.driven_at.Goals as goal
 

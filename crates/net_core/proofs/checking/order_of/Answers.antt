@@ -8,8 +8,10 @@ use Rattle.net_core.specs.Causes.{AreOnce, IsCause}
 use Rattle.net_core.specs.Order.{AreAt, IsNumbered}
 use Rattle.net_core.specs.Sound.{driven_by, drivers_of}
 use Rattle.net_core.specs.Inner.Walk.{IsGateCycle, IsSequence, ReadsWithin, reads_of}
-use Rattle.net_core.proofs.Checked.{at_moved, cause_cycle, cause_gates, cause_latches, cause_outputs, count_drivers, inputs_within, signals_within, sound_from_order, told_moved, zip_moved}
-use Rattle.net_core.proofs.Numbered.{all_within, at_exit, zip_lengths}
+use Rattle.net_core.proofs.Checked.{at_moved, cause_cycle, cause_gates, cause_latches, cause_outputs, inputs_within, signals_within, sound_from_order, told_moved, zip_moved}
+use Rattle.net_core.specs.Laws.Drivers.{count_drivers}
+use Rattle.net_core.specs.Laws.Zipped.{zip_lengths}
+use Rattle.net_core.proofs.Numbered.{all_within, at_exit}
 use Rattle.net_core.proofs.Ordered.{named_cycle, gates_in_order}
 use Rattle.net_core.proofs.checking.order_of.Goals as goal
 use Rattle.net_core.proofs.checking.order_of.Goals.{In_ok-output_signals, In_ok-latch_signals, In_ok-gates, After-sequence}

@@ -1,4 +1,4 @@
-use Rattle.net_core.proofs.Flat.{flat_sound}
+use Rattle.net_core.specs.Laws.Flat.{flat_sound}
 use Rattle.net_core.proofs.laws.flat_is_sound.Goals as goal
 
 pub returns : goal.returns

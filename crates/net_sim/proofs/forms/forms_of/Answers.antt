@@ -4,7 +4,7 @@ use Rattle.std.proofs.Math.Seq.{take-suc}
 use Rattle.std.proofs.lemmas.List.{take_all}
 use Rattle.net_core.specs.declared.ordering.NumberedGate.{NumberedGate}
 use Rattle.net_sim.specs.declared.forms.GateForm.{GateForm}
-use Rattle.net_core.proofs.Numbered.{zip_push}
+use Rattle.net_core.specs.Laws.Zipped.{zip_push}
 use Rattle.net_sim.specs.Inner.Forms.{IsForm}
 use Rattle.net_sim.proofs.FormValues.{forms_at}
 use Rattle.net_sim.proofs.forms.forms_of.Goals as goal

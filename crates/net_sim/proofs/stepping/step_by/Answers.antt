@@ -2,8 +2,8 @@ use Rattle.std.proofs.Common.{◌≡◌, ◌+◌, ◌++◌, Bool, List, length, 
 use Rattle.std.proofs.lemmas.List.{length-map}
 use Rattle.net_core.specs.Order.{IsNumbered}
 use Rattle.net_core.specs.Sound.{drivers_of}
-use Rattle.net_core.proofs.Checked.{count_drivers}
-use Rattle.net_core.proofs.Numbered.{zip_lengths}
+use Rattle.net_core.specs.Laws.Drivers.{count_drivers}
+use Rattle.net_core.specs.Laws.Zipped.{zip_lengths}
 use Rattle.std.specs.Prelude.{Some, slice_get}
 use Rattle.net_sim.specs.Inner.Evaluated.{evaluated}
 use Rattle.net_sim.proofs.Stepped.{final, put_both, read_in, stepped}

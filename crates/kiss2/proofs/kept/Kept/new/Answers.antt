@@ -1,7 +1,7 @@
 use Rattle.std.proofs.Common.{refl, arith}
 use Rattle.kiss2.specs.Inner.Judging.{names_seen}
 use Rattle.kiss2.specs.Standing.{each_once}
-use Rattle.kiss2.proofs.Ending.{faultless_none}
+use Rattle.kiss2.specs.Laws.Faultless.{faultless_none}
 use Rattle.kiss2.proofs.kept.Kept.new.Goals as goal
 
 pub returns : goal.returns

@@ -4,7 +4,7 @@ use Rattle.std.proofs.lemmas.Result.{err_from_is_err_and}
 use Rattle.kiss2.specs.declared.line_kind.LineKind.TheVariants.{Row}
 use Rattle.kiss2.specs.Standing.{row_lines}
 use Rattle.kiss2.specs.Words.{is_of_kind}
-use Rattle.kiss2.proofs.Ending.{faultless_push}
+use Rattle.kiss2.specs.Laws.Faultless.{faultless_push}
 use Rattle.kiss2.proofs.kept.Kept.take_line.Goals as goal
 
 pub returns-in_err-take_line : goal.returns-in_err-take_line

@@ -4,7 +4,7 @@ use Rattle.std.proofs.lemmas.List.Elements.{Contains-get_or}
 use Rattle.std.proofs.lemmas.List.Quantifiers.{all_pairs_push}
 use Rattle.std.proofs.lemmas.Result.{IfOk-from_err}
 use Rattle.kiss_file.specs.Names.{AreDistinct}
-use Rattle.hs_io.proofs.Known.{last_at, names_with}
+use Rattle.hs_io.specs.Laws.Known.{last_at, names_with}
 use Rattle.kiss_file.proofs.state_names.StateNames.add.Goals as goal
 
 -- the bytes of a key

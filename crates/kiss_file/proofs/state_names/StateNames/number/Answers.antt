@@ -1,6 +1,6 @@
 use Rattle.std.proofs.Common.{◌≡◌, sym, ◌∙◌, subst, List, ℕ, slice_get, Some, Contains}
 use Rattle.std.proofs.lemmas.Bool.{false≢true}
-use Rattle.hs_io.proofs.Known.{found_at, found_from_contained}
+use Rattle.hs_io.specs.Laws.Known.{found_at, found_from_contained}
 use Rattle.kiss_file.proofs.state_names.StateNames.number.Goals as goal
 
 pub returns-in-Some-clause-some : goal.returns-in-Some-clause-some

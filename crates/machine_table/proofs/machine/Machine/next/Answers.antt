@@ -2,7 +2,7 @@ use Rattle.std.proofs.Common.{ℕ, ◌≡◌, get_or, None, IsNone, Option, refl
 use Rattle.std.proofs.lemmas.List.Elements.{Contains-get_or}
 use Rattle.cubes.specs.Symbol.{symbol_of}
 use Rattle.kiss_file.specs.declared.file.KissRow.{KissRow}
-use Rattle.kiss_file.proofs.Machine.{next_not_said, next_said}
+use Rattle.kiss_file.specs.Laws.Machine.{next_not_said, next_said}
 use Rattle.state_pairs.specs.Laws.Asking.{is_row_at, of_each_row}
 use Rattle.machine_table.proofs.machine.Machine.next.Goals as goal
 

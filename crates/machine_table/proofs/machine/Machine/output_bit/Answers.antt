@@ -3,7 +3,7 @@ use Rattle.std.proofs.lemmas.List.Elements.{Contains-get_or}
 use Rattle.cubes.specs.Symbol.{symbol_of}
 use Rattle.kiss_file.specs.declared.file.KissRow.{KissRow}
 use Rattle.kiss_file.specs.Machine.{given_bit}
-use Rattle.kiss_file.proofs.Machine.{output_bit_not_said, output_bit_said}
+use Rattle.kiss_file.specs.Laws.Machine.{output_bit_not_said, output_bit_said}
 use Rattle.state_pairs.specs.Laws.Asking.{is_row_at, of_each_row}
 use Rattle.machine_table.proofs.machine.Machine.output_bit.Goals as goal
 

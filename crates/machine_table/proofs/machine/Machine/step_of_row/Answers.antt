@@ -3,7 +3,7 @@ use Rattle.std.proofs.lemmas.Bool.{eq-eqb}
 use Rattle.cubes.specs.Symbol.{symbol_of}
 use Rattle.kiss_file.specs.declared.file.KissFile.{KissFile}
 use Rattle.kiss_file.specs.Machine.{Conflicting}
-use Rattle.kiss_file.proofs.Machine.{next_said}
+use Rattle.kiss_file.specs.Laws.Machine.{next_said}
 use Rattle.state_pairs.specs.Table.{IsTable}
 use Rattle.state_pairs.specs.Laws.Asking.{is_row_at}
 use Rattle.machine_table.proofs.WordLabels.{said_word, word_label}

@@ -14,7 +14,7 @@ use Rattle.kiss2.specs.Inner.Judging.{names_on, names_seen, once_after}
 use Rattle.kiss_file.specs.Names.{AreDistinct}
 use Rattle.kiss2.specs.Standing.{each_once, names_in_column, row_lines, state_names}
 use Rattle.kiss2.specs.Words.{current_field, is_name, next_field}
-use Rattle.kiss2.proofs.Finding.{contained_from_test, contained_test}
+use Rattle.kiss2.specs.Laws.Finding.{contained_from_test, contained_test}
 
 -- a name is another one
 abbrev pub differs : List ℕ → List ℕ → Bool

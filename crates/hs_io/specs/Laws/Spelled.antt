@@ -9,9 +9,8 @@ use Rattle.std.proofs.lemmas.List.Elements.{All-from_recursion}
 use Rattle.std.proofs.lemmas.List.Splits.{slice_split_none, slice_split_at, length-slice_split}
 use Rattle.std.proofs.lemmas.List.Sums.{position_or_len_is}
 use Rattle.list_facts.specs.Laws.Everywhere.{each_append, each_weaker}
-use Rattle.hs_io.specs.Lines.{begins_comment, content, ends_line, fields_in, fields_of, is_allowed, is_blank, line_of, physical_lines}
+use Rattle.hs_io.specs.Lines.{begins_comment, content, ends_line, fields_in, fields_of, is_allowed, is_blank, line_of, lines_of_pieces, physical_lines}
 use Rattle.hs_io.specs.Spelling.{spaced, line_text, ended, IsFieldByte, IsPlainField, ArePlainFields, IsComment}
-use Rattle.hs_io.proofs.Cuts.{lines_of_pieces-cons}
 
 -- a byte of a line of fields: a space or a byte of a field
 pub record IsLineByte (byte : ℕ) : Type 0 where
@@ -31,6 +30,11 @@ line_bytes [] p = tt
 line_bytes (field ∷ []) (p, ps) = rw (append-nil field) (field_in_line field p)
 line_bytes (field ∷ next ∷ more) (p, ps) =
     rw (flat_map-cons spaced next more) (each_append IsLineByte field (spaced next ++ flat_map spaced more) (field_in_line field p) (space_in_line, line_bytes (next ∷ more) ps))
+
+-- a piece with others behind it is a line
+pub lines_of_pieces-cons : (piece : List ℕ) (pieces : List (List ℕ)) → 0 < length pieces → lines_of_pieces (piece ∷ pieces) ≡ piece ∷ lines_of_pieces pieces
+lines_of_pieces-cons piece [] some = absurd (omega arith)
+lines_of_pieces-cons piece (next ∷ more) some = refl
 
 -- a text that ends a line is its own first line
 pub physical_lines-ended : (text rest : List ℕ) → AllByRecursion (λ b. b ≢ 10) text → physical_lines (ended text ++ rest) ≡ text ∷ physical_lines rest

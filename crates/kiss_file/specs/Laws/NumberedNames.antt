@@ -4,7 +4,8 @@ use Rattle.std.specs.Fmt.{decimal}
 use Rattle.std.proofs.lemmas.Fmt.{decimal_by_steps, decimal_injective, length-decimal-le}
 use Rattle.std.proofs.lemmas.List.FromFn.{get_or-map-range_with_len, length-map-range_with_len, map-range_with_len_more}
 use Rattle.std.proofs.lemmas.List.Elements.{All-cons, All-from_get_or, All-nil, All-push}
-use Rattle.kiss_file.specs.Names.{AreDistinct, IsNameByte, IsPlainName}
+use Rattle.hs_io.specs.Spelling.{IsFieldByte}
+use Rattle.kiss_file.specs.Names.{AreDistinct, IsPlainName}
 use Rattle.kiss_file.specs.NumberedNames.{numbered_name, numbered_names}
 
 tail : List ℕ → List ℕ
@@ -45,24 +46,24 @@ numbered_names-distinct count few i j d before within same =
     omega arith
 
 -- ---- each is plain
-digit_byte : (digit : ℕ) → digit < 10 → IsNameByte (48 + digit)
+digit_byte : (digit : ℕ) → digit < 10 → IsFieldByte (48 + digit)
 digit_byte digit low = record { low = omega arith; high = omega arith; no_comment = λ is. omega arith }
 
-decimal_bytes : (n : ℕ) → n < 2 ^ 64 → All IsNameByte (decimal n)
+decimal_bytes : (n : ℕ) → n < 2 ^ 64 → All IsFieldByte (decimal n)
 decimal_bytes n small =
-    decimal_by_steps (λ m digits. All IsNameByte digits)
-    (λ m low. All-cons IsNameByte (48 + m) [] (digit_byte m low) (All-nil IsNameByte))
-    (λ m digits high so_far. All-push IsNameByte digits (48 + m % 10) so_far (digit_byte (m % 10) (omega arith)))
+    decimal_by_steps (λ m digits. All IsFieldByte digits)
+    (λ m low. All-cons IsFieldByte (48 + m) [] (digit_byte m low) (All-nil IsFieldByte))
+    (λ m digits high so_far. All-push IsFieldByte digits (48 + m % 10) so_far (digit_byte (m % 10) (omega arith)))
     n small
 
 name_plain : (s : ℕ) → s < 65536 → IsPlainName (numbered_name s)
 name_plain s few =
     let short : length (decimal s) ≤ 5 = length-decimal-le 5 s (omega arith) (omega arith) (omega arith) in
-    let letter : IsNameByte 115 = record { low = omega arith; high = omega arith; no_comment = λ is. omega arith } in
+    let letter : IsFieldByte 115 = record { low = omega arith; high = omega arith; no_comment = λ is. omega arith } in
     record {
       some = omega arith;
       short = omega arith;
-      visible = All-cons IsNameByte 115 (decimal s) letter (decimal_bytes s (omega arith));
+      visible = All-cons IsFieldByte 115 (decimal s) letter (decimal_bytes s (omega arith));
       no_star = λ same. let first : 115 ≡ 42 = ap (λ (xs : List ℕ). get_or xs 0 0) same in omega arith;
       no_dash = λ same. let first : 115 ≡ 45 = ap (λ (xs : List ℕ). get_or xs 0 0) same in omega arith;
     }

@@ -6,7 +6,7 @@ use Rattle.net_core.specs.declared.Gate.{Gate}
 use Rattle.net_core.specs.declared.Network.{Network}
 use Rattle.net_core.specs.Step.{gate_value, IsValuation}
 use Rattle.net_core.specs.Sound.{driven_by, drivers_of, IsOrdered, Sound, SoundIsDetermined}
-use Rattle.net_core.proofs.Members.{Agree, is_same_name, map_same, times, times-append, times-cons, times-some}
+use Rattle.net_core.specs.Laws.Members.{Agree, is_same_name, map_same, times, times-append, times-cons, times-some}
 use Rattle.std.proofs.lemmas.List.{length-map, map-append}
 use Rattle.std.proofs.lemmas.Simd.{map-map}
 use Rattle.std.proofs.lemmas.List.Elements.{All-contains, Contains-append_cases, Contains-append_left, Contains-append_right, recursion_from_All, All-from_recursion}

@@ -21,7 +21,7 @@ use Rattle.kiss2.specs.Kiss.{IsNextOf, IsRecordOf, IsRowOf}
 use Rattle.kiss_file.specs.Names.{AreDistinct}
 use Rattle.kiss2.specs.Standing.{line_with, reset_name, row_lines, state_names}
 use Rattle.kiss2.specs.Words.{current_field, field_at, next_field}
-use Rattle.kiss2.proofs.Once.{distinct_from_once, once-each_once}
+use Rattle.kiss2.specs.Laws.Once.{distinct_from_once, once-each_once}
 
 -- cubes with the same numbers are one
 module _ (d : Cube) where

@@ -7,8 +7,8 @@ use Rattle.net_core.specs.declared.Gate.{Gate}
 use Rattle.net_core.specs.declared.Network.{Network}
 use Rattle.net_core.specs.Flat.{FlatIsSound, GivenIsAStep, IsFlat, base_of}
 use Rattle.net_core.specs.Sound.{IsOrdered, driven_by, drivers_of}
-use Rattle.net_core.proofs.Members.{times-append, times-some}
-use Rattle.net_core.proofs.Valuations.{sound_one}
+use Rattle.net_core.specs.Laws.Members.{times-append, times-some}
+use Rattle.net_core.specs.Laws.Valuations.{sound_one}
 
 -- what stands in the base, and what a gate drives, is driven
 from_base : (N : Network) (name : List ℕ) → Contains (base_of N) name → Contains (drivers_of N) name

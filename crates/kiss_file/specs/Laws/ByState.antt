@@ -10,7 +10,7 @@ use Rattle.kiss_file.specs.declared.file.KissRow.{KissRow}
 use Rattle.kiss_file.specs.Lawful.{AreGiven, AreNumbered, IsLawful, IsLawfulRow, appearances, given_names}
 use Rattle.kiss_file.specs.Names.{AreDistinct, IsPlainName}
 use Rattle.kiss_file.specs.NumberedNames.{numbered_names}
-use Rattle.kiss_file.proofs.NumberedNames.{length-numbered_names, numbered_names-distinct, numbered_names-plain}
+use Rattle.kiss_file.specs.Laws.NumberedNames.{length-numbered_names, numbered_names-distinct, numbered_names-plain}
 
 -- a file with n numbered states and no other names, whose rows come state by state; it may have too many rows
 pub record IsByState (F : KissFile) (n : ℕ) : Type 0 where

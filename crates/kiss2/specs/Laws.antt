@@ -1,0 +1,4 @@
+pub mod Finding
+pub mod Once
+pub mod SameRecord
+pub mod Faultless
