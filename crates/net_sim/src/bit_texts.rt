@@ -4,7 +4,6 @@ ghost use Rattle.std.specs.Prelude.{◌≡◌, ◌≢◌, ℕ, ◌==◌, Bool, L
 ghost use Rattle.hs_io.specs.Spelling.{ended};
 ghost use Rattle.net_sim.specs.BitTexts.{text_of_bits, character_of};
 
-use cubes::digit_of;
 use std::alloc::AllocError;
 
 /// Whether the text is that of as many bits as the slice has places. If so, it then holds these bits.
@@ -66,7 +65,7 @@ fn push_characters(text: &mut Vec<u8>, bits: &[bool]) -> Result<(), AllocError>
     ensures { OnOk result (text.new.items ≡ text.old.items ++ map character_of bits.now) }
 {
     for bit in bits {
-        text.push(digit_of(*bit))?;
+        text.push(if *bit { b'1' } else { b'0' })?;
     }
     Ok(())
 }
