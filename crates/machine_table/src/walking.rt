@@ -1,8 +1,10 @@
 //! The outputs along a word.
+//!
+//! The last steps that were taken are remembered, so that a step that is taken often is found once.
 ghost use Rattle.std.specs.Prelude.{◌≡◌, ◌<◌, ◌^◌, All, IfOk, IfSome, length, map};
 ghost use Rattle.cubes.specs.Symbol.{symbol_of, lowest_bits};
 ghost use Rattle.kiss_file.specs.Machine.{answers, out};
-ghost use Rattle.machine_table.specs.Inner.Step.{IsStep};
+ghost use Rattle.machine_table.specs.Inner.Step.{IsStep, IsRightStep};
 
 use crate::Machine;
 use crate::open_entry::all_outputs;
@@ -12,11 +14,22 @@ use std::alloc::{AllocError, Global};
 /// The number of symbols per state from which trees of rows pay off.
 const MANY_VISITS: usize = 256;
 
+/// The most steps that are remembered.
+const MOST_MET: usize = 65536;
+
 /// The next state, and the outputs with output b at 2^b.
 #[derive(Clone, Copy)]
 struct Step {
     next: usize,
     outputs: u64,
+}
+
+/// A step that was taken, from a state at a symbol.
+#[derive(Clone, Copy)]
+struct MetStep {
+    state: usize,
+    symbol: u32,
+    step: Step,
 }
 
 impl Machine {
@@ -27,10 +40,12 @@ impl Machine {
         ensures below { IfOk result (λ words. All (λ word. word < 2 ^ self.now.outputs) words.items) }
     {
         let trees = self.trees_for(alloc, symbols.len())?;
+        let none: Option<MetStep> = None;
+        let mut met = vec![in alloc; none; symbols.len().min(MOST_MET)]?;
         let mut words = Vec::with_capacity(alloc, symbols.len())?;
         let mut s = self.reset();
         for x in symbols {
-            let step = self.step(&trees, s, *x);
+            let step = self.step_met(&trees, &mut met, s, *x);
             words.push(step.outputs)?;
             s = step.next;
         }
@@ -49,6 +64,33 @@ impl Machine {
             trees.push(tree)?;
         }
         Ok(trees)
+    }
+
+    /// The step from a state at a symbol. One that was taken before is looked up in the list, if it is still there.
+    fn step_met(&self, trees: &[RowTree], met: &mut Vec<Option<MetStep>>, s: usize, x: u32) -> Step
+        requires s { s < length self.now.states }
+        requires x { x < 2 ^ self.now.inputs }
+        requires right { All (IsRightStep self.now) met.old.items }
+        ensures step { IsStep self.now s x result.next result.outputs }
+        ensures right { All (IsRightStep self.now) met.new.items }
+    {
+        if met.is_empty() {
+            return self.step(trees, s, x);
+        }
+        let place = s.wrapping_mul(256).wrapping_add(x as usize) % met.len();
+        if let Some(it) = met[place]
+            && it.state == s
+            && it.symbol == x
+        {
+            return it.step;
+        }
+        let step = self.step(trees, s, x);
+        met[place] = Some(MetStep {
+            state: s,
+            symbol: x,
+            step,
+        });
+        step
     }
 
     /// The step from a state at a symbol. The list of trees may be empty.
