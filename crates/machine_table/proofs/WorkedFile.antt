@@ -1,5 +1,5 @@
 -- The first conflict and the first open entry of a file with three rows.
-use Rattle.std.proofs.Common.{◌≡◌, ℕ, zero, suc, ◌+◌, ◌<◌, ◌⊎◌, IsSome, inl, inr, get_or, lit<, refl, sym, ap, ◌∙◌, subst, arith}
+use Rattle.std.proofs.Common.{◌≡◌, ℕ, zero, suc, ◌+◌, ◌<◌, IsSome, inl, inr, get_or, lit<, refl, sym, ap, ◌∙◌, subst, arith}
 use Rattle.std.proofs.lemmas.Bool.{false≢true}
 use Rattle.cubes.specs.Cube.{Holds}
 use Rattle.cubes.specs.Symbol.{symbol_of}

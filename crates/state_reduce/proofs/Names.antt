@@ -21,7 +21,7 @@ use Rattle.machine_table.specs.Table.{IsTable}
 use Rattle.partition.proofs.Nesting.{least_of-le}
 use Rattle.partition.specs.Inside.{least_of}
 use Rattle.state_reduce.specs.Inner.Named.{currents_of, kept_of, nexts_of}
-use Rattle.state_reduce.specs.Quotient.{block_name, block_names, block_number}
+use Rattle.state_reduce.specs.Quotient.{block_name, block_names}
 
 -- a name, each once, is one of the names
 pub once_has : (names : List (List ℕ)) (name : List ℕ) → Contains names name → Contains (each_once names) name

@@ -1,12 +1,12 @@
 -- Rounds of telling states apart, and what is left when a round changes nothing.
-use Rattle.std.proofs.Common.{◌≡◌, ℕ, ◌<◌, ◌^◌, ◌⊎◌, Bool, List, [], ◌∷◌, length, slice_index, refl, sym, ap, ◌∙◌, subst, inl, inr, arith}
-use Rattle.std.proofs.lemmas.List.Elements.{All-cons, All-head, All-nil, All-tail}
-use Rattle.cubes.specs.Symbol.{number_of, symbol_of}
-use Rattle.cubes.specs.Laws.Numbers.{length-symbol_of, number_below, symbol_of-number_of}
+use Rattle.std.proofs.Common.{◌≡◌, ℕ, ◌<◌, ◌⊎◌, Bool, List, [], ◌∷◌, length, slice_index, refl, sym, ap, ◌∙◌, subst, inl, inr, arith}
+use Rattle.std.proofs.lemmas.List.Elements.{All-head, All-tail}
+use Rattle.cubes.specs.Symbol.{symbol_of}
+use Rattle.cubes.specs.Laws.Numbers.{length-symbol_of}
 use Rattle.kiss_file.specs.declared.file.KissFile.{KissFile}
 use Rattle.kiss_file.specs.Machine.{answers, next, out}
 use Rattle.partition.specs.Partition.{Le, Together}
-use Rattle.state_reduce.specs.Alike.{Alike, IsEquivalence, IsWord}
+use Rattle.state_reduce.specs.Alike.{IsEquivalence, IsWord}
 use Rattle.machine_table.specs.Staying.{NeverLeaves}
 use Rattle.state_reduce.specs.Laws.Alike.{alike_agree, alike_next, at_symbol}
 use Rattle.state_reduce.specs.Inner.Refining.{AgreeAlways, IsRound, StayTogether}

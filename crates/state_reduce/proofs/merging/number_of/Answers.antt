@@ -1,4 +1,4 @@
-use Rattle.std.proofs.Common.{◌≡◌, ◌∙◌, ◌++◌, ℕ, List, Contains, Some, slice_get, length, ap, subst, sym, arith}
+use Rattle.std.proofs.Common.{◌≡◌, ◌++◌, ℕ, List, Contains, Some, slice_get, length, ap, subst, sym, arith}
 use Rattle.state_reduce.specs.Inner.Named.{currents_of, nexts_of}
 use Rattle.state_reduce.specs.Quotient.{block_name}
 use Rattle.state_reduce.proofs.Appearing.{place_at}

@@ -1,4 +1,4 @@
-use Rattle.std.proofs.Common.{◌≡◌, ◌∙◌, Option, Some, ℕ, ap, option_map, sym}
+use Rattle.std.proofs.Common.{◌≡◌, ◌∙◌, Some, ℕ, ap, option_map, sym}
 use Rattle.state_reduce.specs.Quotient.{block_number}
 use Rattle.state_reduce.proofs.Names.{row_made}
 use Rattle.state_reduce.proofs.merging.row_of.Goals as goal
