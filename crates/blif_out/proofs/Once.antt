@@ -14,9 +14,9 @@ use Rattle.list_facts.specs.Laws.Everywhere.{images_once}
 use Rattle.hs_io.specs.Spelling.{IsComment}
 use Rattle.net_core.specs.Words.{model_word}
 use Rattle.partition.specs.Text.{labels_text, pieces_of}
-use Rattle.partition.proofs.Texts.{AreSmall, partition_once, text_once}
-use Rattle.partition.proofs.Numerals.{own}
-use Rattle.partition.proofs.Pieces.{pieces_of-labels_text}
+use Rattle.partition.specs.Laws.Texts.{AreSmall, partition_once, text_once}
+use Rattle.partition.specs.Laws.Numerals.{own}
+use Rattle.partition.specs.Laws.Pieces.{pieces_of-labels_text}
 use Rattle.state_codes.specs.declared.split.Kind.{Kind}
 use Rattle.state_codes.specs.declared.split.Kind.TheVariants.{Code, Assign, Parallel, Serial, Cascade, Feedback, Least}
 use Rattle.state_codes.specs.declared.split.Part.{Part}

@@ -2,7 +2,7 @@
 use Rattle.std.proofs.Common.{◌≡◌, ℕ, ◌+◌, ◌<◌, ◌≤◌, ◌↔◌, inl, inr, All, AllPairs, List, Result, Ok, Err, IfOk, get_or, length, subst, sym, arith}
 use Rattle.std.proofs.lemmas.Bool.{cases_lt}
 use Rattle.hs_lattice.specs.Collection.{Adds, Knows}
-use Rattle.hs_lattice.proofs.Members.{All-added, Contains-added, Contains-same, Contains-value}
+use Rattle.hs_lattice.specs.Laws.Members.{All-added, Contains-added, Contains-same, Contains-value}
 use Rattle.kiss_file.specs.declared.file.KissFile.{KissFile}
 use Rattle.partition.specs.Partition.{IsOne, IsPartition, Together}
 use Rattle.partition.specs.Laws.Labels.{IsPartition-of}

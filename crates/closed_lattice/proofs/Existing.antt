@@ -1,9 +1,7 @@
 -- Joins and least closed partitions stand, whether they are made or not.
-use Rattle.std.proofs.Common.{◌≡◌, ℕ, zero, suc, ◌<◌, ◌≤◌, ◌^◌, ◌⊎◌, inl, inr, min, max, Contains, List, [], ◌∷◌, ◌++◌, map, length, get_or, refl, sym, ap, ◌∙◌, subst, arith}
+use Rattle.std.proofs.Common.{◌≡◌, ℕ, zero, suc, ◌<◌, ◌≤◌, ◌^◌, ◌⊎◌, inl, inr, Contains, List, [], ◌∷◌, ◌++◌, map, length, get_or, refl, sym, ap, ◌∙◌, subst, arith}
 use Rattle.std.specs.List.{range_with_len}
 use Rattle.std.proofs.lemmas.Bool.{cases_eq}
-use Rattle.std.proofs.lemmas.Grind.{get_or_default_zero}
-use Rattle.std.proofs.lemmas.List.{get_or-map, length-map}
 use Rattle.std.proofs.lemmas.List.FromFn.{get_or-map-range_with_len, length-map-range_with_len}
 use Rattle.std.proofs.lemmas.List.Elements.{Contains-append_cases, Contains-append_right, Contains-push_cases}
 use Rattle.cubes.specs.Symbol.{symbol_of}
@@ -13,36 +11,18 @@ use Rattle.machine_table.specs.Covering.{IsImage}
 use Rattle.machine_table.specs.Staying.{NeverLeaves}
 use Rattle.partition.specs.Partition.{blocks_of, IsPartition, IsStateCount, Together, Le, zero_of}
 use Rattle.partition.specs.Inside.{least_of}
-use Rattle.partition.specs.Inner.Relabelled.{relabelled}
 use Rattle.partition.specs.MeetAndJoin.{Chain, IsJoin}
-use Rattle.partition.specs.Merging.{IsMerged}
 use Rattle.partition.specs.Laws.Chains.{chain_keeps, chain_link, chain_on, chain_within, together_turned}
 use Rattle.partition.specs.Laws.Extremes.{zero_of_is_partition, zero_of_is_zero}
 use Rattle.partition.specs.Laws.Labels.{IsPartition-of, label-lt-blocks_of}
 use Rattle.partition.specs.Laws.Merging.{merged_above, merged_held}
-use Rattle.partition.proofs.Nesting.{least_of-le, least_of-same}
-use Rattle.partition.proofs.Relabelling.{merged_already, put_together}
+use Rattle.partition.specs.Laws.Least.{least_of-le, least_of-same, least_holds}
 use Rattle.closed_lattice.specs.Closed.{IsPrincipal}
 use Rattle.closed_lattice.specs.Inner.Waiting.{AreStates, AreTogether, TakesApart}
-use Rattle.closed_lattice.proofs.Blocks.{fewer_blocks, least_holds}
+use Rattle.partition.specs.Laws.Blocks.{fewer_blocks}
 use Rattle.closed_lattice.proofs.Growing.{IsGrowing, growing_begun, growing_ended, growing_merged}
+use Rattle.partition.specs.Laws.Holds.{merged_stands}
 use Rattle.closed_lattice.proofs.Waiting.{adds_images}
-
--- two blocks put together
-merged_stands : (p : List ℕ) (s t : ℕ) → IsPartition (length p) p → s < length p → t < length p → (r : List ℕ) × IsMerged p s t r
-merged_stands p s t lawful in_s in_t =
-    elim (cases_eq (get_or p s 0) (get_or p t 0)) [
-      | inl same ↦ (p, merged_already p s t lawful (in_s, in_t, same))
-      | inr two ↦
-          let a = get_or p s 0 in
-          let b = get_or p t 0 in
-          let r = map (relabelled (min a b) (max a b)) p in (
-            r,
-            (put_together p p r s t a b (min a b) (max a b) lawful refl (length-map p (relabelled (min a b) (max a b))) in_s in_t
-                (sym (get_or_default_zero p s a in_s)) (sym (get_or_default_zero p t b in_t)) two refl refl
-                (λ k within. get_or-map (relabelled (min a b) (max a b)) p k 0 0 within)).merged,
-          )
-    ]
 
 -- p joined with the first k states' blocks of g
 record IsJoining (n : ℕ) (p g : List ℕ) (k : ℕ) (r : List ℕ) : Type 0 where

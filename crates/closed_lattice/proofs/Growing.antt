@@ -10,7 +10,7 @@ use Rattle.machine_table.specs.Staying.{NeverLeaves}
 use Rattle.partition.specs.Partition.{IsPartition, IsOne, IsZero, Together, Le}
 use Rattle.partition.specs.Merging.{IsMerged}
 use Rattle.partition.specs.Laws.Merging.{merged_above, merged_held, merged_least}
-use Rattle.partition.specs.Laws.Chains.{together_itself, together_turned}
+use Rattle.partition.specs.Laws.Chains.{together_itself, together_on, together_turned}
 use Rattle.pair_operators.specs.Pair.{Pair, Closed}
 use Rattle.pair_operators.specs.Laws.Pairs.{one_pairs, zero_pairs}
 use Rattle.closed_lattice.specs.Closed.{IsClosedPartition, IsPrincipal}
@@ -23,9 +23,6 @@ pub record IsGrowing (F : KissFile) (s t : ℕ) (p : List ℕ) (waiting : List (
   pub states : AreStates (length F.states) waiting
   pub below : (q : List ℕ) → IsClosedPartition F q → Together q s t → Le p q × AreTogether q waiting
   pub closing : (q : List ℕ) → IsPartition (length F.states) q → Le p q → AreTogether q waiting → Pair F p q × Together q s t
-
-pub together_on : (q : List ℕ) (s t u : ℕ) → Together q s t → Together q t u → Together q s u
-together_on q s t u one two = (one.0, two.1, one.2 ∙ two.2)
 
 -- each symbol leads two states to an image of theirs
 pub image_of_symbol : (F : KissFile) (s t : ℕ) (x : List Bool) → length x ≡ F.inputs → IsImage F s t (next F s x) (next F t x)

@@ -8,7 +8,7 @@ use Rattle.pair_operators.specs.Growth.{IsGrowth, pairs_of}
 use Rattle.pair_operators.specs.Laws.Growth.{grown_above, grown_keeps, grown_meets, growth_is_full}
 use Rattle.closed_lattice.specs.Closed.{IsClosedPartition, IsPrincipal}
 use Rattle.closed_lattice.specs.Limits.{IsGreatestGrown}
-use Rattle.closed_lattice.proofs.Generating.{join_closed}
+use Rattle.closed_lattice.specs.Laws.Generating.{join_closed}
 
 -- no closed partition strictly above the last one meets the condition
 pub grown_greatest : (F : KissFile) (Meets : List ℕ → Type 0) → ((p q : List ℕ) → Le q p → Meets p → Meets q) → (start last : List ℕ) → IsClosedPartition F start → Meets start → IsGrowth (IsPrincipal F) Meets (length F.states) start last → IsGreatestGrown F Meets start last

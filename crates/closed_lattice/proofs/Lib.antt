@@ -1,11 +1,7 @@
 pub mod Waiting
 pub mod Growing
 pub mod Joining
-pub mod Blocks
-pub mod ZeroBlocks
-pub mod Generating
 pub mod Collected
-pub mod Listed
 pub mod Grown
 pub mod Conditions
 pub mod Existing

@@ -5,19 +5,17 @@ use Rattle.kiss_file.specs.declared.file.KissFile.{KissFile}
 use Rattle.machine_table.specs.Staying.{NeverLeaves}
 use Rattle.partition.specs.Partition.{IsPartition, Le, Lt, Together, blocks_of, zero_of}
 use Rattle.partition.specs.MeetAndJoin.{IsJoin, IsMeet}
-use Rattle.partition.specs.Laws.Chains.{chain_keeps, chain_link, chain_within, join_is_least, together_turned}
+use Rattle.partition.specs.Laws.Chains.{chain_keeps, chain_link, chain_within, join_is_least, together_turned, together_on}
 use Rattle.partition.specs.Laws.Extremes.{zero_of_is_partition}
 use Rattle.partition.specs.Laws.Labels.{IsPartition-of}
 use Rattle.pair_operators.specs.Growth.{TakesPair}
 use Rattle.closed_lattice.specs.Closed.{IsPrincipal}
 use Rattle.closed_lattice.specs.Inner.Growing.{IsSettled, NeverHolds}
 use Rattle.closed_lattice.specs.Limits.{HoldsApart, MeetInZero}
-use Rattle.closed_lattice.proofs.Blocks.{fewer_blocks}
+use Rattle.partition.specs.Laws.Blocks.{fewer_blocks, strictly_fewer, zero_blocks, zero_by_blocks}
 use Rattle.closed_lattice.proofs.Conditions.{never_below_zero, zero_strictly_below}
 use Rattle.closed_lattice.proofs.Existing.{join_stands, principal_stands}
-use Rattle.closed_lattice.proofs.Generating.{join_closed}
-use Rattle.closed_lattice.proofs.Growing.{together_on}
-use Rattle.closed_lattice.proofs.ZeroBlocks.{strictly_fewer, zero_blocks, zero_by_blocks}
+use Rattle.closed_lattice.specs.Laws.Generating.{join_closed}
 
 -- a join with what is below adds nothing
 join_adds_nothing : (p g : List ℕ) → IsPartition (length p) p → length g ≡ length p → Le g p → IsJoin p g p

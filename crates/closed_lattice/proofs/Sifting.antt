@@ -11,7 +11,7 @@ use Rattle.partition.specs.Before.{Before}
 use Rattle.partition.specs.Laws.Labels.{same_labels}
 use Rattle.closed_lattice.specs.Closed.{HoldsSome, IsAtom, IsClosedPartition}
 use Rattle.closed_lattice.specs.Inner.Generators.{AreGenerators, IsLeastAmong}
-use Rattle.closed_lattice.proofs.ZeroBlocks.{above_by_blocks}
+use Rattle.partition.specs.Laws.Blocks.{above_by_blocks}
 
 -- What is known after the first i of the found ones.
 pub record IsSifting (F : KissFile) (found list : List (List ℕ)) (i : ℕ) : Type 0 where

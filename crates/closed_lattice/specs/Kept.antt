@@ -1,8 +1,7 @@
 -- The least closed partitions of pairs of states that are kept from one call to the next.
-use Rattle.std.specs.Prelude.{All}
+use Rattle.std.specs.Prelude.{All, List}
 use Rattle.kiss_file.specs.declared.file.KissFile.{KissFile}
 use Rattle.closed_lattice.specs.declared.known.Item.{Item}
-use Rattle.closed_lattice.specs.declared.known.Principals.{Principals}
 use Rattle.closed_lattice.specs.Closed.{IsPrincipal}
 
 -- the partition is the least closed one of this machine that holds the two states beside it together
@@ -10,5 +9,5 @@ abbrev pub IsPrincipalItem : KissFile → Item → Type 0
 IsPrincipalItem F item = IsPrincipal F item.s item.t item.least
 
 -- all that are kept are least closed partitions of this machine
-abbrev pub ArePrincipalsOf : KissFile → Principals → Type 0
-ArePrincipalsOf F kept = All (IsPrincipalItem F) kept.items.items
+abbrev pub ArePrincipalsOf : KissFile → List Item → Type 0
+ArePrincipalsOf F kept = All (IsPrincipalItem F) kept

@@ -7,13 +7,14 @@ ghost use Rattle.kiss_file.specs.declared.file.KissFile.{KissFile};
 
 use partition::Partition;
 use std::alloc::{AllocError, Global};
+use std::marker::Model;
 
 /// The least closed partition that holds two states together.
 #[derive(Drop)]
 pub struct Item {
-    s: u16,
-    t: u16,
-    least: Partition,
+    pub s: u16,
+    pub t: u16,
+    pub least: Partition,
 }
 
 impl Item {
@@ -25,8 +26,8 @@ impl Item {
     }
 }
 
-/// Least closed partitions of pairs of states of one machine. They are kept from one growth to the next, so that each
-/// is made once.
+/// Least closed partitions of pairs of states of one machine, seen by contracts as the list of them. They are kept from
+/// one growth to the next, so that each is made once.
 #[derive(Drop)]
 pub struct Principals {
     items: Vec<Item>,
@@ -34,9 +35,25 @@ pub struct Principals {
     places: Vec<usize>,
 }
 
+impl Model for Principals {
+    ghost use Rattle.std.specs.Prelude.{List};
+    ghost use Rattle.closed_lattice.specs.declared.known.Item.{Item};
+
+    ghost Value = { List Item };
+
+    ghost view = { λ k. k.items.items };
+}
+
 /// A number for two states, whichever comes first. Numbers of states are below 256.
 pub(crate) fn number_of(s: u16, t: u16) -> usize {
     usize::from(s.max(t)) * 256 + usize::from(s.min(t))
+}
+
+/// Puts the place at the number of two states, if there is a place for any.
+fn put_place(places: &mut [usize], number: usize, place: usize) {
+    if number < places.len() {
+        places[number] = place;
+    }
 }
 
 impl Principals {
@@ -94,9 +111,7 @@ impl Principals {
         let place = self.items.len();
         let least = least.copy(alloc)?;
         self.items.push(Item { s, t, least })?;
-        if let Some(known) = self.places.get_mut(number_of(s, t)) {
-            *known = place;
-        }
+        put_place(self.places.as_mut_slice(), number_of(s, t), place);
         Ok(())
     }
 }

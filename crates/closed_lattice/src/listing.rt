@@ -13,7 +13,6 @@ ghost use Rattle.partition.specs.Partition.{IsPartition};
 
 use crate::collecting::principals_within;
 use hs_lattice::{Listing, join_closure};
-use hs_list::Items;
 use machine_table::Machine;
 use partition::{BitPart, BitWorld, Partition};
 use std::alloc::{AllocError, Global};
@@ -29,14 +28,26 @@ fn in_rows(alloc: Global, list: &[Partition]) -> Result<Vec<BitPart>, AllocError
     Ok(rows)
 }
 
-/// The closed partitions in ascending order, or more of them, as the joins of the least ones of two states.
+/// The least closed partitions of each two states, each once, in ascending order, or more of them than the limit.
+fn generators(alloc: Global, m: &Machine, limit: usize) -> Result<Vec<Partition>, AllocError>
+    ensures ascending { IfOk result (λ found. AllPairs Before found.items) }
+    ensures closed { IfOk result (λ found. All (IsClosedPartition m.now) found.items) }
+    ensures all { IfOk result (λ found. length found.items ≤ limit → AreGenerators m.now found.items) }
+{
+    let one = Partition::one(alloc, m.states())?;
+    principals_within(alloc, m, &one, limit)
+}
+
+/// The closed partitions in ascending order, or limit + 1 of them, as the joins of the least ones of two states.
 fn joins_of(
     alloc: Global,
     m: &Machine,
     found: &[Partition],
     limit: usize,
 ) -> Result<Listing<BitPart>, AllocError>
-    requires found { AreGenerators m.now found.now }
+    requires ascending { AllPairs Before found.now }
+    requires closed { All (IsClosedPartition m.now) found.now }
+    requires all { length found.now ≤ limit → AreGenerators m.now found.now }
     requires positive { 1 ≤ limit }
     requires bounded { limit ≤ 10000 }
     ensures whole { IfOk result (λ listing. IfWhole listing (Lists Before (IsClosedPartition m.now))) }
@@ -49,42 +60,6 @@ fn joins_of(
     let generators = in_rows(alloc, found)?;
     let world = BitWorld { n: m.states() };
     join_closure(alloc, &world, generators.as_slice(), limit)
-}
-
-/// The least closed partitions of each two states, each once, in ascending order, or more of them than the limit.
-fn generators(alloc: Global, m: &Machine, limit: usize) -> Result<Vec<Partition>, AllocError>
-    ensures ascending { IfOk result (λ found. AllPairs Before found.items) }
-    ensures closed { IfOk result (λ found. All (IsClosedPartition m.now) found.items) }
-    ensures all { IfOk result (λ found. length found.items ≤ limit → AreGenerators m.now found.items) }
-{
-    let one = Partition::one(alloc, m.states())?;
-    principals_within(alloc, m, &one, limit)
-}
-
-/// The closed partitions in ascending order, or more of them than the limit, out of those of each two states.
-fn all_of(
-    alloc: Global,
-    m: &Machine,
-    partitions: &[Partition],
-    limit: usize,
-) -> Result<Listing<BitPart>, AllocError>
-    requires ascending { AllPairs Before partitions.now }
-    requires closed { All (IsClosedPartition m.now) partitions.now }
-    requires all { length partitions.now ≤ limit → AreGenerators m.now partitions.now }
-    requires positive { 1 ≤ limit }
-    requires bounded { limit ≤ 10000 }
-    ensures whole { IfOk result (λ listing. IfWhole listing (Lists Before (IsClosedPartition m.now))) }
-    ensures within { IfOk result (λ listing. IfWhole listing (λ items. length items ≤ limit)) }
-    ensures no_more { IfOk result (λ listing. IfWhole listing (λ _. (partitions : List (List ℕ))
-        → Evidence Before (IsClosedPartition m.now) limit partitions → ⊥)) }
-    ensures more { IfOk result (λ listing. IfMore listing
-        (Evidence Before (IsClosedPartition m.now) limit)) }
-{
-    if partitions.len() > limit {
-        let rows = in_rows(alloc, &partitions[..limit + 1])?;
-        return Ok(Listing::More(Items::from(rows)));
-    }
-    joins_of(alloc, m, partitions, limit)
 }
 
 /// The closed partitions in ascending order, or where there are more than the limit, limit + 1 of them.
@@ -101,7 +76,7 @@ pub fn all(alloc: Global, m: &Machine, limit: usize) -> Result<Listing<BitPart>,
         (Evidence Before (IsClosedPartition m.now) limit)) }
 {
     let found = generators(alloc, m, limit)?;
-    all_of(alloc, m, found.as_slice(), limit)
+    joins_of(alloc, m, found.as_slice(), limit)
 }
 
 /// Whether no partition of the list is strictly below this one. Such a partition has more blocks, and partitions

@@ -2,7 +2,7 @@
 ghost use Rattle.std.specs.Prelude.{◌≡◌, ◌≢◌, ℕ, ◌+◌, ◌<◌, ◌≤◌, ◌^◌, ◌⊎◌, ◌↔◌, All, IfErr, IfNone, IfOk, IfSome, IsTrue, List, MatchResult, OnOk, length, true};
 ghost use Rattle.std.specs.Fmt.{decimal};
 ghost use Rattle.partition.specs.Partition.{IsStateCount};
-ghost use Rattle.partition.specs.Inner.Pieces.{IsPlain};
+ghost use Rattle.partition.specs.Numerals.{IsPlain};
 ghost use Rattle.cover_split.specs.declared.cover.CoverFail.{CoverFail};
 ghost use Rattle.cover_split.specs.Cover.{IsBlock, IsCover, IsTrivial, places_of};
 ghost use Rattle.cover_split.specs.Refusal.{BlocksFault, CoverFault, IsTextOf};

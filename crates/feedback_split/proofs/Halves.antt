@@ -45,7 +45,7 @@ module _ (F : KissFile) (first : List ℕ) (parts : List Part) (lawful : IsParti
     first = part_reading first halves.first_carrier 1;
     second = part_reading halves.second halves.second_carrier 0;
     two = halves.two;
-    greatest = λ q right above strict below. strict (greatest.greatest q right below above);
+    greatest = λ q right above below. above.1 (greatest.greatest q right below above.0);
     second_carrier = greatest_breaks F first halves.second halves.second_carrier halves.second_greatest;
     first_carrier = greatest_breaks F halves.second first halves.first_carrier halves.first_greatest;
   }

@@ -15,7 +15,7 @@ use Rattle.pair_operators.specs.Growth.{pairs_of}
 use Rattle.pair_operators.specs.Laws.Extremes.{below_high}
 use Rattle.pair_operators.specs.Laws.Growth.{grown_above, grown_keeps, grown_meets, growth_is_full}
 use Rattle.pair_operators.specs.Pair.{Pair}
-use Rattle.mm_lattice.proofs.Generating.{hold_below}
+use Rattle.partition.specs.Laws.Holds.{hold_below}
 use Rattle.feedback_split.specs.Best.{BreaksWhenJoined}
 use Rattle.feedback_split.specs.Carrier.{IsCarrierGrowth, IsGreatestCarrier, Suffices}
 

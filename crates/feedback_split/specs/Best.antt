@@ -1,7 +1,7 @@
 -- Feedback splits whose first part and whose carriers cannot be made greater (source: this project).
 use Rattle.std.specs.Prelude.{◌≡◌, ℕ, ◌<◌, List, [], ◌∷◌, length}
 use Rattle.kiss_file.specs.declared.file.KissFile.{KissFile}
-use Rattle.partition.specs.Partition.{Le, Together}
+use Rattle.partition.specs.Partition.{Lt, Together}
 use Rattle.partition.specs.Merging.{IsMerged}
 use Rattle.mm_lattice.specs.Top.{IsBelowOne, IsRightSide}
 use Rattle.state_codes.specs.declared.split.Part.{Part}
@@ -9,7 +9,7 @@ use Rattle.feedback_split.specs.Carrier.{Suffices}
 
 -- no right side of an Mm pair is strictly between p and one
 abbrev pub NoRightAbove : KissFile → List ℕ → Type 0
-NoRightAbove F p = (q : List ℕ) → IsRightSide F q → Le p q → (Le q p → ⊥) → IsBelowOne q → ⊥
+NoRightAbove F p = (q : List ℕ) → IsRightSide F q → Lt p q → IsBelowOne q → ⊥
 
 -- c with any two of its blocks put together does not suffice for own
 abbrev pub BreaksWhenJoined : KissFile → List ℕ → List ℕ → Type 0

@@ -1,11 +1,11 @@
 -- Generators of which equal ones are kept once.
-use Rattle.std.proofs.Common.{◌≡◌, ℕ, ◌+◌, ◌<◌, inl, inr, List, [], ◌∷◌, length, map, get_or, All, Contains, subst, sym, ◌∙◌, ap, arith}
+use Rattle.std.proofs.Common.{◌≡◌, ℕ, ◌+◌, ◌<◌, ◌≤◌, inl, inr, List, [], ◌∷◌, length, map, take, get_or, All, Contains, subst, sym, ◌∙◌, ap, arith}
 use Rattle.std.proofs.lemmas.Bool.{cases_lt}
-use Rattle.std.proofs.lemmas.List.{get_or_default, length-map}
+use Rattle.std.proofs.lemmas.List.{get_or_default, get_or-take, length-map, length-take-le}
 use Rattle.std.proofs.lemmas.List.Elements.{All-map}
 use Rattle.hs_lattice.specs.JoinWorld.{IsGenerated, HaveJoins}
 use Rattle.hs_lattice.specs.Listing.{Lists, Evidence}
-use Rattle.hs_lattice.specs.Collection.{Adds, Knows}
+use Rattle.hs_lattice.specs.Collection.{Adds, IsAscending, Knows}
 use Rattle.hs_lattice.specs.Inner.Passes.{IsPicked}
 use Rattle.hs_lattice.proofs.Values.{Knows-map, Contains-map, All-from_known, AllPairs-map, each_weaker}
 
@@ -107,3 +107,31 @@ picked_is_evidence {X} {M} meaning precedes least joins others items limit botto
           IsGenerated-own least joins (map meaning others) bottom z is (subst Unit (ap meaning from.3 ∙ from.4) (units from.0 from.1 from.2)) (Contains-map meaning others z from)));
       more = length-map items meaning ∙ more;
     }
+
+-- the first of ascending items are picked
+front_picked :
+    {X M : Type 0} (meaning : X → M) (precedes : M → M → Type 0) (items : List X) (n : ℕ) → n ≤ length items →
+    IsAscending meaning precedes items → IsPicked meaning precedes items (take n items)
+front_picked {X} meaning precedes items n within ascending =
+    let size : length (take n items) ≡ n = length-take-le n items within in
+    record {
+      ascending = λ i j d order inside.
+          subst (λ (x : X). precedes (meaning x) (meaning (get_or (take n items) j d))) (sym (get_or-take n items i d (omega arith)))
+          (subst (λ (x : X). precedes (meaning (get_or items i d)) (meaning x)) (sym (get_or-take n items j d (omega arith))) (ascending i j d order (omega arith)));
+      from = λ z known. let read = known.3 in (known.0, known.1, omega (arith, known.2), sym (get_or-take n items known.0 known.1 (omega (arith, known.2))) ∙ read, known.4);
+    }
+
+-- where all that they generate is listed, ascending generators are at most the limit
+pub ascending_few :
+    {X M : Type 0} (meaning : X → M) (precedes : M → M → Type 0) (least : M → Type 0) (joins : M → M → M → Type 0) (generators : List X) (limit : ℕ) (bottom : M) →
+    IsAscending meaning precedes generators → least bottom → All (λ x. joins (meaning x) bottom (meaning x)) generators →
+    ((values : List M) → Evidence precedes (IsGenerated least joins (map meaning generators)) limit values → ⊥) → length generators ≤ limit
+ascending_few meaning precedes least joins generators limit bottom ascending is units none =
+    elim (cases_lt limit (length generators)) [
+      | inl more ↦
+          let within : limit + 1 ≤ length generators = omega arith in
+          absurd (none (map meaning (take (limit + 1) generators))
+          (picked_is_evidence meaning precedes least joins generators (take (limit + 1) generators) limit bottom
+          (front_picked meaning precedes generators (limit + 1) within ascending) is units (length-take-le (limit + 1) generators within)))
+      | inr few ↦ few
+    ]

@@ -1,10 +1,7 @@
 pub mod Places
-pub mod Insert
 pub mod Collections
 pub mod Values
 pub mod Passes
 pub mod Distinct
 pub mod Exclusion
-pub mod Outcomes
-pub mod Members
 pub mod Moving

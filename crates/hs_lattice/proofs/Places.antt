@@ -2,7 +2,7 @@
 use Rattle.std.proofs.Common.{◌≡◌, ℕ, ◌+◌, ◌<◌, ◌≤◌, ◌⊎◌, inl, inr, List, length, get_or, All, AllPairs, subst, arith}
 use Rattle.std.proofs.lemmas.Bool.{cases_lt}
 use Rattle.std.proofs.Math.Nat.{eq-or-lt_of_le}
-use Rattle.hs_lattice.specs.Inner.Places.{IsInsertionPlace}
+use Rattle.hs_lattice.specs.Places.{IsInsertionPlace}
 
 -- an order of the elements with Q, where S says that two are one value
 pub record Order {X : Type 0} (Q : X → Type 0) (S R : X → X → Type 0) : Type 0 where

@@ -1,14 +1,17 @@
 -- Collections: different values, and their places in ascending order.
 use Rattle.std.specs.Prelude.{◌≡◌, ℕ, ◌+◌, ◌<◌, ◌≤◌, ◌⊎◌, List, [], length, All, AllPairs, Any, Contains, slice_index_or}
-use Rattle.hs_lattice.specs.declared.collection.Collection.{Collection}
 
--- the items, in the order in which they were added
-abbrev pub items_in : {T : Type 0} → Collection T → List T
-items_in c = c.items.items
+-- what contracts see of a collection: the items in the order in which they were added, and their places in ascending
+-- order of the values
+pub record ItemsAndOrder (X : Type 0) : Type 0 where
+  pub items : List X
+  pub order : List ℕ
 
--- their places, in ascending order of the values
-abbrev pub order_in : {T : Type 0} → Collection T → List ℕ
-order_in c = c.order.items
+abbrev pub items_in : {X : Type 0} → ItemsAndOrder X → List X
+items_in c = c.items
+
+abbrev pub order_in : {X : Type 0} → ItemsAndOrder X → List ℕ
+order_in c = c.order
 
 -- the value is the value of some item
 abbrev pub Knows : {X M : Type 0} → (X → M) → List X → M → Type 0
@@ -32,11 +35,11 @@ pub record AreDifferent {X M : Type 0} (meaning : X → M) (fits : M → Type 0)
   pub ordered : IsOrder (λ x y. precedes (meaning x) (meaning y)) items order
 
 -- a collection of a world's values
-abbrev pub IsCollection : {X M : Type 0} → (X → M) → (M → Type 0) → (M → M → Type 0) → Collection X → Type 0
+abbrev pub IsCollection : {X M : Type 0} → (X → M) → (M → Type 0) → (M → M → Type 0) → ItemsAndOrder X → Type 0
 IsCollection meaning fits precedes c = AreDifferent meaning fits precedes (items_in c) (order_in c)
 
 -- the collection has no items
-pub record IsEmpty {X : Type 0} (c : Collection X) : Type 0 where
+pub record IsEmpty {X : Type 0} (c : ItemsAndOrder X) : Type 0 where
   pub items : items_in c ≡ []
   pub order : order_in c ≡ []
 

@@ -1,4 +1,3 @@
 -- Definitions that only private functions and proofs need.
 pub mod Arranging
 pub mod Passes
-pub mod Places

@@ -1,10 +1,12 @@
 -- What follows from the definitions alone.
+pub mod Insert
+pub mod Members
+pub mod Outcomes
 use Rattle.std.specs.Prelude.{List, [], ◌∷◌, All, Contains, refl}
 use Rattle.std.specs.List.{AllByRecursion}
 use Rattle.std.proofs.Common.{subst, sym}
 use Rattle.std.proofs.Math.Nat.{not-suc-le-zero}
-use Rattle.hs_lattice.specs.declared.collection.Collection.{Collection}
-use Rattle.hs_lattice.specs.Collection.{AreDifferent, IsCollection, IsEmpty, order_in}
+use Rattle.hs_lattice.specs.Collection.{AreDifferent, IsCollection, IsEmpty, ItemsAndOrder, order_in}
 use Rattle.hs_lattice.specs.JoinWorld.{IsJoinOf, IsGenerated}
 
 -- if the least value has a property and joins keep it, the join of values that have it has it too
@@ -35,7 +37,7 @@ IsGenerated-has least joins P generators z bottom kept all (chosen, each, of) =
 
 -- a collection without items is a collection in any world
 pub IsCollection-none :
-    {X M : Type 0} (meaning : X → M) (fits : M → Type 0) (precedes : M → M → Type 0) (c : Collection X) → IsEmpty c → IsCollection meaning fits precedes c
+    {X M : Type 0} (meaning : X → M) (fits : M → Type 0) (precedes : M → M → Type 0) (c : ItemsAndOrder X) → IsEmpty c → IsCollection meaning fits precedes c
 IsCollection-none {X} {M} meaning fits precedes c empty =
     let none : AreDifferent meaning fits precedes [] [] = record {
       fit = λ k d lt. absurd (not-suc-le-zero lt);

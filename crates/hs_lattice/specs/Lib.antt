@@ -1,4 +1,5 @@
 pub mod JoinWorld
+pub mod Places
 pub mod Collection
 pub mod Laws
 pub mod Listing

@@ -1,7 +1,7 @@
 //! All joins of lists of generators, by a pass of each generator over the values known before it.
 
 ghost use Rattle.std.specs.Prelude.{◌≡◌, ◌+◌, ◌<◌, ◌≤◌, List, length, map, slice_index_or, IfOk, OnOk, All};
-ghost use Rattle.hs_lattice.specs.Collection.{items_in, Adds, IsCollection, Knows};
+ghost use Rattle.hs_lattice.specs.Collection.{items_in, Adds, IsAscending, IsCollection, Knows};
 ghost use Rattle.hs_lattice.specs.JoinWorld.{IsGenerated, HaveJoins};
 ghost use Rattle.hs_lattice.specs.Listing.{Lists, Evidence, IfWhole, IfMore, items_of};
 ghost use Rattle.hs_lattice.specs.Inner.Passes.{AddsJoin, Extends, IsPicked, KnowsJoins};
@@ -150,7 +150,8 @@ fn joins_of<W: JoinWorld>(
 /// The joins of lists of generators in ascending order; the empty list gives the least value.
 ///
 /// The limit is on the number of values. If there are more, the listing is [`Listing::More`] with limit + 1 of
-/// them, also in ascending order; which ones is left open. Equal generators count once, and a generator that is
+/// them, also in ascending order; which ones is left open. More different generators than the limit are such values
+/// themselves, so a caller may stop finding generators once there are more. Equal generators count once, and a generator that is
 /// a join of earlier ones is joined with nothing. So the number of joins is at most the number of values times
 /// the number of the other generators. The memory taken is that of the values and of the different generators,
 /// of three numbers for each of them, and of what vectors keep in reserve.
@@ -170,6 +171,8 @@ pub fn join_closure<W: JoinWorld>(
     ensures joined { IfOk result (λ listing. IfWhole listing (λ _. HaveJoins (W.least world.now)
         (W.joins world.now) (map W.meaning generators.now))) }
     ensures within { IfOk result (λ listing. IfWhole listing (λ items. length items ≤ limit)) }
+    ensures few { IfOk result (λ listing. IfWhole listing (λ _. IsAscending W.meaning (W.precedes world.now) generators.now
+        → length generators.now ≤ limit)) }
     ensures no_more { IfOk result (λ listing. IfWhole listing (λ _. (values : List W.Meaning)
         → Evidence (W.precedes world.now) (IsGenerated (W.least world.now) (W.joins world.now)
         (map W.meaning generators.now)) limit values → ⊥)) }

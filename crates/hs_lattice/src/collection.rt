@@ -2,18 +2,27 @@
 
 ghost use Rattle.std.specs.Prelude.{◌≡◌, ◌↔◌, length, All, AllPairs, Any, IfOk, OnOk, IfSome, IfNone, IsTrue, slice_index_or};
 ghost use Rattle.hs_lattice.specs.Collection.{items_in, Adds, IsAscending, IsCollection, IsEmpty, IsOrder, Knows};
-ghost use Rattle.hs_lattice.specs.Inner.Places.{IsInsertionPlace};
+ghost use Rattle.hs_lattice.specs.Places.{IsInsertionPlace};
 
 use crate::JoinWorld;
 use crate::arranging::arrange;
 use hs_list::Items;
 use std::alloc::{AllocError, Global};
+use std::marker::Model;
 
 /// Different values of a world, in the order in which they were added, and their places in ascending order.
 #[derive(Drop)]
 pub struct Collection<T> {
     items: Vec<T>,
     order: Vec<usize>,
+}
+
+impl<T> Model for Collection<T> {
+    ghost use Rattle.hs_lattice.specs.Collection.{ItemsAndOrder};
+
+    ghost Value = { ItemsAndOrder T };
+
+    ghost view = { λ c. record { items = c.items.items; order = c.order.items } };
 }
 
 /// The place among the ordered places at which the next item belongs, or None if there is already an item of

@@ -25,7 +25,8 @@ use Rattle.io_pairs.specs.Sides as rights
 use Rattle.job_words.specs.declared.jobs.Job.{Job}
 use Rattle.kiss_file.specs.declared.file.KissFile.{KissFile}
 use Rattle.machine_reports.specs.Laws.Causes.{definite_has_one_answer, input_pairs_have_one_answer, list_has_one_answer, more_than_is_of, not_definite_is_of, output_pairs_have_one_answer, too_many_inputs_is_of, too_many_outputs_is_of}
-use Rattle.mm_lattice.specs.MmPairs.{IsMmPair, RightBefore}
+use Rattle.mm_lattice.specs.MmPairs.{IsMmPair}
+use Rattle.partition.specs.Sides.{RightBefore}
 use Rattle.output_consistent.specs.Outputs.{IsClosedAndConsistent}
 use Rattle.operands.specs.PartFaults.{BadPart}
 use Rattle.operands.specs.Laws.Parts.{bad_part_is_of, bad_parts_is_of}

@@ -29,7 +29,8 @@ use Rattle.machine_reports.specs.ListTexts.{IsEvidenceText, IsListText, pair_lin
 use Rattle.machine_reports.specs.OutputTexts.{IsOutputEvidence, IsOutputText}
 use Rattle.machine_reports.specs.PartnerTexts.{IsHighText, IsLowText}
 use Rattle.machine_reports.specs.ReducedText.{IsReducedText}
-use Rattle.mm_lattice.specs.MmPairs.{IsMmPair, RightBefore}
+use Rattle.mm_lattice.specs.MmPairs.{IsMmPair}
+use Rattle.partition.specs.Sides.{RightBefore}
 use Rattle.net_core.specs.declared.Network.{Network}
 use Rattle.net_sim.specs.Run.{IsRun}
 use Rattle.output_consistent.specs.Outputs.{IsClosedAndConsistent}

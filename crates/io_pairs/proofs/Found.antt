@@ -2,7 +2,7 @@
 use Rattle.std.proofs.Common.{◌≡◌, ℕ, ◌+◌, ◌<◌, ◌≤◌, ◌↔◌, inl, inr, List, subst, sym, arith}
 use Rattle.std.proofs.lemmas.Bool.{cases_lt}
 use Rattle.hs_lattice.specs.Collection.{Adds, Knows}
-use Rattle.hs_lattice.proofs.Members.{All-added, Contains-added, Contains-same, Contains-value}
+use Rattle.hs_lattice.specs.Laws.Members.{All-added, Contains-added, Contains-same, Contains-value}
 use Rattle.partition.specs.Partition.{IsPartition, Le, zero_of}
 use Rattle.partition.specs.Laws.Labels.{IsPartition-of}
 use Rattle.io_pairs.specs.Inner.Collected.{AreRights, HasRight, HaveRights, IsRight, IsRightOf}

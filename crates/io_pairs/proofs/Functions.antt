@@ -6,9 +6,9 @@ use Rattle.kiss_file.specs.declared.file.KissFile.{KissFile}
 use Rattle.partition.specs.Partition.{IsStateCount, Together}
 use Rattle.io_pairs.specs.Inner.Families.{AreFunctions, Go, SameGoing, value_at}
 use Rattle.io_pairs.specs.Inner.Lists.{AreAtPlace, AreNextStates, EachList}
-use Rattle.io_pairs.specs.Inner.OwnGoing.{GoAtSymbols, GoFromStates}
+use Rattle.io_pairs.specs.Inputs.{GoFromStates}
+use Rattle.io_pairs.specs.Outputs.{AreOutputs, GoAtSymbols, output_number}
 use Rattle.io_pairs.specs.Inner.Words.{AreNumbersOf}
-use Rattle.io_pairs.specs.Outputs.{AreOutputs, output_number}
 
 pub each_more : (P : ℕ → List ℕ → Type 0) (count : ℕ) (lists : List (List ℕ)) (list : List ℕ) → length lists ≡ count → EachList P count lists → P count list → EachList P (count + 1) (lists ++ list ∷ [])
 each_more P count lists list size so_far here k within =

@@ -1,18 +1,12 @@
 -- Members that go together.
-use Rattle.std.proofs.Common.{◌≡◌, ℕ, ◌+◌, ◌<◌, ◌≤◌, ◌==◌, List, length, get_or, refl, sym, ◌∙◌, subst, inl, inr, arith}
-use Rattle.std.proofs.lemmas.Bool.{cases_eq, eqb-true}
-use Rattle.std.proofs.lemmas.List.Sums.{passes_at_first}
-use Rattle.partition.proofs.Nesting.{least_of-le, least_of-same}
+use Rattle.std.proofs.Common.{◌≡◌, ℕ, ◌+◌, ◌<◌, List, get_or, sym, ◌∙◌, subst, inl, inr, arith}
+use Rattle.std.proofs.lemmas.Bool.{cases_eq}
+use Rattle.partition.specs.Laws.Least.{least_of-same}
 use Rattle.partition.specs.Inside.{least_of}
 use Rattle.partition.specs.Partition.{Together, Le}
 use Rattle.partition.specs.Laws.Chains.{together_turned}
-use Rattle.io_pairs.specs.Inner.Families.{AreFunctions, FamilyPair, Go, GoBelow, value_at}
-use Rattle.io_pairs.specs.Laws.{Grow}
-
-pub go_itself : (members values : ℕ) (functions : List (List ℕ)) (q : List ℕ) (x : ℕ) → AreFunctions members values functions → length q ≡ values → x < members → Go functions q x x
-go_itself members values functions q x are size within k below =
-    let inside : value_at functions k x < length q = omega (arith, are.below k x below within) in
-    (inside, inside, refl)
+use Rattle.io_pairs.specs.Inner.Families.{FamilyPair, Go, GoBelow, value_at}
+use Rattle.partition.specs.Laws.Partners.{Grow}
 
 pub go_turned : (functions : List (List ℕ)) (q : List ℕ) (x y : ℕ) → Go functions q x y → Go functions q y x
 go_turned functions q x y go k below = together_turned q _ _ (go k below)
@@ -36,13 +30,6 @@ go_more functions count q x y so_far here k within =
       | inl at ↦ subst (λ (n : ℕ). Together q (value_at functions n x) (value_at functions n y)) (sym at) here
       | inr other ↦ so_far k (omega arith)
     ]
-
--- a member is together with the least one of its block
-pub least_holds : (p : List ℕ) (x : ℕ) → x < length p → Together p (least_of p x) x
-least_holds p x within =
-    let least : least_of p x ≤ x = least_of-le p x x refl in
-    let same : get_or p (least_of p x) 0 ≡ get_or p x 0 = eqb-true (get_or p (least_of p x) 0) (get_or p x 0) (passes_at_first (λ label. label == get_or p x 0) p 0 (omega arith)) in
-    (omega arith, within, same)
 
 -- members of one block go together where each goes together with the least one
 pub go_by_least : (functions : List (List ℕ)) (p q : List ℕ) (x y : ℕ) → get_or p x 0 ≡ get_or p y 0 → Go functions q (least_of p x) x → Go functions q (least_of p y) y → Go functions q x y

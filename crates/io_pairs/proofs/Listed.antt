@@ -6,15 +6,17 @@ use Rattle.std.proofs.lemmas.List.Elements.{All-push}
 use Rattle.hs_lattice.specs.JoinWorld.{IsGenerated, HaveJoins}
 use Rattle.hs_lattice.specs.Laws.{IsGenerated-has}
 use Rattle.hs_lattice.specs.Listing.{Lists, Evidence}
-use Rattle.hs_lattice.proofs.Outcomes.{evidence_as}
+use Rattle.hs_lattice.specs.Laws.Outcomes.{evidence_as}
 use Rattle.partition.specs.Before.{Before}
 use Rattle.partition.specs.MeetAndJoin.{IsJoin}
 use Rattle.io_pairs.specs.declared.worlds.IoPair.{IoPair}
 use Rattle.io_pairs.specs.Inner.Collected.{AreRights, HaveLefts, HaveRights, IsFamilyMm, IsReached, IsRightSide, ListsRights}
 use Rattle.io_pairs.specs.Inner.Families.{AreFunctions, FamilyPair, IsParted}
-use Rattle.io_pairs.specs.Laws.{same_right_of}
-use Rattle.io_pairs.specs.Sides.{RightBefore, Sides, sides_of}
-use Rattle.io_pairs.proofs.Generating.{IsZeroOf, right_generated}
+use Rattle.partition.specs.Laws.Partners.{same_right_of}
+use Rattle.partition.specs.Sides.{RightBefore, Sides}
+use Rattle.io_pairs.specs.Sides.{sides_of}
+use Rattle.partition.specs.Laws.Generating.{IsZeroOf}
+use Rattle.io_pairs.proofs.Generating.{right_generated}
 use Rattle.io_pairs.proofs.Going.{family_pairs_grow}
 use Rattle.io_pairs.proofs.Parting.{parted_greatest}
 use Rattle.io_pairs.proofs.Reached.{reached_join, reached_pair, reached_two, reached_zero}
@@ -33,7 +35,7 @@ module _ (members values : ℕ) (functions : List (List ℕ)) where
       let two = rights k d within in
       reached_two members values functions two.x two.y (get_or found k d) two.in_x two.in_y two.right
 
-  module _ (are : AreFunctions members values functions) (found : List (List ℕ)) (rights : AreRights members values functions found) (have : HaveRights values functions members found) where
+  module _ (are : AreFunctions members values functions) (found : List (List ℕ)) (rights : AreRights members values functions found) where
     to : (q : List ℕ) → IsMadeOf values found q → IsReached members values functions q
     to q made =
         let plain = subst (λ (gs : List (List ℕ)). IsGenerated (IsZeroOf values) IsJoin gs q) (map-id found) made in
@@ -43,19 +45,19 @@ module _ (members values : ℕ) (functions : List (List ℕ)) where
         (are_reached found rights)
         plain
 
-    from : HaveJoinsOf values found → (q : List ℕ) → IsRightSide members values functions q → IsMadeOf values found q
-    from joins q is =
+    from : HaveRights values functions members found → HaveJoinsOf values found → (q : List ℕ) → IsRightSide members values functions q → IsMadeOf values found q
+    from have joins q is =
         let plain = subst (λ (gs : List (List ℕ)). HaveJoins (IsZeroOf values) IsJoin gs) (map-id found) joins in
-        let made = right_generated members values functions are found have plain q is in
+        let made = right_generated members values functions found have plain q is in
         subst (λ (gs : List (List ℕ)). IsGenerated (IsZeroOf values) IsJoin gs q) (sym (map-id found)) made
 
-    pub listed : (items : List (List ℕ)) → Lists Before (IsMadeOf values found) (map (λ q. q) items) → HaveJoinsOf values found → ListsRights members values functions items
-    listed items lists joins =
+    pub listed : HaveRights values functions members found → (items : List (List ℕ)) → Lists Before (IsMadeOf values found) (map (λ q. q) items) → HaveJoinsOf values found → ListsRights members values functions items
+    listed have items lists joins =
         let plain = subst (λ (xs : List (List ℕ)). Lists Before (IsMadeOf values found) xs) (map-id items) lists in
         record {
           ascending = plain.ascending;
           reached = λ k d within. to (get_or items k d) (plain.members k d within);
-          complete = λ q is. plain.complete q (from joins q is);
+          complete = λ q is. plain.complete q (from have joins q is);
         }
 
     pub evident : (limit : ℕ) (items : List (List ℕ)) → Evidence Before (IsMadeOf values found) limit (map (λ q. q) items) → Evidence Before (IsReached members values functions) limit items
@@ -63,9 +65,9 @@ module _ (members values : ℕ) (functions : List (List ℕ)) where
         subst (λ (xs : List (List ℕ)). Evidence Before (IsReached members values functions) limit xs) (map-id items)
         (evidence_as Before (IsMadeOf values found) (IsReached members values functions) limit (map (λ q. q) items) to evidence)
 
-    pub unevident : (limit : ℕ) → ((xs : List (List ℕ)) → Evidence Before (IsMadeOf values found) limit xs → ⊥) → HaveJoinsOf values found
+    pub unevident : HaveRights values functions members found → (limit : ℕ) → ((xs : List (List ℕ)) → Evidence Before (IsMadeOf values found) limit xs → ⊥) → HaveJoinsOf values found
         → (xs : List (List ℕ)) → Evidence Before (IsRightSide members values functions) limit xs → ⊥
-    unevident limit none joins xs evidence = none xs (evidence_as Before (IsRightSide members values functions) (IsMadeOf values found) limit xs (from joins) evidence)
+    unevident have limit none joins xs evidence = none xs (evidence_as Before (IsRightSide members values functions) (IsMadeOf values found) limit xs (from have joins) evidence)
 
   -- the greatest partner is put beside one more partition
   pub lefts_more : (rights : List (List ℕ)) (items : List IoPair) (pair : IoPair) → HaveLefts members functions rights (map sides_of items) → IsParted members functions pair.right pair.left

@@ -4,18 +4,15 @@ use Rattle.hs_lattice.specs.declared.Listing.{Listing}
 use Rattle.std.proofs.lemmas.Result.{IfOk-weaker}
 use Rattle.std.specs.declared.alloc.AllocError.{AllocError}
 use Rattle.hs_lattice.specs.Listing.{Lists, Evidence, IfMore, IfWhole}
-use Rattle.hs_lattice.proofs.Outcomes.{more-from, whole-from}
+use Rattle.hs_lattice.specs.Laws.Outcomes.{more-from, whole-from}
 use Rattle.partition.specs.Partition.{Together}
 use Rattle.io_pairs.specs.Inner.Collected.{IsFamilyMm}
 use Rattle.io_pairs.specs.Inner.Families.{FamilyPair, Go, IsParted, SameGoing}
-use Rattle.io_pairs.specs.Partners.{IsGreatestWith, IsLeastWith, IsMmPairOf}
-use Rattle.io_pairs.specs.Sides.{RightBefore, Sides, sides_of}
+use Rattle.partition.specs.Partners.{IsGreatestWith, IsLeastWith, IsMmPairOf, PairBy}
+use Rattle.partition.specs.Sides.{RightBefore, Sides}
+use Rattle.io_pairs.specs.Sides.{sides_of}
 use Rattle.io_pairs.specs.declared.worlds.IoPair.{IoPair}
 use Rattle.io_pairs.proofs.Parting.{parted_greatest}
-
--- members that are together in p go together
-abbrev pub PairBy : (List ℕ → ℕ → ℕ → Type 0) → List ℕ → List ℕ → Type 0
-PairBy Going p q = (x y : ℕ) → Together p x y → Going q x y
 
 module _ (members values : ℕ) (functions : List (List ℕ)) (Going : List ℕ → ℕ → ℕ → Type 0) (same : SameGoing members (Go functions) Going) where
   to_pair : (p q : List ℕ) → length p ≡ members → FamilyPair functions p q → PairBy Going p q

@@ -3,9 +3,9 @@ use Rattle.std.proofs.Common.{◌≡◌, ℕ, ◌+◌, ◌*◌, ◌<◌, List, [
 use Rattle.std.proofs.lemmas.Nat.{mul-add-lt, same_from_place}
 use Rattle.partition.specs.Partition.{IsPartition, SameTogether, Together}
 use Rattle.partition.specs.Laws.Labels.{IsPartition-of, label-le}
-use Rattle.partition.specs.Laws.Extremes.{replicate_is_one, replicate_is_partition}
+use Rattle.partition.specs.Laws.Extremes.{one_of_is_one, one_of_is_partition}
 use Rattle.io_pairs.specs.Inner.Families.{AreFunctions, FamilyPair, IsParted, IsPartedBelow, IsSplit, value_at}
-use Rattle.io_pairs.specs.Partners.{IsGreatestWith}
+use Rattle.partition.specs.Partners.{IsGreatestWith}
 use Rattle.io_pairs.proofs.Going.{go_more}
 
 -- a class and a label make a number below the product of how many there are
@@ -18,13 +18,13 @@ label_below n p x lawful within = omega (arith, label-le p lawful.numbered x (om
 
 pub parted_none : (members values : ℕ) (functions : List (List ℕ)) (q classes : List ℕ) → AreFunctions members values functions → classes ≡ replicate members 0 → IsPartedBelow members functions 0 q classes
 parted_none members values functions q classes are is =
-    let lawful : IsPartition members classes = subst (IsPartition members) (sym is) (replicate_is_partition members are.some_members) in
+    let lawful : IsPartition members classes = subst (IsPartition members) (sym is) (one_of_is_partition members are.some_members) in
     record {
       lawful = lawful;
       together = λ x y in_x in_y. (
         (λ held k within. absurd (omega arith)),
         (λ go. subst (λ (p : List ℕ). Together p x y) (sym is)
-            (replicate_is_one members x y (omega (arith, in_x, (replicate_is_partition members are.some_members).length)) (omega (arith, in_y, (replicate_is_partition members are.some_members).length)))),
+            (one_of_is_one members x y (omega (arith, in_x, (one_of_is_partition members are.some_members).length)) (omega (arith, in_y, (one_of_is_partition members are.some_members).length)))),
       );
     }
 

@@ -8,8 +8,9 @@ use Rattle.partition.specs.Laws.Merging.{merged_above, merged_held, merged_least
 use Rattle.partition.specs.Merging.{IsMerged}
 use Rattle.io_pairs.specs.Inner.Families.{FamilyPair, Go, Ties, TiesBelow, value_at}
 use Rattle.partition.specs.Laws.Extremes.{zero_of_below}
-use Rattle.io_pairs.specs.Partners.{IsLeastWith}
-use Rattle.io_pairs.proofs.Going.{go_above, go_by_least, go_more, least_holds}
+use Rattle.partition.specs.Partners.{IsLeastWith}
+use Rattle.io_pairs.proofs.Going.{go_above, go_by_least, go_more}
+use Rattle.partition.specs.Laws.Least.{least_of-together}
 
 pub ties_none : (functions : List (List ℕ)) (n x y : ℕ) (q : List ℕ) → IsPartition n q → TiesBelow functions 0 x y q q
 ties_none functions n x y q lawful = record {
@@ -51,7 +52,7 @@ least_more values functions p y q r within so_far is = record {
     | inl at ↦ subst (λ (n : ℕ). Go functions r (least_of p n) n) (sym at) is.go
     | inr other ↦ go_above functions q r (least_of p z) z is.above (so_far.go z (omega arith))
   ];
-  least = λ other fits pair. is.least other (so_far.least other fits pair) (pair (least_of p y) y (least_holds p y within));
+  least = λ other fits pair. is.least other (so_far.least other fits pair) (pair (least_of p y) y (least_of-together p y within));
 }
 
 pub least_all : (members values : ℕ) (functions : List (List ℕ)) (p : List ℕ) (count : ℕ) (q : List ℕ) → length p ≡ members → members ≤ count → IsLeastSoFar values functions p count q

@@ -4,4 +4,3 @@ pub mod Marks
 pub mod Collected
 pub mod Words
 pub mod Lists
-pub mod OwnGoing

@@ -4,13 +4,21 @@ use Rattle.cubes.specs.Symbol.{symbol_of}
 use Rattle.kiss_file.specs.declared.file.KissFile.{KissFile}
 use Rattle.kiss_file.specs.Machine.{next}
 use Rattle.partition.specs.Partition.{Together}
-use Rattle.io_pairs.specs.Partners.{IsGreatestWith, IsLeastPairOf, IsLeastWith, IsMmPairOf, IsPairJoinOf}
-use Rattle.io_pairs.specs.Sides.{Sides}
+use Rattle.partition.specs.Partners.{IsGreatestWith, IsLeastPairOf, IsLeastWith, IsMmPairOf, IsPairJoinOf}
+use Rattle.partition.specs.Sides.{Sides}
+
+-- the two symbols lead, from every state, to states that are together in q
+abbrev pub GoFromStates : KissFile → List ℕ → ℕ → ℕ → Type 0
+GoFromStates F q x y = (s : ℕ) → s < length F.states
+    → Together q (next F s (symbol_of F.inputs x)) (next F s (symbol_of F.inputs y))
 
 -- symbols that are together in p lead, from every state, to states that are together in q
 abbrev pub InPair : KissFile → List ℕ → List ℕ → Type 0
-InPair F p q = (x y : ℕ) → Together p x y → (s : ℕ) → s < length F.states
-    → Together q (next F s (symbol_of F.inputs x)) (next F s (symbol_of F.inputs y))
+InPair F p q = (x y : ℕ) → Together p x y → GoFromStates F q x y
+
+-- q is the least partition of the states to which the two symbols lead together from every state
+abbrev pub IsInRightOf : KissFile → ℕ → ℕ → List ℕ → Type 0
+IsInRightOf F x y q = IsLeastWith (length F.states) (λ r. GoFromStates F r x y) q
 
 -- q is the least partition of the states that p makes a pair with
 abbrev pub IsInLow : KissFile → List ℕ → List ℕ → Type 0

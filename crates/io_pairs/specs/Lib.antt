@@ -1,5 +1,4 @@
 pub mod Sides
-pub mod Partners
 pub mod Inputs
 pub mod Outputs
 pub mod Laws

@@ -5,8 +5,8 @@ use Rattle.cubes.specs.Symbol.{symbol_of}
 use Rattle.kiss_file.specs.declared.file.KissFile.{KissFile}
 use Rattle.kiss_file.specs.Machine.{output_bit}
 use Rattle.partition.specs.Partition.{Together}
-use Rattle.io_pairs.specs.Partners.{IsGreatestWith, IsLeastPairOf, IsLeastWith, IsMmPairOf, IsPairJoinOf}
-use Rattle.io_pairs.specs.Sides.{Sides}
+use Rattle.partition.specs.Partners.{IsGreatestWith, IsLeastPairOf, IsLeastWith, IsMmPairOf, IsPairJoinOf}
+use Rattle.partition.specs.Sides.{Sides}
 
 -- the number whose bits below a place are given, bit b at 2 ^ b
 abbrev pub word_of : (ℕ → Bool) → ℕ → ℕ
@@ -43,10 +43,17 @@ pub record AreOutputs (F : KissFile) (outs : List ℕ) : Type 0 where
 abbrev pub output_number : KissFile → ℕ → ℕ → ℕ
 output_number F s x = position_or_len (λ word. word == output_word F s x) (occurring F)
 
+-- the two states have, at every symbol, outputs whose numbers are together in q
+abbrev pub GoAtSymbols : KissFile → List ℕ → ℕ → ℕ → Type 0
+GoAtSymbols F q s t = (x : ℕ) → x < 2 ^ F.inputs → Together q (output_number F s x) (output_number F t x)
+
 -- states that are together in p have, at every symbol, outputs whose numbers are together in q
 abbrev pub OutPair : KissFile → List ℕ → List ℕ → Type 0
-OutPair F p q = (s t : ℕ) → Together p s t → (x : ℕ) → x < 2 ^ F.inputs
-    → Together q (output_number F s x) (output_number F t x)
+OutPair F p q = (s t : ℕ) → Together p s t → GoAtSymbols F q s t
+
+-- q is the least partition of the outputs in which those of the two states are together at every symbol
+abbrev pub IsOutRightOf : KissFile → ℕ → ℕ → List ℕ → Type 0
+IsOutRightOf F s t q = IsLeastWith (length (occurring F)) (λ r. GoAtSymbols F r s t) q
 
 -- q is the least partition of the outputs that p makes a pair with
 abbrev pub IsOutLow : KissFile → List ℕ → List ℕ → Type 0

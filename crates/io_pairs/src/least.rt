@@ -2,7 +2,7 @@
 
 ghost use Rattle.std.specs.Prelude.{◌≡◌, ◌<◌, IfOk, length};
 ghost use Rattle.io_pairs.specs.Inner.Families.{FamilyPair, IsFamily, Ties, functions_of};
-ghost use Rattle.io_pairs.specs.Partners.{IsLeastWith};
+ghost use Rattle.partition.specs.Partners.{IsLeastWith};
 ghost use Rattle.partition.specs.Partition.{IsPartition};
 
 use crate::family::Family;

@@ -8,7 +8,8 @@
 //!
 //! [`input_low`] and [`output_low`] give the least q for a p, [`input_high`] and [`output_high`] the greatest p
 //! for a q. [`input_pairs`] and [`output_pairs`] list the Mm pairs: those of which each side is what the other
-//! gives. These are values of two worlds that can be joined, [`InputWorld`] and [`OutputWorld`].
+//! gives. These are values of two worlds that can be joined, [`InputWorld`] and [`OutputWorld`]. That joins of Mm
+//! pairs are Mm pairs, and that each Mm pair is such a join, are clauses of [`mm_pairs_are_joins`].
 //!
 //! Both kinds are families of functions from members to values: from each state the symbols lead to states, and
 //! at each symbol the states have outputs. So the work is done for any family, over a table of at most 65,536
@@ -19,9 +20,11 @@
 //!
 //! - `Inputs` has input-state pairs;
 //! - `Outputs` has the outputs that occur, and state-output pairs;
-//! - `Partners` has the least and the greatest side, and the Mm pairs of both kinds;
 //! - `Sides` says how contracts see an [`IoPair`];
-//! - `Laws` has the laws of the worlds.
+//! - `Laws` says that smaller left sides and greater right sides keep pairs.
+//!
+//! The least and the greatest side, the Mm pairs of any relation of partitions, and the laws of their worlds are in
+//! `partition`.
 //!
 //! What is in `specs/Inner` is for private functions alone.
 #![tactic(auto)]
@@ -38,7 +41,7 @@ mod states;
 mod symbols;
 mod worlds;
 
-pub use laws::{mm_pairs_are_joins, words_write_outputs};
+pub use laws::{mm_pairs_are_joins, partners_decide, words_write_outputs};
 pub use occurring::{Outs, OutsFail, outputs};
 pub use states::{output_high, output_low, output_pairs};
 pub use symbols::{input_high, input_low, input_pairs};

@@ -8,7 +8,8 @@ ghost use Rattle.std.specs.Prelude.{◌≤◌, All, IfOk, List, ℕ, length, map
 ghost use Rattle.hs_lattice.specs.Listing.{Evidence, IfMore, IfWhole, Lists, items_of};
 ghost use Rattle.io_pairs.specs.Inner.Collected.{HaveLefts, IsFamilyMm, IsReached, IsRightSide, ListsRights};
 ghost use Rattle.io_pairs.specs.Inner.Families.{IsFamily, functions_of};
-ghost use Rattle.io_pairs.specs.Sides.{RightBefore, Sides, sides_of};
+ghost use Rattle.partition.specs.Sides.{RightBefore, Sides};
+ghost use Rattle.io_pairs.specs.Sides.{sides_of};
 ghost use Rattle.partition.specs.Before.{Before};
 ghost use Rattle.partition.specs.Partition.{IsPartition};
 
@@ -40,11 +41,7 @@ fn right_sides(
     ensures fit { IfOk result (λ listing. All (IsPartition family.now.values) (items_of listing)) }
 {
     let world = PartWorld { n: family.values };
-    let mut found = rights(alloc, family, limit)?;
-    if found.len() > limit {
-        found.truncate(limit + 1);
-        return Ok(Listing::More(Items::from(found)));
-    }
+    let found = rights(alloc, family, limit)?;
     join_closure(alloc, &world, found.as_slice(), limit)
 }
 

@@ -4,10 +4,10 @@ ghost use Rattle.std.specs.Prelude.{◌≡◌, ◌<◌, ◌≤◌, ◌^◌, ℕ,
 ghost use Rattle.hs_lattice.specs.Listing.{Evidence, IfMore, IfWhole, Lists};
 ghost use Rattle.io_pairs.specs.Inner.Families.{Go, IsFamily, SameGoing, functions_of};
 ghost use Rattle.io_pairs.specs.Inner.Lists.{AreAtPlace, EachList};
-ghost use Rattle.io_pairs.specs.Inner.OwnGoing.{GoAtSymbols};
+ghost use Rattle.io_pairs.specs.Outputs.{AreOutputs, GoAtSymbols, IsOutHigh, IsOutLow, IsOutMmPair, occurring};
 ghost use Rattle.io_pairs.specs.Inner.Words.{AreNumbersOf};
-ghost use Rattle.io_pairs.specs.Outputs.{AreOutputs, IsOutHigh, IsOutLow, IsOutMmPair, occurring};
-ghost use Rattle.io_pairs.specs.Sides.{RightBefore, Sides, sides_of};
+ghost use Rattle.partition.specs.Sides.{RightBefore, Sides};
+ghost use Rattle.io_pairs.specs.Sides.{sides_of};
 
 use crate::family::Family;
 use crate::greatest::greatest_partner;

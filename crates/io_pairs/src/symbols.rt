@@ -3,10 +3,10 @@
 ghost use Rattle.std.specs.Prelude.{◌≡◌, ◌<◌, ◌≤◌, ◌^◌, IfOk, List, length, map};
 ghost use Rattle.hs_lattice.specs.Listing.{Evidence, IfMore, IfWhole, Lists};
 ghost use Rattle.io_pairs.specs.Inner.Families.{Go, IsFamily, SameGoing, functions_of};
-ghost use Rattle.io_pairs.specs.Inner.OwnGoing.{GoFromStates};
+ghost use Rattle.io_pairs.specs.Inputs.{GoFromStates, IsInHigh, IsInLow, IsInMmPair};
 ghost use Rattle.io_pairs.specs.Inner.Lists.{AreNextStates};
-ghost use Rattle.io_pairs.specs.Inputs.{IsInHigh, IsInLow, IsInMmPair};
-ghost use Rattle.io_pairs.specs.Sides.{RightBefore, Sides, sides_of};
+ghost use Rattle.partition.specs.Sides.{RightBefore, Sides};
+ghost use Rattle.io_pairs.specs.Sides.{sides_of};
 
 use crate::IoPair;
 use crate::family::Family;

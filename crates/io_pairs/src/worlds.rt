@@ -2,9 +2,11 @@
 
 ghost use Rattle.std.specs.Prelude.{◌≡◌, ◌≤◌, IfOk};
 ghost use Rattle.io_pairs.specs.Inputs.{InPair, IsInJoin, IsInMmPair, IsLeastInPair};
-ghost use Rattle.io_pairs.specs.Laws.{before_chains_of, before_decides_of, before_never_of, in_pairs_grow, joins_associate_of, joins_commute_of, joins_fit_of, joins_least_of, joins_once_of, joins_repeat_of, least_fits_of, least_once_of, out_pairs_grow};
+ghost use Rattle.io_pairs.specs.Laws.{in_pairs_grow, out_pairs_grow};
+ghost use Rattle.partition.specs.Laws.Partners.{before_chains_of, before_decides_of, joins_associate_of, joins_commute_of, joins_fit_of, joins_least_of, joins_once_of, joins_repeat_of, least_fits_of, least_once_of, right_never_before};
 ghost use Rattle.io_pairs.specs.Outputs.{AreOutputs, IsLeastOutPair, IsOutJoin, IsOutMmPair, OutPair};
-ghost use Rattle.io_pairs.specs.Sides.{RightBefore, Sides, sides_of};
+ghost use Rattle.partition.specs.Sides.{RightBefore, Sides};
+ghost use Rattle.io_pairs.specs.Sides.{sides_of};
 
 use crate::occurring::Outs;
 use crate::states::output_high;
@@ -109,7 +111,7 @@ impl JoinWorld for InputWorld<'_> {
 
     ghost joins_least = { λ w x y lawful is fit. joins_least_of _ _ (InPair w.machine.now) (in_pairs_grow w.machine.now) x y is fit };
 
-    ghost precedes_irreflexive = { λ w x lawful fit before. before_never_of x before };
+    ghost precedes_irreflexive = { λ w x lawful fit before. right_never_before x before };
 
     ghost precedes_transitive = { λ w x y z lawful a b c d e. before_chains_of _ _ (InPair w.machine.now) (in_pairs_grow w.machine.now) x y z a b d e };
 
@@ -174,7 +176,7 @@ impl JoinWorld for OutputWorld<'_> {
 
     ghost joins_least = { λ w x y lawful is fit. joins_least_of _ _ (OutPair w.machine.now) (out_pairs_grow w.machine.now) x y is fit };
 
-    ghost precedes_irreflexive = { λ w x lawful fit before. before_never_of x before };
+    ghost precedes_irreflexive = { λ w x lawful fit before. right_never_before x before };
 
     ghost precedes_transitive = { λ w x y z lawful a b c d e. before_chains_of _ _ (OutPair w.machine.now) (out_pairs_grow w.machine.now) x y z a b d e };
 

@@ -6,7 +6,7 @@ use Rattle.state_reduce.specs.Work.{OnWork}
 use Rattle.hs_lattice.specs.Listing.{Evidence}
 use Rattle.io_pairs.specs.Inputs.{IsInMmPair}
 use Rattle.io_pairs.specs.Outputs.{IsOutMmPair, occurring}
-use Rattle.io_pairs.specs.Sides.{RightBefore}
+use Rattle.partition.specs.Sides.{RightBefore}
 use Rattle.kiss_file.specs.declared.file.KissFile.{KissFile}
 use Rattle.shift_real.specs.Definite.{AreFirstApart}
 

@@ -3,7 +3,7 @@ use Rattle.std.specs.Prelude.{◌≡◌, ◌≤◌, ◌++◌, ◌∷◌, ℕ, Li
 use Rattle.std.specs.List.{flat_map}
 use Rattle.hs_lattice.specs.Listing.{Evidence, Lists}
 use Rattle.hs_texts.specs.ErrLines.{as_line}
-use Rattle.mm_lattice.specs.Sides.{Sides}
+use Rattle.partition.specs.Sides.{Sides}
 use Rattle.partition.specs.Text.{labels_text}
 
 -- the line of a partition

@@ -5,7 +5,7 @@ use Rattle.std.specs.List.{enumerate_from, flat_map}
 use Rattle.cubes.specs.Symbol.{digit, lowest_bits}
 use Rattle.hs_texts.specs.ErrLines.{as_line}
 use Rattle.io_pairs.specs.Outputs.{IsOutMmPair, occurring}
-use Rattle.io_pairs.specs.Sides.{RightBefore}
+use Rattle.partition.specs.Sides.{RightBefore}
 use Rattle.kiss_file.specs.declared.file.KissFile.{KissFile}
 use Rattle.machine_reports.specs.ListTexts.{IsEvidenceText, IsListText, pair_line}
 

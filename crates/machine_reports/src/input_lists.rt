@@ -3,7 +3,7 @@
 ghost use Rattle.std.specs.Prelude.{◌≤◌};
 ghost use Rattle.answers.specs.Judged.{IsReported};
 ghost use Rattle.io_pairs.specs.Inputs.{IsInMmPair};
-ghost use Rattle.io_pairs.specs.Sides.{RightBefore};
+ghost use Rattle.partition.specs.Sides.{RightBefore};
 ghost use Rattle.machine_reports.specs.Causes.{MoreThan, RefusesInputPairs};
 ghost use Rattle.machine_reports.specs.ListTexts.{IsEvidenceText, IsListText, pair_line};
 

@@ -3,7 +3,8 @@
 ghost use Rattle.std.specs.Prelude.{◌≡◌, ◌≤◌, IfOk, map};
 ghost use Rattle.answers.specs.Judged.{IsReported};
 ghost use Rattle.closed_lattice.specs.Closed.{IsClosedPartition};
-ghost use Rattle.mm_lattice.specs.MmPairs.{IsMmPair, RightBefore};
+ghost use Rattle.mm_lattice.specs.MmPairs.{IsMmPair};
+ghost use Rattle.partition.specs.Sides.{RightBefore};
 ghost use Rattle.mm_lattice.specs.Sides.{sides_of};
 ghost use Rattle.output_consistent.specs.Outputs.{IsClosedAndConsistent};
 ghost use Rattle.partition.specs.Before.{Before};

@@ -3,7 +3,7 @@
 ghost use Rattle.std.specs.Prelude.{◌≤◌};
 ghost use Rattle.answers.specs.Judged.{IsReported};
 ghost use Rattle.io_pairs.specs.Outputs.{AreOutputs, IsOutMmPair};
-ghost use Rattle.io_pairs.specs.Sides.{RightBefore};
+ghost use Rattle.partition.specs.Sides.{RightBefore};
 ghost use Rattle.machine_reports.specs.Causes.{MoreThan, RefusesOutputPairs};
 ghost use Rattle.machine_reports.specs.OutputTexts.{IsOutputEvidence, IsOutputText};
 

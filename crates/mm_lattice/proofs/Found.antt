@@ -2,7 +2,7 @@
 use Rattle.std.proofs.Common.{◌≡◌, ℕ, ◌+◌, ◌<◌, ◌≤◌, ◌↔◌, inl, inr, List, subst, arith}
 use Rattle.std.proofs.lemmas.Bool.{cases_lt}
 use Rattle.hs_lattice.specs.Collection.{Adds, Knows}
-use Rattle.hs_lattice.proofs.Members.{All-added, Contains-added, Contains-same, Contains-value}
+use Rattle.hs_lattice.specs.Laws.Members.{All-added, Contains-added, Contains-same, Contains-value}
 use Rattle.kiss_file.specs.declared.file.KissFile.{KissFile}
 use Rattle.mm_lattice.specs.Generators.{IsRightOf}
 use Rattle.mm_lattice.specs.Inner.Collected.{AreRights, HasRight, HaveRights}

@@ -1,7 +1,5 @@
 -- What the next states of two states make of a partition is its join with their right side.
-use Rattle.std.proofs.Common.{◌≡◌, ℕ, zero, suc, ◌+◌, ◌^◌, ◌<◌, ◌≤◌, ◌⊎◌, inl, inr, List, length, map, get_or, Some, refl, sym, ap, ◌∙◌, subst, arith}
-use Rattle.std.proofs.lemmas.Bool.{cases_order}
-use Rattle.std.proofs.lemmas.List.{get_or-map, length-map}
+use Rattle.std.proofs.Common.{◌≡◌, ℕ, zero, suc, ◌+◌, ◌^◌, ◌<◌, ◌≤◌, ◌⊎◌, inl, inr, List, length, get_or, Some, refl, sym, ap, ◌∙◌, subst, arith}
 use Rattle.cubes.specs.Symbol.{symbol_of}
 use Rattle.cubes.specs.Laws.Numbers.{length-symbol_of}
 use Rattle.kiss_file.specs.declared.file.KissFile.{KissFile}
@@ -13,31 +11,12 @@ use Rattle.machine_table.specs.Staying.{NeverLeaves}
 use Rattle.state_pairs.specs.Laws.MergedPairs.{merges_as, merges_below_none, merges_more, merges_pair}
 use Rattle.mm_lattice.specs.Generators.{IsRightOf}
 use Rattle.mm_lattice.proofs.Holds.{right_held}
-use Rattle.partition.specs.Inner.Relabelled.{relabelled}
 use Rattle.partition.specs.Laws.Chains.{chain_keeps, chain_link, chain_on, chain_within, together_turned}
 use Rattle.partition.specs.Laws.Extremes.{zero_of_below, zero_of_is_partition}
 use Rattle.partition.specs.Laws.Labels.{IsPartition-of}
 use Rattle.partition.specs.MeetAndJoin.{Chain, IsJoin}
-use Rattle.partition.specs.Merging.{IsMerged}
 use Rattle.partition.specs.Partition.{IsPartition, Together, zero_of}
-use Rattle.partition.proofs.Relabelling.{merged_already, relabelled_merged}
-
--- ---- two blocks can be put together
-merged_apart : (p : List ℕ) (s t kept gone : ℕ) → IsPartition (length p) p → kept < gone → s < length p → t < length p
-    → ((get_or p s 0 ≡ kept) × (get_or p t 0 ≡ gone)) ⊎ ((get_or p s 0 ≡ gone) × (get_or p t 0 ≡ kept)) → (r : List ℕ) × IsMerged p s t r
-merged_apart p s t kept gone lawful order in_s in_t ends = (
-  map (relabelled kept gone) p,
-  relabelled_merged p (map (relabelled kept gone) p) kept gone lawful.numbered order (length-map p (relabelled kept gone))
-      (λ u within. get_or-map (relabelled kept gone) p u 0 0 within) lawful s t in_s in_t ends,
-)
-
-merged_exists : (p : List ℕ) (s t : ℕ) → IsPartition (length p) p → s < length p → t < length p → (r : List ℕ) × IsMerged p s t r
-merged_exists p s t lawful in_s in_t =
-    elim (cases_order (get_or p s 0) (get_or p t 0)) [
-      | inl same ↦ (p, merged_already p s t lawful (in_s, in_t, same))
-      | inr (inl less) ↦ merged_apart p s t (get_or p s 0) (get_or p t 0) lawful less in_s in_t (inl (refl, refl))
-      | inr (inr more) ↦ merged_apart p s t (get_or p t 0) (get_or p s 0) lawful more in_s in_t (inr (refl, refl))
-    ]
+use Rattle.partition.specs.Laws.Holds.{merged_stands}
 
 -- ---- the next states of two states, symbol by symbol
 module _ (F : KissFile) (s t : ℕ) (stays : NeverLeaves F) (in_s : s < length F.states) (in_t : t < length F.states) where
@@ -70,7 +49,7 @@ module _ (F : KissFile) (s t : ℕ) (stays : NeverLeaves F) (in_s : s < length F
       let long : length r ≡ length F.states = so_far.merges.lawful.length ∙ lawful.length in
       let in_u : u < length r = omega (arith, long, stays s (symbol_of F.inputs count) in_s (length-symbol_of F.inputs count)) in
       let in_v : v < length r = omega (arith, long, stays t (symbol_of F.inputs count) in_t (length-symbol_of F.inputs count)) in
-      let (o, merged) = merged_exists r u v (IsPartition-of (sym (so_far.merges.lawful.length)) so_far.merges.lawful) in_u in_v in
+      let (o, merged) = merged_stands r u v (IsPartition-of (sym (so_far.merges.lawful.length)) so_far.merges.lawful) in_u in_v in
       let link : Together g u v = images u v (count, omega (arith, few), refl, refl) in
       let there : Chain p g u v = chain_link p g u v (omega (arith, in_u, long, lawful.length)) (inr link) in
       let back : Chain p g v u = chain_link p g v u (omega (arith, in_v, long, lawful.length)) (inr (together_turned g u v link)) in (

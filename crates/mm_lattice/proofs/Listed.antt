@@ -6,7 +6,7 @@ use Rattle.std.proofs.lemmas.List.Elements.{All-push}
 use Rattle.hs_lattice.specs.JoinWorld.{IsGenerated, HaveJoins}
 use Rattle.hs_lattice.specs.Laws.{IsGenerated-has}
 use Rattle.hs_lattice.specs.Listing.{Lists, Evidence}
-use Rattle.hs_lattice.proofs.Outcomes.{evidence_as}
+use Rattle.hs_lattice.specs.Laws.Outcomes.{evidence_as}
 use Rattle.kiss_file.specs.declared.file.KissFile.{KissFile}
 use Rattle.partition.specs.Before.{Before}
 use Rattle.partition.specs.MeetAndJoin.{IsJoin}
@@ -15,8 +15,9 @@ use Rattle.pair_operators.specs.Extremes.{IsHigh}
 use Rattle.mm_lattice.specs.declared.worlds.MmPair.{MmPair}
 use Rattle.mm_lattice.specs.Inner.Collected.{AreRights, HaveLefts, HaveRights, IsReached, ListsRights}
 use Rattle.mm_lattice.specs.Laws.{same_right}
-use Rattle.mm_lattice.specs.MmPairs.{IsMmPair, RightBefore}
-use Rattle.mm_lattice.specs.Sides.{Sides, sides_of}
+use Rattle.mm_lattice.specs.MmPairs.{IsMmPair}
+use Rattle.partition.specs.Sides.{RightBefore, Sides}
+use Rattle.mm_lattice.specs.Sides.{sides_of}
 use Rattle.mm_lattice.specs.Top.{IsRightSide}
 use Rattle.mm_lattice.proofs.Generating.{right_generated}
 use Rattle.mm_lattice.proofs.Reached.{reached_join, reached_pair, reached_two, reached_zero}
@@ -32,7 +33,7 @@ HaveJoinsOf n generators = HaveJoins (λ r. r ≡ zero_of n) IsJoin (map (λ r. 
 pub are_reached : (F : KissFile) (found : List (List ℕ)) → AreRights F found → All (IsReached F) found
 are_reached F found rights k d within = let two = rights k d within in reached_two F two.0 two.1 (get_or found k d) two.2
 
-module _ (F : KissFile) (n : ℕ) (size : n ≡ length F.states) (count : IsStateCount n) (found : List (List ℕ)) (rights : AreRights F found) (have : HaveRights F (length F.states) found) where
+module _ (F : KissFile) (n : ℕ) (size : n ≡ length F.states) (count : IsStateCount n) (found : List (List ℕ)) (rights : AreRights F found) where
   all_count : IsStateCount (length F.states)
   all_count = subst IsStateCount size count
 
@@ -46,19 +47,19 @@ module _ (F : KissFile) (n : ℕ) (size : n ≡ length F.states) (count : IsStat
       (are_reached F found rights)
       plain
 
-  from : HaveJoinsOf n found → (q : List ℕ) → IsRightSide F q → IsMadeOf n found q
-  from joins q is =
+  from : HaveRights F (length F.states) found → HaveJoinsOf n found → (q : List ℕ) → IsRightSide F q → IsMadeOf n found q
+  from have joins q is =
       let plain = subst (λ (gs : List (List ℕ)). HaveJoins (λ r. r ≡ zero_of (length F.states)) IsJoin gs) (map-id found) (subst (λ (k : ℕ). HaveJoinsOf k found) size joins) in
       let made = right_generated F found have plain q is in
       subst (λ (k : ℕ). IsMadeOf k found q) (sym size) (subst (λ (gs : List (List ℕ)). IsGenerated (λ r. r ≡ zero_of (length F.states)) IsJoin gs q) (sym (map-id found)) made)
 
-  pub listed : (items : List (List ℕ)) → Lists Before (IsMadeOf n found) (map (λ q. q) items) → HaveJoinsOf n found → ListsRights F items
-  listed items lists joins =
+  pub listed : HaveRights F (length F.states) found → (items : List (List ℕ)) → Lists Before (IsMadeOf n found) (map (λ q. q) items) → HaveJoinsOf n found → ListsRights F items
+  listed have items lists joins =
       let plain = subst (λ (xs : List (List ℕ)). Lists Before (IsMadeOf n found) xs) (map-id items) lists in
       record {
         ascending = plain.ascending;
         reached = λ k d within. to (get_or items k d) (plain.members k d within);
-        complete = λ q is. plain.complete q (from joins q is);
+        complete = λ q is. plain.complete q (from have joins q is);
       }
 
   pub evident : (limit : ℕ) (items : List (List ℕ)) → Evidence Before (IsMadeOf n found) limit (map (λ q. q) items) → Evidence Before (IsReached F) limit items
@@ -66,8 +67,8 @@ module _ (F : KissFile) (n : ℕ) (size : n ≡ length F.states) (count : IsStat
       subst (λ (xs : List (List ℕ)). Evidence Before (IsReached F) limit xs) (map-id items)
       (evidence_as Before (IsMadeOf n found) (IsReached F) limit (map (λ q. q) items) to evidence)
 
-  pub unevident : (limit : ℕ) → ((values : List (List ℕ)) → Evidence Before (IsMadeOf n found) limit values → ⊥) → HaveJoinsOf n found → (values : List (List ℕ)) → Evidence Before (IsRightSide F) limit values → ⊥
-  unevident limit none joins values evidence = none values (evidence_as Before (IsRightSide F) (IsMadeOf n found) limit values (from joins) evidence)
+  pub unevident : HaveRights F (length F.states) found → (limit : ℕ) → ((values : List (List ℕ)) → Evidence Before (IsMadeOf n found) limit values → ⊥) → HaveJoinsOf n found → (values : List (List ℕ)) → Evidence Before (IsRightSide F) limit values → ⊥
+  unevident have limit none joins values evidence = none values (evidence_as Before (IsRightSide F) (IsMadeOf n found) limit values (from have joins) evidence)
 
 -- M is put beside one more partition
 pub lefts_more : (F : KissFile) (rights : List (List ℕ)) (items : List MmPair) (right : List ℕ) (pair : MmPair) → HaveLefts F rights (map sides_of items) → pair.right ≡ right → IsHigh F right pair.left → HaveLefts F (rights ++ right ∷ []) (map sides_of (items ++ pair ∷ []))

@@ -16,7 +16,7 @@ use Rattle.pair_operators.specs.Pair.{Pair}
 use Rattle.mm_lattice.specs.Generators.{IsRightOf}
 use Rattle.mm_lattice.specs.Inner.Collected.{IsReached}
 use Rattle.mm_lattice.specs.Top.{IsBelowOne, IsGreatestRight, IsRightSide, RightsAreTrivial}
-use Rattle.mm_lattice.proofs.Generating.{hold_below}
+use Rattle.partition.specs.Laws.Holds.{hold_below}
 use Rattle.mm_lattice.proofs.Reached.{reached_join, reached_pair, reached_two, reached_zero}
 
 -- the states of one block are all together

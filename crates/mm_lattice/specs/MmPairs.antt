@@ -3,17 +3,12 @@ use Rattle.std.specs.Prelude.{◌≡◌, length}
 use Rattle.kiss_file.specs.declared.file.KissFile.{KissFile}
 use Rattle.partition.specs.Partition.{zero_of}
 use Rattle.partition.specs.MeetAndJoin.{IsJoin}
-use Rattle.partition.specs.Before.{Before}
 use Rattle.pair_operators.specs.Extremes.{IsHigh, MmPair}
-use Rattle.mm_lattice.specs.Sides.{Sides}
+use Rattle.partition.specs.Sides.{Sides}
 
 -- the two sides are an Mm pair of the machine
 abbrev pub IsMmPair : KissFile → Sides → Type 0
 IsMmPair F x = MmPair F x.0 x.1
-
--- the right side of the first comes before that of the second
-abbrev pub RightBefore : Sides → Sides → Type 0
-RightBefore x y = Before x.1 y.1
 
 -- the right side is zero, and the left side is M of it
 abbrev pub IsLeastMmPair : KissFile → Sides → Type 0

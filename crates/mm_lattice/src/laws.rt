@@ -6,7 +6,7 @@ ghost use Rattle.hs_lattice.specs.JoinWorld.{HaveJoins, IsGenerated};
 ghost use Rattle.kiss_file.specs.declared.file.KissFile.{KissFile};
 ghost use Rattle.mm_lattice.specs.Generators.{IsRightOf};
 ghost use Rattle.mm_lattice.specs.MmPairs.{IsLeastMmPair, IsMmJoin, IsMmPair};
-ghost use Rattle.mm_lattice.specs.Sides.{Sides};
+ghost use Rattle.partition.specs.Sides.{Sides};
 
 /// An Mm pair is decided by its right side, and joins of Mm pairs are Mm pairs. Suppose that the generators are
 /// Mm pairs that have joins, and that for each two states s and t one of them has the right side m(hold(s, t)).

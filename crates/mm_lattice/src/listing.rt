@@ -7,8 +7,9 @@
 ghost use Rattle.std.specs.Prelude.{◌≤◌, All, IfOk, List, ℕ, length, map};
 ghost use Rattle.hs_lattice.specs.Listing.{Evidence, IfMore, IfWhole, Lists, items_of};
 ghost use Rattle.mm_lattice.specs.Inner.Collected.{HaveLefts, IsReached, ListsRights};
-ghost use Rattle.mm_lattice.specs.MmPairs.{IsMmPair, RightBefore};
-ghost use Rattle.mm_lattice.specs.Sides.{Sides, sides_of};
+ghost use Rattle.mm_lattice.specs.MmPairs.{IsMmPair};
+ghost use Rattle.partition.specs.Sides.{RightBefore, Sides};
+ghost use Rattle.mm_lattice.specs.Sides.{sides_of};
 ghost use Rattle.mm_lattice.specs.Top.{IsRightSide};
 ghost use Rattle.partition.specs.Before.{Before};
 ghost use Rattle.partition.specs.Partition.{IsPartition};
@@ -35,11 +36,7 @@ fn right_sides(alloc: Global, m: &Machine, limit: usize) -> Result<Listing<Parti
     ensures fit { IfOk result (λ listing. All (IsPartition (length m.now.states)) (items_of listing)) }
 {
     let world = PartWorld { n: m.states() };
-    let mut found = rights(alloc, m, limit)?;
-    if found.len() > limit {
-        found.truncate(limit + 1);
-        return Ok(Listing::More(Items::from(found)));
-    }
+    let found = rights(alloc, m, limit)?;
     join_closure(alloc, &world, found.as_slice(), limit)
 }
 

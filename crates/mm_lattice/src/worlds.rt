@@ -1,11 +1,13 @@
 //! Mm pairs as a world of values that can be joined.
 
-ghost use Rattle.mm_lattice.specs.MmPairs.{IsLeastMmPair, IsMmJoin, IsMmPair, RightBefore};
-ghost use Rattle.mm_lattice.specs.Sides.{Sides, sides_of};
+ghost use Rattle.mm_lattice.specs.MmPairs.{IsLeastMmPair, IsMmJoin, IsMmPair};
+ghost use Rattle.partition.specs.Sides.{RightBefore, Sides};
+ghost use Rattle.mm_lattice.specs.Sides.{sides_of};
 ghost use Rattle.pair_operators.specs.Asked.{AreAsked};
 ghost use Rattle.pair_operators.specs.Extremes.{IsHigh};
 ghost use Rattle.std.specs.Prelude.{◌≡◌, ⊤, IfOk, OnOk, length};
-ghost use Rattle.mm_lattice.specs.Laws.{mm_joins_associate, mm_joins_commute, mm_joins_fit, mm_joins_least, mm_joins_once, mm_joins_repeat, mm_least_fits, mm_least_once, right_before_chains, right_before_decides, right_never_before};
+ghost use Rattle.mm_lattice.specs.Laws.{mm_joins_associate, mm_joins_commute, mm_joins_fit, mm_joins_least, mm_joins_once, mm_joins_repeat, mm_least_fits, mm_least_once, right_before_chains, right_before_decides};
+ghost use Rattle.partition.specs.Laws.Partners.{right_never_before};
 
 use hs_lattice::JoinWorld;
 use machine_table::Machine;

@@ -11,7 +11,7 @@ use Rattle.partition.specs.Partition.{IsStateCount, Le, Together}
 use Rattle.partition.specs.MeetAndJoin.{IsJoin, Leads}
 use Rattle.partition.specs.Laws.Extremes.{zero_of_is_zero}
 use Rattle.closed_lattice.specs.Closed.{HasPrincipal, IsPrincipalWithin}
-use Rattle.closed_lattice.proofs.Generating.{IsMade, IsZeroOf, join_closed, made_by_pairs, zero_closed}
+use Rattle.closed_lattice.specs.Laws.Generating.{IsMade, IsZeroOf, join_closed, made_by_pairs, zero_closed}
 use Rattle.state_reduce.specs.Alike.{IsEquivalence, IsWord}
 use Rattle.state_reduce.specs.Laws.Unrefused.{alike_closed, alike_consistent}
 use Rattle.output_consistent.specs.Outputs.{IsClosedAndConsistent}

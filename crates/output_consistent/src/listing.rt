@@ -13,7 +13,6 @@ ghost use Rattle.output_consistent.specs.Outputs.{IsClosedAndConsistent};
 
 use closed_lattice::principals_within;
 use hs_lattice::{Listing, join_closure};
-use hs_list::Items;
 use machine_table::Machine;
 use partition::{PartWorld, Partition};
 use state_reduce::equivalence;
@@ -35,10 +34,6 @@ pub fn all(alloc: Global, m: &Machine, limit: usize) -> Result<Listing<Partition
 {
     let world = PartWorld { n: m.states() };
     let alike = equivalence(alloc, m)?;
-    let mut found = principals_within(alloc, m, &alike, limit)?;
-    if found.len() > limit {
-        found.truncate(limit + 1);
-        return Ok(Listing::More(Items::from(found)));
-    }
+    let found = principals_within(alloc, m, &alike, limit)?;
     join_closure(alloc, &world, found.as_slice(), limit)
 }

@@ -5,7 +5,7 @@ use Rattle.kiss_file.specs.declared.file.KissFile.{KissFile}
 use Rattle.pair_operators.specs.Asked.{IsNextColumn}
 use Rattle.pair_operators.specs.declared.asked.Keys.{Keys}
 use Rattle.pair_operators.specs.declared.asked.NextColumn.{NextColumn}
-use Rattle.pair_operators.specs.Inner.Going.{Goes}
+use Rattle.pair_operators.specs.Going.{Goes}
 use Rattle.pair_operators.specs.Inner.Keys.{AreKeys, AreMixed, mixed}
 
 -- states that go together have one label at the symbol of a column

@@ -4,8 +4,8 @@ use Rattle.kiss_file.specs.declared.file.KissFile.{KissFile}
 use Rattle.machine_table.specs.Staying.{NeverLeaves}
 use Rattle.partition.specs.Inner.Splitting.{IsSplitBy}
 use Rattle.pair_operators.specs.Extremes.{IsHigh}
-use Rattle.pair_operators.specs.Inner.Going.{Goes}
-use Rattle.pair_operators.proofs.Going.{goes_each, goes_in_pair, goes_itself}
+use Rattle.pair_operators.specs.Going.{Goes}
+use Rattle.pair_operators.specs.Laws.Going.{goes_each, goes_in_pair, goes_itself}
 
 -- states are together exactly where they go together: the greatest left side
 pub high_all : (F : KissFile) (q p : List ℕ) → NeverLeaves F → length q ≡ length F.states → IsSplitBy (Goes F q) (length F.states) p → IsHigh F q p

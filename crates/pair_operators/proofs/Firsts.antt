@@ -1,19 +1,12 @@
 -- A pair by the least states of blocks.
-use Rattle.std.proofs.Common.{ℕ, ◌+◌, ◌<◌, List, length, get_or, eqb, sym, subst, refl, inl, inr, arith}
-use Rattle.std.proofs.lemmas.Bool.{cases_eq, eqb-true}
-use Rattle.std.proofs.lemmas.List.Sums.{passes_at_first}
+use Rattle.std.proofs.Common.{ℕ, ◌+◌, ◌<◌, List, length, sym, subst, inl, inr, arith}
+use Rattle.std.proofs.lemmas.Bool.{cases_eq}
 use Rattle.kiss_file.specs.declared.file.KissFile.{KissFile}
-use Rattle.partition.specs.Partition.{Together}
 use Rattle.partition.specs.Inside.{least_of}
-use Rattle.partition.proofs.Nesting.{least_of-le, least_of-same}
+use Rattle.partition.specs.Laws.Least.{least_of-same, least_of-together}
 use Rattle.pair_operators.specs.Pair.{Pair}
-use Rattle.pair_operators.specs.Inner.Going.{Goes}
-use Rattle.pair_operators.proofs.Going.{goes_each, goes_in_pair, goes_turned, goes_on}
-
-pub least_of-together : (p : List ℕ) (s : ℕ) → s < length p → Together p (least_of p s) s
-least_of-together p s within =
-    let low : least_of p s < length p = omega (arith, least_of-le p s s refl) in
-    (low, within, eqb-true _ _ (passes_at_first (λ label. eqb label (get_or p s 0)) p 0 low))
+use Rattle.pair_operators.specs.Going.{Goes}
+use Rattle.pair_operators.specs.Laws.Going.{goes_each, goes_in_pair, goes_turned, goes_on}
 
 -- each state goes with the least state of its block
 abbrev pub FirstsGo : KissFile → List ℕ → List ℕ → ℕ → Type 0

@@ -1,4 +1,3 @@
-pub mod Going
 pub mod Firsts
 pub mod LowSoFar
 pub mod Classes

@@ -6,11 +6,11 @@ use Rattle.machine_table.specs.Staying.{NeverLeaves}
 use Rattle.partition.specs.Partition.{IsPartition, Le}
 use Rattle.partition.specs.Inside.{least_of}
 use Rattle.partition.specs.Laws.Labels.{IsPartition-of}
-use Rattle.partition.proofs.Nesting.{least_of-le}
+use Rattle.partition.specs.Laws.Least.{least_of-le}
 use Rattle.pair_operators.specs.Pair.{Pair}
 use Rattle.pair_operators.specs.Extremes.{IsLow}
-use Rattle.pair_operators.specs.Inner.Going.{Goes}
-use Rattle.pair_operators.proofs.Going.{goes_above, goes_itself, goes_merged, images_going}
+use Rattle.pair_operators.specs.Going.{Goes}
+use Rattle.pair_operators.specs.Laws.Going.{goes_above, goes_itself, goes_merged, images_going}
 use Rattle.pair_operators.proofs.Firsts.{FirstsGo, firsts_more, pair_from_firsts, firsts_from_pair}
 
 -- after so many states: each goes with the least state of its block, and what is together has to be

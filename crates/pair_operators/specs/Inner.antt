@@ -1,3 +1,2 @@
 -- What private functions and proofs need; no public contract cites it.
-pub mod Going
 pub mod Keys

@@ -2,3 +2,4 @@
 pub mod Pairs
 pub mod Extremes
 pub mod Growth
+pub mod Going

@@ -1,4 +1,5 @@
 pub mod Pair
+pub mod Going
 pub mod Extremes
 pub mod Asked
 pub mod Consistent

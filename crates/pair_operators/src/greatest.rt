@@ -4,7 +4,7 @@ ghost use Rattle.pair_operators.specs.Asked.{AreAsked};
 ghost use Rattle.pair_operators.specs.Extremes.{IsHigh};
 ghost use Rattle.partition.specs.Partition.{IsPartition};
 ghost use Rattle.partition.specs.Inner.Splitting.{AreRelated};
-ghost use Rattle.pair_operators.specs.Inner.Going.{Goes};
+ghost use Rattle.pair_operators.specs.Going.{Goes};
 ghost use Rattle.pair_operators.specs.Inner.Keys.{AreKeys};
 
 use crate::asked::{AskedSymbols, Keys};

@@ -11,7 +11,7 @@ use Rattle.pair_operators.specs.Laws.Growth.{grown_once}
 use Rattle.pair_operators.specs.Growth.{pairs_of}
 use Rattle.closed_lattice.specs.Closed.{IsPrincipal}
 use Rattle.closed_lattice.specs.Limits.{HoldsApart}
-use Rattle.closed_lattice.proofs.Generating.{principals_are_one}
+use Rattle.closed_lattice.specs.Laws.Generating.{principals_are_one}
 use Rattle.state_codes.specs.declared.split.Part.{Part}
 use Rattle.state_codes.specs.Kinds.{IsOwnCarrier}
 use Rattle.state_codes.specs.Split.{lone_part}

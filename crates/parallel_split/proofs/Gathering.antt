@@ -8,7 +8,7 @@ use Rattle.partition.specs.Partition.{IsOne, IsPartition, IsZero, Together, zero
 use Rattle.partition.specs.MeetAndJoin.{IsMeet}
 use Rattle.partition.specs.Laws.Labels.{blocks_of-le, label-lt-blocks_of, IsPartition-of}
 use Rattle.closed_lattice.specs.Limits.{HoldsApart, IsGreatestGrown}
-use Rattle.closed_lattice.proofs.ZeroBlocks.{strictly_fewer}
+use Rattle.partition.specs.Laws.Blocks.{strictly_fewer}
 use Rattle.state_codes.specs.Laws.Places.{All-left, All-right}
 use Rattle.parallel_split.specs.Kind.{HasNoneInParallel}
 use Rattle.parallel_split.specs.Choice.{AllMeetInZero, IsFirstHeld, IsSeparating, SeparatesTo}

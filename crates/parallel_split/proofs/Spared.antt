@@ -5,7 +5,7 @@ use Rattle.std.proofs.lemmas.List.{take_all, drop_all, take_at, drop_at, length-
 use Rattle.std.proofs.lemmas.List.Elements.{All-append}
 use Rattle.std.proofs.Math.Seq.{take-suc, drop-cons}
 use Rattle.partition.specs.Partition.{IsOne, IsPartition, Together, blocks_of}
-use Rattle.closed_lattice.proofs.ZeroBlocks.{zero_blocks, zero_by_blocks}
+use Rattle.partition.specs.Laws.Blocks.{zero_blocks, zero_by_blocks}
 use Rattle.state_codes.specs.Laws.Places.{All-left, All-right}
 use Rattle.parallel_split.specs.Choice.{AllMeetInZero, LeavesOut}
 

@@ -1,13 +1,9 @@
 pub mod FirstAppearance
-pub mod Outcomes
 pub mod Comparing
 pub mod Pairs
 pub mod Merging
-pub mod Numerals
-pub mod Pieces
 pub mod Reading
 pub mod Refused
-pub mod Faults
 pub mod Nesting
 pub mod Sizes
 pub mod Words
@@ -15,6 +11,4 @@ pub mod Counting
 pub mod BlockRows
 pub mod SingleRow
 pub mod JoinedStates
-pub mod Relabelling
 pub mod Gathering
-pub mod Texts

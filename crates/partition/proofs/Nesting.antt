@@ -1,29 +1,11 @@
 -- How blocks are numbered inside the blocks of another partition.
 use Rattle.std.proofs.Common.{◌≡◌, ◌≢◌, ℕ, ◌+◌, ◌<◌, ◌≤◌, ◌==◌, ◌&&◌, Bool, cond, max, List, [], ◌∷◌, ◌++◌, length, get_or, set, take, refl, sym, ap, ◌∙◌, subst, inl, inr, arith, add-one}
-use Rattle.std.proofs.lemmas.Bool.{cases_eq, cases_lt, eq-eqb, ne_eqb, false≢true}
+use Rattle.std.proofs.lemmas.Bool.{cases_eq, eq-eqb, ne_eqb}
 use Rattle.std.proofs.lemmas.List.{length_push, get_or_append_left, get_or_push, get_or-set_same, get_or-set_other, length-set}
-use Rattle.std.proofs.lemmas.List.Sums.{position_or_len_is, fails_before_first}
-use Rattle.std.specs.List.{position_or_len}
 use Rattle.partition.specs.Partition.{blocks_of, IsNumbered, IsPartition, Le}
 use Rattle.partition.specs.Inside.{least_of, blocks_below, IsInside}
+use Rattle.partition.specs.Laws.Least.{least_of-first, least_of-le, least_of-same}
 use Rattle.partition.specs.Laws.Labels.{blocks_of-push, blocks_of-take-more, label-lt-blocks_of, label-lt-blocks_of-take, block_stands, label-le, blocks_of-le, IsNumbered-none, IsNumbered-push}
-
--- no state of a block is below its least
-pub least_of-le : (q : List ℕ) (s t : ℕ) → get_or q t 0 ≡ get_or q s 0 → least_of q s ≤ t
-least_of-le q s t same =
-    elim (cases_lt t (least_of q s)) [
-      | inl below ↦ absurd (false≢true (sym (fails_before_first (λ label. label == get_or q s 0) q t 0 below) ∙ eq-eqb (get_or q t 0) (get_or q s 0) same))
-      | inr above ↦ above
-    ]
-
--- a state that begins a block is its least
-pub least_of-first : (q : List ℕ) (s : ℕ) → s < length q → ((t : ℕ) → t < s → get_or q t 0 ≢ get_or q s 0) → least_of q s ≡ s
-least_of-first q s within new =
-    position_or_len_is (λ label. label == get_or q s 0) q s 0 (omega arith) (λ t below. ne_eqb (get_or q t 0) (get_or q s 0) (new t below)) (λ inside. eq-eqb (get_or q s 0) (get_or q s 0) refl)
-
--- the states of a block have one least
-pub least_of-same : (q : List ℕ) (s t : ℕ) → get_or q s 0 ≡ get_or q t 0 → least_of q s ≡ least_of q t
-least_of-same q s t same = ap (λ (block : ℕ). position_or_len (λ label. label == block) q) same
 
 -- one state more, which is the least of its block of q
 pub blocks_below-least : (p q : List ℕ) (block k : ℕ) → least_of q k ≡ k → blocks_below p q block (k + 1) ≡ blocks_below p q block k + cond (get_or p k 0 == block) 1 0

@@ -7,7 +7,7 @@ use Rattle.std.specs.Fmt.{decimal}
 use Rattle.partition.specs.Partition.{blocks_of, IsNumbered, IsPartition, IsStateCount}
 use Rattle.partition.specs.Text.{labels_text, pieces_of, FirstBadPiece, OtherLength}
 use Rattle.partition.specs.Laws.Labels.{blocks_of-push, IsNumbered-none, IsNumbered-push, blocks_of-le}
-use Rattle.partition.proofs.Pieces.{length-pieces_of-le, some_piece, labels_text-pieces}
+use Rattle.partition.specs.Laws.Pieces.{length-pieces_of-le, some_piece, labels_text-pieces}
 
 -- After so many pieces: the labels that they spell, of which the first n are kept, and the pieces that are left.
 pub record IsReading (text : List ℕ) (n : ℕ) (labels : List ℕ) (found blocks : ℕ) (left : List (List ℕ)) : Type 0 where

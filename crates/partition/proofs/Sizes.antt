@@ -7,7 +7,8 @@ use Rattle.partition.specs.Partition.{blocks_of, IsPartition, IsZero, zero_of}
 use Rattle.partition.specs.Inside.{least_of, blocks_below, size_of, IsInside, IsComplement, IsLargestSize}
 use Rattle.partition.specs.Laws.Labels.{blocks_of-take-more, label-lt-blocks_of, block_stands}
 use Rattle.partition.specs.Laws.Extremes.{zero_of_is_partition, zero_of_is_zero, zero_once}
-use Rattle.partition.proofs.Nesting.{least_of-first, blocks_below-least}
+use Rattle.partition.specs.Laws.Least.{least_of-first}
+use Rattle.partition.proofs.Nesting.{blocks_below-least}
 
 pub inside_zero_is_complement : (p zero' r : List ℕ) → IsPartition (length p) zero' → IsZero zero' → IsInside p zero' r → IsComplement p r
 inside_zero_is_complement p zero' r lawful is inside =

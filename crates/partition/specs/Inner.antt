@@ -1,6 +1,5 @@
 -- Definitions that only private functions and proofs need.
 pub mod Rows
-pub mod Pieces
 pub mod Ties
 pub mod Relabelled
 pub mod Splitting

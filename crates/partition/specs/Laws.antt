@@ -7,3 +7,14 @@ pub mod Precedence
 pub mod World
 pub mod Merging
 pub mod Splitting
+pub mod Least
+pub mod Relabelling
+pub mod Holds
+pub mod Blocks
+pub mod Numerals
+pub mod Pieces
+pub mod Texts
+pub mod Faults
+pub mod Outcomes
+pub mod Partners
+pub mod Generating

@@ -3,8 +3,11 @@ pub mod MeetAndJoin
 pub mod Merging
 pub mod Before
 pub mod Refusal
+pub mod Numerals
 pub mod Text
 pub mod Inside
 pub mod Bits
+pub mod Sides
+pub mod Partners
 pub mod Inner
 pub mod Laws

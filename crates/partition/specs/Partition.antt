@@ -1,5 +1,5 @@
 -- Partitions of the states 0 to n - 1 of a machine, as lists of labels, after Hartmanis and Stearns.
-use Rattle.std.specs.Prelude.{◌≡◌, ℕ, zero, suc, ◌+◌, ◌<◌, ◌≤◌, ◌↔◌, ◌⊎◌, max, List, [], ◌∷◌, ◌++◌, length, take, slice_index}
+use Rattle.std.specs.Prelude.{◌≡◌, ℕ, zero, suc, ◌+◌, ◌<◌, ◌≤◌, ◌↔◌, ◌⊎◌, max, List, [], ◌∷◌, ◌++◌, length, replicate, take, slice_index}
 
 -- the number of blocks that labels name: the greatest label plus 1, or 0 where there are no labels
 abbrev pub blocks_of : List ℕ → ℕ
@@ -49,6 +49,10 @@ zero_of (suc n) = zero_of n ++ n ∷ []
 -- all states are together
 abbrev pub IsOne : List ℕ → Type 0
 IsOne p = (s t : ℕ) → s < length p → t < length p → Together p s t
+
+-- the partition of n states that has all of them together: the label of each state is 0
+abbrev pub one_of : ℕ → List ℕ
+one_of n = replicate n 0
 
 -- neither zero nor one
 abbrev pub IsNontrivial : List ℕ → Type 0

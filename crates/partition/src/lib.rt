@@ -10,12 +10,13 @@
 //! - `specs/Before`: the order of listings;
 //! - `specs/Inside`: blocks inside blocks, and complements;
 //! - `specs/Text` and `specs/Refusal`: texts and refusals;
+//! - `specs/Sides` and `specs/Partners`: pairs of partitions, and Mm pairs of any relation of partitions;
 //! - `specs/Laws`: the laws that other crates cite.
 #![tactic(auto)]
 
 ghost use Rattle.std.specs.Prelude.{◌≡◌, ◌<◌, ◌≤◌, ◌↔◌, length, slice_index, IsTrue, IfOk};
 ghost use Rattle.partition.specs.Inside.{least_of};
-ghost use Rattle.partition.specs.Partition.{IsPartition, IsStateCount, IsZero, IsOne, IsHold, Together, blocks_of, zero_of};
+ghost use Rattle.partition.specs.Partition.{IsPartition, IsStateCount, IsZero, IsOne, IsHold, Together, blocks_of, one_of, zero_of};
 
 mod bits;
 mod blocks;
@@ -118,6 +119,7 @@ impl Partition {
         requires { IsStateCount n }
         ensures lawful { IfOk result (λ p. IsPartition n p) }
         ensures one { IfOk result IsOne }
+        ensures labels { IfOk result (λ p. p ≡ one_of n) }
     {
         let labels = vec![in alloc; 0; n]?;
         Ok(Partition { labels, blocks: 1 })

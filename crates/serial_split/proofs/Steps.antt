@@ -10,7 +10,7 @@ use Rattle.partition.specs.Partition.{IsNontrivial, IsOne, IsPartition, IsZero, 
 use Rattle.partition.specs.MeetAndJoin.{IsMeet}
 use Rattle.partition.specs.Laws.Labels.{blocks_of-le, label-lt-blocks_of, IsPartition-of}
 use Rattle.closed_lattice.specs.Closed.{IsClosedPartition}
-use Rattle.closed_lattice.proofs.ZeroBlocks.{strictly_fewer}
+use Rattle.partition.specs.Laws.Blocks.{strictly_fewer}
 use Rattle.state_codes.specs.declared.split.Part.{Part}
 use Rattle.state_codes.specs.Split.{IsPart, TogetherInAll}
 use Rattle.state_codes.specs.Kinds.{IsOwnCarrier, PartsMeetInZero}

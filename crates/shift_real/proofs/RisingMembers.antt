@@ -2,7 +2,7 @@
 use Rattle.std.proofs.Common.{◌≡◌, ℕ, zero, suc, ◌+◌, ◌-◌, ◌<◌, ◌≤◌, ◌⊎◌, inl, inr, Some, List, [], ◌∷◌, ◌++◌, length, slice_get, refl, ap, sym, ◌∙◌, subst, arith, length-append}
 use Rattle.std.proofs.lemmas.Option.{slice_get_within}
 use Rattle.list_facts.specs.Laws.Places.{get_behind, get_cases, get_first}
-use Rattle.closed_lattice.proofs.ZeroBlocks.{strictly_fewer}
+use Rattle.partition.specs.Laws.Blocks.{strictly_fewer}
 use Rattle.kiss_file.specs.declared.file.KissFile.{KissFile}
 use Rattle.machine_table.specs.Staying.{NeverLeaves}
 use Rattle.pair_operators.specs.Extremes.{IsHigh}

@@ -15,7 +15,7 @@ use Rattle.kiss_file.specs.Lawful.{IsLawfulRow}
 use Rattle.kiss_file.specs.Machine.{Accepted, Conflicting, GiveBoth, IsRowAt, NameTwo, Specified, answers}
 use Rattle.kiss_file.specs.Names.{AreDistinct}
 use Rattle.machine_table.specs.Table.{IsTable}
-use Rattle.partition.proofs.Nesting.{least_of-same}
+use Rattle.partition.specs.Laws.Least.{least_of-same}
 use Rattle.partition.specs.Inside.{least_of}
 use Rattle.state_reduce.specs.Alike.{Alike, AreUnlike, IsEquivalence, IsWord}
 use Rattle.state_reduce.specs.Inner.Named.{AreAllNamed, currents_of, kept_of, nexts_of}

@@ -18,7 +18,7 @@ use Rattle.kiss_file.specs.Names.{name_of}
 use Rattle.kiss_file.specs.Laws.Machine.{next_said}
 use Rattle.machine_table.specs.Table.{IsTable}
 use Rattle.pair_operators.specs.Pair.{Closed}
-use Rattle.partition.proofs.Nesting.{least_of-same}
+use Rattle.partition.specs.Laws.Least.{least_of-same}
 use Rattle.partition.specs.Inside.{least_of}
 use Rattle.partition.specs.Partition.{Together}
 use Rattle.state_reduce.specs.Inner.Named.{AreAllNamed, currents_of, kept_of, nexts_of}

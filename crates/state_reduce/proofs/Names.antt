@@ -18,7 +18,7 @@ use Rattle.kiss2.specs.Standing.{each_once}
 use Rattle.kiss2.specs.Laws.Finding.{contained_from_test, contained_test}
 use Rattle.kiss2.specs.Laws.Once.{among, among-each_once, each_once-append, no_more, once-each_once}
 use Rattle.machine_table.specs.Table.{IsTable}
-use Rattle.partition.proofs.Nesting.{least_of-le}
+use Rattle.partition.specs.Laws.Least.{least_of-le}
 use Rattle.partition.specs.Inside.{least_of}
 use Rattle.state_reduce.specs.Inner.Named.{currents_of, kept_of, nexts_of}
 use Rattle.state_reduce.specs.Quotient.{block_name, block_names}

@@ -10,11 +10,11 @@ use Rattle.std.proofs.lemmas.Slice.Eq.{bytes_eq-Decides}
 use Rattle.kiss_file.specs.declared.file.KissFile.{KissFile}
 use Rattle.kiss_file.specs.Names.{AreDistinct, name_of}
 use Rattle.kiss2.specs.Laws.SameRecord.{number_once}
-use Rattle.partition.proofs.Nesting.{least_of-le, least_of-same}
 use Rattle.partition.specs.Inside.{least_of}
 use Rattle.partition.specs.Partition.{Together}
 use Rattle.state_reduce.specs.Inner.Named.{AreAllNamed}
 use Rattle.state_reduce.specs.Quotient.{block_name, block_names, block_number}
+use Rattle.partition.specs.Laws.Least.{least_of-le, least_of-same}
 
 -- the place of a name that is there
 place_within : (names : List (List ℕ)) (name : List ℕ) → Contains names name → position_or_len (bytes_eq name) names < length names

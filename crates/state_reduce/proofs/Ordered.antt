@@ -16,7 +16,7 @@ use Rattle.kiss2.specs.Standing.{each_once}
 use Rattle.kiss2.specs.Laws.Finding.{contained_test}
 use Rattle.kiss2.specs.Laws.Once.{among, each_once-append}
 use Rattle.machine_table.specs.Table.{IsTable}
-use Rattle.partition.proofs.Nesting.{least_of-same}
+use Rattle.partition.specs.Laws.Least.{least_of-same}
 use Rattle.partition.specs.Inside.{least_of}
 use Rattle.partition.specs.Partition.{IsPartition, blocks_of}
 use Rattle.partition.specs.Laws.Labels.{block_stands, label-lt-blocks_of}

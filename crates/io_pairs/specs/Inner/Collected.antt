@@ -4,8 +4,8 @@ use Rattle.std.specs.Prelude.{◌≡◌, ℕ, ◌<◌, All, AllPairs, Contains, 
 use Rattle.partition.specs.Before.{Before}
 use Rattle.partition.specs.Partition.{IsPartition, Le}
 use Rattle.io_pairs.specs.Inner.Families.{FamilyPair, Go, IsParted}
-use Rattle.io_pairs.specs.Partners.{IsLeastWith, IsMmPairOf}
-use Rattle.io_pairs.specs.Sides.{Sides}
+use Rattle.partition.specs.Partners.{IsLeastWith, IsMmPairOf}
+use Rattle.partition.specs.Sides.{Sides}
 
 -- q is the least partition of the values in which the two members go together
 abbrev pub IsRightOf : ℕ → List (List ℕ) → (x y : ℕ) → List ℕ → Type 0

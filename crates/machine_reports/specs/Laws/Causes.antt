@@ -5,7 +5,7 @@ use Rattle.answers.specs.Refusal.{answer_of}
 use Rattle.answers.specs.declared.numbers.Answer.TheVariants as answers
 use Rattle.io_pairs.specs.Inputs.{IsInMmPair}
 use Rattle.io_pairs.specs.Outputs.{IsOutMmPair}
-use Rattle.io_pairs.specs.Sides.{RightBefore}
+use Rattle.partition.specs.Sides.{RightBefore}
 use Rattle.kiss_file.specs.declared.file.KissFile.{KissFile}
 use Rattle.machine_reports.specs.Causes.{MoreThan, NotDefiniteRow, RefusesInputPairs, RefusesOutputPairs, TooManyInputsRow, TooManyOutputsRow}
 

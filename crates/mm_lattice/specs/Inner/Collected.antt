@@ -5,7 +5,7 @@ use Rattle.partition.specs.Before.{Before}
 use Rattle.partition.specs.Partition.{IsPartition, Le}
 use Rattle.pair_operators.specs.Extremes.{IsHigh}
 use Rattle.mm_lattice.specs.Generators.{IsRightOf}
-use Rattle.mm_lattice.specs.Sides.{Sides}
+use Rattle.partition.specs.Sides.{Sides}
 use Rattle.mm_lattice.specs.Top.{IsRightSide}
 
 -- each is m of a partition that holds two states together and nothing else

@@ -10,8 +10,8 @@ use Rattle.answers.specs.declared.numbers.Answer.TheVariants as answers
 use Rattle.partition.specs.declared.PartFail.TheVariants.{BadText, WrongLength}
 use Rattle.partition.specs.Partition.{IsPartition}
 use Rattle.partition.specs.Laws.Labels.{IsPartition-of}
-use Rattle.partition.proofs.Texts.{partition_once}
-use Rattle.partition.proofs.Faults.{no_fault_of_partition}
+use Rattle.partition.specs.Laws.Texts.{partition_once}
+use Rattle.partition.specs.Laws.Faults.{no_fault_of_partition}
 use Rattle.operands.specs.PartFaults.{BadPart, BadPartAt, BadParts}
 use Rattle.operands.specs.PartTexts.{ArePartTexts, IsTextOfPartition, texts_of_parts}
 

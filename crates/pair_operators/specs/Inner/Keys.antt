@@ -2,7 +2,7 @@
 use Rattle.std.specs.Prelude.{ℕ, ◌≡◌, ◌+◌, ◌*◌, ◌%◌, ◌<◌, ◌^◌, List, length, slice_index}
 use Rattle.kiss_file.specs.declared.file.KissFile.{KissFile}
 use Rattle.pair_operators.specs.declared.asked.Keys.{Keys}
-use Rattle.pair_operators.specs.Inner.Going.{Goes}
+use Rattle.pair_operators.specs.Going.{Goes}
 
 -- the number of a state after one more label
 abbrev pub mixed : ℕ → ℕ → ℕ

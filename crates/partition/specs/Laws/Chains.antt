@@ -13,6 +13,9 @@ together_itself p s within = (within, within, refl)
 pub together_turned : (p : List ℕ) (s t : ℕ) → Together p s t → Together p t s
 together_turned p s t held = (held.1, held.0, sym held.2)
 
+pub together_on : (q : List ℕ) (s t u : ℕ) → Together q s t → Together q t u → Together q s u
+together_on q s t u one two = (one.0, two.1, one.2 ∙ two.2)
+
 link_turned : (p q : List ℕ) (s t : ℕ) → Link p q s t → Link p q t s
 link_turned p q s t (inl held) = inl (together_turned p s t held)
 link_turned p q s t (inr held) = inr (together_turned q s t held)

@@ -3,7 +3,7 @@ use Rattle.std.proofs.Common.{◌≡◌, ℕ, zero, suc, subst, add-one, ◌+◌
 use Rattle.std.proofs.lemmas.List.{ext_get_or, length_push, get_or_append_left, get_or_push, get_or-replicate, length-replicate}
 use Rattle.std.proofs.lemmas.List.Recursion.{max_least}
 use Rattle.std.proofs.lemmas.Bool.{cases_eq}
-use Rattle.partition.specs.Partition.{blocks_of, IsNumbered, IsPartition, IsStateCount, Le, SameTogether, Together, IsZero, IsOne, IsHold, zero_of}
+use Rattle.partition.specs.Partition.{blocks_of, IsNumbered, IsPartition, IsStateCount, Le, SameTogether, Together, IsZero, IsOne, IsHold, one_of, zero_of}
 use Rattle.partition.specs.Laws.Labels.{same_labels, blocks_of-push, label-lt-blocks_of, IsNumbered-none, IsNumbered-push}
 
 -- the labels are the numbers below s, in order
@@ -31,21 +31,30 @@ pub count_is_zero : (labels : List ℕ) (s : ℕ) → IsCount labels s → IsZer
 count_is_zero labels s all a b held =
     sym (all.own a (omega (arith, held.0, all.size))) ∙ held.2 ∙ all.own b (omega (arith, held.1, all.size))
 
-pub replicate_is_partition : (n : ℕ) → IsStateCount n → IsPartition n (replicate n 0)
-replicate_is_partition n count = record {
+pub one_of_is_partition : (n : ℕ) → IsStateCount n → IsPartition n (one_of n)
+one_of_is_partition n count = record {
   count = count;
   length = length-replicate {A = ℕ} n 0;
   numbered = λ s within. omega (arith, get_or-replicate {A = ℕ} n s 0 0 (omega (arith, length-replicate {A = ℕ} n 0)));
 }
 
-pub blocks_of-replicate : (n : ℕ) → 0 < n → blocks_of (replicate n 0) ≡ 1
-blocks_of-replicate n some =
+pub blocks_of-one_of : (n : ℕ) → 0 < n → blocks_of (one_of n) ≡ 1
+blocks_of-one_of n some =
     let size : length (replicate n 0) ≡ n = length-replicate {A = ℕ} n 0 in
     omega (arith, label-lt-blocks_of (replicate n 0) 0 (omega arith), max_least blocks_of (λ label. label + 1) refl (λ _ _. refl) (replicate n 0) 0 1 (λ i within. omega (arith, get_or-replicate {A = ℕ} n i 0 0 (omega arith))))
 
-pub replicate_is_one : (n : ℕ) → IsOne (replicate n 0)
-replicate_is_one n s t in_s in_t =
+pub one_of_is_one : (n : ℕ) → IsOne (one_of n)
+one_of_is_one n s t in_s in_t =
     (in_s, in_t, get_or-replicate {A = ℕ} n s 0 0 (omega (arith, length-replicate {A = ℕ} n 0)) ∙ sym (get_or-replicate {A = ℕ} n t 0 0 (omega (arith, length-replicate {A = ℕ} n 0))))
+
+-- there is only one partition that has all states together
+pub one_once : (n : ℕ) (p : List ℕ) → IsPartition n p → IsOne p → p ≡ one_of n
+one_once n p lawful is =
+    let one : IsPartition n (one_of n) = one_of_is_partition n lawful.count in
+    same_labels p (one_of n) lawful.numbered one.numbered (lawful.length ∙ sym one.length) (λ s t. (
+      (λ held. one_of_is_one n s t (omega (arith, held.0, lawful.length, one.length)) (omega (arith, held.1, lawful.length, one.length))),
+      (λ held. is s t (omega (arith, held.0, lawful.length, one.length)) (omega (arith, held.1, lawful.length, one.length))),
+    ))
 
 -- there is only one partition that has no states together
 pub zero_once : (n : ℕ) (p q : List ℕ) → IsPartition n p → IsPartition n q → IsZero p → IsZero q → p ≡ q

@@ -6,7 +6,7 @@ use Rattle.std.proofs.lemmas.List.Sums.{passes_at_first}
 use Rattle.partition.specs.Partition.{IsPartition, Le, Together, zero_of}
 use Rattle.partition.specs.Laws.Extremes.{zero_of_below, zero_of_is_partition, zero_of_is_zero}
 use Rattle.partition.specs.Laws.Labels.{IsPartition-of}
-use Rattle.partition.proofs.Nesting.{least_of-le, least_of-same}
+use Rattle.partition.specs.Laws.Least.{least_of-le, least_of-same}
 use Rattle.partition.specs.Inside.{least_of, blocks_below, IsComplement, IsInside}
 
 -- the least state of a block has its label

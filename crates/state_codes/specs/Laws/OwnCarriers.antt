@@ -3,7 +3,7 @@ use Rattle.std.proofs.Common.{◌≡◌, ℕ, zero, suc, ◌+◌, ◌<◌, ◌�
 use Rattle.std.proofs.lemmas.List.{get_or-replicate}
 use Rattle.std.proofs.lemmas.List.Sums.{fails_before_first}
 use Rattle.partition.specs.Inside.{IsInside, blocks_below, least_of}
-use Rattle.partition.specs.Laws.Extremes.{blocks_of-replicate, replicate_is_partition}
+use Rattle.partition.specs.Laws.Extremes.{blocks_of-one_of, one_of_is_partition}
 use Rattle.partition.specs.Partition.{IsPartition, IsStateCount, blocks_of}
 use Rattle.state_codes.specs.declared.split.Part.{Part}
 use Rattle.state_codes.specs.Code.{need}
@@ -30,14 +30,14 @@ none_below p s (suc k) below =
 pub inside_itself : (n : ℕ) (p : List ℕ) → IsPartition n p → IsInside p p (zeros p)
 unfolding zeros
 inside_itself n p lawful = record {
-  lawful = replicate_is_partition (length p) (subst IsStateCount (sym lawful.length) lawful.count);
+  lawful = one_of_is_partition (length p) (subst IsStateCount (sym lawful.length) lawful.count);
   numbers = λ s within. get_or-replicate {A = ℕ} (length p) s 0 0 within ∙ sym (none_below p s (least_of p s) (omega arith));
 }
 
 pub zeros_need : (n : ℕ) (p : List ℕ) → IsPartition n p → need (blocks_of (zeros p)) ≡ 0
 unfolding zeros
 zeros_need n p lawful =
-    ap need (blocks_of-replicate (length p) (omega (arith, lawful.length, lawful.count.0)))
+    ap need (blocks_of-one_of (length p) (omega (arith, lawful.length, lawful.count.0)))
     ∙ need_is 1 0 (record { enough = omega arith; least = λ fewer enough. omega arith })
 
 -- the labels of a part inside itself need no bit

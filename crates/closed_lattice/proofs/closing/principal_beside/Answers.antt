@@ -2,9 +2,9 @@ use Rattle.std.proofs.Common.{ℕ, ◌<◌, length, ◌∙◌, sym, subst, arith
 use Rattle.partition.specs.Partition.{IsPartition}
 use Rattle.partition.specs.Laws.Merging.{merged_above, merged_held}
 use Rattle.state_pairs.specs.Laws.MergedPairs.{one_block}
-use Rattle.closed_lattice.proofs.Blocks.{fewer_blocks}
 use Rattle.closed_lattice.proofs.Joining.{growing_joined}
 use Rattle.closed_lattice.proofs.Growing.{growing_begun, growing_merged, growing_ended, growing_one}
+use Rattle.partition.specs.Laws.Blocks.{fewer_blocks}
 use Rattle.closed_lattice.proofs.closing.principal_beside.Goals as goal
 
 pub loop-u-init : goal.loop-u-init

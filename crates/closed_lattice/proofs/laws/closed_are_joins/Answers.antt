@@ -1,4 +1,4 @@
-use Rattle.closed_lattice.proofs.Generating.{closed_made, made_closed}
+use Rattle.closed_lattice.specs.Laws.Generating.{closed_made, made_closed}
 use Rattle.closed_lattice.proofs.laws.closed_are_joins.Goals as goal
 
 pub returns-clause-closed : goal.returns-clause-closed

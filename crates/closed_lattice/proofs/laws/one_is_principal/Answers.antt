@@ -1,4 +1,4 @@
-use Rattle.closed_lattice.proofs.Generating.{principals_are_one}
+use Rattle.closed_lattice.specs.Laws.Generating.{principals_are_one}
 use Rattle.closed_lattice.proofs.laws.one_is_principal.Goals as goal
 
 pub returns : goal.returns

@@ -1,7 +1,7 @@
 use Rattle.std.proofs.Common.{◌≡◌, Ok, sym, ◌∙◌, subst, arith}
 use Rattle.std.proofs.lemmas.Bool.{false≢true}
-use Rattle.partition.specs.Inner.Pieces.{IsPlain}
-use Rattle.partition.proofs.Numerals.{IsPlain-decimal, decimal-of_plain, reads-decimal, IsUtf8-decimal}
+use Rattle.partition.specs.Numerals.{IsPlain}
+use Rattle.partition.specs.Laws.Numerals.{IsPlain-decimal, decimal-of_plain, reads-decimal, IsUtf8-decimal}
 use Rattle.cover_split.proofs.text.state_of.Goals as goal
 
 pub returns-then-not-is_plain-clause-none : goal.returns-then-not-is_plain-clause-none

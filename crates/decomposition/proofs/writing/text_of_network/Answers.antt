@@ -3,7 +3,7 @@ use Rattle.blif_out.specs.declared.header.LatchNote.{LatchNote}
 use Rattle.blif_out.specs.Head.{Head}
 use Rattle.hs_io.specs.Spelling.{ArePlainFields}
 use Rattle.net_core.specs.Denotes.{Denotes}
-use Rattle.partition.proofs.Outcomes.{IfOk-from_both}
+use Rattle.partition.specs.Laws.Outcomes.{IfOk-from_both}
 use Rattle.decomposition.proofs.writing.text_of_network.Goals as goal
 
 pub text-requires-clause-notes : goal.text-requires-clause-notes

@@ -4,9 +4,9 @@ use Rattle.std.proofs.lemmas.List.Elements.{All-map}
 use Rattle.std.proofs.lemmas.Result.{IfOk-from_err}
 use Rattle.hs_lattice.specs.JoinWorld.{IsGenerated}
 use Rattle.hs_lattice.specs.Inner.Passes.{IsPicked}
-use Rattle.hs_lattice.proofs.Distinct.{picked_fit, picked_is_evidence, lists_picked, joins_picked, evidence_picked}
+use Rattle.hs_lattice.proofs.Distinct.{picked_fit, picked_is_evidence, lists_picked, joins_picked, evidence_picked, ascending_few}
 use Rattle.hs_lattice.proofs.Exclusion.{StrictOrder, few_exclude_more}
-use Rattle.hs_lattice.proofs.Outcomes.{whole-from, more-from, whole-from_three}
+use Rattle.hs_lattice.specs.Laws.Outcomes.{whole-from, more-from, whole-from_three}
 use Rattle.hs_lattice.proofs.closure.join_closure.Goals as goal
 
 pub joins_of-requires-clause-generators : goal.joins_of-requires-clause-generators
@@ -42,6 +42,20 @@ returns-in-Whole-clause-no_more g c =
     whole-from_three c.joins_of.result _ _ (λ items. All (λ x. w.fits world (w.meaning x)) items) _
     (λ items lists few fit values evidence. few_exclude_more (w.fits world) (w.precedes world) P (map w.meaning items) values c.args.limit order (All-map (w.fits world) w.meaning items fit) lists (rw (length-map items w.meaning) few) evidence)
     (returns-in-Whole-clause-whole g c) c.joins_of.ensures.within c.joins_of.ensures.fit
+
+pub returns-in-Whole-clause-few : goal.returns-in-Whole-clause-few
+returns-in-Whole-clause-few g c =
+    let w = g.W.JoinWorld in
+    let laws = g.met.W.JoinWorld in
+    let world = c.args.world.now in
+    let lawful = c.requires.world in
+    let bottom = w.meaning c.in_ok-bottom.bottom in
+    let is = c.in_ok-bottom.ensures in
+    let bottom_fits = laws.least_fits world bottom lawful is in
+    whole-from c.joins_of.result _ _
+    (λ items none ascending. ascending_few w.meaning (w.precedes world) (w.least world) (w.joins world) c.args.generators.now c.args.limit bottom ascending is
+    (λ k d lt. let fit = c.requires.generators k d lt in laws.joins_commute world bottom _ _ lawful bottom_fits fit (laws.joins_least world bottom _ lawful is fit)) none)
+    (returns-in-Whole-clause-no_more g c)
 
 pub returns-in-Whole-clause-more : goal.returns-in-Whole-clause-more
 returns-in-Whole-clause-more g c =
@@ -105,3 +119,9 @@ returns-in_err-kept-clause-more g c = IfOk-from_err c.from_residual-in_err-kept.
 
 pub returns-in_err-kept-clause-fit : goal.returns-in_err-kept-clause-fit
 returns-in_err-kept-clause-fit g c = IfOk-from_err c.from_residual-in_err-kept.result _ c.from_residual-in_err-kept.ensures.0
+
+pub returns-in_err-bottom-clause-few : goal.returns-in_err-bottom-clause-few
+returns-in_err-bottom-clause-few g c = IfOk-from_err c.from_residual.result _ c.from_residual.ensures.0
+
+pub returns-in_err-kept-clause-few : goal.returns-in_err-kept-clause-few
+returns-in_err-kept-clause-few g c = IfOk-from_err c.from_residual-in_err-kept.result _ c.from_residual-in_err-kept.ensures.0

@@ -1,6 +1,6 @@
 use Rattle.std.proofs.Common.{ℕ, ◌≤◌, List, length, subst, arith}
 use Rattle.hs_lattice.specs.Collection.{items_in}
-use Rattle.hs_lattice.proofs.Members.{All-same}
+use Rattle.hs_lattice.specs.Laws.Members.{All-same}
 use Rattle.io_pairs.specs.Inner.Collected.{IsRight}
 use Rattle.io_pairs.specs.Inner.Families.{functions_of}
 use Rattle.io_pairs.proofs.Found.{have_same}

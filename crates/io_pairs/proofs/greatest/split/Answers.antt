@@ -1,5 +1,5 @@
 use Rattle.std.proofs.Common.{arith}
-use Rattle.partition.proofs.Outcomes.{IfOk-from_both}
+use Rattle.partition.specs.Laws.Outcomes.{IfOk-from_both}
 use Rattle.io_pairs.proofs.Parting.{numbers_below, split_by}
 use Rattle.io_pairs.proofs.greatest.split.Goals as goal
 

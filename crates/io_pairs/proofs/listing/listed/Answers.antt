@@ -1,6 +1,7 @@
 use Rattle.std.proofs.Common.{map}
 use Rattle.io_pairs.specs.Inner.Families.{functions_of}
-use Rattle.io_pairs.specs.Sides.{Sides, sides_of}
+use Rattle.partition.specs.Sides.{Sides}
+use Rattle.io_pairs.specs.Sides.{sides_of}
 use Rattle.io_pairs.proofs.Listed.{paired, paired_evidence, right_evidence}
 use Rattle.io_pairs.proofs.listing.listed.Goals as goal
 

@@ -1,7 +1,6 @@
 use Rattle.std.proofs.Common.{length}
 use Rattle.io_pairs.specs.Inner.Families.{functions_of}
-use Rattle.io_pairs.specs.Inner.OwnGoing.{GoAtSymbols}
-use Rattle.io_pairs.specs.Outputs.{occurring}
+use Rattle.io_pairs.specs.Outputs.{GoAtSymbols, occurring}
 use Rattle.io_pairs.proofs.OwnWords.{more_answer, none_answer, whole_answer}
 use Rattle.io_pairs.proofs.states.output_pairs.Goals as goal
 

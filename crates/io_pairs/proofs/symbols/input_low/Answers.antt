@@ -1,6 +1,6 @@
 use Rattle.std.proofs.Common.{◌^◌, length}
 use Rattle.io_pairs.specs.Inner.Families.{functions_of}
-use Rattle.io_pairs.specs.Inner.OwnGoing.{GoFromStates}
+use Rattle.io_pairs.specs.Inputs.{GoFromStates}
 use Rattle.io_pairs.proofs.OwnWords.{low_answer}
 use Rattle.io_pairs.proofs.symbols.input_low.Goals as goal
 

@@ -1,5 +1,6 @@
 use Rattle.io_pairs.specs.Inputs.{IsInMmPair}
-use Rattle.io_pairs.specs.Sides.{RightBefore, sides_of}
+use Rattle.partition.specs.Sides.{RightBefore}
+use Rattle.io_pairs.specs.Sides.{sides_of}
 use Rattle.machine_cases.proofs.Listed.{whole_has}
 use Rattle.machine_cases.proofs.pairs.put_in_input_world.Goals as goal
 

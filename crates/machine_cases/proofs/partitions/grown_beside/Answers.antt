@@ -1,6 +1,6 @@
 use Rattle.std.proofs.Common.{◌≡◌, length, ap, ◌∙◌}
 use Rattle.partition.specs.Partition.{zero_of}
-use Rattle.closed_lattice.proofs.Generating.{states_counted, zero_closed}
+use Rattle.closed_lattice.specs.Laws.Generating.{states_counted, zero_closed}
 use Rattle.machine_cases.proofs.partitions.grown_beside.Goals as goal
 
 pub apart-requires-clause-closed : goal.apart-requires-clause-closed

@@ -1,4 +1,5 @@
-use Rattle.mm_lattice.specs.MmPairs.{IsMmPair, RightBefore}
+use Rattle.mm_lattice.specs.MmPairs.{IsMmPair}
+use Rattle.partition.specs.Sides.{RightBefore}
 use Rattle.mm_lattice.specs.Sides.{sides_of}
 use Rattle.machine_cases.proofs.Listed.{whole_has}
 use Rattle.machine_cases.proofs.worlds.put_in_mm_world.Goals as goal

@@ -1,7 +1,8 @@
 use Rattle.answers.specs.Laws.Causes.{one_of}
 use Rattle.answers.specs.declared.numbers.Answer.TheVariants as answers
 use Rattle.closed_lattice.specs.Closed.{IsClosedPartition}
-use Rattle.mm_lattice.specs.MmPairs.{IsMmPair, RightBefore}
+use Rattle.mm_lattice.specs.MmPairs.{IsMmPair}
+use Rattle.partition.specs.Sides.{RightBefore}
 use Rattle.output_consistent.specs.Outputs.{IsClosedAndConsistent}
 use Rattle.operands.specs.PartFaults.{BadPart}
 use Rattle.operands.specs.Laws.Parts.{bad_part_is_of}

@@ -1,6 +1,6 @@
 use Rattle.std.proofs.Common.{ℕ, ◌≤◌, List, length, sym, subst, arith}
 use Rattle.hs_lattice.specs.Collection.{IsCollection, items_in}
-use Rattle.hs_lattice.proofs.Members.{All-same}
+use Rattle.hs_lattice.specs.Laws.Members.{All-same}
 use Rattle.partition.specs.Before.{Before}
 use Rattle.partition.specs.Partition.{IsPartition}
 use Rattle.mm_lattice.specs.Generators.{IsRightOf}

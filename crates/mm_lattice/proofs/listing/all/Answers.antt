@@ -1,6 +1,7 @@
 use Rattle.std.proofs.Common.{length, map, ap, arith}
 use Rattle.std.proofs.lemmas.List.{length-map}
-use Rattle.mm_lattice.specs.Sides.{Sides, sides_of}
+use Rattle.partition.specs.Sides.{Sides}
+use Rattle.mm_lattice.specs.Sides.{sides_of}
 use Rattle.mm_lattice.proofs.Listed.{paired, paired_evidence, right_evidence}
 use Rattle.mm_lattice.proofs.listing.all.Goals as goal
 

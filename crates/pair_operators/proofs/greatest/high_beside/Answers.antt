@@ -5,10 +5,10 @@ use Rattle.partition.specs.Inner.Splitting.{IsSplitUpTo}
 use Rattle.partition.specs.Laws.Labels.{IsPartition-of}
 use Rattle.partition.specs.Laws.Splitting.{split_none, split_joined, split_alone, split_all}
 use Rattle.pair_operators.specs.Asked.{AreAsked}
-use Rattle.pair_operators.specs.Inner.Going.{Goes}
+use Rattle.pair_operators.specs.Going.{Goes}
 use Rattle.pair_operators.specs.Inner.Keys.{AreKeys}
 use Rattle.pair_operators.proofs.Classes.{high_all}
-use Rattle.pair_operators.proofs.Going.{goes_on, goes_turned}
+use Rattle.pair_operators.specs.Laws.Going.{goes_on, goes_turned}
 use Rattle.pair_operators.proofs.greatest.high_beside.Goals as goal
 use Rattle.pair_operators.proofs.greatest.high_beside.Goals.{in-Some, in-Some-alike_by_keys+in_ok-keys-2, in_default, in_default-alike_by_keys}
 

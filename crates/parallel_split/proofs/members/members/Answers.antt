@@ -4,7 +4,7 @@ use Rattle.partition.specs.Partition.{IsPartition, IsZero, blocks_of}
 use Rattle.partition.specs.MeetAndJoin.{IsMeet}
 use Rattle.partition.specs.Laws.Labels.{blocks_of-le, IsPartition-of}
 use Rattle.closed_lattice.specs.Limits.{HoldsApart}
-use Rattle.closed_lattice.proofs.ZeroBlocks.{strictly_fewer, zero_blocks, zero_by_blocks}
+use Rattle.partition.specs.Laws.Blocks.{strictly_fewer, zero_blocks, zero_by_blocks}
 use Rattle.parallel_split.specs.Choice.{IsFirstHeld}
 use Rattle.parallel_split.proofs.Gathering.{member_new, members_begun, members_more}
 use Rattle.parallel_split.proofs.Separating.{zero_alone}

@@ -1,7 +1,7 @@
 use Rattle.std.proofs.Common.{arith}
 use Rattle.partition.specs.Laws.Labels.{IsPartition-of}
 use Rattle.partition.specs.Laws.Extremes.{holding_is_hold}
-use Rattle.partition.proofs.Outcomes.{IfOk-from_both}
+use Rattle.partition.specs.Laws.Outcomes.{IfOk-from_both}
 use Rattle.partition.proofs.Partition.hold.Goals as goal
 
 pub returns : goal.returns

@@ -1,5 +1,5 @@
 use Rattle.std.proofs.Common.{◌≡◌, ◌∙◌, get_or, sym, arith}
-use Rattle.partition.proofs.Nesting.{least_of-first, least_of-same}
+use Rattle.partition.specs.Laws.Least.{least_of-first, least_of-same}
 use Rattle.partition.proofs.Partition.least_of.Goals as goal
 
 pub returns-then-same-clause-least : goal.returns-then-same-clause-least

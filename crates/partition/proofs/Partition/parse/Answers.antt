@@ -1,5 +1,5 @@
 use Rattle.std.proofs.Common.{arith}
-use Rattle.partition.proofs.Faults.{accepts, causes}
+use Rattle.partition.specs.Laws.Faults.{accepts, causes}
 use Rattle.partition.proofs.Partition.parse.Goals as goal
 
 pub returns-clause-accepted : goal.returns-clause-accepted

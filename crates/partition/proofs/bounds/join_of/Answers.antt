@@ -1,7 +1,7 @@
 use Rattle.std.proofs.Common.{◌<◌, length, get_or, ap, ◌∙◌, arith}
 use Rattle.partition.specs.Laws.Labels.{blocks_of-le, label-lt-blocks_of}
 use Rattle.partition.proofs.Merging.{tied_is_join}
-use Rattle.partition.proofs.Outcomes.{IfOk-from_both}
+use Rattle.partition.specs.Laws.Outcomes.{IfOk-from_both}
 use Rattle.partition.proofs.bounds.join_of.Goals as goal
 
 pub own_numbers-requires : goal.own_numbers-requires

@@ -1,6 +1,6 @@
 use Rattle.std.proofs.Common.{◌<◌, length, ap, ◌∙◌, arith}
 use Rattle.partition.proofs.Pairs.{pair_lt, pairs_few, pairs_are_meet}
-use Rattle.partition.proofs.Outcomes.{IfOk-from_both}
+use Rattle.partition.specs.Laws.Outcomes.{IfOk-from_both}
 use Rattle.partition.proofs.bounds.meet_of.Goals as goal
 
 pub overflow_mul-height : goal.overflow_mul-height

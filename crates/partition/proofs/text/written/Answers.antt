@@ -1,7 +1,7 @@
 use Rattle.std.proofs.Common.{◌≡◌, ℕ, List, ◌++◌, ◌∷◌, [], get_or, take, sym, ap, ◌∙◌, append_assoc, arith}
 use Rattle.std.specs.Fmt.{decimal}
 use Rattle.partition.specs.Text.{labels_text}
-use Rattle.partition.proofs.Pieces.{labels_text-take-none, labels_text-take-more}
+use Rattle.partition.specs.Laws.Pieces.{labels_text-take-none, labels_text-take-more}
 use Rattle.partition.proofs.text.written.Goals as goal
 use Rattle.partition.proofs.text.written.Goals.{then-s-gt0+in_ok-push, else-s-gt0}
 

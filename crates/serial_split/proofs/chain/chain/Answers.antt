@@ -2,7 +2,7 @@ use Rattle.std.proofs.Common.{◌≡◌, ℕ, ◌<◌, List, length, sym, ap, �
 use Rattle.std.specs.List.{range_with_len}
 use Rattle.kiss_file.specs.declared.file.KissFile.{KissFile}
 use Rattle.partition.specs.Partition.{IsPartition, IsZero, blocks_of}
-use Rattle.closed_lattice.proofs.ZeroBlocks.{strictly_fewer, zero_blocks, zero_by_blocks}
+use Rattle.partition.specs.Laws.Blocks.{strictly_fewer, zero_blocks, zero_by_blocks}
 use Rattle.partition.specs.Laws.Labels.{blocks_of-le}
 use Rattle.state_codes.specs.declared.split.Part.{Part}
 use Rattle.serial_split.specs.Inner.Chain.{IsStep, part_after}

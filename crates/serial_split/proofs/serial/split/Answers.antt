@@ -4,7 +4,7 @@ use Rattle.kiss_file.specs.declared.file.KissFile.{KissFile}
 use Rattle.partition.specs.Partition.{IsNontrivial, IsOne, IsPartition, IsStateCount, IsZero, Lt, blocks_of, zero_of}
 use Rattle.partition.specs.Laws.Extremes.{zero_of_is_zero, zero_of_is_partition}
 use Rattle.closed_lattice.specs.Limits.{IsGreatestGrown}
-use Rattle.closed_lattice.proofs.ZeroBlocks.{zero_blocks, zero_by_blocks}
+use Rattle.partition.specs.Laws.Blocks.{zero_blocks, zero_by_blocks}
 use Rattle.state_codes.specs.declared.split.Part.{Part}
 use Rattle.serial_split.specs.Choice.{partitions_of}
 use Rattle.serial_split.specs.Kind.{HasNoneNontrivial}

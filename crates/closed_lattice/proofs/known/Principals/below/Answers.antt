@@ -7,7 +7,7 @@ use Rattle.partition.specs.Laws.Labels.{IsPartition-of}
 use Rattle.closed_lattice.specs.Inner.Growing.{IsSettled}
 use Rattle.closed_lattice.proofs.Passing.{below_settled}
 use Rattle.closed_lattice.proofs.Conditions.{never_below_zero, strictly_below_down, zero_strictly_below}
-use Rattle.closed_lattice.proofs.Generating.{zero_of_closed}
+use Rattle.closed_lattice.specs.Laws.Generating.{zero_of_closed}
 use Rattle.closed_lattice.proofs.Grown.{grown_greatest}
 use Rattle.pair_operators.specs.Laws.Growth.{grown_nothing}
 use Rattle.closed_lattice.proofs.known.Principals.below.Goals as goal

@@ -6,7 +6,7 @@ use Rattle.pair_operators.specs.Growth.{IsGrowth}
 use Rattle.closed_lattice.specs.Inner.Growing.{IsSettled}
 use Rattle.closed_lattice.specs.Limits.{HoldsApart}
 use Rattle.closed_lattice.proofs.Conditions.{apart_down, zero_apart}
-use Rattle.closed_lattice.proofs.Generating.{zero_of_closed}
+use Rattle.closed_lattice.specs.Laws.Generating.{zero_of_closed}
 use Rattle.closed_lattice.proofs.Grown.{grown_greatest}
 use Rattle.closed_lattice.proofs.known.Principals.separating.Goals as goal
 

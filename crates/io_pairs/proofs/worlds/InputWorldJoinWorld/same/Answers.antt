@@ -1,7 +1,9 @@
 use Rattle.std.proofs.Common.{◌^◌, ap, length}
 use Rattle.io_pairs.specs.Inputs.{InPair}
-use Rattle.io_pairs.specs.Laws.{in_pairs_grow, same_right_of}
-use Rattle.io_pairs.specs.Sides.{Sides, sides_of}
+use Rattle.io_pairs.specs.Laws.{in_pairs_grow}
+use Rattle.partition.specs.Laws.Partners.{same_right_of}
+use Rattle.partition.specs.Sides.{Sides}
+use Rattle.io_pairs.specs.Sides.{sides_of}
 use Rattle.io_pairs.proofs.worlds.InputWorldJoinWorld.same.Goals as goal
 
 pub returns : goal.returns

@@ -1,5 +1,6 @@
 use Rattle.std.proofs.Common.{ap}
-use Rattle.mm_lattice.specs.Sides.{Sides, sides_of}
+use Rattle.partition.specs.Sides.{Sides}
+use Rattle.mm_lattice.specs.Sides.{sides_of}
 use Rattle.mm_lattice.specs.Laws.{same_right}
 use Rattle.mm_lattice.proofs.worlds.MmWorldJoinWorld.same.Goals as goal
 

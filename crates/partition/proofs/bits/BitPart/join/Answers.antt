@@ -1,7 +1,7 @@
 use Rattle.std.proofs.Common.{sym}
 use Rattle.partition.specs.Laws.Chains.{join_is_least}
 use Rattle.partition.specs.Laws.Joins.{join_turned}
-use Rattle.partition.proofs.Outcomes.{IfOk-from_both}
+use Rattle.partition.specs.Laws.Outcomes.{IfOk-from_both}
 use Rattle.partition.proofs.bits.BitPart.join.Goals as goal
 
 pub returns-then-blocks-clause-least : goal.returns-then-blocks-clause-least

@@ -1,4 +1,4 @@
-use Rattle.partition.proofs.Relabelling.{merged_already}
+use Rattle.partition.specs.Laws.Relabelling.{merged_already}
 use Rattle.partition.proofs.bits.lattice.join_two.Goals as goal
 
 pub returns-then-same-clause-merged : goal.returns-then-same-clause-merged

@@ -8,7 +8,7 @@ use Rattle.std.proofs.lemmas.Result.{OkIff-at_ok}
 use Rattle.std.specs.Fmt.{decimal}
 use Rattle.std.specs.Str.{IsUtf8}
 use Rattle.std.specs.Str.Parse.{ParsesUnsigned, AllDigits, digits_value}
-use Rattle.partition.specs.Inner.Pieces.{IsPlain}
+use Rattle.partition.specs.Numerals.{IsPlain}
 
 pub own : IsNumeralModel (AllDigits 10) (digits_value 10)
 own = numerals_by_value (AllDigits 10) tells_digits

@@ -8,7 +8,7 @@ use Rattle.list_facts.specs.Laws.Everywhere.{images_once}
 use Rattle.partition.specs.Partition.{IsPartition}
 use Rattle.partition.specs.Text.{labels_text, pieces_of}
 use Rattle.partition.specs.Laws.Labels.{label-le}
-use Rattle.partition.proofs.Pieces.{pieces_of-labels_text}
+use Rattle.partition.specs.Laws.Pieces.{pieces_of-labels_text}
 
 -- numbers that a decimal numeral tells
 abbrev pub AreSmall : List ℕ → Type 0

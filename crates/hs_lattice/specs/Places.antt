@@ -1,4 +1,4 @@
--- For private functions and proofs only: places in an ascending list.
+-- Places in an ascending list.
 use Rattle.std.specs.Prelude.{ℕ, ◌<◌, ◌≤◌, List, length, slice_index_or}
 
 -- the items below the place come before this item, and the items from the place on come after it

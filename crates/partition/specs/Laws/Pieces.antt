@@ -8,7 +8,7 @@ use Rattle.std.proofs.lemmas.List.Splits.{slice_split_none, slice_split_at, leng
 use Rattle.std.specs.List.{join_with_byte, All}
 use Rattle.std.specs.Fmt.{decimal}
 use Rattle.partition.specs.Text.{labels_text, pieces_of}
-use Rattle.partition.proofs.Numerals.{no_comma}
+use Rattle.partition.specs.Laws.Numerals.{no_comma}
 
 abbrev comma : ℕ → Bool
 comma byte = byte == 44

@@ -3,7 +3,7 @@ use Rattle.std.proofs.Common.{◌≡◌, ℕ, ◌+◌, ◌-◌, ◌<◌, ◌≤�
 use Rattle.std.specs.List.{insert}
 use Rattle.std.proofs.lemmas.Bool.{cases_lt}
 use Rattle.std.proofs.lemmas.List.Edits.{length-insert, get_or-insert_below, get_or-insert_at, get_or-insert_above}
-use Rattle.hs_lattice.specs.Inner.Places.{IsInsertionPlace}
+use Rattle.hs_lattice.specs.Places.{IsInsertionPlace}
 
 -- where an element of the longer list comes from
 pub data Source {X : Type 0} (xs : List X) (i : ℕ) (y : X) (k : ℕ) : Type 0 where

@@ -1,4 +1,4 @@
--- For private functions and proofs only: how a piece of a text begins.
+-- How a piece of a text begins.
 use Rattle.std.specs.Prelude.{◌≡◌, ℕ, ◌<◌, ◌≤◌, ◌⊎◌, List, [], ◌∷◌, slice_index}
 
 -- the piece is the digit 0, or begins with another digit

@@ -10,7 +10,7 @@ use Rattle.machine_table.specs.Staying.{NeverLeaves}
 use Rattle.partition.specs.Partition.{Together, Le}
 use Rattle.partition.specs.Laws.Chains.{together_turned}
 use Rattle.pair_operators.specs.Pair.{Pair}
-use Rattle.pair_operators.specs.Inner.Going.{Goes}
+use Rattle.pair_operators.specs.Going.{Goes}
 
 -- at each symbol
 pub goes_each : (F : KissFile) (q : List ℕ) (s t : ℕ) → Goes F q s t → (x : List Bool) → length x ≡ F.inputs → Together q (next F s x) (next F t x)

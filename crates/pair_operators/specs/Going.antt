@@ -1,4 +1,4 @@
--- For private functions and proofs alone: two states whose next states are together.
+-- Two states whose next states are together.
 use Rattle.std.specs.Prelude.{ℕ, List}
 use Rattle.kiss_file.specs.declared.file.KissFile.{KissFile}
 use Rattle.machine_table.specs.Pairs.{AtEachSymbol, GoInto}

@@ -11,7 +11,7 @@ use Rattle.partition.specs.declared.PartFail.TheVariants.{Empty, NotCanonical, B
 use Rattle.partition.specs.Partition.{blocks_of, IsNumbered, IsPartition}
 use Rattle.partition.specs.Text.{labels_text, pieces_of, BeginsWith, FirstBadPiece, OtherLength, TextFault}
 use Rattle.partition.specs.Laws.Labels.{label-le}
-use Rattle.partition.proofs.Pieces.{length-pieces_of-le, pieces_of-labels_text}
+use Rattle.partition.specs.Laws.Pieces.{length-pieces_of-le, pieces_of-labels_text}
 
 -- a text that a slice can have
 abbrev pub IsShort : List ℕ → Type 0

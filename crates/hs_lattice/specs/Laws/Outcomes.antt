@@ -21,6 +21,13 @@ whole-from_three (Ok (Whole xs)) A B C Q turn a b c = turn xs a b c
 whole-from_three (Ok (More xs)) A B C Q turn a b c = tt
 whole-from_three (Err e) A B C Q turn a b c = tt
 
+pub whole-from_four :
+    {X E : Type 0} (r : Result (Listing X) E) (A B C D Q : List X → Type 0) → ((xs : List X) → A xs → B xs → C xs → D xs → Q xs) →
+    IfOk r (λ l. IfWhole l A) → IfOk r (λ l. IfWhole l B) → IfOk r (λ l. IfWhole l C) → IfOk r (λ l. D (items_of l)) → IfOk r (λ l. IfWhole l Q)
+whole-from_four (Ok (Whole xs)) A B C D Q turn a b c d = turn xs a b c d
+whole-from_four (Ok (More xs)) A B C D Q turn a b c d = tt
+whole-from_four (Err e) A B C D Q turn a b c d = tt
+
 -- a list of the values with one property is one of those with another where the two are one
 pub lists_as : {M : Type 0} (precedes : M → M → Type 0) (P Q : M → Type 0) (xs : List M) → ((x : M) → P x → Q x) → ((x : M) → Q x → P x) → Lists precedes P xs → Lists precedes Q xs
 lists_as precedes P Q xs to from lists = record {

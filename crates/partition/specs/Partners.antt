@@ -1,9 +1,9 @@
 -- Least and greatest partners, and Mm pairs, for any relation of partitions on the left and on the right
 -- (source: Hartmanis and Stearns, the operators m and M). The sides may have different numbers of members.
 use Rattle.std.specs.Prelude.{◌≡◌, ℕ, List}
-use Rattle.partition.specs.Partition.{IsPartition, Le, zero_of}
+use Rattle.partition.specs.Partition.{IsPartition, Le, Together, zero_of}
 use Rattle.partition.specs.MeetAndJoin.{IsJoin}
-use Rattle.io_pairs.specs.Sides.{Sides}
+use Rattle.partition.specs.Sides.{Sides}
 
 -- q is the least partition of the given number of members for which P holds
 pub record IsLeastWith (members : ℕ) (P : List ℕ → Type 0) (q : List ℕ) : Type 0 where
@@ -33,3 +33,7 @@ pub record IsLeastPairOf (left right : ℕ) (Pairs : List ℕ → List ℕ → T
 pub record IsPairJoinOf (left : ℕ) (Pairs : List ℕ → List ℕ → Type 0) (x y z : Sides) : Type 0 where
   pub joined : IsJoin x.1 y.1 z.1
   pub high : IsGreatestWith left (λ p. Pairs p z.1) z.0
+
+-- members that are together in p go together in q
+abbrev pub PairBy : (List ℕ → ℕ → ℕ → Type 0) → List ℕ → List ℕ → Type 0
+PairBy Going p q = (x y : ℕ) → Together p x y → Going q x y

@@ -1,0 +1,3 @@
+-- What follows from the definitions alone.
+pub mod Generating
+pub mod Listed
