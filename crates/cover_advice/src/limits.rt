@@ -1,9 +1,5 @@
 //! What a row has to keep as it is widened.
 
-ghost use Rattle.std.specs.Prelude.{◌≡◌, ◌≢◌, ◌==◌, ◌↔◌, ℕ, IsTrue, OnOk, bit_and, filter};
-ghost use Rattle.cover_advice.specs.Limits.{AreAmong, AreOfRow, IsAllowed};
-ghost use Rattle.cover_advice.specs.Inner.Single.{IsSingle};
-
 use std::alloc::{AllocError, Global};
 
 /// What a row has to keep so as to share no value with the terms that were met: its literals at the columns of
@@ -16,10 +12,8 @@ pub struct Limits {
 
 impl Limits {
     /// The limits that keep the literals at these columns, and no more.
-    pub fn new(alloc: Global, literals: u128) -> Limits
-        ensures allowed { (columns : ℕ) → IsAllowed result columns ↔ AreAmong literals columns }
-        ensures of_row { (columns : ℕ) → AreOfRow result columns ↔ AreAmong literals columns }
-    {
+    /// Advice: asked before it is followed.
+    pub fn new(alloc: Global, literals: u128) -> Limits {
         Limits {
             literals,
             sets: Vec::new(alloc),
@@ -27,18 +21,15 @@ impl Limits {
     }
 
     /// Whether a row whose literals are at exactly these columns is within the limits.
-    pub fn allow(&self, care: u128) -> bool
-        ensures { IsTrue result ↔ IsAllowed self.now care }
-    {
+    /// Advice: asked before it is followed.
+    pub fn allow(&self, care: u128) -> bool {
         self.literals & care == self.literals && self.sets.iter().all(|set| *set & care != 0)
     }
 
     /// A row within the limits now also has a literal at a column of `set`. Only rows with literals among the columns of
     /// `care` are spoken of.
-    pub fn add(&mut self, set: u128, care: u128) -> Result<(), AllocError>
-        ensures allowed { OnOk result ((columns : ℕ) → AreAmong columns care → IsAllowed self.new columns ↔ (IsAllowed self.old columns × (bit_and set columns ≢ 0))) }
-        ensures of_row { OnOk result ((columns : ℕ) → AreAmong set columns → AreOfRow self.old columns → AreOfRow self.new columns) }
-    {
+    /// Advice: asked before it is followed.
+    pub fn add(&mut self, set: u128, care: u128) -> Result<(), AllocError> {
         let left = set & care;
         if is_single(left) {
             self.literals |= left;
@@ -50,21 +41,15 @@ impl Limits {
 
     /// The same limits for rows with literals among the columns of `care`. Where one column of a set is left, its literal
     /// is required.
-    pub fn narrow(&mut self, care: u128)
-        ensures allowed { (columns : ℕ) → AreAmong columns care → IsAllowed self.new columns ↔ IsAllowed self.old columns }
-        ensures of_row { (columns : ℕ) → AreOfRow self.old columns → AreOfRow self.new columns }
-    {
+    /// Advice: asked before it is followed.
+    pub fn narrow(&mut self, care: u128) {
         let literals = self.kept(care);
         drop_sharing(&mut self.sets, literals);
         self.literals = literals;
     }
 
     /// The columns of the literals that each row within the limits has, if its literals are among the columns of `care`.
-    fn kept(&self, care: u128) -> u128
-        ensures more { (columns : ℕ) → AreAmong result columns → AreAmong self.now.literals columns }
-        ensures kept { (columns : ℕ) → AreAmong columns care → IsAllowed self.now columns → AreAmong result columns }
-        ensures of_row { (columns : ℕ) → AreOfRow self.now columns → AreAmong result columns }
-    {
+    fn kept(&self, care: u128) -> u128 {
         let mut kept = self.literals;
         for set in &self.sets {
             kept = with_last(kept, *set, care);
@@ -74,11 +59,7 @@ impl Limits {
 }
 
 /// The columns, and the one that is left of a set if one alone is left.
-fn with_last(columns: u128, set: u128, care: u128) -> u128
-    ensures more { (others : ℕ) → AreAmong result others → AreAmong columns others }
-    ensures of_row { (others : ℕ) → AreAmong columns others → AreAmong set others → AreAmong result others }
-    ensures last { (others : ℕ) → AreAmong others care → AreAmong columns others → bit_and set others ≢ 0 → AreAmong result others }
-{
+fn with_last(columns: u128, set: u128, care: u128) -> u128 {
     let left = set & care;
     if is_single(left) {
         columns | left
@@ -88,16 +69,12 @@ fn with_last(columns: u128, set: u128, care: u128) -> u128
 }
 
 /// Whether there is one column alone.
-fn is_single(columns: u128) -> bool
-    ensures { IsTrue result → IsSingle columns }
-{
+fn is_single(columns: u128) -> bool {
     let column = columns.trailing_zeros();
     column < 128 && columns == 1 << column
 }
 
 /// Drops each set that has one of the columns.
-fn drop_sharing(sets: &mut Vec<u128>, columns: u128)
-    ensures { sets.new.items ≡ filter (λ set. bit_and set columns == 0) sets.old.items }
-{
+fn drop_sharing(sets: &mut Vec<u128>, columns: u128) {
     sets.retain(|set| *set & columns == 0);
 }

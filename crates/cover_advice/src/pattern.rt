@@ -1,6 +1,4 @@
 //! Patterns of literals and dashes.
-ghost use Rattle.cover_advice.specs.Limits.{AreAmong};
-ghost use Rattle.cover_advice.specs.Widening.{IsLawful, IsWidened};
 
 /// The values that have the bits of `value` at the columns of `care`, where column c is bit c of both. A column of
 /// `care` is a literal. In a lawful pattern, `value` has no bit at any other column.
@@ -12,10 +10,7 @@ pub struct Pattern {
 
 impl Pattern {
     /// The pattern with dashes at these columns.
-    pub(crate) fn without(self, columns: u128) -> Pattern
-        ensures widened { IsWidened result self }
-        ensures lawful { IsLawful self → IsLawful result }
-    {
+    pub(crate) fn without(self, columns: u128) -> Pattern {
         Pattern {
             care: self.care & !columns,
             value: self.value & !columns,
@@ -23,9 +18,7 @@ impl Pattern {
     }
 
     /// The columns at which the patterns have different literals.
-    pub(crate) fn apart(self, other: Pattern) -> u128
-        ensures { AreAmong result self.care }
-    {
+    pub(crate) fn apart(self, other: Pattern) -> u128 {
         (self.value ^ other.value) & self.care & other.care
     }
 

@@ -1,9 +1,5 @@
 //! Which terms of on a row may be able to hold.
 
-ghost use Rattle.std.specs.Prelude.{All, IfOk};
-ghost use Rattle.cover_advice.specs.Limits.{AreOfRow};
-ghost use Rattle.cover_advice.specs.Sliced.{IsCountedTerm};
-
 use crate::limits::Limits;
 use crate::pattern::Pattern;
 use crate::slices::Slices;
@@ -22,15 +18,13 @@ const FEW: usize = 128;
 
 impl Prospects {
     /// The terms of on that the row may be able to hold, where it may not touch those of off.
+    /// Advice: asked before it is followed.
     pub fn new(
         alloc: Global,
         row: Pattern,
         on: &Slices,
         off: &Slices,
-    ) -> Result<Prospects, AllocError>
-        ensures others { IfOk result (λ found. All (IsCountedTerm on.now) found.others.items) }
-        ensures limits { IfOk result (λ found. AreOfRow found.limits row.care) }
-    {
+    ) -> Result<Prospects, AllocError> {
         let mut limits = off.limits(alloc, row)?;
         let mut left = on.having(alloc, row, limits.literals)?;
         if count(&left) > FEW {

@@ -1,15 +1,10 @@
 //! How far a row can be widened in a gate of many terms, by the columns of the terms: one step asks 128 terms at once.
 
-ghost use Rattle.std.specs.Prelude.{◌≡◌, ◌≢◌, ℕ, ◌+◌, ◌*◌, ◌<◌, ◌≤◌, ◌^◌, ◌↔◌, IfOk, IfSome, IsTrue, bit_and, length, slice_index};
-ghost use Rattle.std.specs.Int.{trailing_zeros, w128};
-ghost use Rattle.cover_advice.specs.Inner.Words.{AreBelow, AreParts, HoldAll, IsOpenPlace, IsPart, IsPlaceIn};
-ghost use Rattle.cover_advice.specs.Limits.{AreOfRow};
-ghost use Rattle.cover_advice.specs.Inner.Columns.{AreAtLiterals, AreNamed, HaveTerms};
+ghost use Rattle.std.specs.Prelude.{◌≤◌};
 
 use crate::limits::Limits;
 use crate::pattern::Pattern;
 use std::alloc::{AllocError, Global};
-use std::marker::Model;
 
 /// A column, as the number with its bit alone, and which terms have a literal 0 and a literal 1 there: term 128 * i +
 /// k of the list is bit k of word i.
@@ -21,9 +16,7 @@ struct Column {
 }
 
 impl Column {
-    fn is_literal_of(&self, row: Pattern) -> bool
-        ensures { IsTrue result ↔ (bit_and row.care self.now.bit ≢ 0) }
-    {
+    fn is_literal_of(&self, row: Pattern) -> bool {
         row.care & self.bit != 0
     }
 
@@ -46,10 +39,7 @@ impl Column {
     }
 
     /// The number of the first of these terms of the word of that number that has the other literal.
-    fn first_against(&self, row: Pattern, number: usize, terms: u128) -> Option<usize>
-        ensures place { IfSome result (IsPlaceIn number terms) }
-        ensures literal { IfSome result (λ _. bit_and row.care self.now.bit ≢ 0) }
-    {
+    fn first_against(&self, row: Pattern, number: usize, terms: u128) -> Option<usize> {
         if !self.is_literal_of(row) {
             return None;
         }
@@ -123,10 +113,7 @@ struct Step {
 impl Step {
     /// The number of the first term in neither `kept` nor the later terms. If there is one, the column stays, and
     /// `kept` gets the terms with the other literal there.
-    fn reason(&self, kept: &mut [u128], near: &[usize]) -> Option<usize>
-        ensures kept { AreParts kept.old kept.new }
-        ensures open { IfSome result (IsOpenPlace kept.old near.now) }
-    {
+    fn reason(&self, kept: &mut [u128], near: &[usize]) -> Option<usize> {
         let reason = first_open(kept, &self.later, near);
         if reason.is_some() {
             unite(kept, &self.against);
@@ -149,31 +136,11 @@ pub struct Slices {
     live: Vec<u128>,
 }
 
-impl Model for Slices {
-    ghost use Rattle.std.specs.Prelude.{length};
-    ghost use Rattle.cover_advice.specs.Sliced.{Sliced};
-    ghost use Rattle.cover_advice.specs.Inner.Columns.{AreColumns};
-    ghost use Rattle.cover_advice.specs.Inner.Words.{AreBelow};
-
-    ghost Value = { Sliced };
-
-    ghost view = { λ s. record { terms = s.terms.items; width = length s.columns.items; live = s.live.items } };
-
-    ghost invariant = { λ s. AreColumns s.columns.items × AreBelow (length s.terms.items) s.live.items };
-}
-
 impl Slices {
-    ghost use Rattle.std.specs.Prelude.{All, OnOk};
-    ghost use Rattle.cover_advice.specs.Sliced.{Counts, IsCountedTerm};
-    ghost use Rattle.cover_advice.specs.Widening.{IsLawful, IsWidened};
-    ghost use Rattle.cover_advice.specs.Inner.Words.{AreOutside, IsOutside};
-
     /// All terms of the list, by the columns below the width.
+    /// Advice: asked before it is followed.
     pub fn new(alloc: Global, terms: &[Pattern], width: u8) -> Result<Slices, AllocError>
         requires { width ≤ 128 }
-        ensures terms { IfOk result (λ all. all.terms ≡ terms.now) }
-        ensures width { IfOk result (λ all. all.width ≡ width) }
-        ensures all { IfOk result (λ all. (number : ℕ) → number < length terms.now → Counts all number) }
     {
         let mut columns = Vec::new(alloc);
         for column in 0..u32::from(width) {
@@ -193,11 +160,8 @@ impl Slices {
     }
 
     /// Leaves out the terms that the row holds whole.
-    pub fn drop_included(&mut self, alloc: Global, row: Pattern) -> Result<(), AllocError>
-        ensures terms { self.new.terms ≡ self.old.terms }
-        ensures width { self.new.width ≡ self.old.width }
-        ensures fewer { (number : ℕ) → Counts self.new number → Counts self.old number }
-    {
+    /// Advice: asked before it is followed.
+    pub fn drop_included(&mut self, alloc: Global, row: Pattern) -> Result<(), AllocError> {
         let inside = self.having(alloc, row, row.care)?;
         remove(&mut self.live, &inside);
         Ok(())
@@ -209,9 +173,7 @@ impl Slices {
         alloc: Global,
         row: Pattern,
         columns: u128,
-    ) -> Result<Vec<u128>, AllocError>
-        ensures { IfOk result (λ words. AreParts words.items self.now.live) }
-    {
+    ) -> Result<Vec<u128>, AllocError> {
         let sets = self.with(alloc, row, columns)?;
         let mut having = Vec::new(alloc);
         for (number, hull) in self.hulls.iter().enumerate() {
@@ -254,9 +216,7 @@ impl Slices {
     }
 
     /// The terms in the word of that number that are in each of the sets.
-    fn having_at(&self, number: usize, sets: &[&[u128]]) -> u128
-        ensures { IsPart result (slice_index self.now.live number) }
-    {
+    fn having_at(&self, number: usize, sets: &[&[u128]]) -> u128 {
         let mut having = word_at(&self.live, number);
         for set in sets {
             if having == 0 {
@@ -268,9 +228,7 @@ impl Slices {
     }
 
     /// The terms in the word of that number that no longer count, and those that are in one of the sets.
-    fn gone_at(&self, number: usize, sets: &[&[u128]]) -> u128
-        ensures { IsOutside result (slice_index self.now.live number) }
-    {
+    fn gone_at(&self, number: usize, sets: &[&[u128]]) -> u128 {
         let mut gone = !word_at(&self.live, number);
         for set in sets {
             gone |= word_at(set, number);
@@ -279,9 +237,7 @@ impl Slices {
     }
 
     /// The terms in the word of that number that are in one of the sets alone.
-    fn sole_at(&self, number: usize, sets: &[&[u128]]) -> u128
-        ensures { IsPart result (slice_index self.now.live number) }
-    {
+    fn sole_at(&self, number: usize, sets: &[&[u128]]) -> u128 {
         let mut once = 0;
         let mut gone = !word_at(&self.live, number);
         for set in sets {
@@ -297,9 +253,7 @@ impl Slices {
 
     /// The terms in the word of that number that are in one of the sets alone, where its hull differs from a row at
     /// the columns `apart`. There are none where each of its terms is in two sets, or in that of a known column.
-    fn sole_near(&self, number: usize, sets: &[&[u128]], apart: u128, known: u128) -> u128
-        ensures { IsPart result (slice_index self.now.live number) }
-    {
+    fn sole_near(&self, number: usize, sets: &[&[u128]], apart: u128, known: u128) -> u128 {
         if apart == 0 || apart.is_power_of_two() && apart & known == 0 {
             return self.sole_at(number, sets);
         }
@@ -308,11 +262,7 @@ impl Slices {
 
     /// For each column the number of a term that has the other literal than the row there and at no other column. A
     /// word is passed over where each of its terms has it at two columns, or at one that is known.
-    fn soles(&self, alloc: Global, row: Pattern) -> Result<Vec<Option<usize>>, AllocError>
-        ensures columns { IfOk result (λ soles. length soles.items ≡ self.now.width) }
-        ensures named { IfOk result (λ soles. AreNamed self.now soles.items) }
-        ensures literals { IfOk result (λ soles. AreAtLiterals row.care soles.items) }
-    {
+    fn soles(&self, alloc: Global, row: Pattern) -> Result<Vec<Option<usize>>, AllocError> {
         let sets = self.against(alloc, row, row.care)?;
         let mut soles = vec![in alloc; None; self.columns.len()]?;
         let mut known = 0;
@@ -330,20 +280,15 @@ impl Slices {
         row: Pattern,
         number: usize,
         sole: u128,
-    ) -> u128
-        requires columns { length soles.old ≡ self.now.width }
-        requires live { IsPart sole (slice_index self.now.live number) }
-        ensures named { AreNamed self.now soles.old → AreNamed self.now soles.new }
-        ensures literals { AreAtLiterals row.care soles.old → AreAtLiterals row.care soles.new }
-    {
+    ) -> u128 {
         let mut found = 0;
         if sole == 0 {
             return found;
         }
-        for (c, column) in self.columns.iter().enumerate() {
+        for (column, term) in self.columns.iter().zip(soles.iter_mut()) {
             let first = column.first_against(row, number, sole);
             if first.is_some() {
-                soles[c] = first;
+                *term = first;
                 found |= column.bit;
             }
         }
@@ -351,13 +296,10 @@ impl Slices {
     }
 
     /// The columns for which a term is there.
-    fn columns_with(&self, soles: &[Option<usize>]) -> u128
-        requires { length soles.now ≡ self.now.width }
-        ensures { HaveTerms soles.now result }
-    {
+    fn columns_with(&self, soles: &[Option<usize>]) -> u128 {
         let mut columns = 0;
-        for (c, column) in self.columns.iter().enumerate() {
-            if soles[c].is_some() {
+        for (column, term) in self.columns.iter().zip(soles) {
+            if term.is_some() {
                 columns |= column.bit;
             }
         }
@@ -365,9 +307,7 @@ impl Slices {
     }
 
     /// The literals that each wider row has to keep: some term has the other literal there and nowhere else.
-    pub(crate) fn limits(&self, alloc: Global, row: Pattern) -> Result<Limits, AllocError>
-        ensures { IfOk result (λ limits. AreOfRow limits row.care) }
-    {
+    pub(crate) fn limits(&self, alloc: Global, row: Pattern) -> Result<Limits, AllocError> {
         let soles = self.soles(alloc, row)?;
         Ok(Limits::new(alloc, self.columns_with(&soles)))
     }
@@ -380,9 +320,7 @@ impl Slices {
         row: Pattern,
         most: usize,
         limits: &mut Limits,
-    ) -> Result<(), AllocError>
-        ensures { OnOk result (AreOfRow limits.old row.care → AreOfRow limits.new row.care) }
-    {
+    ) -> Result<(), AllocError> {
         let counts = self.counts(alloc, row, limits.literals)?;
         let mut room = most;
         for number in 2..8 {
@@ -399,9 +337,7 @@ impl Slices {
         counts: &[Count],
         number: u32,
         room: usize,
-    ) -> Result<usize, AllocError>
-        ensures { OnOk result (AreOfRow limits.old row.care → AreOfRow limits.new row.care) }
-    {
+    ) -> Result<usize, AllocError> {
         let mut left = room;
         for (i, count) in counts.iter().enumerate() {
             left = self.add_sets(limits, row, i, count.at(number), left)?;
@@ -437,9 +373,7 @@ impl Slices {
         word: usize,
         found: u128,
         room: usize,
-    ) -> Result<usize, AllocError>
-        ensures { OnOk result (AreOfRow limits.old row.care → AreOfRow limits.new row.care) }
-    {
+    ) -> Result<usize, AllocError> {
         let mut found = found;
         let mut left = room;
         for _ in 0..room {
@@ -456,9 +390,7 @@ impl Slices {
     }
 
     /// The term at the lowest bit of the word of that number.
-    fn term_at(&self, word: usize, found: u128) -> Option<Pattern>
-        ensures { found ≢ 0 → IsPart found (slice_index self.now.live word) → IfSome result (IsCountedTerm self.now) }
-    {
+    fn term_at(&self, word: usize, found: u128) -> Option<Pattern> {
         let number = place(word, found);
         if number >= self.terms.len() {
             return None;
@@ -472,9 +404,7 @@ impl Slices {
         left: &mut Vec<u128>,
         row: Pattern,
         limits: &Limits,
-    ) -> Result<(), AllocError>
-        ensures { OnOk result (AreParts left.new.items left.old.items) }
-    {
+    ) -> Result<(), AllocError> {
         let mut any = left.clone()?;
         for set in limits.sets.iter().take(ASKED_SETS) {
             self.gather(&mut any, row, *set);
@@ -496,10 +426,11 @@ impl Slices {
     }
 
     /// The terms of those words.
-    pub(crate) fn terms_of(&self, alloc: Global, words: &[u128]) -> Result<Vec<Pattern>, AllocError>
-        requires { AreParts words.now self.now.live }
-        ensures { IfOk result (λ terms. All (IsCountedTerm self.now) terms.items) }
-    {
+    pub(crate) fn terms_of(
+        &self,
+        alloc: Global,
+        words: &[u128],
+    ) -> Result<Vec<Pattern>, AllocError> {
         let mut terms = Vec::new(alloc);
         for (i, word) in words.iter().enumerate() {
             self.put_terms(&mut terms, i, *word)?;
@@ -513,10 +444,7 @@ impl Slices {
         terms: &mut Vec<Pattern>,
         word: usize,
         found: u128,
-    ) -> Result<(), AllocError>
-        requires { IsPart found (slice_index self.now.live word) }
-        ensures { OnOk result (All (IsCountedTerm self.now) terms.old.items → All (IsCountedTerm self.now) terms.new.items) }
-    {
+    ) -> Result<(), AllocError> {
         let mut found = found;
         for _ in 0..128 {
             if found == 0 {
@@ -532,12 +460,8 @@ impl Slices {
 
     /// How far the row is widened when each literal in turn becomes a dash where the row then touches no term. Terms
     /// with the other literal at a column that surely stays are left out.
-    pub fn advice(&self, alloc: Global, row: Pattern) -> Result<Advice, AllocError>
-        ensures widened { IfOk result (λ advice. IsWidened advice.wide row) }
-        ensures lawful { IfOk result (λ advice. IsLawful row → IsLawful advice.wide) }
-        ensures columns { IfOk result (λ advice. length advice.reasons.items ≡ self.now.width) }
-        ensures named { IfOk result (λ advice. All (λ reason. IfSome reason (Counts self.now)) advice.reasons.items) }
-    {
+    /// Advice: asked before it is followed.
+    pub fn advice(&self, alloc: Global, row: Pattern) -> Result<Advice, AllocError> {
         let mut reasons = self.soles(alloc, row)?;
         let literals = self.columns_with(&reasons);
         let open = row.care & !literals;
@@ -559,17 +483,13 @@ impl Slices {
         steps: &mut Vec<Step>,
         near: &[usize],
         open: u128,
-    ) -> u128
-        requires columns { length reasons.old ≡ self.now.width }
-        requires kept { AreOutside kept.old near.now self.now.live }
-        ensures { AreNamed self.now reasons.old → AreNamed self.now reasons.new }
-    {
+    ) -> u128 {
         let mut dashes = 0;
-        for (c, column) in self.columns.iter().enumerate() {
+        for (column, place) in self.columns.iter().zip(reasons.iter_mut()) {
             if open & column.bit != 0 {
                 if let Some(step) = steps.pop() {
                     let reason = step.reason(kept, near);
-                    reasons[c] = reason;
+                    *place = reason;
                     if reason.is_none() {
                         dashes |= column.bit;
                     }
@@ -598,9 +518,7 @@ impl Slices {
         row: Pattern,
         columns: u128,
         near: &[usize],
-    ) -> Result<Vec<u128>, AllocError>
-        ensures { IfOk result (λ gone. AreOutside gone.items near.now self.now.live) }
-    {
+    ) -> Result<Vec<u128>, AllocError> {
         let sets = self.against(alloc, row, columns)?;
         let mut gone = Vec::new(alloc);
         for number in near {
@@ -641,9 +559,7 @@ fn picked(alloc: Global, words: &[u128], numbers: &[usize]) -> Result<Vec<u128>,
 }
 
 /// The word of that number, or an empty one.
-fn word_at(words: &[u128], number: usize) -> u128
-    ensures { result ≡ slice_index words.now number }
-{
+fn word_at(words: &[u128], number: usize) -> u128 {
     words.get(number).copied().unwrap_or(0)
 }
 
@@ -669,9 +585,7 @@ fn hull(terms: &[Pattern]) -> Pattern {
 }
 
 /// The number of the first term in neither set. The words of both have those numbers.
-fn first_open(kept: &[u128], later: &[u128], near: &[usize]) -> Option<usize>
-    ensures { IfSome result (IsOpenPlace kept.now near.now) }
-{
+fn first_open(kept: &[u128], later: &[u128], near: &[usize]) -> Option<usize> {
     let count = kept.len().min(later.len()).min(near.len());
     for i in 0..count {
         let open = !(kept[i] | later[i]);
@@ -683,18 +597,13 @@ fn first_open(kept: &[u128], later: &[u128], near: &[usize]) -> Option<usize>
 }
 
 /// The number of the term at the lowest bit of a word.
-fn place(word: usize, found: u128) -> usize
-    ensures { word * 128 + trailing_zeros w128 found < 2 ^ 64 → result ≡ word * 128 + trailing_zeros w128 found }
-{
+fn place(word: usize, found: u128) -> usize {
     word.saturating_mul(128)
         .saturating_add(found.trailing_zeros() as usize)
 }
 
 /// A bit for each of that many terms.
-fn all_places(alloc: Global, count: usize) -> Result<Vec<u128>, AllocError>
-    ensures below { IfOk result (λ words. AreBelow count words.items) }
-    ensures all { IfOk result (λ words. HoldAll count words.items) }
-{
+fn all_places(alloc: Global, count: usize) -> Result<Vec<u128>, AllocError> {
     let mut words = vec![in alloc; u128::MAX; count / 128]?;
     let rest = count % 128;
     if rest > 0 {
@@ -724,9 +633,7 @@ fn places(
 }
 
 /// Adds the set.
-fn unite(all: &mut [u128], set: &[u128])
-    ensures { AreParts all.old all.new }
-{
+fn unite(all: &mut [u128], set: &[u128]) {
     let count = all.len().min(set.len());
     for i in 0..count {
         all[i] |= set[i];
@@ -734,9 +641,7 @@ fn unite(all: &mut [u128], set: &[u128])
 }
 
 /// Keeps what is in the set.
-fn keep(all: &mut [u128], set: &[u128])
-    ensures { AreParts all.new all.old }
-{
+fn keep(all: &mut [u128], set: &[u128]) {
     let count = all.len().min(set.len());
     for i in 0..count {
         all[i] &= set[i];
@@ -744,9 +649,7 @@ fn keep(all: &mut [u128], set: &[u128])
 }
 
 /// Leaves out what is in the set.
-fn remove(all: &mut [u128], set: &[u128])
-    ensures { AreParts all.new all.old }
-{
+fn remove(all: &mut [u128], set: &[u128]) {
     let count = all.len().min(set.len());
     for i in 0..count {
         all[i] &= !set[i];

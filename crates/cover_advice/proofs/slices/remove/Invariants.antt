@@ -1,5 +1,0 @@
-use Rattle.cover_advice.specs.Inner.Words.{AreParts}
-use Rattle.cover_advice.proofs.slices.remove.Given as goal
-
-abbrev pub invariant-loop-i : goal.invariant-loop-i
-invariant-loop-i l = AreParts l.all l.fn.all

@@ -1,4 +1,0 @@
-pub mod Columns
-pub mod Words
-pub mod Single
-pub mod Cells
