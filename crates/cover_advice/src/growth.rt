@@ -2,7 +2,7 @@
 
 ghost use Rattle.std.specs.Prelude.{◌≤◌};
 
-use crate::pattern::Pattern;
+use cover_terms::Term;
 use std::alloc::{AllocError, Global};
 
 /// What a value is.
@@ -25,7 +25,7 @@ struct Block {
 
 impl Block {
     /// The values with the literals of the term at the columns below 16.
-    fn of(term: Pattern) -> Block {
+    fn of(term: Term) -> Block {
         Block {
             care: (term.care & 0xffff) as usize,
             value: (term.value & 0xffff) as usize,
@@ -58,12 +58,7 @@ pub struct Ground {
 impl Ground {
     /// The cells of a gate. The values of `on` are in no row yet.
     /// Advice: asked before it is followed.
-    pub fn new(
-        alloc: Global,
-        on: &[Pattern],
-        off: &[Pattern],
-        width: u8,
-    ) -> Result<Ground, AllocError>
+    pub fn new(alloc: Global, on: &[Term], off: &[Term], width: u8) -> Result<Ground, AllocError>
         requires { width ≤ 16 }
     {
         let mut ground = Ground {
@@ -76,14 +71,14 @@ impl Ground {
 
     /// Makes the values of the row free.
     /// Advice: asked before it is followed.
-    pub fn take(&mut self, row: Pattern) {
+    pub fn take(&mut self, row: Term) {
         self.put(row, Cell::Free);
     }
 
     /// The row with dashes, put one by one at the column that brings the most values of on that are in no row yet. There
     /// are dashes at all columns from 16 on.
     /// Advice: asked before it is followed.
-    pub fn grown(&self, row: Pattern) -> Pattern {
+    pub fn grown(&self, row: Term) -> Term {
         let mut block = Block::of(row);
         for _ in 0..16 {
             let Some(bit) = self.best(block) else {
@@ -91,10 +86,7 @@ impl Ground {
             };
             block = block.without(bit);
         }
-        Pattern {
-            care: block.care as u128,
-            value: block.value as u128,
-        }
+        Term::masked(block.care as u128, block.value as u128)
     }
 
     /// The column whose dash brings the most, among those whose dash brings no value of off.
@@ -135,14 +127,14 @@ impl Ground {
     }
 
     /// Gives each value of the rows this cell.
-    fn put_each(&mut self, rows: &[Pattern], cell: Cell) {
+    fn put_each(&mut self, rows: &[Term], cell: Cell) {
         for row in rows {
             self.put(*row, cell);
         }
     }
 
     /// Gives each value of the row this cell.
-    fn put(&mut self, row: Pattern, cell: Cell) {
+    fn put(&mut self, row: Term, cell: Cell) {
         let block = Block::of(row);
         let dashes = self.cells.len().saturating_sub(1) & !block.care;
         let mut part = 0;

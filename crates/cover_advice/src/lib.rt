@@ -10,12 +10,12 @@
 
 mod growth;
 mod limits;
-mod pattern;
+mod literals;
 mod prospects;
 mod slices;
 
 pub use growth::{Cell, Ground};
 pub use limits::Limits;
-pub use pattern::Pattern;
+pub use literals::apart;
 pub use prospects::Prospects;
 pub use slices::{Advice, Slices};

@@ -1,14 +1,14 @@
 //! Which terms of on a row may be able to hold.
 
 use crate::limits::Limits;
-use crate::pattern::Pattern;
 use crate::slices::Slices;
+use cover_terms::Term;
 use std::alloc::{AllocError, Global};
 
 /// Terms that a row may be able to hold whole when it is widened, and what it has to keep.
 #[derive(Drop)]
 pub struct Prospects {
-    pub others: Vec<Pattern>,
+    pub others: Vec<Term>,
     pub limits: Limits,
 }
 
@@ -21,7 +21,7 @@ impl Prospects {
     /// Advice: asked before it is followed.
     pub fn new(
         alloc: Global,
-        row: Pattern,
+        row: Term,
         on: &Slices,
         off: &Slices,
     ) -> Result<Prospects, AllocError> {

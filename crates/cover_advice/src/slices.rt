@@ -3,7 +3,8 @@
 ghost use Rattle.std.specs.Prelude.{◌≤◌};
 
 use crate::limits::Limits;
-use crate::pattern::Pattern;
+use crate::literals::{apart, without};
+use cover_terms::Term;
 use std::alloc::{AllocError, Global};
 
 /// A column, as the number with its bit alone, and which terms have a literal 0 and a literal 1 there: term 128 * i +
@@ -16,12 +17,12 @@ struct Column {
 }
 
 impl Column {
-    fn is_literal_of(&self, row: Pattern) -> bool {
+    fn is_literal_of(&self, row: Term) -> bool {
         row.care & self.bit != 0
     }
 
     /// The terms with the literal of the row.
-    fn with(&self, row: Pattern) -> &[u128] {
+    fn with(&self, row: Term) -> &[u128] {
         if row.value & self.bit == 0 {
             &self.zeros
         } else {
@@ -30,7 +31,7 @@ impl Column {
     }
 
     /// The terms with the other literal.
-    fn against(&self, row: Pattern) -> &[u128] {
+    fn against(&self, row: Term) -> &[u128] {
         if row.value & self.bit == 0 {
             &self.ones
         } else {
@@ -39,7 +40,7 @@ impl Column {
     }
 
     /// The number of the first of these terms of the word of that number that has the other literal.
-    fn first_against(&self, row: Pattern, number: usize, terms: u128) -> Option<usize> {
+    fn first_against(&self, row: Term, number: usize, terms: u128) -> Option<usize> {
         if !self.is_literal_of(row) {
             return None;
         }
@@ -95,11 +96,11 @@ impl Count {
     }
 }
 
-/// How far a row can be widened: to which pattern, and for each column the number of a term that the row would touch
+/// How far a row can be widened: to which term, and for each column the number of a term that the row would touch
 /// with a dash there.
 #[derive(Drop)]
 pub struct Advice {
-    pub wide: Pattern,
+    pub wide: Term,
     pub reasons: Vec<Option<usize>>,
 }
 
@@ -128,10 +129,10 @@ const ASKED_SETS: usize = 32;
 /// The terms of a list by their columns.
 #[derive(Drop)]
 pub struct Slices {
-    terms: Vec<Pattern>,
+    terms: Vec<Term>,
     columns: Vec<Column>,
-    /// For each word a pattern that holds all values of its terms.
-    hulls: Vec<Pattern>,
+    /// For each word a term that holds all values of its terms.
+    hulls: Vec<Term>,
     /// The terms that still count.
     live: Vec<u128>,
 }
@@ -139,7 +140,7 @@ pub struct Slices {
 impl Slices {
     /// All terms of the list, by the columns below the width.
     /// Advice: asked before it is followed.
-    pub fn new(alloc: Global, terms: &[Pattern], width: u8) -> Result<Slices, AllocError>
+    pub fn new(alloc: Global, terms: &[Term], width: u8) -> Result<Slices, AllocError>
         requires { width ≤ 128 }
     {
         let mut columns = Vec::new(alloc);
@@ -161,7 +162,7 @@ impl Slices {
 
     /// Leaves out the terms that the row holds whole.
     /// Advice: asked before it is followed.
-    pub fn drop_included(&mut self, alloc: Global, row: Pattern) -> Result<(), AllocError> {
+    pub fn drop_included(&mut self, alloc: Global, row: Term) -> Result<(), AllocError> {
         let inside = self.having(alloc, row, row.care)?;
         remove(&mut self.live, &inside);
         Ok(())
@@ -171,13 +172,13 @@ impl Slices {
     pub(crate) fn having(
         &self,
         alloc: Global,
-        row: Pattern,
+        row: Term,
         columns: u128,
     ) -> Result<Vec<u128>, AllocError> {
         let sets = self.with(alloc, row, columns)?;
         let mut having = Vec::new(alloc);
         for (number, hull) in self.hulls.iter().enumerate() {
-            let is_apart = row.apart(*hull) & columns != 0;
+            let is_apart = apart(row, *hull) & columns != 0;
             let word = if is_apart {
                 0
             } else {
@@ -189,7 +190,7 @@ impl Slices {
     }
 
     /// For each of the columns, from the last to the first, the terms with the literal of the row.
-    fn with(&self, alloc: Global, row: Pattern, columns: u128) -> Result<Vec<&[u128]>, AllocError> {
+    fn with(&self, alloc: Global, row: Term, columns: u128) -> Result<Vec<&[u128]>, AllocError> {
         let mut sets = Vec::new(alloc);
         for column in self.columns.iter().rev() {
             if columns & column.bit != 0 {
@@ -200,12 +201,7 @@ impl Slices {
     }
 
     /// For each of the columns, from the last to the first, the terms with the other literal.
-    fn against(
-        &self,
-        alloc: Global,
-        row: Pattern,
-        columns: u128,
-    ) -> Result<Vec<&[u128]>, AllocError> {
+    fn against(&self, alloc: Global, row: Term, columns: u128) -> Result<Vec<&[u128]>, AllocError> {
         let mut sets = Vec::new(alloc);
         for column in self.columns.iter().rev() {
             if columns & column.bit != 0 {
@@ -262,25 +258,19 @@ impl Slices {
 
     /// For each column the number of a term that has the other literal than the row there and at no other column. A
     /// word is passed over where each of its terms has it at two columns, or at one that is known.
-    fn soles(&self, alloc: Global, row: Pattern) -> Result<Vec<Option<usize>>, AllocError> {
+    fn soles(&self, alloc: Global, row: Term) -> Result<Vec<Option<usize>>, AllocError> {
         let sets = self.against(alloc, row, row.care)?;
         let mut soles = vec![in alloc; None; self.columns.len()]?;
         let mut known = 0;
         for (number, hull) in self.hulls.iter().enumerate() {
-            let sole = self.sole_near(number, &sets, row.apart(*hull), known);
+            let sole = self.sole_near(number, &sets, apart(row, *hull), known);
             known |= self.put_soles(&mut soles, row, number, sole);
         }
         Ok(soles)
     }
 
     /// Puts such terms of the word of that number there, and gives their columns.
-    fn put_soles(
-        &self,
-        soles: &mut [Option<usize>],
-        row: Pattern,
-        number: usize,
-        sole: u128,
-    ) -> u128 {
+    fn put_soles(&self, soles: &mut [Option<usize>], row: Term, number: usize, sole: u128) -> u128 {
         let mut found = 0;
         if sole == 0 {
             return found;
@@ -307,7 +297,7 @@ impl Slices {
     }
 
     /// The literals that each wider row has to keep: some term has the other literal there and nowhere else.
-    pub(crate) fn limits(&self, alloc: Global, row: Pattern) -> Result<Limits, AllocError> {
+    pub(crate) fn limits(&self, alloc: Global, row: Term) -> Result<Limits, AllocError> {
         let soles = self.soles(alloc, row)?;
         Ok(Limits::new(alloc, self.columns_with(&soles)))
     }
@@ -317,7 +307,7 @@ impl Slices {
     pub(crate) fn add_nearest(
         &self,
         alloc: Global,
-        row: Pattern,
+        row: Term,
         most: usize,
         limits: &mut Limits,
     ) -> Result<(), AllocError> {
@@ -333,7 +323,7 @@ impl Slices {
     fn add_at(
         &self,
         limits: &mut Limits,
-        row: Pattern,
+        row: Term,
         counts: &[Count],
         number: u32,
         room: usize,
@@ -346,7 +336,7 @@ impl Slices {
     }
 
     /// The counts of the terms that do not have the other literal at one of those columns.
-    fn counts(&self, alloc: Global, row: Pattern, columns: u128) -> Result<Vec<Count>, AllocError> {
+    fn counts(&self, alloc: Global, row: Term, columns: u128) -> Result<Vec<Count>, AllocError> {
         let sets = self.against(alloc, row, columns)?;
         let mut counts = Vec::new(alloc);
         for number in 0..self.live.len() {
@@ -369,7 +359,7 @@ impl Slices {
     fn add_sets(
         &self,
         limits: &mut Limits,
-        row: Pattern,
+        row: Term,
         word: usize,
         found: u128,
         room: usize,
@@ -381,7 +371,7 @@ impl Slices {
                 break;
             }
             if let Some(term) = self.term_at(word, found) {
-                limits.add(row.apart(term), row.care)?;
+                limits.add(apart(row, term), row.care)?;
             }
             found &= found - 1;
             left = left.saturating_sub(1);
@@ -390,7 +380,7 @@ impl Slices {
     }
 
     /// The term at the lowest bit of the word of that number.
-    fn term_at(&self, word: usize, found: u128) -> Option<Pattern> {
+    fn term_at(&self, word: usize, found: u128) -> Option<Term> {
         let number = place(word, found);
         if number >= self.terms.len() {
             return None;
@@ -402,7 +392,7 @@ impl Slices {
     pub(crate) fn keep_allowed(
         &self,
         left: &mut Vec<u128>,
-        row: Pattern,
+        row: Term,
         limits: &Limits,
     ) -> Result<(), AllocError> {
         let mut any = left.clone()?;
@@ -414,7 +404,7 @@ impl Slices {
     }
 
     /// Makes `any` the terms that have the literal of the row at some column of the set.
-    fn gather(&self, any: &mut [u128], row: Pattern, set: u128) {
+    fn gather(&self, any: &mut [u128], row: Term, set: u128) {
         for word in any.iter_mut() {
             *word = 0;
         }
@@ -426,11 +416,7 @@ impl Slices {
     }
 
     /// The terms of those words.
-    pub(crate) fn terms_of(
-        &self,
-        alloc: Global,
-        words: &[u128],
-    ) -> Result<Vec<Pattern>, AllocError> {
+    pub(crate) fn terms_of(&self, alloc: Global, words: &[u128]) -> Result<Vec<Term>, AllocError> {
         let mut terms = Vec::new(alloc);
         for (i, word) in words.iter().enumerate() {
             self.put_terms(&mut terms, i, *word)?;
@@ -439,12 +425,7 @@ impl Slices {
     }
 
     /// Adds the terms of one word.
-    fn put_terms(
-        &self,
-        terms: &mut Vec<Pattern>,
-        word: usize,
-        found: u128,
-    ) -> Result<(), AllocError> {
+    fn put_terms(&self, terms: &mut Vec<Term>, word: usize, found: u128) -> Result<(), AllocError> {
         let mut found = found;
         for _ in 0..128 {
             if found == 0 {
@@ -461,7 +442,7 @@ impl Slices {
     /// How far the row is widened when each literal in turn becomes a dash where the row then touches no term. Terms
     /// with the other literal at a column that surely stays are left out.
     /// Advice: asked before it is followed.
-    pub fn advice(&self, alloc: Global, row: Pattern) -> Result<Advice, AllocError> {
+    pub fn advice(&self, alloc: Global, row: Term) -> Result<Advice, AllocError> {
         let mut reasons = self.soles(alloc, row)?;
         let literals = self.columns_with(&reasons);
         let open = row.care & !literals;
@@ -470,7 +451,7 @@ impl Slices {
         let mut steps = self.steps(alloc, row, open, &near)?;
         let dashes = self.put_reasons(&mut reasons, &mut kept, &mut steps, &near, open);
         Ok(Advice {
-            wide: row.without(dashes),
+            wide: without(row, dashes),
             reasons,
         })
     }
@@ -500,10 +481,10 @@ impl Slices {
     }
 
     /// The numbers of the words of which not every term has the other literal than the row at one of the columns.
-    fn near(&self, alloc: Global, row: Pattern, columns: u128) -> Result<Vec<usize>, AllocError> {
+    fn near(&self, alloc: Global, row: Term, columns: u128) -> Result<Vec<usize>, AllocError> {
         let mut near = Vec::new(alloc);
         for (number, hull) in self.hulls.iter().enumerate() {
-            if row.apart(*hull) & columns == 0 {
+            if apart(row, *hull) & columns == 0 {
                 near.push(number)?;
             }
         }
@@ -515,7 +496,7 @@ impl Slices {
     fn gone(
         &self,
         alloc: Global,
-        row: Pattern,
+        row: Term,
         columns: u128,
         near: &[usize],
     ) -> Result<Vec<u128>, AllocError> {
@@ -531,7 +512,7 @@ impl Slices {
     fn steps(
         &self,
         alloc: Global,
-        row: Pattern,
+        row: Term,
         columns: u128,
         near: &[usize],
     ) -> Result<Vec<Step>, AllocError> {
@@ -563,8 +544,8 @@ fn word_at(words: &[u128], number: usize) -> u128 {
     words.get(number).copied().unwrap_or(0)
 }
 
-/// For each word of terms a pattern that holds all their values.
-fn hulls(alloc: Global, terms: &[Pattern]) -> Result<Vec<Pattern>, AllocError> {
+/// For each word of terms a term that holds all their values.
+fn hulls(alloc: Global, terms: &[Term]) -> Result<Vec<Term>, AllocError> {
     let mut hulls = Vec::new(alloc);
     for chunk in terms.chunks(128) {
         hulls.push(hull(chunk))?;
@@ -572,12 +553,9 @@ fn hulls(alloc: Global, terms: &[Pattern]) -> Result<Vec<Pattern>, AllocError> {
     Ok(hulls)
 }
 
-/// A pattern that holds the values of all terms.
-fn hull(terms: &[Pattern]) -> Pattern {
-    let mut hull = terms
-        .first()
-        .copied()
-        .unwrap_or(Pattern { care: 0, value: 0 });
+/// A term that holds the values of all terms.
+fn hull(terms: &[Term]) -> Term {
+    let mut hull = terms.first().copied().unwrap_or(Term::masked(0, 0));
     for term in terms {
         hull = hull.joined(*term);
     }
@@ -613,12 +591,7 @@ fn all_places(alloc: Global, count: usize) -> Result<Vec<u128>, AllocError> {
 }
 
 /// A bit for each term that has at the columns of `mask` the literals of `value`.
-fn places(
-    alloc: Global,
-    terms: &[Pattern],
-    mask: u128,
-    value: u128,
-) -> Result<Vec<u128>, AllocError> {
+fn places(alloc: Global, terms: &[Term], mask: u128, value: u128) -> Result<Vec<u128>, AllocError> {
     let mut words = Vec::new(alloc);
     for chunk in terms.chunks(128) {
         let mut word = 0;

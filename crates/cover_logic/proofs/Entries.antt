@@ -5,10 +5,10 @@ use Rattle.std.proofs.lemmas.List.{get_or_default}
 use Rattle.std.proofs.lemmas.List.Elements.{All-contains, All-nil, All-push, Contains-append_left, Contains-get_or, Contains-push}
 use Rattle.list_facts.specs.Laws.Members.{Contains-cons, Contains-here, Contains-none, Contains-there}
 use Rattle.cover_logic.specs.declared.bundles.Entry.{Entry}
-use Rattle.cover_logic.specs.declared.term.Term.{Term}
+use Rattle.cover_terms.specs.declared.term.Term.{Term}
 use Rattle.cover_logic.specs.Inner.Entries.{terms_in, EntryFits, HasNumber, IsNumbered}
-use Rattle.cover_logic.specs.Term.{FitsWidth}
-use Rattle.cover_logic.specs.Inner.Rows.{HasSameTerms}
+use Rattle.cover_terms.specs.Term.{FitsWidth}
+use Rattle.cover_terms.specs.Lists.{HasSameTerms}
 
 -- the term of an entry is among the terms, and each of the terms is that of an entry
 pub term_of_entry : (entries : List Entry) (e : Entry) → Contains entries e → Contains (terms_in entries) e.term

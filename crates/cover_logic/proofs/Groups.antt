@@ -10,14 +10,14 @@ use Rattle.std.proofs.lemmas.Nat.Bits.{bit_at-lt, bit_at_and, bit_at_clear_other
 use Rattle.list_facts.specs.Laws.Members.{Contains-none}
 use Rattle.cover_logic.specs.declared.bundles.Bundle.{Bundle}
 use Rattle.cover_logic.specs.declared.bundles.Entry.{Entry}
-use Rattle.cover_logic.specs.declared.term.Term.{Term}
+use Rattle.cover_terms.specs.declared.term.Term.{Term}
 use Rattle.cover_logic.specs.declared.waiting.Group.{Group}
 use Rattle.cover_logic.specs.Inner.Bundles.{entries_in}
-use Rattle.cover_logic.specs.Inner.Rows.{HasSameTerms}
+use Rattle.cover_terms.specs.Lists.{HasSameTerms}
 use Rattle.cover_logic.specs.Inner.Entries.{IsWithin, terms_in}
 use Rattle.cover_logic.specs.Inner.Groups.{AreDropped, IsDropped, IsLive, IsLiveInSome, IsTaken, all_live}
-use Rattle.cover_logic.specs.Inner.Pair.{refines}
-use Rattle.cover_logic.proofs.Bits.{bits_of_zero, zero_is_not_one, zero_or_one}
+use Rattle.cover_terms.specs.Pair.{refines}
+use Rattle.cover_terms.specs.Laws.Bits.{bits_of_zero, zero_is_not_one, zero_or_one}
 use Rattle.cover_logic.proofs.Entries.{entry_of_term, term_of_entry}
 use Rattle.cover_logic.proofs.Planes.{cleared_less, entries_push}
 

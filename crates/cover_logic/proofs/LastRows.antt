@@ -3,13 +3,14 @@ use Rattle.std.specs.List.{All}
 use Rattle.std.proofs.lemmas.Bool.{cases_lt}
 use Rattle.std.proofs.lemmas.List.{get_or_default, get_or-drop, get_or-replicate, length-replicate}
 use Rattle.std.proofs.lemmas.List.Elements.{Contains-get_or}
-use Rattle.cover_logic.specs.declared.term.Term.{Term}
-use Rattle.cover_logic.specs.Term.{FitsWidth, Holds, IsCovered}
-use Rattle.cover_logic.specs.Inner.Charts.{IsCleared, IsFilled, IsFound}
+use Rattle.cover_terms.specs.declared.term.Term.{Term}
+use Rattle.cover_terms.specs.Term.{FitsWidth, Holds, IsCovered}
+use Rattle.cover_terms.specs.Charts.{IsCleared, IsFilled, IsFound}
 use Rattle.cover_logic.specs.Inner.Lasts.{AreLasts, AreLastsOn}
-use Rattle.cover_logic.specs.Inner.Rows.{Covers, IsSole}
+use Rattle.cover_terms.specs.Lists.{Covers}
+use Rattle.cover_logic.specs.Inner.Rows.{IsSole}
 use Rattle.cover_logic.specs.Inner.Tables.{AreMarks}
-use Rattle.cover_logic.proofs.Lists.{held_cases, held_left, held_push, held_push_cases, held_right}
+use Rattle.cover_terms.specs.Laws.Lists.{held_cases, held_left, held_push, held_push_cases, held_right}
 use Rattle.cover_logic.proofs.Width.{held_from_low, held_low, holds_low, low_is_value}
 
 pub lasts_none : (w : ℕ) (rows : List Term) (chart : List ℕ) → chart ≡ replicate (2 ^ w) 0 → AreLasts w rows 0 chart

@@ -4,12 +4,12 @@ use Rattle.std.proofs.lemmas.Bool.{false≢true, cases_lt}
 use Rattle.std.proofs.lemmas.List.{get_or_default, get_or-drop, get_or-replicate, get_or-set_same, get_or-set_other, length-replicate, length-set}
 use Rattle.std.proofs.lemmas.List.Elements.{All-contains, All-nil, All-push, All-weaker, Contains-append_left, Contains-append_right, Contains-append_cases, Contains-get_or, Contains-push}
 use Rattle.cover_logic.specs.declared.bundles.Entry.{Entry}
-use Rattle.cover_logic.specs.declared.term.Term.{Term}
-use Rattle.cover_logic.specs.Term.{Holds, IsCovered}
+use Rattle.cover_terms.specs.declared.term.Term.{Term}
+use Rattle.cover_terms.specs.Term.{Holds, IsCovered}
 use Rattle.cover_logic.specs.Inner.Entries.{HasNumber, HoldsRivals, IsMet, IsNumbered, IsRival}
-use Rattle.cover_logic.specs.Inner.Pair.{agree}
+use Rattle.cover_terms.specs.Pair.{agree}
 use Rattle.cover_logic.proofs.NeededRows.{HoldAlike}
-use Rattle.cover_logic.proofs.Terms.{agree_from_shared}
+use Rattle.cover_terms.specs.Laws.Terms.{agree_from_shared}
 
 -- the term is that of an entry of another row that is left
 abbrev pub IsRivalTerm : ℕ → List Bool → List Entry → Term → Type 0

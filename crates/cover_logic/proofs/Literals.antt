@@ -7,13 +7,13 @@ use Rattle.std.proofs.lemmas.List.Elements.{All-contains, All-nil, All-push, Con
 use Rattle.std.proofs.lemmas.Nat.Bits.{bit_at-lt, bit_at_and, bit_at_or, bit_at-zero}
 use Rattle.cover_logic.specs.declared.bundles.Entry.{Entry}
 use Rattle.cover_logic.specs.declared.bundles.Literal.{Literal}
-use Rattle.cover_logic.specs.declared.term.Term.{Term}
-use Rattle.cover_logic.specs.Term.{FitsWidth, LooksAt}
+use Rattle.cover_terms.specs.declared.term.Term.{Term}
+use Rattle.cover_terms.specs.Term.{FitsWidth, LooksAt}
 use Rattle.cover_logic.specs.Inner.Entries.{HasLiterals, IsAgainst, IsWithin}
-use Rattle.cover_logic.specs.Inner.Pair.{HasLiteral, agree, refines}
+use Rattle.cover_terms.specs.Pair.{HasLiteral, agree, refines}
 use Rattle.cover_logic.specs.Inner.Planes.{AreLiteralsOf, IsLiteralOf}
-use Rattle.cover_logic.proofs.Bits.{below_width, zero_is_not_one, zero_or_one}
-use Rattle.cover_logic.proofs.Terms.{agree_at, agree_from_bits, refines_at, refines_from}
+use Rattle.cover_terms.specs.Laws.Bits.{below_width, zero_is_not_one, zero_or_one}
+use Rattle.cover_terms.specs.Laws.Terms.{agree_at, agree_from_bits, refines_at, refines_from}
 
 -- the term has the other literal at the column
 abbrev pub IsOpposedAt : Term → Literal → Type 0

@@ -6,14 +6,15 @@ use Rattle.std.proofs.lemmas.List.{take-append-le, drop-append-le, append-nil, t
 use Rattle.std.proofs.lemmas.List.Elements.{All-contains, All-nil, All-push}
 use Rattle.list_facts.specs.Laws.Members.{Contains-here}
 use Rattle.cover_logic.specs.declared.bundles.Entry.{Entry}
-use Rattle.cover_logic.specs.declared.term.Term.{Term}
-use Rattle.cover_logic.specs.Term.{FitsWidth, Holds, IsCovered}
+use Rattle.cover_terms.specs.declared.term.Term.{Term}
+use Rattle.cover_terms.specs.Term.{FitsWidth, Holds, IsCovered}
 use Rattle.cover_logic.specs.Inner.Entries.{IsMet, terms_in}
-use Rattle.cover_logic.specs.Inner.Rows.{AreNeededPrimes, AreNeededRows, ArePrimeRows, Covers, EachNeeded, HasSameTerms, IsClear, IsPrime, IsSole}
-use Rattle.cover_logic.proofs.Gaps.{IsNear, held_near, held_from_near}
+use Rattle.cover_terms.specs.Lists.{Covers, HasSameTerms}
+use Rattle.cover_logic.specs.Inner.Rows.{AreNeededPrimes, AreNeededRows, ArePrimeRows, EachNeeded, IsClear, IsPrime, IsSole}
+use Rattle.cover_terms.specs.Laws.Gaps.{IsNear, held_near, held_from_near}
 use Rattle.cover_logic.proofs.Entries.{entry_of_term, term_of_entry}
-use Rattle.cover_logic.proofs.Terms.{agree_from_shared}
-use Rattle.cover_logic.proofs.Lists.{held_push, held_push_cases, held_left, held_right, held_cases, held_cons_cases}
+use Rattle.cover_terms.specs.Laws.Terms.{agree_from_shared}
+use Rattle.cover_terms.specs.Laws.Lists.{held_push, held_push_cases, held_left, held_right, held_cases, held_cons_cases}
 
 -- the others hold each value that the row has in common with the terms
 abbrev pub IsShared : Term → List Term → List Term → Type 0

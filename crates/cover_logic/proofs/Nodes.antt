@@ -5,12 +5,13 @@ use Rattle.std.proofs.lemmas.List.{length-append, get_or_append_left, get_or-app
 use Rattle.std.proofs.lemmas.List.Elements.{All-nil, All-append, All-contains, All-weaker, Contains-append_left, Contains-append_right, Contains-append_cases, Contains-get_or, All-contains_itself}
 use Rattle.list_facts.specs.Laws.Members.{Contains-cons, Contains-filter, Contains-from_filter, Contains-here, Contains-none, Contains-there}
 use Rattle.cover_logic.specs.declared.index.Node.{Node}
-use Rattle.cover_logic.specs.declared.term.Term.{Term}
+use Rattle.cover_terms.specs.declared.term.Term.{Term}
 use Rattle.cover_logic.specs.Inner.Nodes.{listed, IsNested, IsAdded}
-use Rattle.cover_logic.specs.Term.{Holds}
-use Rattle.cover_logic.specs.Inner.Pair.{Includes, ShareValue, agree, has_zero, has_one, has_dash}
-use Rattle.cover_logic.specs.Inner.Rows.{HasSameTerms, IsClear, MeetsSome}
-use Rattle.cover_logic.proofs.Terms.{agree_from_shared, shared_from_agree}
+use Rattle.cover_terms.specs.Term.{Holds}
+use Rattle.cover_terms.specs.Pair.{Includes, ShareValue, agree, has_zero, has_one, has_dash}
+use Rattle.cover_terms.specs.Lists.{HasSameTerms}
+use Rattle.cover_logic.specs.Inner.Rows.{IsClear, MeetsSome}
+use Rattle.cover_terms.specs.Laws.Terms.{agree_from_shared, shared_from_agree}
 
 -- the terms of two lists of nodes
 pub listed-append : (xs ys : List Node) → listed (xs ++ ys) ≡ listed xs ++ listed ys

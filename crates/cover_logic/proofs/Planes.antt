@@ -10,12 +10,12 @@ use Rattle.list_facts.specs.Laws.Members.{Contains-none}
 use Rattle.cover_logic.specs.declared.bundles.Bundle.{Bundle}
 use Rattle.cover_logic.specs.declared.bundles.Entry.{Entry}
 use Rattle.cover_logic.specs.declared.bundles.Plane.{Plane}
-use Rattle.cover_logic.specs.declared.term.Term.{Term}
+use Rattle.cover_terms.specs.declared.term.Term.{Term}
 use Rattle.cover_logic.specs.Inner.Bundles.{entries_in}
 use Rattle.cover_logic.specs.Inner.Entries.{AreMore, EntryFits, HasLiterals, IsAgainst, IsMet, IsPutAt, IsPutIn}
-use Rattle.cover_logic.specs.Inner.Pair.{HasLiteral, agree}
+use Rattle.cover_terms.specs.Pair.{HasLiteral, agree}
 use Rattle.cover_logic.specs.Inner.Planes.{ArePlanes}
-use Rattle.cover_logic.proofs.Bits.{below_width, bits_of_zero, zero_is_not_one, zero_or_one}
+use Rattle.cover_terms.specs.Laws.Bits.{below_width, bits_of_zero, zero_is_not_one, zero_or_one}
 
 -- the set has the places of those of the first entries that have the literal, and none of a later one
 abbrev pub HasFirstLiterals : ℕ → ℕ → List Entry → ℕ → ℕ → Type 0

@@ -3,12 +3,13 @@ use Rattle.std.specs.List.{All, Contains, filter}
 use Rattle.std.proofs.lemmas.Bool.{cases_Bool}
 use Rattle.std.proofs.lemmas.List.Elements.{All-push, All-nil, All-contains, Contains-append_left, Contains-push_cases}
 use Rattle.list_facts.specs.Laws.Members.{Contains-filter, Contains-from_filter}
-use Rattle.cover_logic.specs.declared.term.Term.{Term}
-use Rattle.cover_logic.specs.Term.{FitsWidth, Holds, IsCovered}
-use Rattle.cover_logic.specs.Inner.Pair.{Includes, refines}
-use Rattle.cover_logic.specs.Inner.Rows.{ArePrimeRows, HasSameTerms, IsAllHeld, IsClear, IsPrime}
-use Rattle.cover_logic.proofs.Terms.{refines_includes}
-use Rattle.cover_logic.proofs.Lists.{held_push, held_left}
+use Rattle.cover_terms.specs.declared.term.Term.{Term}
+use Rattle.cover_terms.specs.Term.{FitsWidth, Holds, IsCovered}
+use Rattle.cover_terms.specs.Pair.{Includes, refines}
+use Rattle.cover_terms.specs.Lists.{HasSameTerms}
+use Rattle.cover_logic.specs.Inner.Rows.{ArePrimeRows, IsAllHeld, IsClear, IsPrime}
+use Rattle.cover_terms.specs.Laws.Terms.{refines_includes}
+use Rattle.cover_terms.specs.Laws.Lists.{held_push, held_left}
 
 -- the rows and the terms that are left hold what on holds; the rows are prime and clear of off, and so are the terms left
 pub record ArePrimes (on off : List Term) (width : ℕ) (Left : Term → Type 0) (rows : List Term) : Type 0 where

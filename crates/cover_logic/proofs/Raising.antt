@@ -1,13 +1,13 @@
 use Rattle.std.proofs.Common.{ℕ, ◌+◌, ◌<◌, ◌≤◌, ◌↔◌, List, [], ◌∷◌, ◌++◌, ⊎_elim, sym, subst, arith}
 use Rattle.std.specs.List.{Contains}
 use Rattle.std.proofs.lemmas.Bool.{cases_eq}
-use Rattle.cover_logic.specs.declared.term.Term.{Term}
-use Rattle.cover_logic.specs.Term.{FitsWidth, Holds, HoldsWithDash, LooksAt}
-use Rattle.cover_logic.specs.Inner.Pair.{Includes, IsLooser, ShareValue}
+use Rattle.cover_terms.specs.declared.term.Term.{Term}
+use Rattle.cover_terms.specs.Term.{FitsWidth, Holds, HoldsWithDash, LooksAt}
+use Rattle.cover_terms.specs.Pair.{Includes, IsLooser, ShareValue}
 use Rattle.cover_logic.specs.Inner.Rows.{IsClear, IsGrown, IsPrime, NeedsLiteral}
-use Rattle.cover_logic.proofs.Bits.{below_width}
-use Rattle.cover_logic.proofs.Lists.{held_push_cases}
-use Rattle.cover_logic.proofs.Terms.{looser_holds, looser_with_dash}
+use Rattle.cover_terms.specs.Laws.Bits.{below_width}
+use Rattle.cover_terms.specs.Laws.Lists.{held_push_cases}
+use Rattle.cover_terms.specs.Laws.Terms.{looser_holds, looser_with_dash}
 
 -- a term that is clear of a list, and shares no value with one term more
 pub clear_push : (row : Term) (terms : List Term) (t : Term) → IsClear terms row → (ShareValue row t → ⊥) → IsClear (terms ++ t ∷ []) row

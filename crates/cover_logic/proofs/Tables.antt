@@ -3,12 +3,12 @@ use Rattle.std.specs.Option.{is_some}
 use Rattle.std.proofs.lemmas.Bool.{false≢true}
 use Rattle.std.proofs.lemmas.List.{get_or-replicate, length-replicate}
 use Rattle.std.proofs.lemmas.List.Elements.{All-nil, All-push}
-use Rattle.cover_logic.specs.declared.term.Term.{Term}
-use Rattle.cover_logic.specs.Term.{FitsWidth}
-use Rattle.cover_logic.specs.Inner.Charts.{IsFilled, IsFound}
+use Rattle.cover_terms.specs.declared.term.Term.{Term}
+use Rattle.cover_terms.specs.Term.{FitsWidth}
+use Rattle.cover_terms.specs.Charts.{IsFilled, IsFound}
 use Rattle.cover_logic.specs.Inner.Rows.{IsAllHeld}
 use Rattle.cover_logic.specs.Inner.Tables.{AreMarks, IsMetOrClear}
-use Rattle.cover_logic.proofs.Lists.{held_left, held_none, held_push, held_push_cases}
+use Rattle.cover_terms.specs.Laws.Lists.{held_left, held_none, held_push, held_push_cases}
 use Rattle.cover_logic.proofs.Width.{held_from_low, held_low, holds_low, low_is_value}
 
 pub marks_none : (w : ℕ) (marks : List ℕ) → marks ≡ replicate (2 ^ w) 0 → AreMarks w [] marks

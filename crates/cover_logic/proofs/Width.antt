@@ -6,12 +6,13 @@ use Rattle.std.proofs.lemmas.Nat.{pow_pos, div-add-mod'}
 use Rattle.std.proofs.lemmas.Nat.Bits.{bit_at_cat_low}
 use Rattle.std.proofs.lemmas.List.{append-nil}
 use Rattle.std.proofs.lemmas.List.Elements.{All-append, All-contains, All-drop, All-take, Contains-get_or}
-use Rattle.cover_logic.proofs.Bits.{below_width}
-use Rattle.cover_logic.specs.declared.term.Term.{Term}
-use Rattle.cover_logic.specs.Term.{FitsWidth, Holds, HoldsWithDash, IsCovered}
+use Rattle.cover_terms.specs.Laws.Bits.{below_width}
+use Rattle.cover_terms.specs.declared.term.Term.{Term}
+use Rattle.cover_terms.specs.Term.{FitsWidth, Holds, HoldsWithDash, IsCovered}
 use Rattle.cover_logic.specs.Cover.{ShareNoValue, IsTermCover}
-use Rattle.cover_logic.specs.Inner.Rows.{AreNeededPrimes, HasSameValues, IsClear}
-use Rattle.cover_logic.proofs.Values.{covered_back}
+use Rattle.cover_terms.specs.Lists.{HasSameValues}
+use Rattle.cover_logic.specs.Inner.Rows.{AreNeededPrimes, IsClear}
+use Rattle.cover_terms.specs.Laws.Values.{covered_back}
 
 -- where a value and its lowest `width` bits are the same
 same_below : (width x column : ℕ) → column < width → bit_at (x % 2 ^ width) column ≡ bit_at x column

@@ -1,7 +1,7 @@
 -- Irredundant covers.
 use Rattle.std.specs.Prelude.{ℕ, ◌<◌, ◌≤◌, ◌^◌, List, All, EachIndex, remove}
-use Rattle.cover_logic.specs.declared.term.Term.{Term}
-use Rattle.cover_logic.specs.Term.{LooksAt, HoldsWithDash, IsCovered, FitsWidth}
+use Rattle.cover_terms.specs.declared.term.Term.{Term}
+use Rattle.cover_terms.specs.Term.{LooksAt, HoldsWithDash, IsCovered, FitsWidth}
 
 -- no value is held by both lists
 abbrev pub ShareNoValue : ℕ → List Term → List Term → Type 0

@@ -1,5 +1,4 @@
 -- Definitions that private functions and proofs need; no public contract cites them.
-pub mod Pair
 pub mod Rows
 pub mod Entries
 pub mod Planes
@@ -9,6 +8,5 @@ pub mod Waiting
 pub mod Nodes
 pub mod Sides
 pub mod Index
-pub mod Charts
 pub mod Tables
 pub mod Lasts

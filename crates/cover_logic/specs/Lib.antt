@@ -1,3 +1,2 @@
-pub mod Term
 pub mod Cover
 pub mod Inner

@@ -1,11 +1,11 @@
 //! The terms of a list in bundles of 128, by their columns. One step asks all terms of a bundle whether they share a
 //! value with a row, or whether the row holds them whole.
 ghost use Rattle.std.specs.Prelude.{◌<◌, ◌≤◌, IfOk, if◌then◌else◌, length};
-ghost use Rattle.cover_logic.specs.Term.{FitsWidth};
+ghost use Rattle.cover_terms.specs.Term.{FitsWidth};
 ghost use Rattle.cover_logic.specs.Inner.Entries.{HasLiterals};
 ghost use Rattle.cover_logic.specs.Inner.Planes.{AreLiteralsOf, AreTold, AreTold-prop, IsLiteralAt};
 
-use crate::term::Term;
+use cover_terms::Term;
 use std::alloc::{AllocError, Global};
 
 /// A term of a list, and its number there.
@@ -40,7 +40,7 @@ pub struct Bundle {
 
 impl Bundle {
     ghost use Rattle.std.specs.Prelude.{◌≡◌, ◌≤◌, All, IfOk, OnOk, if◌then◌else◌, length};
-    ghost use Rattle.cover_logic.specs.declared.term.Term.{Term};
+    ghost use Rattle.cover_terms.specs.declared.term.Term.{Term};
     ghost use Rattle.cover_logic.specs.Inner.Entries.{EntryFits, HasLiterals, IsAgainst, IsPutIn, IsWithin};
     ghost use Rattle.cover_logic.specs.Inner.Planes.{AreLiteralsOf};
 
@@ -151,10 +151,10 @@ pub struct Bundles {
 
 impl Bundles {
     ghost use Rattle.std.specs.Prelude.{◌≡◌, ◌≤◌, All, IfOk};
-    ghost use Rattle.cover_logic.specs.Term.{FitsWidth};
+    ghost use Rattle.cover_terms.specs.Term.{FitsWidth};
     ghost use Rattle.cover_logic.specs.Inner.Bundles.{entries_of, terms_in_bundles};
     ghost use Rattle.cover_logic.specs.Inner.Entries.{EntryFits, IsMet, IsNumbered};
-    ghost use Rattle.cover_logic.specs.Inner.Rows.{HasSameTerms};
+    ghost use Rattle.cover_terms.specs.Lists.{HasSameTerms};
 
     /// The bundles of the terms, in the order of the list.
     pub fn new(alloc: Global, terms: &[Term], width: u8) -> Result<Bundles, AllocError>

@@ -1,13 +1,13 @@
 //! The rows of dense gates, by tables of their values.
 ghost use Rattle.std.specs.Prelude.{◌≡◌, ◌≤◌, ◌<◌, All, IfOk, IsTrue};
-ghost use Rattle.cover_logic.specs.Term.{FitsWidth, LooksAt};
-ghost use Rattle.cover_logic.specs.Inner.Pair.{Includes, IsLooser};
+ghost use Rattle.cover_terms.specs.Term.{FitsWidth, LooksAt};
+ghost use Rattle.cover_terms.specs.Pair.{Includes, IsLooser};
 ghost use Rattle.cover_logic.specs.Inner.Rows.{ArePrimeRows, IsClear, IsGrown, IsPrime, IsPrimeRow, NeedsLiteral};
 ghost use Rattle.cover_logic.specs.Inner.Tables.{IsTable};
 
 use crate::table::Table;
-use crate::term::{Term, patterns};
 use cover_advice::Ground;
+use cover_terms::Term;
 use std::alloc::{AllocError, Global};
 
 /// The least and the greatest width of a dense gate, and the least number of its terms.
@@ -99,17 +99,8 @@ fn row_of(seed: Term, ground: &Ground, off: &Table, width: u8) -> Term
     requires clear { IsClear off.now.terms.items seed }
     ensures { IsPrimeRow seed off.now.terms.items width result }
 {
-    let wide = widened(seed, Term::of(ground.grown(seed.pattern())), off, width);
+    let wide = widened(seed, ground.grown(seed), off, width);
     raised(wide, off, width)
-}
-
-/// The cells of the gate.
-fn ground_of(alloc: Global, on: &[Term], off: &[Term], width: u8) -> Result<Ground, AllocError>
-    requires { width ≤ 16 }
-{
-    let ones = patterns(alloc, on)?;
-    let zeros = patterns(alloc, off)?;
-    Ground::new(alloc, &ones, &zeros, width)
 }
 
 /// Rows for `dense_rows`, with the cells of the gate and the table of off.
@@ -134,7 +125,7 @@ fn rows_of(
         let seed = on[left];
         if !rows.holds(seed) {
             let row = row_of(seed, ground, zeros, width);
-            ground.take(row.pattern());
+            ground.take(row);
             rows.add(row)?;
         }
     }
@@ -155,6 +146,6 @@ pub fn dense_rows(
     ensures { IfOk result (λ rows. ArePrimeRows on.now off.now width rows.items) }
 {
     let zeros = Table::of(alloc, off, width)?;
-    let mut ground = ground_of(alloc, on, off, width)?;
+    let mut ground = Ground::new(alloc, on, off, width)?;
     rows_of(alloc, on, &mut ground, &zeros, width)
 }

@@ -1,11 +1,10 @@
 //! An index of a list of terms, which is asked for a term that shares a value with a given one.
 ghost use Rattle.std.specs.Prelude.{◌≡◌, ◌<◌, ◌≤◌, All, IfOk, OnOk, filter, length};
-ghost use Rattle.cover_logic.specs.Inner.Pair.{Includes};
+ghost use Rattle.cover_terms.specs.Pair.{Includes};
 ghost use Rattle.cover_logic.specs.Inner.Sides.{is_on_side};
 ghost use Rattle.cover_logic.specs.Inner.Nodes.{IsAdded, IsNested, IsNested-prop};
 
-use crate::term::Term;
-use cover_advice::Pattern;
+use cover_terms::Term;
 use std::alloc::{AllocError, Global};
 
 /// A term of the list, or a term that holds the terms of the list from node `from` up to its own place.
@@ -27,8 +26,9 @@ pub struct Index {
 impl Index {
     ghost use Rattle.std.specs.Prelude.{◌≤◌, Contains, IfOk, IsTrue, MatchOption};
     ghost use Rattle.cover_logic.specs.Inner.Index.{terms_of};
-    ghost use Rattle.cover_logic.specs.Inner.Pair.{ShareValue};
-    ghost use Rattle.cover_logic.specs.Inner.Rows.{HasSameTerms, IsClear, MeetsSome};
+    ghost use Rattle.cover_terms.specs.Pair.{ShareValue};
+    ghost use Rattle.cover_terms.specs.Lists.{HasSameTerms};
+    ghost use Rattle.cover_logic.specs.Inner.Rows.{IsClear, MeetsSome};
 
     /// The index of the terms. It is split by columns below the width.
     pub fn new(alloc: Global, terms: &[Term], width: u8) -> Result<Index, AllocError>
@@ -74,15 +74,15 @@ impl Index {
         row.touches(node.term)
     }
 
-    /// The terms of the list as `cover_advice` sees them, in the order of the nodes.
-    pub(crate) fn patterns(&self, alloc: Global) -> Result<Vec<Pattern>, AllocError> {
-        let mut patterns = Vec::new(alloc);
+    /// The terms of the list, in the order of the nodes.
+    pub(crate) fn terms(&self, alloc: Global) -> Result<Vec<Term>, AllocError> {
+        let mut terms = Vec::new(alloc);
         for node in &self.nodes {
             if node.is_listed {
-                patterns.push(node.term.pattern())?;
+                terms.push(node.term)?;
             }
         }
-        Ok(patterns)
+        Ok(terms)
     }
 
     /// The places of their nodes.

@@ -1,12 +1,13 @@
 //! Which rows of a dense gate can be left out, by a chart of the last row that holds each value of on.
 ghost use Rattle.std.specs.Prelude.{◌≤◌, All, IfOk};
-ghost use Rattle.cover_logic.specs.Term.{FitsWidth};
+ghost use Rattle.cover_terms.specs.Term.{FitsWidth};
 ghost use Rattle.cover_logic.specs.Inner.Lasts.{AreLastsOn};
-ghost use Rattle.cover_logic.specs.Inner.Rows.{AreNeededRows, Covers};
+ghost use Rattle.cover_terms.specs.Lists.{Covers};
+ghost use Rattle.cover_logic.specs.Inner.Rows.{AreNeededRows};
 
-use crate::chart::{blank, clear, fill, find};
 use crate::table::Table;
-use crate::term::Term;
+use cover_terms::Term;
+use cover_terms::chart::{blank, clear, fill, find};
 use std::alloc::{AllocError, Global};
 
 /// For each value of on one more than the number of the last row that holds it, or 0 where no row does, and 0 for any

@@ -4,7 +4,7 @@
 //! those at which it is 0. Any other value is free. `cover` answers rows that are a good cover (`IsTermCover`, in
 //! specs/Cover.antt): they hold every value of on and none of off, no literal can become a dash without a value of
 //! off being held, and no row can be left out without a value of on being lost. That definition speaks of values,
-//! by their bits (specs/Term.antt), and never of the terms that give them. Which of the good covers is answered is
+//! by their bits (`specs/Term` of `cover_terms`), and never of the terms that give them. Which of the good covers is answered is
 //! left to the crate, and no clause says that it is a least one. (specs/Inner has the definitions of the crate's own
 //! functions.)
 //!
@@ -34,15 +34,12 @@
 #![tactic(auto)]
 
 ghost use Rattle.std.specs.Prelude.{◌≤◌, ◌↔◌, All, IfOk, IsTrue};
-ghost use Rattle.cover_logic.specs.Term.{FitsWidth};
+ghost use Rattle.cover_terms.specs.Term.{FitsWidth};
 ghost use Rattle.cover_logic.specs.Cover.{CanCover, IsTermCover};
 ghost use Rattle.cover_logic.specs.Inner.Rows.{AreNeededPrimes, IsClear};
 
 mod bundles;
-mod chart;
 mod dense;
-mod distinct;
-mod gap;
 mod index;
 mod lasts;
 mod needed;
@@ -50,17 +47,16 @@ mod primes;
 mod raise;
 mod rivals;
 mod table;
-mod term;
 mod waiting;
 
+pub use cover_terms::Term;
+use cover_terms::distinct::distinct;
 use dense::{dense_rows, is_dense};
-use distinct::distinct;
 use lasts::needed_by_lasts;
 use needed::needed_rows;
 use primes::primes;
 use raise::is_clear;
 use std::alloc::{AllocError, Global};
-pub use term::Term;
 
 /// Whether `cover` may be called: at most 128 columns, no literal at or above the width, and no value
 /// in both lists.

@@ -1,12 +1,13 @@
 //! Which rows can be left out of a cover.
 ghost use Rattle.std.specs.Prelude.{◌≤◌, ◌++◌, All, IfOk, filter};
-ghost use Rattle.cover_logic.specs.Term.{FitsWidth};
-ghost use Rattle.cover_logic.specs.Inner.Pair.{agree};
-ghost use Rattle.cover_logic.specs.Inner.Rows.{AreNeededRows, Covers, IsSole};
+ghost use Rattle.cover_terms.specs.Term.{FitsWidth};
+ghost use Rattle.cover_terms.specs.Pair.{agree};
+ghost use Rattle.cover_terms.specs.Lists.{Covers};
+ghost use Rattle.cover_logic.specs.Inner.Rows.{AreNeededRows, IsSole};
 
-use crate::gap::{add_overlapping, find_shared_gap};
 use crate::rivals::needed_by_bundles;
-use crate::term::Term;
+use cover_terms::Term;
+use cover_terms::gap::{add_overlapping, find_shared_gap};
 use std::alloc::{AllocError, Global};
 
 /// A value of on in the row that the terms of both lists do not hold.

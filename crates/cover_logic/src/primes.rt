@@ -1,15 +1,15 @@
 //! Rows that hold every value of on and none of off, and that need each of their literals.
 ghost use Rattle.std.specs.Prelude.{◌≡◌, ◌≤◌, [], All, IfOk, OnOk, filter, not, vec_len};
-ghost use Rattle.cover_logic.specs.Term.{FitsWidth};
+ghost use Rattle.cover_terms.specs.Term.{FitsWidth};
 ghost use Rattle.cover_logic.specs.Inner.Index.{terms_of};
-ghost use Rattle.cover_logic.specs.Inner.Pair.{refines};
+ghost use Rattle.cover_terms.specs.Pair.{refines};
 ghost use Rattle.cover_logic.specs.Inner.Rows.{ArePrimeRows, IsClear, IsGrown, IsPrimeRow};
 
 use crate::index::Index;
 use crate::raise::{grow, raise, widened};
-use crate::term::{Term, patterns};
 use crate::waiting::Waiting;
 use cover_advice::{Limits, Prospects, Slices};
+use cover_terms::Term;
 use std::alloc::{AllocError, Global};
 
 /// Drops each term whose values the row all holds.
@@ -39,26 +39,10 @@ impl Guide {
         requires { width ≤ 128 }
     {
         let places = off.places(alloc)?;
-        let off = slices_of_index(alloc, off, width)?;
-        let on = slices_of(alloc, on, width)?;
+        let off = Slices::new(alloc, &off.terms(alloc)?, width)?;
+        let on = Slices::new(alloc, on, width)?;
         Ok(Guide { on, off, places })
     }
-}
-
-/// The terms by their columns.
-fn slices_of(alloc: Global, terms: &[Term], width: u8) -> Result<Slices, AllocError>
-    requires { width ≤ 128 }
-{
-    let patterns = patterns(alloc, terms)?;
-    Slices::new(alloc, &patterns, width)
-}
-
-/// The terms of the index by their columns.
-fn slices_of_index(alloc: Global, index: &Index, width: u8) -> Result<Slices, AllocError>
-    requires { width ≤ 128 }
-{
-    let patterns = index.patterns(alloc)?;
-    Slices::new(alloc, &patterns, width)
 }
 
 /// A row that holds the seed and no value of off, and that needs each of its literals.
@@ -84,12 +68,8 @@ fn guided_growth(alloc: Global, seed: Term, guide: &Guide, off: &Index) -> Resul
     requires { IsClear (terms_of off.now) seed }
     ensures { IfOk result (IsGrown seed (terms_of off.now)) }
 {
-    let mut prospects = Prospects::new(alloc, seed.pattern(), &guide.on, &guide.off)?;
-    let mut others = Vec::new(alloc);
-    for pattern in &prospects.others {
-        others.push(Term::of(*pattern))?;
-    }
-    grow(seed, &others, &mut prospects.limits, off)
+    let mut prospects = Prospects::new(alloc, seed, &guide.on, &guide.off)?;
+    grow(seed, &prospects.others, &mut prospects.limits, off)
 }
 
 /// The same as `plain_row`, with the guide: the grown row is widened further by its advice.
@@ -106,10 +86,10 @@ fn guided_row(
     ensures { IfOk result (IsPrimeRow seed (terms_of off.now) width) }
 {
     let grown = guided_growth(alloc, seed, guide, off)?;
-    let advice = guide.off.advice(alloc, grown.pattern())?;
-    let wide = widened(grown, Term::of(advice.wide), off);
+    let advice = guide.off.advice(alloc, grown)?;
+    let wide = widened(grown, advice.wide, off);
     let row = raise(wide, off, width, &advice.reasons, &guide.places);
-    guide.on.drop_included(alloc, row.pattern())?;
+    guide.on.drop_included(alloc, row)?;
     Ok(row)
 }
 

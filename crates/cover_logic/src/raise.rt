@@ -1,13 +1,13 @@
 //! Rows widened as far as an index of off allows.
 ghost use Rattle.std.specs.Prelude.{◌≤◌, ◌<◌, ◌↔◌, IfOk, IsTrue};
-ghost use Rattle.cover_logic.specs.Term.{FitsWidth, LooksAt};
+ghost use Rattle.cover_terms.specs.Term.{FitsWidth, LooksAt};
 ghost use Rattle.cover_logic.specs.Inner.Index.{terms_of};
-ghost use Rattle.cover_logic.specs.Inner.Pair.{Includes, IsLooser};
+ghost use Rattle.cover_terms.specs.Pair.{Includes, IsLooser};
 ghost use Rattle.cover_logic.specs.Inner.Rows.{IsClear, IsGrown, IsPrime, NeedsLiteral};
 
 use crate::index::Index;
-use crate::term::Term;
-use cover_advice::Limits;
+use cover_advice::{Limits, apart};
+use cover_terms::Term;
 use std::alloc::{AllocError, Global};
 
 /// Whether no value of the row is held by a term.
@@ -42,7 +42,7 @@ pub fn grow(
         let joined = row.joined(*other);
         if limits.allow(joined.care) {
             match off.met_by(joined) {
-                Some(term) => limits.add(seed.apart(term), row.care)?,
+                Some(term) => limits.add(apart(seed, term), row.care)?,
                 None => {
                     row = joined;
                     limits.narrow(joined.care);

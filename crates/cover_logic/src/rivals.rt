@@ -1,13 +1,14 @@
 //! Which rows can be left out, in long lists: bundles tell which rows and which terms of on share a value with a row.
 ghost use Rattle.std.specs.Prelude.{◌≡◌, ◌≤◌, ◌↔◌, All, IfOk, IsTrue, length, replicate, true};
-ghost use Rattle.cover_logic.specs.Term.{FitsWidth};
+ghost use Rattle.cover_terms.specs.Term.{FitsWidth};
 ghost use Rattle.cover_logic.specs.Inner.Entries.{IsRival};
 ghost use Rattle.cover_logic.specs.Inner.Bundles.{AreRowsIn, IsSoleLeft, terms_in_bundles};
-ghost use Rattle.cover_logic.specs.Inner.Rows.{AreNeededRows, Covers, IsSole};
+ghost use Rattle.cover_terms.specs.Lists.{Covers};
+ghost use Rattle.cover_logic.specs.Inner.Rows.{AreNeededRows, IsSole};
 
 use crate::bundles::{Bundles, Entry};
-use crate::gap::find_shared_gap;
-use crate::term::Term;
+use cover_terms::Term;
+use cover_terms::gap::find_shared_gap;
 use std::alloc::{AllocError, Global};
 
 /// Whether the entry is of another row than that of the number, and its row is left.

@@ -1,8 +1,8 @@
 //! A list of terms of at most 16 columns, with a mark for each value that one of them holds.
 ghost use Rattle.std.specs.Prelude.{◌≡◌};
 
-use crate::chart::{blank, fill, find};
-use crate::term::Term;
+use cover_terms::Term;
+use cover_terms::chart::{blank, fill, find};
 use std::alloc::{AllocError, Global};
 
 /// The terms, and a number for each value: 1 where a term holds it, and else 0.
@@ -15,7 +15,7 @@ pub struct Table {
 
 impl Table {
     ghost use Rattle.std.specs.Prelude.{◌≡◌, ◌≤◌, [], All, IfOk, IsTrue, OnOk};
-    ghost use Rattle.cover_logic.specs.Term.{FitsWidth};
+    ghost use Rattle.cover_terms.specs.Term.{FitsWidth};
     ghost use Rattle.cover_logic.specs.Inner.Rows.{IsAllHeld};
     ghost use Rattle.cover_logic.specs.Inner.Tables.{IsMetOrClear, IsOneMore, IsTable, IsTableOf};
 

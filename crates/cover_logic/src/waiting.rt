@@ -3,7 +3,7 @@
 ghost use Rattle.std.specs.Prelude.{◌≡◌, ◌-◌, ◌<◌, ◌≤◌, ◌^◌, length};
 
 use crate::bundles::{Bundle, Bundles, Literal, literals_of};
-use crate::term::Term;
+use cover_terms::Term;
 use std::alloc::{AllocError, Global};
 
 /// A bundle, and which of its terms are waiting: bit k is for the term at place k.
@@ -16,7 +16,7 @@ struct Group {
 
 impl Group {
     ghost use Rattle.std.specs.Prelude.{◌≡◌, ◌≤◌, ◌<◌, ◌↔◌, Contains};
-    ghost use Rattle.cover_logic.specs.declared.term.Term.{Term};
+    ghost use Rattle.cover_terms.specs.declared.term.Term.{Term};
     ghost use Rattle.cover_logic.specs.Inner.Entries.{terms_in};
     ghost use Rattle.cover_logic.specs.Inner.Groups.{IsDropped, IsLive, IsTaken};
     ghost use Rattle.cover_logic.specs.Inner.Planes.{AreLiteralsOf};
@@ -68,9 +68,9 @@ pub struct Waiting {
 
 impl Waiting {
     ghost use Rattle.std.specs.Prelude.{◌≡◌, ◌<◌, ◌≤◌, ◌↔◌, All, Contains, EachIndex, IfOk, MatchOption, OnOk, length, slice_index_or};
-    ghost use Rattle.cover_logic.specs.declared.term.Term.{Term};
+    ghost use Rattle.cover_terms.specs.declared.term.Term.{Term};
     ghost use Rattle.cover_logic.specs.declared.waiting.Group.{Group};
-    ghost use Rattle.cover_logic.specs.Term.{FitsWidth};
+    ghost use Rattle.cover_terms.specs.Term.{FitsWidth};
     ghost use Rattle.cover_logic.specs.Inner.Groups.{IsFirstLive};
     ghost use Rattle.cover_logic.specs.Inner.Waiting.{HasDropped, HasTaken, IsWaiting};
 

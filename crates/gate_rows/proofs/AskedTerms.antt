@@ -5,9 +5,7 @@ use Rattle.std.proofs.lemmas.Bool.{false≢true}
 use Rattle.std.proofs.lemmas.List.Elements.{All-append, Contains-append_cases, Contains-append_left, Contains-append_right}
 use Rattle.list_facts.specs.Laws.Everywhere.{all_one}
 use Rattle.list_facts.specs.Laws.Members.{Contains-here, Contains-none, Contains-one}
-use Rattle.cover_logic.specs.declared.term.Term.{Term}
 use Rattle.cover_logic.specs.Cover.{CanCover}
-use Rattle.cover_logic.specs.Term.{FitsWidth, Holds}
 use Rattle.cubes.specs.Symbol.{symbol_of, lowest_bits}
 use Rattle.gate_rows.specs.declared.demands.Demand.{Demand}
 use Rattle.gate_rows.specs.Columns.{IsReadIn, IsTermOf, column_count}
@@ -17,6 +15,8 @@ use Rattle.gate_rows.specs.Inner.Terms.{HoldWhatIsRead}
 use Rattle.gate_rows.proofs.ReadNumbers.{read_length}
 use Rattle.gate_rows.proofs.RowTexts.{number_for}
 use Rattle.gate_rows.proofs.TermCovers.{same_cover}
+use Rattle.cover_terms.specs.declared.term.Term.{Term}
+use Rattle.cover_terms.specs.Term.{FitsWidth, Holds}
 
 -- a test of two bits
 pub same_bit : (a b : Bool) → beq a b ≡ true → a ≡ b

@@ -5,9 +5,9 @@ use Rattle.std.proofs.lemmas.List.{get_or_append_left, length-map, map-append}
 use Rattle.std.proofs.lemmas.Nat.{one_shl, or_lt, pow_pos}
 use Rattle.std.proofs.lemmas.Nat.Bits.{bit_at-zero, bit_at_above}
 use Rattle.list_facts.specs.Laws.Places.{get_behind, get_cases, get_first}
-use Rattle.cover_logic.specs.declared.term.Term.{Term}
-use Rattle.cover_logic.specs.Term.{Holds}
-use Rattle.cover_logic.proofs.Terms.{split_by}
+use Rattle.cover_terms.specs.declared.term.Term.{Term}
+use Rattle.cover_terms.specs.Term.{Holds}
+use Rattle.cover_terms.specs.Laws.Terms.{split_by}
 use Rattle.cubes.specs.Symbol.{bit}
 use Rattle.cubes.specs.Laws.Bits.{bit_from_one, bit_from_zero, one_from_bit, zero_from_bit}
 use Rattle.gate_rows.specs.Inner.Literals.{AllowsFrom, HasCharacters, code_character}

@@ -15,9 +15,9 @@ use Rattle.std.proofs.lemmas.List.Sums.{sum_by-append}
 use Rattle.std.proofs.lemmas.Option.{get_or_from_slice_get, slice_get-get_or, unwrap_or-slice_get}
 use Rattle.std.specs.Option.{unwrap_or}
 use Rattle.list_facts.specs.Laws.Members.{Contains-from_map, Contains-map}
-use Rattle.cover_logic.specs.declared.term.Term.{Term}
-use Rattle.cover_logic.specs.Term.{FitsWidth, Holds, HoldsWithDash, IsCovered, LooksAt}
-use Rattle.cover_logic.proofs.Bits.{below_width}
+use Rattle.cover_terms.specs.declared.term.Term.{Term}
+use Rattle.cover_terms.specs.Term.{FitsWidth, Holds, HoldsWithDash, IsCovered, LooksAt}
+use Rattle.cover_terms.specs.Laws.Bits.{below_width}
 use Rattle.cubes.specs.Field.{allows, byte_of, character}
 use Rattle.cubes.specs.Symbol.{bit, number_of, lowest_bits}
 use Rattle.cubes.specs.Laws.Bits.{bit_from_one, one_from_bit, same_bits, same_digits}

@@ -1,13 +1,13 @@
 -- A good cover of terms is one of the values that they hold, and a good cover is one of any sets with the same values.
 use Rattle.std.proofs.Common.{◌≡◌, ℕ, Bool, List, length, map, All, IsPermutation, refl, sym, ap, ◌∙◌, subst}
 use Rattle.std.proofs.lemmas.List.FromFn.{length-map-range_with_len}
-use Rattle.cover_logic.specs.declared.term.Term.{Term}
 use Rattle.cover_logic.specs.Cover.{IsTermCover}
-use Rattle.cover_logic.specs.Term.{FitsWidth, IsCovered}
 use Rattle.cubes.specs.Symbol.{bit, lowest_bits}
 use Rattle.gate_rows.specs.Covers.{AreHeld, HoldValues, IsGoodCover}
 use Rattle.gate_rows.specs.Inner.Texts.{IsCoverByTerms, row_text}
 use Rattle.gate_rows.proofs.RowTexts.{covered_from_held, good_cover, held_from_covered, widths}
+use Rattle.cover_terms.specs.declared.term.Term.{Term}
+use Rattle.cover_terms.specs.Term.{FitsWidth, IsCovered}
 
 -- values are as many as the columns
 pub values_length : (width : ℕ) (terms : List Term) (read : List Bool) → HoldValues width terms read → length read ≡ width

@@ -1,8 +1,8 @@
 -- The rows of a gate, as an irredundant cover of what it gives (source: the covers of two-level minimisation).
 use Rattle.std.specs.Prelude.{◌≡◌, ◌≢◌, ℕ, ◌<◌, ◌^◌, Bool, true, Contains, EachIndex, List, Some, length, remove, slice_get}
 use Rattle.std.specs.List.{list_any}
-use Rattle.cover_logic.specs.declared.term.Term.{Term}
-use Rattle.cover_logic.specs.Term.{IsCovered}
+use Rattle.cover_terms.specs.declared.term.Term.{Term}
+use Rattle.cover_terms.specs.Term.{IsCovered}
 use Rattle.net_core.specs.Step.{row_holds}
 use Rattle.cubes.specs.Symbol.{lowest_bits}
 

@@ -2,7 +2,7 @@
 
 ghost use Rattle.std.specs.Prelude.{◌≡◌, ℕ, ◌+◌, ◌^◌, ◌<◌, ◌≤◌, ◌↔◌, All, length, map};
 ghost use Rattle.std.specs.List.Sorted.{IsStrictlyIncreasing};
-ghost use Rattle.cover_logic.specs.Term.{Holds};
+ghost use Rattle.cover_terms.specs.Term.{Holds};
 ghost use Rattle.cubes.specs.Symbol as symbols;
 ghost use Rattle.gate_rows.specs.Columns.{IsTermOf};
 ghost use Rattle.gate_rows.specs.Inner.Literals.{AllowsFrom, HasCharacters, code_character, columns_of, input_character};

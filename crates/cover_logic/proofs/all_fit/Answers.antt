@@ -3,8 +3,8 @@ use Rattle.std.specs.List.{All}
 use Rattle.std.proofs.lemmas.Bool.{false≢true}
 use Rattle.std.proofs.lemmas.List.{take_all}
 use Rattle.std.proofs.lemmas.List.Elements.{All-more, All-nil}
-use Rattle.cover_logic.specs.declared.term.Term.{Term}
-use Rattle.cover_logic.specs.Term.{FitsWidth}
+use Rattle.cover_terms.specs.declared.term.Term.{Term}
+use Rattle.cover_terms.specs.Term.{FitsWidth}
 use Rattle.cover_logic.proofs.all_fit.Goals as goal
 
 pub loop-term-init : goal.loop-term-init

@@ -2,7 +2,7 @@ use Rattle.std.proofs.Common.{◌≡◌, ◌≤◌, ◌<◌, ◌∙◌, ℕ, nat
 use Rattle.std.proofs.lemmas.Bool.Decides.{nat_tests}
 use Rattle.std.specs.List.{All}
 use Rattle.std.proofs.lemmas.Bool.{false≢true}
-use Rattle.cover_logic.specs.Term.{FitsWidth}
+use Rattle.cover_terms.specs.Term.{FitsWidth}
 use Rattle.cover_logic.proofs.Width.{clear_from_apart, apart_from_clear}
 use Rattle.cover_logic.proofs.can_cover.Goals as goal
 use Rattle.cover_logic.proofs.can_cover.Goals.{then-width-le128, else-width-le128, then-all_fit, else-all_fit}

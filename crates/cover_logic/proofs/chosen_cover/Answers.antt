@@ -1,9 +1,10 @@
 use Rattle.std.proofs.Common.{List, sym, subst}
 use Rattle.std.specs.List.{All}
 use Rattle.std.proofs.lemmas.Result.{IfOk-from_err, IfOk-weaker}
-use Rattle.cover_logic.specs.declared.term.Term.{Term}
-use Rattle.cover_logic.specs.Term.{FitsWidth}
-use Rattle.cover_logic.specs.Inner.Rows.{AreNeededRows, Covers}
+use Rattle.cover_terms.specs.declared.term.Term.{Term}
+use Rattle.cover_terms.specs.Term.{FitsWidth}
+use Rattle.cover_terms.specs.Lists.{Covers}
+use Rattle.cover_logic.specs.Inner.Rows.{AreNeededRows}
 use Rattle.cover_logic.proofs.NeededRows.{needed_primes}
 use Rattle.cover_logic.proofs.chosen_cover.Goals as goal
 

@@ -1,8 +1,8 @@
 use Rattle.std.specs.List.{All}
 use Rattle.std.proofs.lemmas.Result.{IfOk-weaker, IfOk-from_err}
-use Rattle.cover_logic.specs.Term.{FitsWidth}
+use Rattle.cover_terms.specs.Term.{FitsWidth}
 use Rattle.cover_logic.specs.Inner.Rows.{IsClear}
-use Rattle.cover_logic.proofs.Values.{values_all}
+use Rattle.cover_terms.specs.Laws.Values.{values_all}
 use Rattle.cover_logic.proofs.Width.{clear_from_apart, clear_of_same, good_cover}
 use Rattle.cover_logic.proofs.cover.Goals as goal
 

@@ -3,10 +3,10 @@ use Rattle.std.specs.Prelude.{◌≡◌, ℕ, Bool, List, [], ◌∷◌, ◌++�
 use Rattle.cover_logic.specs.declared.bundles.Bundle.{Bundle}
 use Rattle.cover_logic.specs.declared.bundles.Bundles.{Bundles}
 use Rattle.cover_logic.specs.declared.bundles.Entry.{Entry}
-use Rattle.cover_logic.specs.declared.term.Term.{Term}
+use Rattle.cover_terms.specs.declared.term.Term.{Term}
 use Rattle.cover_logic.specs.Inner.Entries.{HoldsRivals, IsMet, IsNumbered, terms_in}
 use Rattle.cover_logic.specs.Inner.Rows.{IsSole}
-use Rattle.cover_logic.specs.Term.{FitsWidth}
+use Rattle.cover_terms.specs.Term.{FitsWidth}
 
 abbrev pub entries_in : List Bundle → List Entry
 entries_in [] = []

@@ -2,9 +2,9 @@
 use Rattle.std.specs.Prelude.{◌≡◌, ◌≢◌, ℕ, ◌<◌, ◌↔◌, Bool, true, false, ◌⊎◌, List, [], ◌∷◌, All, Contains, length, slice_index_or}
 use Rattle.std.specs.Int.{bit_at}
 use Rattle.cover_logic.specs.declared.bundles.Entry.{Entry}
-use Rattle.cover_logic.specs.declared.term.Term.{Term}
-use Rattle.cover_logic.specs.Inner.Pair.{HasLiteral, agree, refines}
-use Rattle.cover_logic.specs.Term.{FitsWidth}
+use Rattle.cover_terms.specs.declared.term.Term.{Term}
+use Rattle.cover_terms.specs.Pair.{HasLiteral, agree, refines}
+use Rattle.cover_terms.specs.Term.{FitsWidth}
 
 abbrev pub terms_in : List Entry → List Term
 terms_in [] = []

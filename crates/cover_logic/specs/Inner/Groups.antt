@@ -2,9 +2,9 @@
 use Rattle.std.specs.Prelude.{◌≡◌, ℕ, ◌+◌, ◌<◌, ◌≤◌, ◌↔◌, ◌⊎◌, false, List, [], ◌∷◌, All, Contains, MatchOption, Option, length, slice_index_or}
 use Rattle.std.specs.Int.{bit_at}
 use Rattle.cover_logic.specs.declared.bundles.Entry.{Entry}
-use Rattle.cover_logic.specs.declared.term.Term.{Term}
+use Rattle.cover_terms.specs.declared.term.Term.{Term}
 use Rattle.cover_logic.specs.declared.waiting.Group.{Group}
-use Rattle.cover_logic.specs.Inner.Pair.{refines}
+use Rattle.cover_terms.specs.Pair.{refines}
 
 -- the term is that of an entry at a live place
 pub record IsLive (g : Group) (t : Term) : Type 0 where

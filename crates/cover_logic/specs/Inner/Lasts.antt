@@ -1,7 +1,7 @@
 -- The last row that holds each value. Private functions need it; no public contract cites it.
 use Rattle.std.specs.Prelude.{◌≡◌, ℕ, ◌+◌, ◌<◌, ◌≤◌, ◌^◌, ◌⊎◌, List, length, slice_index_or}
-use Rattle.cover_logic.specs.declared.term.Term.{Term}
-use Rattle.cover_logic.specs.Term.{Holds, IsCovered}
+use Rattle.cover_terms.specs.declared.term.Term.{Term}
+use Rattle.cover_terms.specs.Term.{Holds, IsCovered}
 
 -- of the first `count` rows, a value has one more than the number of the last row that holds it, or 0 where none does
 pub record AreLasts (width : ℕ) (rows : List Term) (count : ℕ) (chart : List ℕ) : Type 0 where

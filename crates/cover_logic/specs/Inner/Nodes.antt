@@ -2,9 +2,9 @@
 use Rattle.std.specs.Prelude.{◌≡◌, ℕ, ◌<◌, ◌≤◌, true, List, [], ◌∷◌, ◌++◌, All, Contains, length, slice_index_or, if◌then◌else◌}
 use denote.Struct.Props as logic
 use Rattle.cover_logic.specs.declared.index.Node.{Node}
-use Rattle.cover_logic.specs.declared.term.Term.{Term}
-use Rattle.cover_logic.specs.Term.{Holds}
-use Rattle.cover_logic.specs.Inner.Pair.{Includes}
+use Rattle.cover_terms.specs.declared.term.Term.{Term}
+use Rattle.cover_terms.specs.Term.{Holds}
+use Rattle.cover_terms.specs.Pair.{Includes}
 
 -- the terms of the list that the nodes have
 abbrev pub listed : List Node → List Term

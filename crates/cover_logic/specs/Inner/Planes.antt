@@ -4,10 +4,10 @@ use denote.Struct.Props as logic
 use Rattle.cover_logic.specs.declared.bundles.Entry.{Entry}
 use Rattle.cover_logic.specs.declared.bundles.Literal.{Literal}
 use Rattle.cover_logic.specs.declared.bundles.Plane.{Plane}
-use Rattle.cover_logic.specs.declared.term.Term.{Term}
+use Rattle.cover_terms.specs.declared.term.Term.{Term}
 use Rattle.cover_logic.specs.Inner.Entries.{EntryFits, HasLiterals}
-use Rattle.cover_logic.specs.Term.{LooksAt}
-use Rattle.cover_logic.specs.Inner.Pair.{HasLiteral}
+use Rattle.cover_terms.specs.Term.{LooksAt}
+use Rattle.cover_terms.specs.Pair.{HasLiteral}
 
 -- the row has the literal
 abbrev pub IsLiteralOf : Term → Literal → Type 0

@@ -1,8 +1,9 @@
 -- Lists of terms while a cover is made. Private functions need it; no public contract cites it.
-use Rattle.std.specs.Prelude.{ℕ, ◌≤◌, List, [], ◌++◌, ◌↔◌, All, Contains, EachIndex, Option, MatchOption, remove}
-use Rattle.cover_logic.specs.declared.term.Term.{Term}
-use Rattle.cover_logic.specs.Inner.Pair.{Includes}
-use Rattle.cover_logic.specs.Term.{FitsWidth, LooksAt, Holds, HoldsWithDash, IsCovered}
+use Rattle.std.specs.Prelude.{ℕ, ◌≤◌, List, [], ◌++◌, All, Contains, EachIndex, Option, MatchOption, remove}
+use Rattle.cover_terms.specs.declared.term.Term.{Term}
+use Rattle.cover_terms.specs.Lists.{Covers}
+use Rattle.cover_terms.specs.Pair.{Includes}
+use Rattle.cover_terms.specs.Term.{FitsWidth, LooksAt, Holds, HoldsWithDash, IsCovered}
 
 -- no value of the term is held by the list
 abbrev pub IsClear : List Term → Term → Type 0
@@ -37,26 +38,12 @@ pub record IsPrimeRow (seed : Term) (off : List Term) (width : ℕ) (row : Term)
   pub prime : IsPrime off row
   pub fits : FitsWidth width row
 
--- every value of on is held by a row
-abbrev pub Covers : List Term → List Term → Type 0
-Covers rows on = (x : ℕ) → IsCovered on x → IsCovered rows x
-
 -- rows that hold every value of on and no value of off, and that need each of their literals
 pub record ArePrimeRows (on off : List Term) (width : ℕ) (rows : List Term) : Type 0 where
   pub covers : Covers rows on
   pub clear : All (IsClear off) rows
   pub prime : All (IsPrime off) rows
   pub fits : All (FitsWidth width) rows
-
--- a value of the term that the list does not hold, or none where it holds each of them
-abbrev pub IsUncovered : Term → List Term → Option ℕ → Type 0
-IsUncovered t terms gap =
-    MatchOption gap ((x : ℕ) → Holds t x → IsCovered terms x) (λ x. Holds t x × (IsCovered terms x → ⊥))
-
--- a value that the row shares with the term and that the list does not hold, or none where it holds each of them
-abbrev pub IsSharedGap : Term → Term → List Term → Option ℕ → Type 0
-IsSharedGap row t terms gap =
-    MatchOption gap ((x : ℕ) → Holds row x → Holds t x → IsCovered terms x) (λ x. Holds row x × Holds t x × (IsCovered terms x → ⊥))
 
 -- a value of on in the row that the other rows do not hold, or none where they hold each of them
 abbrev pub IsSole : Term → List Term → List Term → Option ℕ → Type 0
@@ -78,16 +65,3 @@ pub record AreNeededRows (on rows kept : List Term) : Type 0 where
 pub record AreNeededPrimes (on off : List Term) (width : ℕ) (rows : List Term) : Type 0 where
   pub primes : ArePrimeRows on off width rows
   pub needed : EachNeeded on rows []
-
--- the lists have the same terms, in any order and any number of times
-abbrev pub HasSameTerms : List Term → List Term → Type 0
-HasSameTerms terms others = (t : Term) → Contains others t ↔ Contains terms t
-
--- one term of the list holds each value of the term
-abbrev pub IsWithinOne : List Term → Term → Type 0
-IsWithinOne terms t = (u : Term) × Contains terms u × Includes u t
-
--- the others are among the terms, and hold all values of the terms
-pub record HasSameValues (terms others : List Term) : Type 0 where
-  pub among : All (Contains terms) others
-  pub covers : Covers others terms

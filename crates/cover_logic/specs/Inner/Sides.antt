@@ -2,8 +2,8 @@
 use Rattle.std.specs.Prelude.{ℕ, Bool}
 use Rattle.cover_logic.specs.declared.index.Side.{Side}
 use Rattle.cover_logic.specs.declared.index.Side.TheVariants.{Zero, One, Dash}
-use Rattle.cover_logic.specs.declared.term.Term.{Term}
-use Rattle.cover_logic.specs.Inner.Pair.{has_dash, has_one, has_zero}
+use Rattle.cover_terms.specs.declared.term.Term.{Term}
+use Rattle.cover_terms.specs.Pair.{has_dash, has_one, has_zero}
 
 -- whether the term has this at the column whose bit alone the number has
 abbrev pub is_on_side : Side → ℕ → Term → Bool

@@ -1,8 +1,8 @@
 -- Tables of terms. Private functions need it; no public contract cites it.
 use Rattle.std.specs.Prelude.{◌≡◌, ℕ, ◌<◌, ◌≤◌, ◌^◌, ◌++◌, ◌⊎◌, Bool, true, false, List, [], ◌∷◌, All, length, slice_index_or}
 use Rattle.cover_logic.specs.declared.table.Table.{Table}
-use Rattle.cover_logic.specs.declared.term.Term.{Term}
-use Rattle.cover_logic.specs.Term.{FitsWidth, IsCovered}
+use Rattle.cover_terms.specs.declared.term.Term.{Term}
+use Rattle.cover_terms.specs.Term.{FitsWidth, IsCovered}
 use Rattle.cover_logic.specs.Inner.Rows.{IsClear, MeetsSome}
 
 -- of the values of `width` bits, those that a term holds have the mark 1, and the others have 0

@@ -1,9 +1,9 @@
 -- The terms that wait for a row. Private functions need it; no public contract cites it.
 use Rattle.std.specs.Prelude.{◌≡◌, ◌<◌, ◌≤◌, ◌↔◌, ◌⊎◌, false}
-use Rattle.cover_logic.specs.declared.term.Term.{Term}
+use Rattle.cover_terms.specs.declared.term.Term.{Term}
 use Rattle.cover_logic.specs.declared.waiting.Waiting.{Waiting}
 use Rattle.cover_logic.specs.Inner.Groups.{IsLiveInSome, all_live}
-use Rattle.cover_logic.specs.Inner.Pair.{refines}
+use Rattle.cover_terms.specs.Pair.{refines}
 
 abbrev pub IsWaiting : Waiting → Term → Type 0
 IsWaiting w t = IsLiveInSome w.groups.items t

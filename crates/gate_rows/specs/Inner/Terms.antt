@@ -1,7 +1,7 @@
 -- The terms of what is asked of a gate.
 use Rattle.std.specs.Prelude.{ℕ, ◌↔◌, All, Bool, List}
-use Rattle.cover_logic.specs.declared.term.Term.{Term}
-use Rattle.cover_logic.specs.Term.{FitsWidth, IsCovered}
+use Rattle.cover_terms.specs.declared.term.Term.{Term}
+use Rattle.cover_terms.specs.Term.{FitsWidth, IsCovered}
 use Rattle.gate_rows.specs.declared.demands.Demand.{Demand}
 use Rattle.cubes.specs.Symbol.{lowest_bits}
 use Rattle.gate_rows.specs.Columns.{column_count}

@@ -1,8 +1,8 @@
 -- The rows of a gate, as terms and as texts.
 use Rattle.std.specs.Prelude.{ℕ, ◌<◌, ◌^◌, All, Bool, EachIndex, List, map, remove}
 use Rattle.std.specs.List.{range_with_len}
-use Rattle.cover_logic.specs.declared.term.Term.{Term}
-use Rattle.cover_logic.specs.Term.{FitsWidth, HoldsWithDash, IsCovered, LooksAt}
+use Rattle.cover_terms.specs.declared.term.Term.{Term}
+use Rattle.cover_terms.specs.Term.{FitsWidth, HoldsWithDash, IsCovered, LooksAt}
 use Rattle.cubes.specs.Field.{byte_of, character}
 use Rattle.cubes.specs.Symbol.{lowest_bits}
 

@@ -1,7 +1,7 @@
 use Rattle.std.proofs.Common.{List, sym, subst}
 use Rattle.std.specs.List.{All}
 use Rattle.std.proofs.lemmas.Result.{IfOk-weaker, IfOk-from_err}
-use Rattle.cover_logic.specs.declared.term.Term.{Term}
+use Rattle.cover_terms.specs.declared.term.Term.{Term}
 use Rattle.cover_logic.specs.Inner.Rows.{ArePrimeRows, IsClear}
 use Rattle.cover_logic.proofs.dense.dense_rows.Goals as goal
 
@@ -24,9 +24,6 @@ rows_of-requires-clause-few c = c.requires.few
 
 pub rows_of-requires-clause-fits : goal.rows_of-requires-clause-fits
 rows_of-requires-clause-fits c = c.requires.fits
-
-pub ground_of-requires : goal.ground_of-requires
-ground_of-requires c = c.requires.few
 
 pub rows_of-requires-clause-table : goal.rows_of-requires-clause-table
 rows_of-requires-clause-table c = c.in_ok-zeros.ensures.right

@@ -4,11 +4,11 @@ use Rattle.std.specs.List.{Contains}
 use Rattle.std.proofs.lemmas.List.{take_all}
 use Rattle.std.proofs.lemmas.List.Elements.{Contains-append_left, Contains-push_cases}
 use Rattle.list_facts.specs.Laws.Members.{Contains-none}
-use Rattle.cover_logic.specs.declared.term.Term.{Term}
-use Rattle.cover_logic.specs.Term.{FitsWidth}
-use Rattle.cover_logic.specs.Inner.Pair.{Includes}
+use Rattle.cover_terms.specs.declared.term.Term.{Term}
+use Rattle.cover_terms.specs.Term.{FitsWidth}
+use Rattle.cover_terms.specs.Pair.{Includes}
 use Rattle.cover_logic.specs.Inner.Rows.{IsClear}
-use Rattle.cover_logic.proofs.Lists.{take_with_last}
+use Rattle.cover_terms.specs.Laws.Lists.{take_with_last}
 use Rattle.cover_logic.proofs.PrimeRows.{ArePrimes, primes_none, primes_more, primes_skip, primes_all}
 use Rattle.cover_logic.proofs.dense.rows_of.Goals as goal
 

@@ -2,7 +2,7 @@ use Rattle.std.proofs.lemmas.Result.{IfOk-from_err}
 use Rattle.std.proofs.Common.{◌≡◌, ◌+◌, ◌∙◌, List, ◌∷◌, [], ◌++◌, take, true, refl, sym, subst, ap, rules}
 use Rattle.std.proofs.lemmas.List.{take_all, take_more}
 use Rattle.cover_logic.specs.declared.index.Node.{Node}
-use Rattle.cover_logic.specs.declared.term.Term.{Term}
+use Rattle.cover_terms.specs.declared.term.Term.{Term}
 use Rattle.cover_logic.specs.Inner.Nodes.{IsAdded}
 use Rattle.cover_logic.proofs.Nodes.{added_none, added_term}
 use Rattle.cover_logic.proofs.index.add_each.Goals as goal

@@ -2,8 +2,8 @@ use Rattle.std.proofs.Common.{List, take, subst}
 use Rattle.std.specs.List.{All}
 use Rattle.std.proofs.lemmas.List.{take_all}
 use Rattle.std.proofs.lemmas.List.Elements.{All-more, All-weaker}
-use Rattle.cover_logic.specs.declared.term.Term.{Term}
-use Rattle.cover_logic.specs.Inner.Pair.{Includes}
+use Rattle.cover_terms.specs.declared.term.Term.{Term}
+use Rattle.cover_terms.specs.Pair.{Includes}
 use Rattle.cover_logic.proofs.index.hull.Goals as goal
 
 pub loop-term-preserved : goal.loop-term-preserved

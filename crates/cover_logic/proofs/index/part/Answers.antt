@@ -2,9 +2,9 @@ use Rattle.std.proofs.Common.{◌≡◌, ◌∙◌, List, [], ◌∷◌, ◌++�
 use Rattle.std.specs.List.{filter}
 use Rattle.std.proofs.lemmas.List.{take_all}
 use Rattle.std.proofs.lemmas.Result.{IfOk-from_err}
-use Rattle.cover_logic.specs.declared.term.Term.{Term}
+use Rattle.cover_terms.specs.declared.term.Term.{Term}
 use Rattle.cover_logic.specs.Inner.Sides.{is_on_side}
-use Rattle.cover_logic.proofs.Lists.{filter_passed, filter_pushed}
+use Rattle.cover_terms.specs.Laws.Lists.{filter_passed, filter_pushed}
 use Rattle.cover_logic.proofs.index.part.Goals as goal
 use Rattle.cover_logic.proofs.index.part.Goals.{then-is_on_side+in_ok-push, else-is_on_side}
 

@@ -1,9 +1,9 @@
 use Rattle.std.proofs.Common.{◌≡◌, ◌+◌, ◌^◌, ◌∙◌, List, ℕ, length, ap, sym, subst, arith}
 use Rattle.std.proofs.lemmas.List.{with_items_is}
 use Rattle.std.proofs.lemmas.Result.{IfOk-from_err}
-use Rattle.cover_logic.specs.declared.term.Term.{Term}
-use Rattle.cover_logic.specs.Term.{FitsWidth}
-use Rattle.cover_logic.specs.Inner.Charts.{IsCleared, IsFilled}
+use Rattle.cover_terms.specs.declared.term.Term.{Term}
+use Rattle.cover_terms.specs.Term.{FitsWidth}
+use Rattle.cover_terms.specs.Charts.{IsCleared, IsFilled}
 use Rattle.cover_logic.specs.Inner.Lasts.{AreLasts, AreLastsOn}
 use Rattle.cover_logic.specs.Inner.Tables.{AreMarks}
 use Rattle.cover_logic.proofs.LastRows.{lasts_at_marks, lasts_more, lasts_none}

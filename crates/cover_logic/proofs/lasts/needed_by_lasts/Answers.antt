@@ -3,9 +3,9 @@ use Rattle.std.proofs.Common.{◌≡◌, ◌+◌, ◌∙◌, ℕ, List, ◌∷�
 use Rattle.std.specs.List.{All, Contains}
 use Rattle.std.proofs.lemmas.List.{drop_all, with_items_is}
 use Rattle.std.proofs.lemmas.List.Elements.{All-append, All-drop, Contains-get_or}
-use Rattle.cover_logic.specs.declared.term.Term.{Term}
-use Rattle.cover_logic.specs.Term.{FitsWidth}
-use Rattle.cover_logic.specs.Inner.Charts.{IsFilled, IsFound}
+use Rattle.cover_terms.specs.declared.term.Term.{Term}
+use Rattle.cover_terms.specs.Term.{FitsWidth}
+use Rattle.cover_terms.specs.Charts.{IsFilled, IsFound}
 use Rattle.cover_logic.specs.Inner.Rows.{IsSole}
 use Rattle.cover_logic.proofs.LastRows.{AreOpen, open_first, open_kept, sole_from_number}
 use Rattle.cover_logic.proofs.NeededRows.{AreKept, HoldAlike, kept_all, kept_none, needed_from_kept, rest_from, row_kept, row_left_out, same_alike}

@@ -1,7 +1,7 @@
 use Rattle.std.proofs.lemmas.Result.{IfOk-from_err}
 use Rattle.std.proofs.Common.{◌≡◌, ◌+◌, List, ◌∷◌, [], ◌++◌, drop, ap, ◌∙◌, refl, sym, subst}
-use Rattle.cover_logic.specs.declared.term.Term.{Term}
-use Rattle.cover_logic.specs.Inner.Pair.{agree}
+use Rattle.cover_terms.specs.declared.term.Term.{Term}
+use Rattle.cover_terms.specs.Pair.{agree}
 use Rattle.cover_logic.proofs.NeededRows.{AreKept, HoldAlike, kept_none, near_alike, row_kept, row_left_out, rest_from, rest_slice, needed_from_kept}
 use Rattle.std.proofs.lemmas.List.{drop_all}
 use Rattle.cover_logic.specs.Inner.Rows.{IsSole}

@@ -3,11 +3,12 @@ use Rattle.std.specs.List.{filter}
 use Rattle.std.proofs.lemmas.List.{take_all, take_more}
 use Rattle.std.proofs.lemmas.List.Elements.{filter-append}
 use Rattle.std.proofs.lemmas.Result.{IfOk-from_err}
-use Rattle.cover_logic.specs.declared.term.Term.{Term}
-use Rattle.cover_logic.specs.Term.{Holds, IsCovered}
-use Rattle.cover_logic.specs.Inner.Pair.{agree}
-use Rattle.cover_logic.specs.Inner.Rows.{IsSharedGap, IsSole}
-use Rattle.cover_logic.proofs.Lists.{held_at, held_none}
+use Rattle.cover_terms.specs.declared.term.Term.{Term}
+use Rattle.cover_terms.specs.Term.{Holds, IsCovered}
+use Rattle.cover_terms.specs.Pair.{agree}
+use Rattle.cover_terms.specs.Lists.{IsSharedGap}
+use Rattle.cover_logic.specs.Inner.Rows.{IsSole}
+use Rattle.cover_terms.specs.Laws.Lists.{held_at, held_none}
 use Rattle.cover_logic.proofs.NeededRows.{IsShared, shared_more}
 use Rattle.cover_logic.proofs.needed.sole_beside.Goals as goal
 

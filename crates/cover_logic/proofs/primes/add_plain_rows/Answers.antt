@@ -3,7 +3,7 @@ use Rattle.std.proofs.Common.{◌≡◌, ◌<◌, ◌+◌, List, [], ◌∷◌, 
 use Rattle.std.specs.List.{Contains}
 use Rattle.std.proofs.lemmas.List.Elements.{Contains-push}
 use Rattle.list_facts.specs.Laws.Members.{Contains-none}
-use Rattle.cover_logic.specs.declared.term.Term.{Term}
+use Rattle.cover_terms.specs.declared.term.Term.{Term}
 use Rattle.cover_logic.specs.Inner.Index.{terms_of}
 use Rattle.cover_logic.proofs.PrimeRows.{ArePrimes, primes_none, primes_more, primes_all, gone_from_list, left_in_list}
 use Rattle.cover_logic.proofs.primes.add_plain_rows.Goals as goal

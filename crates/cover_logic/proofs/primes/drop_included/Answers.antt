@@ -1,6 +1,6 @@
 use Rattle.std.proofs.Common.{not, rules}
-use Rattle.cover_logic.specs.Inner.Pair.{refines}
-use Rattle.cover_logic.proofs.Lists.{filter_from_steady_retain}
+use Rattle.cover_terms.specs.Pair.{refines}
+use Rattle.cover_terms.specs.Laws.Lists.{filter_from_steady_retain}
 use Rattle.cover_logic.proofs.primes.drop_included.Goals as goal
 
 pub returns-clause-kept : goal.returns-clause-kept

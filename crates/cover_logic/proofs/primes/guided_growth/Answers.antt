@@ -9,6 +9,3 @@ returns c = c.grow.ensures
 
 pub returns-in_err-prospects : goal.returns-in_err-prospects
 returns-in_err-prospects c = IfOk-from_err c.from_residual.result _ c.from_residual.ensures.0
-
-pub returns-in_err-push : goal.returns-in_err-push
-returns-in_err-push c = IfOk-from_err c.from_residual-in_err-push.result _ c.from_residual-in_err-push.ensures.0

@@ -1,6 +1,6 @@
 use Rattle.std.proofs.lemmas.Result.{IfOk-from_err}
 use Rattle.std.proofs.Common.{sym, subst}
-use Rattle.cover_logic.specs.declared.term.Term.{Term}
+use Rattle.cover_terms.specs.declared.term.Term.{Term}
 use Rattle.cover_logic.specs.Inner.Index.{terms_of}
 use Rattle.cover_logic.specs.Inner.Rows.{IsGrown}
 use Rattle.cover_logic.proofs.Raising.{grown_wider, grown_seed}

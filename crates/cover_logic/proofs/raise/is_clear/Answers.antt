@@ -1,10 +1,10 @@
 use Rattle.std.proofs.Common.{◌∙◌, ◌∷◌, [], ◌++◌, List, refl, take, ap, sym, subst}
 use Rattle.std.proofs.lemmas.Bool.{false≢true}
 use Rattle.std.proofs.lemmas.List.{take_all, take_more}
-use Rattle.cover_logic.specs.declared.term.Term.{Term}
-use Rattle.cover_logic.specs.Term.{Holds}
+use Rattle.cover_terms.specs.declared.term.Term.{Term}
+use Rattle.cover_terms.specs.Term.{Holds}
 use Rattle.cover_logic.specs.Inner.Rows.{IsClear}
-use Rattle.cover_logic.proofs.Lists.{held_at, held_none}
+use Rattle.cover_terms.specs.Laws.Lists.{held_at, held_none}
 use Rattle.cover_logic.proofs.Raising.{clear_push}
 use Rattle.cover_logic.proofs.raise.is_clear.Goals as goal
 

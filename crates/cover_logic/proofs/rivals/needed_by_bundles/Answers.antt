@@ -1,10 +1,10 @@
 use Rattle.std.proofs.Common.{ℕ, ◌∙◌, sym, subst}
 use Rattle.std.specs.List.{All}
 use Rattle.std.proofs.lemmas.Result.{IfOk-weaker, IfOk-from_err}
-use Rattle.cover_logic.specs.Term.{FitsWidth}
+use Rattle.cover_terms.specs.Term.{FitsWidth}
 use Rattle.cover_logic.specs.Inner.Bundles.{terms_in_bundles}
 use Rattle.cover_logic.proofs.NeededRows.{needed_from_same}
-use Rattle.cover_logic.proofs.Values.{covers_same}
+use Rattle.cover_terms.specs.Laws.Values.{covers_same}
 use Rattle.cover_logic.proofs.rivals.needed_by_bundles.Goals as goal
 
 pub needed_rows-requires-clause-rows : goal.needed_rows-requires-clause-rows

@@ -3,7 +3,7 @@ use Rattle.std.proofs.lemmas.Bool.{false≢true}
 use Rattle.std.proofs.lemmas.List.{take_all, take_more}
 use Rattle.std.proofs.lemmas.Result.{IfOk-weaker, IfOk-from_err}
 use Rattle.cover_logic.specs.declared.bundles.Entry.{Entry}
-use Rattle.cover_logic.specs.declared.term.Term.{Term}
+use Rattle.cover_terms.specs.declared.term.Term.{Term}
 use Rattle.cover_logic.specs.Inner.Bundles.{terms_in_bundles}
 use Rattle.cover_logic.specs.Inner.Entries.{HoldsRivals}
 use Rattle.cover_logic.specs.Inner.Rows.{IsSole}

@@ -6,7 +6,8 @@ use Rattle.std.proofs.lemmas.Result.{IfOk-from_err}
 use Rattle.cover_logic.specs.declared.bundles.Entry.{Entry}
 use Rattle.cover_logic.specs.Inner.Bundles.{entries_of}
 use Rattle.cover_logic.specs.Inner.Entries.{terms_in}
-use Rattle.cover_logic.specs.Inner.Rows.{IsSharedGap, IsSole}
+use Rattle.cover_terms.specs.Lists.{IsSharedGap}
+use Rattle.cover_logic.specs.Inner.Rows.{IsSole}
 use Rattle.cover_logic.proofs.Entries.{term_of_entry}
 use Rattle.cover_logic.proofs.NeededRows.{IsSharedAt, shared_all, sole_met}
 use Rattle.cover_logic.proofs.rivals.sole_value.Goals as goal

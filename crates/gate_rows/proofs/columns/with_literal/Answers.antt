@@ -1,6 +1,6 @@
 use Rattle.std.proofs.Common.{refl, sym, ◌∙◌}
 use Rattle.std.proofs.lemmas.Bool.{false≢true}
-use Rattle.cover_logic.proofs.Terms.{inside_more, inside_with}
+use Rattle.cover_terms.specs.Laws.Terms.{inside_more, inside_with}
 use Rattle.gate_rows.proofs.Literals.{literal_fits, literal_holds}
 use Rattle.gate_rows.proofs.columns.with_literal.Goals as goal
 use Rattle.gate_rows.proofs.columns.with_literal.Goals.{then-one, else-one}

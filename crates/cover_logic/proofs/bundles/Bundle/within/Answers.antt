@@ -1,5 +1,5 @@
 use Rattle.std.proofs.Common.{arith}
-use Rattle.cover_logic.proofs.Bits.{bits_of_zero}
+use Rattle.cover_terms.specs.Laws.Bits.{bits_of_zero}
 use Rattle.cover_logic.proofs.Literals.{within_none, within_more, within_all, within_empty}
 use Rattle.cover_logic.proofs.bundles.Bundle.within.Goals as goal
 

@@ -1,8 +1,8 @@
 use Rattle.std.proofs.lemmas.Result.{IfOk-from_err}
 use Rattle.std.proofs.Common.{◌≡◌, ◌∙◌, ℕ, List, [], ◌∷◌, ◌++◌, refl, sym, subst}
 use Rattle.std.proofs.lemmas.List.{with_items_is}
-use Rattle.cover_logic.specs.declared.term.Term.{Term}
-use Rattle.cover_logic.specs.Inner.Charts.{IsFilled}
+use Rattle.cover_terms.specs.declared.term.Term.{Term}
+use Rattle.cover_terms.specs.Charts.{IsFilled}
 use Rattle.cover_logic.specs.Inner.Tables.{AreMarks}
 use Rattle.cover_logic.proofs.Tables.{marks_more}
 use Rattle.cover_logic.proofs.table.Table.add.Goals as goal

@@ -1,5 +1,5 @@
 use Rattle.std.proofs.Common.{◌∙◌, ℕ, List, not, ap, subst}
-use Rattle.cover_logic.specs.Inner.Charts.{IsFound}
+use Rattle.cover_terms.specs.Charts.{IsFound}
 use Rattle.cover_logic.proofs.Tables.{all_held}
 use Rattle.cover_logic.proofs.table.Table.holds.Goals as goal
 

@@ -1,5 +1,5 @@
 use Rattle.std.proofs.Common.{ℕ, Bool, List, sym, subst}
-use Rattle.cover_logic.specs.Inner.Charts.{IsFound}
+use Rattle.cover_terms.specs.Charts.{IsFound}
 use Rattle.cover_logic.specs.Inner.Tables.{IsMetOrClear}
 use Rattle.cover_logic.proofs.Tables.{met_or_clear}
 use Rattle.cover_logic.proofs.table.Table.meets.Goals as goal

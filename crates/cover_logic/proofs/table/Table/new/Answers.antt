@@ -1,6 +1,6 @@
 use Rattle.std.proofs.lemmas.Result.{IfOk-from_err}
 use Rattle.std.proofs.Common.{List, refl, sym, subst}
-use Rattle.cover_logic.specs.declared.term.Term.{Term}
+use Rattle.cover_terms.specs.declared.term.Term.{Term}
 use Rattle.cover_logic.specs.Inner.Tables.{AreMarks}
 use Rattle.cover_logic.proofs.Tables.{marks_none}
 use Rattle.cover_logic.proofs.table.Table.new.Goals as goal

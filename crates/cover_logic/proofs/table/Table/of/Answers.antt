@@ -1,8 +1,8 @@
 use Rattle.std.proofs.lemmas.Result.{IfOk-from_err}
 use Rattle.std.proofs.Common.{◌≡◌, ◌+◌, ◌∙◌, List, [], ◌∷◌, ◌++◌, take, ap, sym, subst}
 use Rattle.std.proofs.lemmas.List.{take_all, take_more}
-use Rattle.cover_logic.specs.declared.term.Term.{Term}
-use Rattle.cover_logic.specs.Term.{FitsWidth}
+use Rattle.cover_terms.specs.declared.term.Term.{Term}
+use Rattle.cover_terms.specs.Term.{FitsWidth}
 use Rattle.cover_logic.specs.Inner.Tables.{IsTableOf}
 use Rattle.cover_logic.proofs.table.Table.of.Goals as goal
 

@@ -2,7 +2,7 @@ use Rattle.std.proofs.Common.{◌≡◌, ◌<◌, ◌-◌, ◌^◌, length, vec_
 use Rattle.std.specs.Int.{leading_zeros, w128}
 use Rattle.std.proofs.Math.Nat.{lt_of_le_of_lt}
 use Rattle.std.proofs.lemmas.Nat.{and_le_l}
-use Rattle.cover_logic.proofs.Bits.{below_width, highest_one}
+use Rattle.cover_terms.specs.Laws.Bits.{below_width, highest_one}
 use Rattle.cover_logic.proofs.Groups.{taken}
 use Rattle.cover_logic.proofs.waiting.Group.take_last.Goals as goal
 

@@ -2,10 +2,10 @@ use Rattle.std.proofs.Common.{◌≡◌, ◌↔◌, ◌<◌, ◌≤◌, ◌∙�
 use Rattle.std.proofs.lemmas.List.{with_items_is}
 use Rattle.std.proofs.lemmas.Result.{IfOk-from_err}
 use Rattle.cover_logic.specs.declared.bundles.Literal.{Literal}
-use Rattle.cover_logic.specs.declared.term.Term.{Term}
+use Rattle.cover_terms.specs.declared.term.Term.{Term}
 use Rattle.cover_logic.specs.declared.waiting.Group.{Group}
 use Rattle.cover_logic.specs.Inner.Groups.{IsDropped, IsLiveInSome, all_live}
-use Rattle.cover_logic.specs.Inner.Pair.{refines}
+use Rattle.cover_terms.specs.Pair.{refines}
 use Rattle.cover_logic.specs.Inner.Planes.{AreLiteralsOf}
 use Rattle.cover_logic.proofs.Groups.{AreFirstDropped, dropped_more, dropped_all, dropped_none}
 use Rattle.cover_logic.proofs.waiting.Waiting.drop_included.Goals as goal

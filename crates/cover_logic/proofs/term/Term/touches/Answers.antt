@@ -1,5 +1,0 @@
-use Rattle.cover_logic.proofs.Terms.{agree_says}
-use Rattle.cover_logic.proofs.term.Term.touches.Goals as goal
-
-pub returns-clause-shared : goal.returns-clause-shared
-returns-clause-shared c = agree_says c.args.self c.args.other

@@ -1,0 +1,5 @@
+pub mod Bits
+pub mod Terms
+pub mod Lists
+pub mod Values
+pub mod Gaps
