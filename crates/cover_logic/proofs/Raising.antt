@@ -1,10 +1,11 @@
-use Rattle.std.proofs.Common.{ℕ, ◌+◌, ◌<◌, ◌≤◌, ◌↔◌, List, [], ◌∷◌, ◌++◌, ⊎_elim, sym, subst, arith}
+use Rattle.std.proofs.Common.{◌≡◌, ℕ, ◌+◌, ◌<◌, ◌≤◌, ◌↔◌, Bool, true, false, List, [], ◌∷◌, ◌++◌, Option, Some, None, MatchOption, ⊎_elim, sym, subst, arith}
 use Rattle.std.specs.List.{Contains}
+use Rattle.std.specs.Option.{is_some}
 use Rattle.std.proofs.lemmas.Bool.{cases_eq}
 use Rattle.cover_terms.specs.declared.term.Term.{Term}
 use Rattle.cover_terms.specs.Term.{FitsWidth, Holds, HoldsWithDash, LooksAt}
 use Rattle.cover_terms.specs.Pair.{Includes, IsLooser, ShareValue}
-use Rattle.cover_logic.specs.Inner.Rows.{IsClear, IsGrown, IsPrime, NeedsLiteral}
+use Rattle.cover_logic.specs.Inner.Rows.{IsClear, IsGrown, IsMetOrClear, IsPrime, MeetsSome, NeedsLiteral}
 use Rattle.cover_terms.specs.Laws.Bits.{below_width}
 use Rattle.cover_terms.specs.Laws.Lists.{held_push_cases}
 use Rattle.cover_terms.specs.Laws.Terms.{looser_holds, looser_with_dash}
@@ -58,6 +59,17 @@ raised_once row off width n t wide r looser clear here care = record {
   prime = prime_more off n t wide r.prime looser here;
 }
 
--- a term of off that a term with a dash shares a value with is the reason for the literal
-pub needed_from_met : (off : List Term) (t wide met : Term) (column : ℕ) → ((x : ℕ) → Holds wide x ↔ HoldsWithDash t column x) → Contains off met → ShareValue wide met → NeedsLiteral off t column
-needed_from_met off t wide met column dash in' share = (share.0, (met, in', share.2), (dash share.0).0 share.1)
+-- a value of off in a term with a dash is the reason for the literal
+pub needed_from_met : (off : List Term) (t wide : Term) (column : ℕ) → ((x : ℕ) → Holds wide x ↔ HoldsWithDash t column x) → MeetsSome off wide → NeedsLiteral off t column
+needed_from_met off t wide column dash met = (met.0, met.1, (dash met.0).0 met.2)
+
+-- a term that shares a value with the row, or none
+pub met_or_none : (terms : List Term) (row : Term) (met : Option Term) → MatchOption met (IsClear terms row) (λ t. Contains terms t × ShareValue row t) → IsMetOrClear terms row (is_some met)
+met_or_none terms row (Some t) h = (h.1.0, (t, h.0, h.1.2), h.1.1)
+met_or_none terms row None h = h
+
+pub met_where : (terms : List Term) (row : Term) (met : Bool) → IsMetOrClear terms row met → met ≡ true → MeetsSome terms row
+met_where terms row met h is = subst (λ (b : Bool). IsMetOrClear terms row b) is h
+
+pub clear_where : (terms : List Term) (row : Term) (met : Bool) → IsMetOrClear terms row met → met ≡ false → IsClear terms row
+clear_where terms row met h is = subst (λ (b : Bool). IsMetOrClear terms row b) is h

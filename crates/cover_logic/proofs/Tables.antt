@@ -6,8 +6,8 @@ use Rattle.std.proofs.lemmas.List.Elements.{All-nil, All-push}
 use Rattle.cover_terms.specs.declared.term.Term.{Term}
 use Rattle.cover_terms.specs.Term.{FitsWidth}
 use Rattle.cover_terms.specs.Charts.{IsFilled, IsFound}
-use Rattle.cover_logic.specs.Inner.Rows.{IsAllHeld}
-use Rattle.cover_logic.specs.Inner.Tables.{AreMarks, IsMetOrClear}
+use Rattle.cover_logic.specs.Inner.Rows.{IsAllHeld, IsMetOrClear}
+use Rattle.cover_logic.specs.Inner.Tables.{AreMarks}
 use Rattle.cover_terms.specs.Laws.Lists.{held_left, held_none, held_push, held_push_cases}
 use Rattle.cover_logic.proofs.Width.{held_from_low, held_low, holds_low, low_is_value}
 

@@ -1,10 +1,10 @@
 //! The rows of dense gates, by tables of their values.
-ghost use Rattle.std.specs.Prelude.{◌≡◌, ◌≤◌, ◌<◌, All, IfOk, IsTrue};
-ghost use Rattle.cover_terms.specs.Term.{FitsWidth, LooksAt};
-ghost use Rattle.cover_terms.specs.Pair.{Includes, IsLooser};
-ghost use Rattle.cover_logic.specs.Inner.Rows.{ArePrimeRows, IsClear, IsGrown, IsPrime, IsPrimeRow, NeedsLiteral};
+ghost use Rattle.std.specs.Prelude.{◌≡◌, ◌≤◌, All, IfOk, IsTrue};
+ghost use Rattle.cover_terms.specs.Term.{FitsWidth};
+ghost use Rattle.cover_logic.specs.Inner.Rows.{ArePrimeRows, IsClear, IsPrimeRow};
 ghost use Rattle.cover_logic.specs.Inner.Tables.{IsTable};
 
+use crate::raise::{raise, widened};
 use crate::table::Table;
 use cover_advice::Ground;
 use cover_terms::Term;
@@ -40,56 +40,6 @@ pub fn is_dense(on: &[Term], off: &[Term], width: u8) -> bool
     on.len().saturating_add(off.len()) >= DENSE_TERMS && values >= all / 4 * 3 && values / 8 <= all
 }
 
-/// The row widened to hold the other term whole, or the row itself where the wider row would hold a value of off.
-fn widened(row: Term, other: Term, off: &Table, width: u8) -> Term
-    requires table { IsTable off.now }
-    requires width { off.now.width ≡ width }
-    requires fits { FitsWidth width row }
-    requires clear { IsClear off.now.terms.items row }
-    ensures { IsGrown row off.now.terms.items result }
-{
-    let joined = row.joined(other);
-    if off.meets(joined) { row } else { joined }
-}
-
-/// The row with a dash at the column, or the row itself where the wider row would hold a value of off.
-fn dashed(row: Term, column: u32, off: &Table, width: u8) -> Term
-    requires column { column < 128 }
-    requires table { IsTable off.now }
-    requires width { off.now.width ≡ width }
-    requires fits { FitsWidth width row }
-    requires clear { IsClear off.now.terms.items row }
-    ensures looser { IsLooser result row }
-    ensures clear { IsClear off.now.terms.items result }
-    ensures needed { LooksAt result column → NeedsLiteral off.now.terms.items result column }
-    ensures care { result.care ≤ row.care }
-{
-    let wider = row.with_dash(column);
-    if wider.care == row.care {
-        return row;
-    }
-    if off.meets(wider) { row } else { wider }
-}
-
-/// Replaces literals by dashes as long as no value of off is held.
-fn raised(row: Term, off: &Table, width: u8) -> Term
-    requires table { IsTable off.now }
-    requires width { off.now.width ≡ width }
-    requires few { width ≤ 16 }
-    requires fits { FitsWidth width row }
-    requires clear { IsClear off.now.terms.items row }
-    ensures includes { Includes result row }
-    ensures clear { IsClear off.now.terms.items result }
-    ensures prime { IsPrime off.now.terms.items result }
-    ensures fits { FitsWidth width result }
-{
-    let mut raised = row;
-    for column in 0..u32::from(width) {
-        raised = dashed(raised, column, off, width);
-    }
-    raised
-}
-
 /// A row that holds the seed and no value of off, and that needs each of its literals.
 fn row_of(seed: Term, ground: &Ground, off: &Table, width: u8) -> Term
     requires table { IsTable off.now }
@@ -99,8 +49,8 @@ fn row_of(seed: Term, ground: &Ground, off: &Table, width: u8) -> Term
     requires clear { IsClear off.now.terms.items seed }
     ensures { IsPrimeRow seed off.now.terms.items width result }
 {
-    let wide = widened(seed, ground.grown(seed), off, width);
-    raised(wide, off, width)
+    let wide = widened(seed, ground.grown(seed), off);
+    raise(wide, off, width, &[], &[])
 }
 
 /// Rows for `dense_rows`, with the cells of the gate and the table of off.

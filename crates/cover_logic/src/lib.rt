@@ -22,15 +22,17 @@
 //! (`lasts`).
 //!
 //! Any other gate is asked by its terms, so the number of values does not matter. An index of off tells whether a row
-//! shares a value with off (`index`, `raise`). Rows are made until each term of on lies whole within one (`primes`);
+//! shares a value with off (`index`). Rows are made until each term of on lies whole within one (`primes`);
 //! in large gates one step asks this of 128 terms at once, by their columns (`waiting`, `bundles`). In long lists the
 //! same is done to find the rows and the terms of on that share a value with a row (`rivals`). Whether other rows hold
-//! the values that a row shares with a term of on is asked of one part of them at a time (`gap`). Of the rows that
+//! the values that a row shares with a term of on is asked of one part of them at a time (`gap` of
+//! `cover_terms`). Of the rows that
 //! touch the part, the one with the fewest literals outside it either holds the part whole, or has such a literal,
 //! and the part is split there in two.
 //!
-//! Either way the crate `cover_advice` says how far a row may be widened, and the table or the index is asked before
-//! its advice is followed.
+//! Either way rows are widened by the same calls (`raise`), which ask a trait (`off`): the table and the index are its
+//! two implementations. The crate `cover_advice` says how far a row may be widened, and the table or the index is asked
+//! before its advice is followed. Terms, charts and what is asked of plain lists of terms are in `cover_terms`.
 #![tactic(auto)]
 
 ghost use Rattle.std.specs.Prelude.{◌≤◌, ◌↔◌, All, IfOk, IsTrue};
@@ -43,6 +45,7 @@ mod dense;
 mod index;
 mod lasts;
 mod needed;
+mod off;
 mod primes;
 mod raise;
 mod rivals;

@@ -1,4 +1,4 @@
-//! Rows widened as far as an index of off allows.
+//! Rows widened as far as off allows.
 ghost use Rattle.std.specs.Prelude.{◌≤◌, ◌<◌, ◌↔◌, IfOk, IsTrue};
 ghost use Rattle.cover_terms.specs.Term.{FitsWidth, LooksAt};
 ghost use Rattle.cover_logic.specs.Inner.Index.{terms_of};
@@ -6,6 +6,7 @@ ghost use Rattle.cover_terms.specs.Pair.{Includes, IsLooser};
 ghost use Rattle.cover_logic.specs.Inner.Rows.{IsClear, IsGrown, IsPrime, NeedsLiteral};
 
 use crate::index::Index;
+use crate::off::Off;
 use cover_advice::{Limits, apart};
 use cover_terms::Term;
 use std::alloc::{AllocError, Global};
@@ -55,25 +56,24 @@ pub fn grow(
 
 /// The row widened to hold the other term whole, or the row itself where the wider row would hold a value of
 /// off.
-pub fn widened(row: Term, other: Term, off: &Index) -> Term
-    requires { IsClear (terms_of off.now) row }
-    ensures { IsGrown row (terms_of off.now) result }
+pub fn widened<O: Off>(row: Term, other: Term, off: &O) -> Term
+    requires can { O.can_ask off.now row }
+    requires clear { IsClear (O.terms off.now) row }
+    ensures { IsGrown row (O.terms off.now) result }
 {
     let joined = row.joined(other);
-    match off.met_by(joined) {
-        Some(_) => row,
-        None => joined,
-    }
+    if off.meets(joined) { row } else { joined }
 }
 
 /// The row with a dash at the column, or the row itself where the wider row would hold a value of off. The
 /// term at the place `reason` is asked first.
-fn dashed(row: Term, column: u32, reason: Option<usize>, off: &Index) -> Term
+fn dashed<O: Off>(row: Term, column: u32, reason: Option<usize>, off: &O) -> Term
     requires column { column < 128 }
-    requires clear { IsClear (terms_of off.now) row }
+    requires can { O.can_ask off.now row }
+    requires clear { IsClear (O.terms off.now) row }
     ensures looser { IsLooser result row }
-    ensures clear { IsClear (terms_of off.now) result }
-    ensures needed { LooksAt result column → NeedsLiteral (terms_of off.now) result column }
+    ensures clear { IsClear (O.terms off.now) result }
+    ensures needed { LooksAt result column → NeedsLiteral (O.terms off.now) result column }
     ensures care { result.care ≤ row.care }
 {
     let wider = row.with_dash(column);
@@ -81,14 +81,11 @@ fn dashed(row: Term, column: u32, reason: Option<usize>, off: &Index) -> Term
         return row;
     }
     if let Some(place) = reason {
-        if off.is_met_at(place, wider) {
+        if off.meets_at(place, wider) {
             return row;
         }
     }
-    match off.met_by(wider) {
-        Some(_) => row,
-        None => wider,
-    }
+    if off.meets(wider) { row } else { wider }
 }
 
 /// The place of the term of that number for the column, if there is one.
@@ -100,14 +97,21 @@ fn place_for(column: u32, numbers: &[Option<usize>], places: &[usize]) -> Option
 }
 
 /// Replaces literals by dashes as long as no value of off is held. For each column `reasons` may have the number of a
-/// term that is asked first, and `places` has the places in the index of the terms with those numbers.
-pub fn raise(row: Term, off: &Index, width: u8, reasons: &[Option<usize>], places: &[usize]) -> Term
+/// term that is asked first, and `places` has the places in the list of the terms with those numbers.
+pub fn raise<O: Off>(
+    row: Term,
+    off: &O,
+    width: u8,
+    reasons: &[Option<usize>],
+    places: &[usize],
+) -> Term
     requires width { width ≤ 128 }
     requires fits { FitsWidth width row }
-    requires clear { IsClear (terms_of off.now) row }
+    requires can { O.can_ask off.now row }
+    requires clear { IsClear (O.terms off.now) row }
     ensures includes { Includes result row }
-    ensures clear { IsClear (terms_of off.now) result }
-    ensures prime { IsPrime (terms_of off.now) result }
+    ensures clear { IsClear (O.terms off.now) result }
+    ensures prime { IsPrime (O.terms off.now) result }
     ensures fits { FitsWidth width result }
 {
     let mut raised = row;

@@ -16,8 +16,8 @@ pub struct Table {
 impl Table {
     ghost use Rattle.std.specs.Prelude.{◌≡◌, ◌≤◌, [], All, IfOk, IsTrue, OnOk};
     ghost use Rattle.cover_terms.specs.Term.{FitsWidth};
-    ghost use Rattle.cover_logic.specs.Inner.Rows.{IsAllHeld};
-    ghost use Rattle.cover_logic.specs.Inner.Tables.{IsMetOrClear, IsOneMore, IsTable, IsTableOf};
+    ghost use Rattle.cover_logic.specs.Inner.Rows.{IsAllHeld, IsMetOrClear};
+    ghost use Rattle.cover_logic.specs.Inner.Tables.{IsOneMore, IsTable, IsTableOf};
 
     /// The table of no terms.
     pub fn new(alloc: Global, width: u8) -> Result<Table, AllocError>
@@ -57,7 +57,7 @@ impl Table {
     }
 
     /// Whether a term holds some value of the row.
-    pub fn meets(&self, row: Term) -> bool
+    pub fn shares_value(&self, row: Term) -> bool
         requires table { IsTable self.now }
         requires fits { FitsWidth self.now.width row }
         ensures { IsMetOrClear self.now.terms.items row result }

@@ -1,5 +1,5 @@
 -- Lists of terms while a cover is made. Private functions need it; no public contract cites it.
-use Rattle.std.specs.Prelude.{ℕ, ◌≤◌, List, [], ◌++◌, All, Contains, EachIndex, Option, MatchOption, remove}
+use Rattle.std.specs.Prelude.{ℕ, ◌≤◌, Bool, true, false, List, [], ◌++◌, All, Contains, EachIndex, Option, MatchOption, remove}
 use Rattle.cover_terms.specs.declared.term.Term.{Term}
 use Rattle.cover_terms.specs.Lists.{Covers}
 use Rattle.cover_terms.specs.Pair.{Includes}
@@ -16,6 +16,11 @@ NeedsLiteral off t column = (x : ℕ) × IsCovered off x × HoldsWithDash t colu
 -- some value of the term is held by a term of the list
 abbrev pub MeetsSome : List Term → Term → Type 0
 MeetsSome terms t = (x : ℕ) × IsCovered terms x × Holds t x
+
+-- whether the row has a value of the terms
+abbrev pub IsMetOrClear : List Term → Term → Bool → Type 0
+IsMetOrClear terms row true = MeetsSome terms row
+IsMetOrClear terms row false = IsClear terms row
 
 -- each value of the term is held by the list
 abbrev pub IsAllHeld : List Term → Term → Type 0

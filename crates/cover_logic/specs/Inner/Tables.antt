@@ -1,9 +1,8 @@
 -- Tables of terms. Private functions need it; no public contract cites it.
-use Rattle.std.specs.Prelude.{◌≡◌, ℕ, ◌<◌, ◌≤◌, ◌^◌, ◌++◌, ◌⊎◌, Bool, true, false, List, [], ◌∷◌, All, length, slice_index_or}
+use Rattle.std.specs.Prelude.{◌≡◌, ℕ, ◌<◌, ◌≤◌, ◌^◌, ◌++◌, ◌⊎◌, List, [], ◌∷◌, All, length, slice_index_or}
 use Rattle.cover_logic.specs.declared.table.Table.{Table}
 use Rattle.cover_terms.specs.declared.term.Term.{Term}
 use Rattle.cover_terms.specs.Term.{FitsWidth, IsCovered}
-use Rattle.cover_logic.specs.Inner.Rows.{IsClear, MeetsSome}
 
 -- of the values of `width` bits, those that a term holds have the mark 1, and the others have 0
 pub record AreMarks (width : ℕ) (terms : List Term) (marks : List ℕ) : Type 0 where
@@ -26,8 +25,3 @@ pub record IsTableOf (width : ℕ) (terms : List Term) (table : Table) : Type 0 
 -- the table with one more term
 abbrev pub IsOneMore : Table → Term → Table → Type 0
 IsOneMore before term after = IsTableOf before.width (before.terms.items ++ term ∷ []) after
-
--- whether the row has a value of the terms
-abbrev pub IsMetOrClear : List Term → Term → Bool → Type 0
-IsMetOrClear terms row true = MeetsSome terms row
-IsMetOrClear terms row false = IsClear terms row

@@ -11,8 +11,8 @@ returns-in_err-grown c = IfOk-from_err c.from_residual.result _ c.from_residual.
 pub returns-in_err-advice : goal.returns-in_err-advice
 returns-in_err-advice c = IfOk-from_err c.from_residual-in_err-advice.result _ c.from_residual-in_err-advice.ensures.0
 
-pub widened-wide-requires : goal.widened-wide-requires
-widened-wide-requires c = c.in_ok-grown.ensures.clear
+pub widened-wide-requires-clause-clear : goal.widened-wide-requires-clause-clear
+widened-wide-requires-clause-clear c = c.in_ok-grown.ensures.clear
 
 pub raise-row-requires-clause-width : goal.raise-row-requires-clause-width
 raise-row-requires-clause-width c = c.requires.width

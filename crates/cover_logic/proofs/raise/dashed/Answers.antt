@@ -1,38 +1,45 @@
 use Rattle.std.proofs.Common.{refl}
-use Rattle.cover_logic.specs.Inner.Index.{terms_of}
-use Rattle.cover_logic.proofs.Raising.{needed_from_met}
+use Rattle.cover_logic.proofs.Raising.{clear_where, met_where, needed_from_met}
 use Rattle.cover_logic.proofs.raise.dashed.Goals as goal
 
-pub returns-in-Some-met_by-clause-needed : goal.returns-in-Some-met_by-clause-needed
-returns-in-Some-met_by-clause-needed c = λ l.
-    needed_from_met (terms_of c.args.off.now) c.args.row c.with_dash-wider.result c.in-Some-met_by.field-0 c.args.column c.with_dash-wider.ensures.holds c.in-Some-met_by.ensures.0 c.in-Some-met_by.ensures.1
+pub meets-requires : goal.meets-requires
+meets-requires g c = g.met.O.Off.can_ask_wider c.args.off.now c.args.row c.with_dash-wider.result c.with_dash-wider.ensures.care c.requires.can
 
 pub returns-then-wider-row-clause-looser : goal.returns-then-wider-row-clause-looser
-returns-then-wider-row-clause-looser c = record { literals = λ i l. (l, refl) }
+returns-then-wider-row-clause-looser g c = record { literals = λ i l. (l, refl) }
 
 pub returns-then-wider-row-clause-clear : goal.returns-then-wider-row-clause-clear
-returns-then-wider-row-clause-clear c = c.requires.clear
+returns-then-wider-row-clause-clear g c = c.requires.clear
 
-pub returns-then-is_met_at-clause-looser : goal.returns-then-is_met_at-clause-looser
-returns-then-is_met_at-clause-looser c = record { literals = λ i l. (l, refl) }
+pub returns-then-meets_at-clause-looser : goal.returns-then-meets_at-clause-looser
+returns-then-meets_at-clause-looser g c = record { literals = λ i l. (l, refl) }
 
-pub returns-then-is_met_at-clause-clear : goal.returns-then-is_met_at-clause-clear
-returns-then-is_met_at-clause-clear c = c.requires.clear
+pub returns-then-meets_at-clause-clear : goal.returns-then-meets_at-clause-clear
+returns-then-meets_at-clause-clear g c = c.requires.clear
 
-pub returns-in-Some-met_by-clause-looser : goal.returns-in-Some-met_by-clause-looser
-returns-in-Some-met_by-clause-looser c = record { literals = λ i l. (l, refl) }
+pub returns-then-meets_at-clause-needed : goal.returns-then-meets_at-clause-needed
+returns-then-meets_at-clause-needed g c = λ l.
+    needed_from_met (g.O.Off.terms c.args.off.now) c.args.row c.with_dash-wider.result c.args.column c.with_dash-wider.ensures.holds (c.meets_at.ensures c.if-meets_at.true)
 
-pub returns-in-Some-met_by-clause-clear : goal.returns-in-Some-met_by-clause-clear
-returns-in-Some-met_by-clause-clear c = c.requires.clear
+pub returns-then-meets-clause-looser : goal.returns-then-meets-clause-looser
+returns-then-meets-clause-looser g c = record { literals = λ i l. (l, refl) }
 
-pub returns-in-None-clause-looser : goal.returns-in-None-clause-looser
-returns-in-None-clause-looser c = c.with_dash-wider.ensures.looser
+pub returns-then-meets-clause-clear : goal.returns-then-meets-clause-clear
+returns-then-meets-clause-clear g c = c.requires.clear
 
-pub returns-in-None-clause-clear : goal.returns-in-None-clause-clear
-returns-in-None-clause-clear c = c.in-None.ensures
+pub returns-then-meets-clause-needed : goal.returns-then-meets-clause-needed
+returns-then-meets-clause-needed g c = λ l.
+    needed_from_met (g.O.Off.terms c.args.off.now) c.args.row c.with_dash-wider.result c.args.column c.with_dash-wider.ensures.holds
+    (met_where (g.O.Off.terms c.args.off.now) c.with_dash-wider.result c.meets.result c.meets.ensures c.if-meets.true)
 
-pub returns-in-None-clause-needed : goal.returns-in-None-clause-needed
-returns-in-None-clause-needed c = λ l. absurd (c.with_dash-wider.ensures.dash l)
+pub returns-else-meets-clause-looser : goal.returns-else-meets-clause-looser
+returns-else-meets-clause-looser g c = c.with_dash-wider.ensures.looser
 
-pub returns-in-None-clause-care : goal.returns-in-None-clause-care
-returns-in-None-clause-care c = c.with_dash-wider.ensures.care
+pub returns-else-meets-clause-clear : goal.returns-else-meets-clause-clear
+returns-else-meets-clause-clear g c = clear_where (g.O.Off.terms c.args.off.now) c.with_dash-wider.result c.meets.result c.meets.ensures c.if-meets.false
+
+pub returns-else-meets-clause-needed : goal.returns-else-meets-clause-needed
+returns-else-meets-clause-needed g c = λ l. absurd (c.with_dash-wider.ensures.dash l)
+
+pub returns-else-meets-clause-care : goal.returns-else-meets-clause-care
+returns-else-meets-clause-care g c = c.with_dash-wider.ensures.care

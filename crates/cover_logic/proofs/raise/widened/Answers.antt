@@ -1,9 +1,15 @@
-use Rattle.cover_logic.specs.Inner.Index.{terms_of}
-use Rattle.cover_logic.proofs.Raising.{grown_seed}
+use Rattle.cover_logic.proofs.Raising.{clear_where, grown_seed}
 use Rattle.cover_logic.proofs.raise.widened.Goals as goal
 
-pub returns-in-Some : goal.returns-in-Some
-returns-in-Some c = grown_seed c.args.row (terms_of c.args.off.now) c.requires
+pub meets-requires : goal.meets-requires
+meets-requires g c = g.met.O.Off.can_ask_wider c.args.off.now c.args.row c.joined-joined.result c.joined-joined.ensures.care c.requires.can
 
-pub returns-in-None : goal.returns-in-None
-returns-in-None c = record { includes = c.joined-joined.ensures.left; clear = c.in-None.ensures; care = c.joined-joined.ensures.care }
+pub returns-then-meets : goal.returns-then-meets
+returns-then-meets g c = grown_seed c.args.row (g.O.Off.terms c.args.off.now) c.requires.clear
+
+pub returns-else-meets : goal.returns-else-meets
+returns-else-meets g c = record {
+  includes = c.joined-joined.ensures.left;
+  clear = clear_where (g.O.Off.terms c.args.off.now) c.joined-joined.result c.meets.result c.meets.ensures c.if-meets.false;
+  care = c.joined-joined.ensures.care;
+}

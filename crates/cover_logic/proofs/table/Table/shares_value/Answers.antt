@@ -1,8 +1,8 @@
 use Rattle.std.proofs.Common.{ℕ, Bool, List, sym, subst}
 use Rattle.cover_terms.specs.Charts.{IsFound}
-use Rattle.cover_logic.specs.Inner.Tables.{IsMetOrClear}
+use Rattle.cover_logic.specs.Inner.Rows.{IsMetOrClear}
 use Rattle.cover_logic.proofs.Tables.{met_or_clear}
-use Rattle.cover_logic.proofs.table.Table.meets.Goals as goal
+use Rattle.cover_logic.proofs.table.Table.shares_value.Goals as goal
 
 pub returns : goal.returns
 returns c =
