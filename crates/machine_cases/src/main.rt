@@ -104,7 +104,7 @@ fn put_answer(
         "cover" => covers::put_cover(alloc, words, m, answer),
         "latch_reads" | "output_reads" => codes::put_reads(alloc, call, words, m, answer),
         "least_code" => codes::put_least_code(alloc, m, answer),
-        "mm_least" | "mm_join" | "mm_before" => {
+        "mm_least" | "mm_join" | "mm_before" | "mm_joined" => {
             worlds::put_in_mm_world(alloc, call, words, m, answer);
         }
         "is_pair" | "is_consistent" => partitions::put_decided(alloc, call, words, m, answer),

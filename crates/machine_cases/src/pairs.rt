@@ -3,8 +3,8 @@
 ghost use Rattle.std.specs.Prelude.{◌≤◌};
 ghost use Rattle.io_pairs.specs.Outputs.{AreOutputs};
 
-use crate::words::{part, put_between, put_part};
-use crate::worlds::{put_in_listing, put_pair};
+use crate::words::{part, put_part};
+use crate::worlds::{marked, put_in_listing, put_listed};
 use case_lines::{Answer, limit};
 use hs_lattice::Listing;
 use io_pairs::{
@@ -124,13 +124,10 @@ fn put_made(alloc: Global, made: Option<Partition>, answer: &mut Answer) {
     }
 }
 
-/// Puts the pairs of a listing, if there is one, with a space between each two.
+/// Puts the pairs of a listing, if there is one.
 fn put_pairs(alloc: Global, listing: Option<Listing<IoPair>>, answer: &mut Answer) {
     match listing {
-        Some(listing) => {
-            let pairs = marked(&listing, answer);
-            put_each(alloc, pairs, answer);
-        }
+        Some(listing) => put_listed(alloc, &listing, answer),
         None => answer.fail(),
     }
 }
@@ -143,25 +140,6 @@ fn put_count(listing: Option<Listing<IoPair>>, answer: &mut Answer) {
             answer.add_number(pairs.len() as u64);
         }
         None => answer.fail(),
-    }
-}
-
-/// The pairs of a listing. Puts `more` where it is not whole.
-fn marked<'a>(listing: &'a Listing<IoPair>, answer: &mut Answer) -> &'a [IoPair] {
-    match listing {
-        Listing::Whole(pairs) => pairs.as_slice(),
-        Listing::More(pairs) => {
-            answer.add(b"more ");
-            pairs.as_slice()
-        }
-    }
-}
-
-/// Puts pairs with a space between each two.
-fn put_each(alloc: Global, pairs: &[IoPair], answer: &mut Answer) {
-    for (place, pair) in pairs.iter().enumerate() {
-        put_between(place, answer);
-        put_pair(alloc, pair, answer);
     }
 }
 

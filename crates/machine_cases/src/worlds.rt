@@ -1,11 +1,11 @@
 //! The worlds of pairs: their least pair, their joins and their order.
 
-ghost use Rattle.std.specs.Prelude.{All};
+ghost use Rattle.std.specs.Prelude.{◌≤◌, All};
 ghost use Rattle.hs_lattice.specs.Listing.{IfWhole};
 
-use crate::words::{cut, number, put_part};
-use case_lines::Answer;
-use hs_lattice::{JoinWorld, Listing};
+use crate::words::{cut, number, put_between, put_part};
+use case_lines::{Answer, limit};
+use hs_lattice::{JoinWorld, Listing, join_closure};
 use io_pairs::IoPair;
 use machine_table::Machine;
 use mm_lattice::{MmPair, MmWorld};
@@ -48,6 +48,26 @@ pub(crate) fn put_pair<P: Sided>(alloc: Global, pair: &P, answer: &mut Answer) {
     put_part(alloc, pair.right(), answer);
 }
 
+/// Puts the pairs of a listing with a space between each two, after `more` where it is not whole.
+pub(crate) fn put_listed<P: Sided>(alloc: Global, listing: &Listing<P>, answer: &mut Answer) {
+    let pairs = marked(listing, answer);
+    for (place, pair) in pairs.iter().enumerate() {
+        put_between(place, answer);
+        put_pair(alloc, pair, answer);
+    }
+}
+
+/// The pairs of a listing. Puts `more` where it is not whole.
+pub(crate) fn marked<'a, P: Sided>(listing: &'a Listing<P>, answer: &mut Answer) -> &'a [P] {
+    match listing {
+        Listing::Whole(pairs) => pairs.as_slice(),
+        Listing::More(pairs) => {
+            answer.add(b"more ");
+            pairs.as_slice()
+        }
+    }
+}
+
 /// Puts what is asked of the world of Mm pairs.
 pub(crate) fn put_in_mm_world(
     alloc: Global,
@@ -81,8 +101,63 @@ pub(crate) fn put_in_listing<P: Sided, W: JoinWorld<Item = P>>(
     }
 }
 
-/// Puts what is asked of a world and of the pairs at two places of its listing.
+/// Puts what is asked of a world and of the pairs of its listing.
 fn put_in_world<P: Sided, W: JoinWorld<Item = P>>(
+    alloc: Global,
+    world: &W,
+    call: &str,
+    words: &str,
+    pairs: &[P],
+    answer: &mut Answer,
+)
+    requires world { W.lawful world.now }
+    requires pairs { All (λ pair. W.fits world.now (W.meaning pair)) pairs.now }
+{
+    if call.ends_with("_joined") {
+        put_joined(alloc, world, words, pairs, answer);
+    } else {
+        put_of_places(alloc, world, call, words, pairs, answer);
+    }
+}
+
+/// Puts the joins of pairs, up to the limit that words say.
+fn put_joined<P: Sided, W: JoinWorld<Item = P>>(
+    alloc: Global,
+    world: &W,
+    words: &str,
+    pairs: &[P],
+    answer: &mut Answer,
+)
+    requires world { W.lawful world.now }
+    requires pairs { All (λ pair. W.fits world.now (W.meaning pair)) pairs.now }
+{
+    match limit(words) {
+        Ok((most, _)) => put_joins(alloc, world, pairs, most, answer),
+        Err(_) => answer.fail(),
+    }
+}
+
+/// Puts the joins of pairs, up to a limit.
+fn put_joins<P: Sided, W: JoinWorld<Item = P>>(
+    alloc: Global,
+    world: &W,
+    pairs: &[P],
+    most: usize,
+    answer: &mut Answer,
+)
+    requires world { W.lawful world.now }
+    requires pairs { All (λ pair. W.fits world.now (W.meaning pair)) pairs.now }
+    requires positive { 1 ≤ most }
+    requires bounded { most ≤ 10000 }
+{
+    match join_closure(alloc, world, pairs, most) {
+        Ok(listing) => put_listed(alloc, &listing, answer),
+        Err(_) => answer.fail(),
+    }
+}
+
+/// Puts what is asked of the pairs at two places of a listing.
+fn put_of_places<P: Sided, W: JoinWorld<Item = P>>(
     alloc: Global,
     world: &W,
     call: &str,
