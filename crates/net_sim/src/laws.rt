@@ -6,7 +6,7 @@ ghost use Rattle.net_sim.specs.Run.{IsRunCause, answers_text};
 ghost use Rattle.net_sim.specs.Symbols.{IsSymbolFile};
 ghost use Rattle.net_core.specs.declared.Start.TheVariants.{Free, One, Unknown, Zero};
 ghost use Rattle.net_core.specs.Worked.{unlike};
-ghost use Rattle.net_sim.specs.declared.failing.SimFail.TheVariants.{BadStart, UnknownStart};
+ghost use Rattle.net_sim.specs.declared.failing.SimFail.TheVariants.{BadStart, BadSymbol, UnknownStart};
 ghost use Rattle.net_sim.specs.Worked.{RunsOnlyTo, behind_buffer, latched, shifted, started};
 
 /// The texts of bits, of answers, and of a file of two symbols.
@@ -35,11 +35,14 @@ pub fn worked_runs()
     ensures unlike { RunsOnlyTo unlike None (codes "10\n11\n00\n") (codes "10\n01\n00\n") }
 {}
 
-/// Runs that are refused: for a given start that is too short or has another character, and for the first start that
-/// is not known.
+/// Runs that are refused: for a given start that is too short or has another character, for the first start that is
+/// not known, and for the first line that is no symbol.
 pub fn worked_refusals()
     ensures short_start { IsRunCause shifted (Some (codes "1")) (codes "0\n") BadStart }
     ensures no_bit_in_start { IsRunCause shifted (Some (codes "1x")) (codes "0\n") BadStart }
     ensures unknown_start { IsRunCause (started (codes "q") Unknown Free) None (codes "0\n") (UnknownStart (codes "p")) }
     ensures free_start { IsRunCause (started (codes "q") One Free) None (codes "0\n") (UnknownStart (codes "q")) }
+    ensures no_symbol { IsRunCause shifted None (codes "1\n2\n0 1\n") (BadSymbol 2) }
+    ensures two_fields { IsRunCause shifted None (codes "# a\n1\n\n0 1\n2\n") (BadSymbol 4) }
+    ensures two_bits { IsRunCause shifted None (codes "00\n2\n") (BadSymbol 1) }
 {}
