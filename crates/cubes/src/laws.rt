@@ -2,7 +2,7 @@
 ghost use Rattle.std.specs.Prelude.{ℕ, ◌≡◌, ◌+◌, ◌<◌, ◌≤◌, ◌^◌, ◌↔◌, Bool, true, false, List, [], ◌∷◌, bit_and, length};
 ghost use Rattle.cubes.specs.declared.cube.Cube.{Cube};
 ghost use Rattle.cubes.specs.Cube.{DiffersAtPlace, HasBitsOf, Holds, HoldsNumber, IsBoth, IsHalf, Meets, greatest_of, holds};
-ghost use Rattle.cubes.specs.Symbol.{bit, number_of, symbol_of};
+ghost use Rattle.cubes.specs.Symbol.{bit, lowest_bits, number_of, symbol_of};
 
 /// Symbols of a width correspond to the numbers below 2 to the power of the width.
 pub fn symbols_are_numbers()
@@ -12,11 +12,12 @@ pub fn symbols_are_numbers()
     ensures below { (symbol : List Bool) → number_of symbol < 2 ^ length symbol }
 {}
 
-/// Small symbols: the first bit is the most significant.
+/// Small symbols, whose first bit is the most significant, and the lowest bits of a number, the lowest first.
 pub fn worked_symbols()
     ensures number { number_of (true ∷ false ∷ []) ≡ 2 }
     ensures symbol { symbol_of 3 6 ≡ true ∷ true ∷ false ∷ [] }
-    ensures lowest { symbol_of 2 5 ≡ false ∷ true ∷ [] }
+    ensures high_bits_are_dropped { symbol_of 2 5 ≡ false ∷ true ∷ [] }
+    ensures lowest_bits { lowest_bits 3 6 ≡ false ∷ true ∷ true ∷ [] }
 {}
 
 /// What a cube holds, place by place and by one mask.

@@ -126,7 +126,7 @@ written_file first second input_names output_names =
       output_names = output_names;
     }
 
--- its lines with names of inputs, and with names of outputs
+-- its lines with names of inputs, with names of outputs, and with both
 abbrev pub lines_with_input_names : List (List ℕ)
 lines_with_input_names =
     codes ".i 2"
@@ -144,6 +144,20 @@ abbrev pub lines_with_output_names : List (List ℕ)
 lines_with_output_names =
     codes ".i 2"
     ∷ codes ".o 2"
+    ∷ codes ".ob u v"
+    ∷ codes ".p 2"
+    ∷ codes ".s 3"
+    ∷ codes ".r a"
+    ∷ codes "-0 b a 01"
+    ∷ codes "01 c - 1-"
+    ∷ codes ".e"
+    ∷ []
+
+abbrev pub lines_with_all_names : List (List ℕ)
+lines_with_all_names =
+    codes ".i 2"
+    ∷ codes ".o 2"
+    ∷ codes ".ilb x y"
     ∷ codes ".ob u v"
     ∷ codes ".p 2"
     ∷ codes ".s 3"

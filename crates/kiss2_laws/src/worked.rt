@@ -10,7 +10,7 @@ ghost use Rattle.kiss2.specs.declared.fault.KissKind.TheVariants.{AnyState, BadB
 ghost use Rattle.kiss2.specs.declared.fault.KissLimit.TheVariants.{Inputs, NameBytes, Outputs, Rows, States};
 ghost use Rattle.kiss2.specs.Standing.{inputs_said, outputs_said, row_lines};
 ghost use Rattle.kiss2.specs.Written.{kiss_text};
-ghost use Rattle.kiss2_laws.specs.Worked.{AreWritten, lines_with_input_names, lines_with_output_names, written_file, IsRefused, bad_cube_line, bad_output_line, lines_of_256_states, long_state_line, passing_lines, row_to, state_line, text, three_fields_line, unset_lines, words_last_lines, worked_lines};
+ghost use Rattle.kiss2_laws.specs.Worked.{AreWritten, lines_with_all_names, lines_with_input_names, lines_with_output_names, written_file, IsRefused, bad_cube_line, bad_output_line, lines_of_256_states, long_state_line, passing_lines, row_to, state_line, text, three_fields_line, unset_lines, words_last_lines, worked_lines};
 
 /// Texts that are refused, each with the line and the kind of its first fault.
 pub fn worked_faults()
@@ -205,5 +205,6 @@ pub fn worked_text()
 pub fn worked_writing()
     ensures input_names { (first second : Cube) → AreWritten first second → kiss_text (written_file first second (Some (codes "x" ∷ codes "y" ∷ [])) None) ≡ text lines_with_input_names }
     ensures output_names { (first second : Cube) → AreWritten first second → kiss_text (written_file first second None (Some (codes "u" ∷ codes "v" ∷ []))) ≡ text lines_with_output_names }
+    ensures all_names { (first second : Cube) → AreWritten first second → kiss_text (written_file first second (Some (codes "x" ∷ codes "y" ∷ [])) (Some (codes "u" ∷ codes "v" ∷ []))) ≡ text lines_with_all_names }
     ensures some { (first : Cube) × (second : Cube) × AreWritten first second }
 {}

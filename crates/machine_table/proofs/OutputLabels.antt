@@ -8,7 +8,7 @@ use Rattle.kiss_file.specs.declared.file.KissFile.{KissFile}
 use Rattle.kiss_file.specs.declared.file.KissRow.{KissRow}
 use Rattle.kiss_file.specs.Machine.{Conflicting, Specified, given_bit, output_bit}
 use Rattle.kiss_file.specs.Laws.Machine.{output_bit_not_said, output_bit_said}
-use Rattle.state_pairs.specs.Asked.{HaveOneLabel, NoneIsOpen, IsLabelAt, IsOpenAt, digit}
+use Rattle.state_pairs.specs.Asked.{HaveOneLabel, NoneIsOpen, IsLabelAt, IsOpenAt, bit_label}
 use Rattle.state_rows.specs.Least.{IsMetBy, lesser_of}
 use Rattle.state_pairs.specs.Pairs.{AgreeAt, AgreeInBit, AtEachSymbol, DifferInBit, IsFoundInBits, IsFirstWithout}
 use Rattle.state_pairs.specs.Laws.Labels.{AreLabels, if_some_each}
@@ -16,15 +16,15 @@ use Rattle.machine_table.specs.Laws.OutputWords.{same_map, same_values}
 use Rattle.state_rows.specs.Laws.Least.{lesser_has, met_left, met_right}
 
 -- the bit behind a label
-mapped_bit : (o : Option Bool) (v : ℕ) → option_map digit o ≡ Some v → (bit : Bool) × (o ≡ Some bit) × (digit bit ≡ v)
+mapped_bit : (o : Option Bool) (v : ℕ) → option_map bit_label o ≡ Some v → (bit : Bool) × (o ≡ Some bit) × (bit_label bit ≡ v)
 mapped_bit None v is = absurd (cc)
 mapped_bit (Some bit) v is = (bit, refl, (cc))
 
-no_bit : (o : Option Bool) → IsNone (option_map digit o) → IsNone o
+no_bit : (o : Option Bool) → IsNone (option_map bit_label o) → IsNone o
 no_bit None none = refl
 no_bit (Some bit) none = none
 
-pub bit_from_digit : (a b : Bool) → digit a ≡ digit b → a ≡ b
+pub bit_from_digit : (a b : Bool) → bit_label a ≡ bit_label b → a ≡ b
 bit_from_digit false false same = refl
 bit_from_digit true true same = refl
 bit_from_digit false true same = absurd (omega arith)
@@ -38,22 +38,22 @@ one_or_two true false = inr true≢false
 
 -- the label of what a row gives
 abbrev pub given_label : ℕ → KissRow → Option ℕ
-given_label b row = option_map digit (given_bit b row)
+given_label b row = option_map bit_label (given_bit b row)
 
 abbrev pub no_label : ℕ → ℕ
 no_label s = 0
 
 abbrev pub label_of_output : ℕ → KissFile → (s x : ℕ) → ℕ
-label_of_output b F s x = digit (output_bit F s (symbol_of F.inputs x) b)
+label_of_output b F s x = bit_label (output_bit F s (symbol_of F.inputs x) b)
 
 module _ (F : KissFile) (no_conflict : Conflicting F → ⊥) (b : ℕ) where
   pub when_given : (s x v : ℕ) → IsLabelAt (given_label b) F s x v → label_of_output b F s x ≡ v
   when_given s x v (row, at, gives) =
       let bit = mapped_bit (given_bit b row) v gives in
-      ap digit (output_bit_said F s (symbol_of F.inputs x) no_conflict row b bit.0 at bit.1) ∙ bit.2
+      ap bit_label (output_bit_said F s (symbol_of F.inputs x) no_conflict row b bit.0 at bit.1) ∙ bit.2
 
   pub when_not_given : (s x : ℕ) → IsOpenAt (given_label b) F s x → label_of_output b F s x ≡ no_label s
-  when_not_given s x silent = ap digit (output_bit_not_said F s (symbol_of F.inputs x) b (λ row at. no_bit (given_bit b row) (silent row at)))
+  when_not_given s x silent = ap bit_label (output_bit_not_said F s (symbol_of F.inputs x) b (λ row at. no_bit (given_bit b row) (silent row at)))
 
 -- labels of one output
 pub output_labels : (F : KissFile) → (Conflicting F → ⊥) → (b : ℕ) → AreLabels F (given_label b) no_label (label_of_output b F)
@@ -64,7 +64,7 @@ module _ (F : KissFile) (b s t x : ℕ) where
   bits_alike same = bit_from_digit (output_bit F s (symbol_of F.inputs x) b) (output_bit F t (symbol_of F.inputs x) b) same
 
   pub bits_equal : AgreeInBit b F s t x → label_of_output b F s x ≡ label_of_output b F t x
-  bits_equal agree = ap digit agree
+  bits_equal agree = ap bit_label agree
 
 -- ---- all outputs
 module _ (F : KissFile) (s t : ℕ) where
@@ -134,7 +134,7 @@ module _ (F : KissFile) (s t : ℕ) where
           | inr two ↦ absurd (known.met b x inside within two)
         ]
 
-some_digit : (o : Option Bool) → is_some o ≡ true → is_some (option_map digit o) ≡ true
+some_digit : (o : Option Bool) → is_some o ≡ true → is_some (option_map bit_label o) ≡ true
 some_digit None some = some
 some_digit (Some bit) some = refl
 

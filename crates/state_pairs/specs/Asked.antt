@@ -8,9 +8,9 @@ use Rattle.kiss_file.specs.Machine.{IsRowAt}
 use Rattle.state_rows.specs.Least.{IsMetBy}
 
 -- a bit as a number
-abbrev pub digit : Bool → ℕ
-digit false = 0
-digit true = 1
+abbrev pub bit_label : Bool → ℕ
+bit_label false = 0
+bit_label true = 1
 
 -- some row at the symbol with that number gives the label
 abbrev pub IsLabelAt : (KissRow → Option ℕ) → KissFile → (s x label : ℕ) → Type 0

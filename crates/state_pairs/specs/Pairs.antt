@@ -39,7 +39,8 @@ HaveOneBit words at s t = bit (slice_index words s) at ≡ bit (slice_index word
 abbrev pub DifferInBit : KissFile → (s t x : ℕ) → Type 0
 DifferInBit F s t x = (x < 2 ^ F.inputs) × ((b : ℕ) × (b < F.outputs) × (AgreeInBit b F s t x → ⊥))
 
--- a search found a symbol at which one of so many outputs differs, the least one if that is asked for, or there is none
+-- A search of the first `count` outputs found a symbol at which some output differs. Where the search found none, these
+-- outputs agree at all symbols. A least symbol, if that is asked for, is at or below each at which one of these differs.
 pub record IsFoundInBits (F : KissFile) (s t count : ℕ) (least : Bool) (found : Option ℕ) : Type 0 where
   pub some : IfSome found (DifferInBit F s t)
   pub met : (b y : ℕ) → b < count → y < 2 ^ F.inputs → (AgreeInBit b F s t y → ⊥) → IsMetBy found least y

@@ -150,11 +150,11 @@ impl OutputBit {
 impl Question for OutputBit {
     ghost use Rattle.std.specs.Prelude.{option_map};
     ghost use Rattle.kiss_file.specs.Machine.{given_bit};
-    ghost use Rattle.state_pairs.specs.Asked.{digit};
+    ghost use Rattle.state_pairs.specs.Asked.{bit_label};
 
     ghost states = { λ _. 65536 };
 
-    ghost said = { λ q row. option_map digit (given_bit q.b row) };
+    ghost said = { λ q row. option_map bit_label (given_bit q.b row) };
 
     ghost unsaid = { λ _ _. 0 };
 

@@ -11,6 +11,10 @@ pub returns-clause-output_names : goal.returns-clause-output_names
 unfolding digits
 returns-clause-output_names c first second are = rw (are.first_is, are.second_is) refl
 
+pub returns-clause-all_names : goal.returns-clause-all_names
+unfolding digits
+returns-clause-all_names c first second are = rw (are.first_is, are.second_is) refl
+
 pub returns-clause-some : goal.returns-clause-some
 unfolding characters
 returns-clause-some c = (
