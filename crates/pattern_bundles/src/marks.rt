@@ -7,6 +7,7 @@ pub fn take_first(marks: &mut u64) -> Option<usize>
     ensures first { IfSome result (IsFirstMark marks.old) }
     ensures taken { IfSome result (λ k. IsWithoutMark marks.old k marks.new) }
     ensures none { IfNone result (marks.old ≡ 0) }
+    ensures none_after { IfNone result (marks.new ≡ 0) }
 {
     let word = *marks;
     if word == 0 {
