@@ -1,5 +1,7 @@
 //! Cases.
 
+ghost use Rattle.std.specs.Prelude.{◌≡◌, IfOk, IsTrue};
+
 use crate::Calls;
 use crate::differences::first_difference;
 use crate::files::CaseFiles;
@@ -140,7 +142,11 @@ impl Case {
         status: u8,
         text: &[u8],
         told: &[u8],
-    ) -> anyhow::Result<bool> {
+    ) -> anyhow::Result<bool>
+        ensures status { IfOk result (λ agrees. IsTrue agrees → status ≡ self.now.wanted.status) }
+        ensures text { IfOk result (λ agrees. IsTrue agrees → IsTrue self.now.wanted.whole → text.now ≡ self.now.wanted.text.items) }
+        ensures told { IfOk result (λ agrees. IsTrue agrees → told.now ≡ self.now.wanted.told.items) }
+    {
         match first_difference(self.alloc, &self.wanted, files, status, text, told)? {
             None => Ok(true),
             Some(found) => {

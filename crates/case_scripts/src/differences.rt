@@ -1,5 +1,7 @@
 //! What differs from what a case wants.
 
+ghost use Rattle.std.specs.Prelude.{◌≡◌, IfNone, IfOk, IsTrue};
+
 use crate::files::CaseFiles;
 use crate::wanted::Wanted;
 use std::alloc::{AllocError, Global};
@@ -79,10 +81,27 @@ pub(crate) fn first_difference<'a>(
     status: u8,
     text: &'a [u8],
     told: &'a [u8],
-) -> anyhow::Result<Option<Difference<'a>>> {
-    if let Some(found) = text_apart(wanted, status, text) {
-        return Ok(Some(found));
+) -> anyhow::Result<Option<Difference<'a>>>
+    ensures status { IfOk result (λ found. IfNone found (status ≡ wanted.now.status)) }
+    ensures text { IfOk result (λ found. IfNone found (IsTrue wanted.now.whole → text.now ≡ wanted.now.text.items)) }
+    ensures told { IfOk result (λ found. IfNone found (told.now ≡ wanted.now.told.items)) }
+{
+    match text_apart(wanted, status, text) {
+        Some(found) => Ok(Some(found)),
+        None => other_apart(alloc, wanted, files, text, told),
     }
+}
+
+/// The first difference in the ones of the text, or in what err was given.
+fn other_apart<'a>(
+    alloc: Global,
+    wanted: &'a Wanted,
+    files: &CaseFiles,
+    text: &'a [u8],
+    told: &'a [u8],
+) -> anyhow::Result<Option<Difference<'a>>>
+    ensures { IfOk result (λ found. IfNone found (told.now ≡ wanted.now.told.items)) }
+{
     if wanted.ones {
         let summary = files.bytes(wanted.summary.as_slice())?;
         if let Some(found) = ones_apart(alloc, text, summary)? {
@@ -93,18 +112,15 @@ pub(crate) fn first_difference<'a>(
 }
 
 /// The first difference in the status, the text or its lines.
-fn text_apart<'a>(wanted: &'a Wanted, status: u8, text: &'a [u8]) -> Option<Difference<'a>> {
+fn text_apart<'a>(wanted: &'a Wanted, status: u8, text: &'a [u8]) -> Option<Difference<'a>>
+    ensures status { IfNone result (status ≡ wanted.now.status) }
+    ensures text { IfNone result (IsTrue wanted.now.whole → text.now ≡ wanted.now.text.items) }
+{
     if usize::from(status) != wanted.status {
         return Some(Difference::Status(status, wanted.status));
     }
-    let most = if wanted.whole {
-        text.len()
-    } else {
-        wanted.text.len().min(text.len())
-    };
-    let found = first_line_apart("text", &text[..most], wanted.text.as_slice());
-    if found.is_some() {
-        return found;
+    if let Some(found) = text_line_apart(wanted, text) {
+        return Some(found);
     }
     match wanted.lines {
         Some(count) => count_apart(text, count, wanted.start.as_slice()),
@@ -112,12 +128,29 @@ fn text_apart<'a>(wanted: &'a Wanted, status: u8, text: &'a [u8]) -> Option<Diff
     }
 }
 
+/// The first line in which a text differs from the wanted one, if there is any. Where only the front is wanted, what
+/// follows it is left out.
+fn text_line_apart<'a>(wanted: &'a Wanted, text: &'a [u8]) -> Option<Difference<'a>>
+    ensures { IfNone result (IsTrue wanted.now.whole → text.now ≡ wanted.now.text.items) }
+{
+    if wanted.whole {
+        return first_line_apart("text", text, wanted.text.as_slice());
+    }
+    let most = wanted.text.len().min(text.len());
+    first_line_apart("text", &text[..most], wanted.text.as_slice())
+}
+
 /// The first line in which two texts differ, if there is any.
 fn first_line_apart<'a>(
     what: &'static str,
     given: &'a [u8],
     wanted: &'a [u8],
-) -> Option<Difference<'a>> {
+) -> Option<Difference<'a>>
+    ensures { IfNone result (given.now ≡ wanted.now) }
+{
+    if given == wanted {
+        return None;
+    }
     let mut others = wanted.split(|byte| *byte == b'\n');
     let mut place = 0usize;
     for line in given.split(|byte| *byte == b'\n') {
@@ -127,11 +160,7 @@ fn first_line_apart<'a>(
         }
         place = place.saturating_add(1);
     }
-    let other = others.next();
-    if other.is_none() {
-        return None;
-    }
-    Some(line_apart(what, place, None, other))
+    Some(line_apart(what, place, None, others.next()))
 }
 
 /// The difference in a line.

@@ -40,16 +40,18 @@
 //! hexadecimal digits.
 //!
 //! A program of cases says in its [`Calls`] what it calls. For each file, [`agree`] prints how many of its cases agree,
-//! and for a case that differs the line and the first difference. This crate is only for programs of cases, and
-//! promises nothing but that its functions are safe and return.
+//! and for a case that differs the line and the first difference. This crate is only for programs of cases. It
+//! promises that no more cases agree than there are. A case agrees only if the status, the line and a text that is
+//! wanted whole are those that it wants.
 #![tactic(auto)]
 
-ghost use Rattle.std.specs.Prelude.{◌<◌, length};
+ghost use Rattle.std.specs.Prelude.{◌<◌, ◌≤◌, IfOk, length};
 
 mod cases;
 mod differences;
 mod files;
 mod script;
+mod tally;
 mod texts;
 mod wanted;
 
@@ -59,6 +61,7 @@ use job_words::Words;
 use std::alloc::Global;
 use std::fs;
 use std::rt::Files;
+pub use tally::Tally;
 
 /// The calls that cases make, over a shelf and two sinks in memory.
 pub trait Calls {
@@ -84,12 +87,14 @@ pub trait Calls {
         requires few { length words.now < 1000 };
 }
 
-/// Whether all cases of a file agree. Prints each case that differs, and how many agree.
+/// How many cases of a file agree. Prints each case that differs, and how many agree.
 pub fn agree<C: Calls, R: Files + AllocGlobal + Print>(
     rt: &R,
     calls: &C,
     name: &str,
-) -> anyhow::Result<bool> {
+) -> anyhow::Result<Tally>
+    ensures { IfOk result (λ tally. tally.agreeing ≤ tally.cases) }
+{
     let text = fs::read_to_string(rt, name).context(format_args!("reading {name}"))?;
-    script::agrees(rt, calls, name, &text)
+    script::tally_of(rt, calls, name, &text)
 }

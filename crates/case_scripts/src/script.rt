@@ -1,24 +1,28 @@
 //! The lines of a file of cases.
 
+ghost use Rattle.std.specs.Prelude.{◌≤◌, IfOk};
+
 use crate::cases::Case;
 use crate::files::CaseFiles;
 use crate::texts::word_and_rest;
 use crate::wanted::copy;
-use crate::{Calls, texts};
+use crate::{Calls, Tally, texts};
 use anyhow::{Context, bail};
 use std::alloc::{AllocError, Global};
 use std::mem;
 use std::rt::Files;
 
-/// Whether all cases of the text of a file agree. Prints each case that differs, and how many agree.
-pub(crate) fn agrees<C: Calls, R: Files + AllocGlobal + Print>(
+/// How many cases of the text of a file agree. Prints each case that differs, and how many agree.
+pub(crate) fn tally_of<C: Calls, R: Files + AllocGlobal + Print>(
     rt: &R,
     calls: &C,
     name: &str,
     text: &str,
-) -> anyhow::Result<bool> {
+) -> anyhow::Result<Tally>
+    ensures { IfOk result (λ tally. tally.agreeing ≤ tally.cases) }
+{
     let mut script = Script::new(rt.alloc());
-    script.agrees(rt, calls, name, text)
+    script.run(rt, calls, name, text)
 }
 
 /// What a line is.
@@ -56,8 +60,7 @@ struct Script {
     /// The name of the file that the text is for.
     file: Vec<u8>,
     text: Vec<u8>,
-    cases: u32,
-    agreeing: u32,
+    tally: Tally,
 }
 
 impl Script {
@@ -70,28 +73,32 @@ impl Script {
             place: Place::Nowhere,
             file: Vec::new(alloc),
             text: Vec::new(alloc),
-            cases: 0,
-            agreeing: 0,
+            tally: Tally::new(),
         }
     }
 
-    /// Takes the lines of a file, and prints how many of its cases agree. Returns whether all do.
-    fn agrees<C: Calls, R: Files + AllocGlobal + Print>(
+    /// Takes the lines of a file, and prints how many of its cases agree.
+    fn run<C: Calls, R: Files + AllocGlobal + Print>(
         &mut self,
         rt: &R,
         calls: &C,
         name: &str,
         text: &str,
-    ) -> anyhow::Result<bool> {
+    ) -> anyhow::Result<Tally>
+        ensures { IfOk result (λ tally. tally.agreeing ≤ tally.cases) }
+    {
         let taken = self.take_all(rt, calls, name, text);
         taken.context(format_args!("{name} after {} lines", self.lines))?;
         self.report(rt, name)
     }
 
-    /// Prints how many cases agree. Returns whether all do.
-    fn report<R: Print>(&self, rt: &R, name: &str) -> anyhow::Result<bool> {
-        println!(rt; "{name}: {} of {} agree", self.agreeing, self.cases)?;
-        Ok(self.agreeing == self.cases)
+    /// Prints how many cases agree.
+    fn report<R: Print>(&self, rt: &R, name: &str) -> anyhow::Result<Tally>
+        ensures { IfOk result (λ tally. tally.agreeing ≤ tally.cases) }
+    {
+        let tally = self.tally;
+        println!(rt; "{name}: {} of {} agree", tally.agreeing, tally.cases)?;
+        Ok(tally)
     }
 
     /// Takes the lines of a file, and ends the last text and the last case.
@@ -200,10 +207,8 @@ impl Script {
         name: &str,
     ) -> anyhow::Result<()> {
         if let Some(case) = &self.case {
-            self.cases = self.cases.saturating_add(1);
-            if case.agrees(rt, calls, name, &mut self.files)? {
-                self.agreeing = self.agreeing.saturating_add(1);
-            }
+            let agrees = case.agrees(rt, calls, name, &mut self.files)?;
+            self.tally.count(agrees);
             self.case = None;
         }
         Ok(())

@@ -31,11 +31,15 @@ fn main(rt: HostRuntime) -> anyhow::Result<()> {
 /// Whether all that a word names agrees.
 fn agrees(rt: &HostRuntime, word: &str) -> anyhow::Result<bool> {
     if word != "-" {
-        return case_scripts::agree(rt, &Program, word);
+        return Ok(case_scripts::agree(rt, &Program, word)?.is_full());
     }
     let once = input::is_read_once(rt)?;
     println!(rt; "standard input is read once: {once}")?;
-    Ok(once)
+    let whole = input::is_read_whole(rt)?;
+    println!(rt; "standard input is read whole: {whole}")?;
+    let alone = input::has_one_name(rt)?;
+    println!(rt; "standard input has one name: {alone}")?;
+    Ok(once && whole && alone)
 }
 
 /// The program, run in memory.
