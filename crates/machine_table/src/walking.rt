@@ -1,6 +1,7 @@
 //! The outputs along a word.
 //!
-//! The last steps that were taken are remembered, so that a step that is taken often is found once.
+//! Steps are remembered in a list, each until another takes its place there. So a step that is taken often is mostly
+//! looked up.
 ghost use Rattle.std.specs.Prelude.{◌≡◌, ◌<◌, ◌^◌, All, IfOk, IfSome, length, map};
 ghost use Rattle.cubes.specs.Symbol.{symbol_of, lowest_bits};
 ghost use Rattle.kiss_file.specs.Machine.{answers, out};
