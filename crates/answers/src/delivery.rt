@@ -11,7 +11,7 @@ ghost use Rattle.hs_io.specs.Pieces.{Appends, AppendsFront};
 
 use crate::numbers::Answer;
 use crate::refusals::Refusal;
-use crate::reports::Report;
+use crate::reports::Page;
 use hs_io::{Sink, SinkFail};
 use hs_texts::err_lines::{self, CANNOT_WRITE, NO_MEMORY};
 use std::alloc::Global;
@@ -21,7 +21,7 @@ use std::alloc::Global;
 /// line can be put does not change the answer.
 pub fn deliver<O: Sink, E: Sink>(
     alloc: Global,
-    made: Result<Report, Refusal>,
+    made: Result<Page, Refusal>,
     out: &mut O,
     err: &mut E,
 ) -> Answer
@@ -35,11 +35,11 @@ pub fn deliver<O: Sink, E: Sink>(
     ensures err_never_falls { E.faults err.old ≤ E.faults err.new }
 {
     match made {
-        Ok(Report::Whole(text)) => match put_text(text.as_slice(), out) {
+        Ok(Page::Whole(text)) => match put_text(text.as_slice(), out) {
             Ok(()) => Answer::Done,
             Err(_) => answer(Answer::WriteFault, CANNOT_WRITE, err),
         },
-        Ok(Report::Evidence { text, limit }) => {
+        Ok(Page::Evidence { text, limit }) => {
             let Ok(line) = err_lines::more(alloc, limit) else {
                 return answer(Answer::NoMemory, NO_MEMORY, err);
             };

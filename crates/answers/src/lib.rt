@@ -1,7 +1,8 @@
 //! Answers of the program, refusals with their values, and the one function that puts what a command made.
 //!
-//! A command gives a [`Report`], or the [`Refusal`] that says why there is none. A refusal has the values that
-//! its line shows, so that each cause is stated only once:
+//! A command gives a [`Report`], or the [`Refusal`] that says why there is none. A [`Page`] is what is put of a
+//! report: where this is a network, the network is written first. A refusal has the values that its line shows, so
+//! that each cause is stated only once:
 //!
 //! - `specs/Cause` says what it means that something calls for a refusal, and which of several causes is judged
 //!   first;
@@ -27,4 +28,4 @@ pub use delivery::deliver;
 pub use digits::symbol_text;
 pub use numbers::Answer;
 pub use refusals::{CoverFlaw, Refusal};
-pub use reports::{Bytes, Report};
+pub use reports::{Bytes, Page, Report};

@@ -11,7 +11,7 @@ use Rattle.blif_out.specs.Head.{comment_text, note_fields}
 use Rattle.blif_out.specs.Inner.Pieces.{note_line}
 use Rattle.cover_split.specs.Expansion.{pairs_of}
 use Rattle.cover_texts.specs.Inner.Pieces.{block_line, pair_line}
-use Rattle.cover_texts.specs.Lines.{block_fields, cover_fields, cover_lines, pair_fields}
+use Rattle.cover_texts.specs.Lines.{block_fields, cover_comments, cover_fields, pair_fields}
 use Rattle.hs_io.specs.Spelling.{ended}
 
 -- the codes of pairs, one after another
@@ -30,7 +30,7 @@ abbrev comment : List (List ℕ) → List ℕ
 comment fields = ended (comment_text fields)
 
 pub head_is : (names : List (List ℕ)) (blocks : List (List ℕ)) (bits : ℕ) (words : List ℕ) (notes : List LatchNote)
-    → ((codes "# hsdec cover\n" ++ flat_map block_line (enumerate_from 0 blocks)) ++ flat_map (pair_line names bits) (zip (pairs_of blocks) words)) ++ flat_map note_line (enumerate_from 0 notes) ≡ flat_map ended (cover_lines names blocks bits words notes)
+    → ((codes "# hsdec cover\n" ++ flat_map block_line (enumerate_from 0 blocks)) ++ flat_map (pair_line names bits) (zip (pairs_of blocks) words)) ++ flat_map note_line (enumerate_from 0 notes) ≡ cover_comments names blocks bits words notes
 head_is names blocks bits words notes =
     let k : List ℕ = codes "# hsdec cover\n" in
     let b : List (List (List ℕ)) = map block_fields (enumerate_from 0 blocks) in

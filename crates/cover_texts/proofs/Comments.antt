@@ -1,27 +1,22 @@
 -- The lines before the network are comments.
-use Rattle.std.proofs.Common.{zero, suc, ◌≡◌, ◌≢◌, ℕ, ◌+◌, ◌<◌, All, List, [], ◌∷◌, ◌++◌, None, codes, get_or, length, map, refl, sym, ap, ◌∙◌, subst, append_assoc, arith}
+use Rattle.std.proofs.Common.{zero, suc, ◌≡◌, ◌≢◌, ℕ, ◌+◌, ◌<◌, All, List, [], ◌∷◌, ◌++◌, None, codes, get_or, length, map, refl, arith}
 use Rattle.std.specs.Int.{bit_at}
 use Rattle.std.specs.List.{AllByRecursion, enumerate_from, flat_map, range_with_len, zip}
-use Rattle.std.proofs.lemmas.Grind.{flat_map-append}
 use Rattle.std.proofs.lemmas.List.Elements.{All-contains, All-head, All-tail}
 use Rattle.std.proofs.lemmas.Nat.Bits.{bit_at-lt}
 use Rattle.std.proofs.lemmas.Option.{slice_get-get_or}
 use Rattle.list_facts.specs.Laws.Everywhere.{each_append, each_weaker}
 use Rattle.blif_out.specs.declared.header.Header.{Header}
 use Rattle.blif_out.specs.declared.header.LatchNote.{LatchNote}
+use Rattle.blif_out.specs.Comments.{AreComments}
 use Rattle.blif_out.specs.Head.{bit_text, bits_of, comment_text, note_fields}
-use Rattle.blif_out.specs.Law.{NetTextDenotes}
-use Rattle.blif_out.specs.NetText.{net_text}
-use Rattle.blif_out.specs.Writable.{IsWritable}
 use Rattle.blif_out.proofs.Visible.{AreVisible, IsVisible, decimal_visible, head_visible, text_visible}
 use Rattle.blif_out.proofs.Words.{name_word}
 use Rattle.cover_split.specs.Cover.{IsBlock, block_at}
 use Rattle.cover_split.specs.Expansion.{pairs_of}
 use Rattle.cover_split.proofs.PairLemmas.{pair_has}
-use Rattle.cover_texts.specs.Lines.{block_fields, cover_fields, cover_lines, cover_text, pair_fields}
-use Rattle.hs_io.specs.Spelling.{ArePlainFields, IsComment, IsFieldByte, ended, spaced}
-use Rattle.net_core.specs.declared.Network.{Network}
-use Rattle.net_core.specs.Denotes.{Denotes}
+use Rattle.cover_texts.specs.Lines.{block_fields, cover_comments, cover_fields, cover_lines, pair_fields}
+use Rattle.hs_io.specs.Spelling.{ArePlainFields, IsComment, IsFieldByte, spaced}
 use Rattle.state_codes.specs.declared.split.Kind.TheVariants as kinds
 
 -- ---- the states of pairs
@@ -80,8 +75,8 @@ comments_of [] p = tt
 comments_of (fields ∷ lines) (p, ps) = ((refl, within_line fields p), comments_of lines ps)
 
 module _ (names : List (List ℕ)) (blocks : List (List ℕ)) (bits : ℕ) (words : List ℕ) (notes : List LatchNote) (plain : ArePlainFields names) (below : All (λ pair. pair.1 < length names) (pairs_of blocks)) where
-  pub cover_comments : AllByRecursion IsComment (cover_lines names blocks bits words notes)
-  cover_comments =
+  cover_are_comments : AllByRecursion IsComment (cover_lines names blocks bits words notes)
+  cover_are_comments =
       comments_of (cover_fields names blocks bits words notes) (
         ((name_word (codes "hsdec") (omega arith) refl).field.visible, ((name_word (codes "cover") (omega arith) refl).field.visible, tt)),
         each_append AreVisible (map block_fields (enumerate_from 0 blocks) ++ map (pair_fields names bits) (zip (pairs_of blocks) words)) (map note_fields (enumerate_from 0 notes))
@@ -89,10 +84,5 @@ module _ (names : List (List ℕ)) (blocks : List (List ℕ)) (bits : ℕ) (word
             (notes_visible notes),
       )
 
-  -- so the text denotes the network, also after other comments
-  pub text_denotes : NetTextDenotes → (N : Network) (comments : List (List ℕ)) → IsWritable N → AllByRecursion IsComment comments → Denotes (flat_map ended comments ++ cover_text names blocks bits words notes N) N
-  text_denotes law N comments writable are =
-      let lines : List (List ℕ) = cover_lines names blocks bits words notes in
-      let same : flat_map ended comments ++ cover_text names blocks bits words notes N ≡ flat_map ended (comments ++ lines) ++ net_text N =
-      sym (append_assoc (flat_map ended comments) (flat_map ended lines) (net_text N)) ∙ ap (λ (t : List ℕ). t ++ net_text N) (sym (flat_map-append ended comments lines)) in
-      subst (λ (bytes : List ℕ). Denotes bytes N) (sym same) (law N (comments ++ lines) writable (each_append IsComment comments lines are cover_comments))
+  pub are_comments : AreComments (cover_comments names blocks bits words notes)
+  are_comments = (cover_lines names blocks bits words notes, cover_are_comments, refl)

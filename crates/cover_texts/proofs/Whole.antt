@@ -1,18 +1,21 @@
--- The whole text: the machine of the pairs, its codes, its network and the comments before it, put together.
-use Rattle.std.proofs.Common.{◌≡◌, ℕ, ◌<◌, ◌++◌, inl, inr, All, Bool, Contains, List, [], Some, length, sym, ap, ◌∙◌, subst, arith}
-use Rattle.std.specs.List.{flat_map, slice_get}
+-- The network with its comments: the machine of the pairs, its codes, its network and the comments before it, put together.
+use Rattle.std.proofs.Common.{◌≡◌, ℕ, ◌<◌, inl, inr, All, Bool, Contains, List, [], Some, length, sym, ap, ◌∙◌, subst, arith}
+use Rattle.std.specs.List.{slice_get}
 use Rattle.std.proofs.lemmas.Option.{slice_get_within}
 use Rattle.list_facts.specs.Laws.Places.{item_at}
 use Rattle.blif_out.specs.declared.header.LatchNote.{LatchNote}
-use Rattle.blif_out.specs.Law.{NetTextDenotes}
+use Rattle.blif_out.specs.declared.networks.CommentedNetwork.{CommentedNetwork}
+use Rattle.blif_out.specs.Comments.{AreComments}
+use Rattle.blif_out.specs.NetworkText.{CanBeWritten, CanBeText}
 use Rattle.blif_out.specs.Writable.{IsWritable}
 use Rattle.cover_split.specs.Cover.{IsCover}
 use Rattle.cover_split.specs.Expansion.{pairs_of}
+use Rattle.cover_split.specs.Refusal.{IsTextOf}
 use Rattle.cover_texts.specs.Inner.Steps.{AreCodes, AreParts, IsExpanded}
 use Rattle.cover_texts.specs.Inner.Whole.{IsWhole}
-use Rattle.cover_texts.specs.Lines.{cover_text}
-use Rattle.cover_texts.specs.Written.{FrontReadsFront, HasLatches, StartsAtFirstCopy, StepsAsPairs}
-use Rattle.cover_texts.proofs.Comments.{states_below, text_denotes}
+use Rattle.cover_texts.specs.Lines.{cover_comments}
+use Rattle.cover_texts.specs.Written.{FrontReadsFront, HasLatches, IsNetworkOfPairs, StartsAtFirstCopy, StepsAsPairs}
+use Rattle.cover_texts.proofs.Comments.{are_comments, states_below}
 use Rattle.cover_texts.proofs.Flowing.{states_counted}
 use Rattle.cover_texts.proofs.Sizes.{length_of_code}
 use Rattle.decomposition.specs.Network.{IsNetworkOf}
@@ -25,8 +28,6 @@ use Rattle.machine_table.specs.Staying.{NeverLeaves}
 use Rattle.machine_table.specs.Table.{IsTable}
 use Rattle.net_core.specs.declared.Network.{Network}
 use Rattle.net_core.specs.declared.SignalNames.{SignalNames}
-use Rattle.hs_io.specs.Spelling.{ended}
-use Rattle.net_core.specs.Denotes.{Denotes}
 use Rattle.net_core.specs.Step.{NetAnswers, Step}
 use Rattle.realise.specs.Carries.{AnswersAs}
 use Rattle.realise.specs.Codes.{code_of}
@@ -68,7 +69,7 @@ module _ (F E : KissFile) (blocks : List (List ℕ)) (parts : List Part) (codes 
     apart = (names_apart F codes.bits names lawful coded.short own).1
 
     module _ (N : Network) (notes : List LatchNote) (net : IsNetworkOf E parts codes names N notes) (stays : NeverLeaves E) (table : IsTable E) where
-      pub net_writable : IsWritable N
+      net_writable : IsWritable N
       net_writable = writable E codes.bits codes.words net.sets names N counted net.enough net.realised (file_names F codes.bits names lawful own)
 
       -- ---- what the network does
@@ -120,45 +121,50 @@ module _ (F E : KissFile) (blocks : List (List ℕ)) (parts : List Part) (codes 
         count = net.latches ∙ length_of_code (length (pairs_of blocks)) blocks parts are.split are.lawful codes coded.code;
       }
 
-      -- ---- the text
-      module _ (law : NetTextDenotes) (written : List ℕ) (whole : written ≡ cover_text F.states blocks codes.bits codes.words notes N) where
-        pub text_is : IsWhole F blocks E written
-        text_is = (
+      -- ---- the network with its comments
+      module _ (made : CommentedNetwork) (comments : made.comments ≡ cover_comments F.states blocks codes.bits codes.words notes) (network : made.network ≡ N) where
+        of_pairs : (text : List ℕ) → IsTextOf (length F.states) text blocks → IsNetworkOfPairs F text blocks E parts codes notes made.comments N
+        of_pairs text told = record {
+          spelled = told;
+          cover = cover;
+          closed = is.closed;
+          expansion = is.expansion;
+          split = are.split;
+          code = coded.code;
+          told = comments;
+          answers = net_answers;
+          starts = net_starts;
+          steps = net_steps;
+          names = (
+            names,
+            own,
+            record { inputs = (net.realised).inputs; outputs = (net.realised).outputs; latch_inputs = (net.realised).latch_inputs; latch_outputs = (net.realised).latch_outputs },
+          );
+          pairs = net.pairs;
+          noted = (net.noted).count ∙ (net.enough).latch_count ∙ sym net.latches;
+          owners = λ i note stands.
+              let set = item_at (net.sets).latches i (omega (arith, slice_get_within notes i note stands, (net.noted).count)) in
+              ((net.noted).each i set.0 note set.1 stands).part;
+          distinct = coded.distinct;
+          front = net_front;
+          within = net.within;
+          latches = net_latches;
+          gates = record { sets = net.sets; by_rule = net.by_rule; enough = net.enough; irredundant = net.irredundant; names = names; own = own; realised = net.realised };
+        }
+
+        pub whole : IsWhole F blocks E made
+        whole = (
           parts,
           codes,
-          N,
           notes,
-          λ text told.
-              let denoted = text_denotes F.states blocks codes.bits codes.words notes (plain_fields F lawful) (states_below (length F.states) blocks cover.lawful) law N in
-              record {
-                spelled = told;
-                cover = cover;
-                closed = is.closed;
-                expansion = is.expansion;
-                split = are.split;
-                code = coded.code;
-                whole = whole;
-                denotes = subst (λ (bytes : List ℕ). Denotes bytes N) (sym whole) (denoted [] net_writable tt);
-                after = λ comments comment. subst (λ (bytes : List ℕ). Denotes (flat_map ended comments ++ bytes) N) (sym whole) (denoted comments net_writable comment);
-                sound = net.sound;
-                known_starts = net.starts;
-                answers = net_answers;
-                starts = net_starts;
-                steps = net_steps;
-                names = (
-                  names,
-                  own,
-                  record { inputs = (net.realised).inputs; outputs = (net.realised).outputs; latch_inputs = (net.realised).latch_inputs; latch_outputs = (net.realised).latch_outputs },
-                );
-                pairs = net.pairs;
-                noted = (net.noted).count ∙ (net.enough).latch_count ∙ sym net.latches;
-                owners = λ i note stands.
-                    let set = item_at (net.sets).latches i (omega (arith, slice_get_within notes i note stands, (net.noted).count)) in
-                    ((net.noted).each i set.0 note set.1 stands).part;
-                distinct = coded.distinct;
-                front = net_front;
-                within = net.within;
-                latches = net_latches;
-                gates = record { sets = net.sets; by_rule = net.by_rule; names = names; own = own; realised = net.realised };
-              },
+          λ text told. subst (IsNetworkOfPairs F text blocks E parts codes notes made.comments) (sym network) (of_pairs text told),
         )
+
+        ready_network : CanBeWritten N
+        ready_network = record { writable = net_writable; starts = net.starts; rows = net.rows; sound = net.sound }
+
+        pub ready : CanBeText made
+        ready = record {
+          comments = subst AreComments (sym comments) (are_comments F.states blocks codes.bits codes.words notes (plain_fields F lawful) (states_below (length F.states) blocks cover.lawful));
+          network = subst CanBeWritten (sym network) ready_network;
+        }

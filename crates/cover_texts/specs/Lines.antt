@@ -1,14 +1,11 @@
--- The text of the network of a cover: comments of its blocks, of the codes of its pairs and of its latches, and
--- then the network.
+-- The comments before the network of a cover: those of its blocks, of the codes of its pairs and of its latches.
 use Rattle.std.specs.Prelude.{ℕ, List, [], ◌∷◌, ◌++◌, codes, map, slice_index_or}
 use Rattle.std.specs.List.{enumerate_from, flat_map, zip}
 use Rattle.std.specs.Fmt.{decimal}
 use Rattle.blif_out.specs.declared.header.LatchNote.{LatchNote}
 use Rattle.blif_out.specs.Head.{bit_text, bits_of, comment_text, note_fields}
-use Rattle.blif_out.specs.NetText.{net_text}
 use Rattle.cover_split.specs.Expansion.{pairs_of}
 use Rattle.hs_io.specs.Spelling.{ended}
-use Rattle.net_core.specs.declared.Network.{Network}
 use Rattle.partition.specs.Text.{labels_text}
 
 -- a block with its number: its states, joined by commas
@@ -30,6 +27,6 @@ cover_fields names blocks bits words notes =
 abbrev pub cover_lines : List (List ℕ) → List (List ℕ) → ℕ → List ℕ → List LatchNote → List (List ℕ)
 cover_lines names blocks bits words notes = map comment_text (cover_fields names blocks bits words notes)
 
--- the whole text, for states of these names
-abbrev pub cover_text : List (List ℕ) → List (List ℕ) → ℕ → List ℕ → List LatchNote → Network → List ℕ
-cover_text names blocks bits words notes N = flat_map ended (cover_lines names blocks bits words notes) ++ net_text N
+-- the text of the comments, for states of these names
+abbrev pub cover_comments : List (List ℕ) → List (List ℕ) → ℕ → List ℕ → List LatchNote → List ℕ
+cover_comments names blocks bits words notes = flat_map ended (cover_lines names blocks bits words notes)

@@ -1,9 +1,9 @@
--- What holds of a text that is written for a cover of a file's machine (source: Hartmanis and Stearns, state
+-- What holds of a network, its comments and their text, that are made for a cover of a file's machine (source: Hartmanis and Stearns, state
 -- splitting).
-use Rattle.std.specs.Prelude.{◌≡◌, ℕ, ◌+◌, ◌++◌, Bool, List, Some, length, slice_get, slice_index}
-use Rattle.std.specs.List.{flat_map, AllByRecursion}
+use Rattle.std.specs.Prelude.{◌≡◌, ℕ, ◌+◌, Bool, List, Some, length, slice_get, slice_index}
 use Rattle.blif_out.specs.declared.header.LatchNote.{LatchNote}
-use Rattle.blif_out.specs.Order.{HasKnownStarts}
+use Rattle.blif_out.specs.declared.networks.CommentedNetwork.{CommentedNetwork}
+use Rattle.blif_out.specs.NetworkText.{IsTextWith}
 use Rattle.cover_split.specs.Cover.{IsCover}
 use Rattle.cover_split.specs.Expansion.{IsClosedCover, IsExpansion, IsFirstCopy, IsPair, IsTarget, pairs_of}
 use Rattle.cover_split.specs.Parts.{IsLongest, IsSplitByBlock}
@@ -12,14 +12,11 @@ use Rattle.decomposition.specs.Decomposition.{HasGates}
 use Rattle.decomposition.specs.Named.{HasNames}
 use Rattle.decomposition.specs.OwnPairs.{OwnPairs, ReadsLatch}
 use Rattle.decomposition.specs.Within.{IsBitOf, IsWithinParts}
-use Rattle.hs_io.specs.Spelling.{ended, IsComment}
 use Rattle.kiss_file.specs.declared.file.KissFile.{KissFile}
 use Rattle.kiss_file.specs.Machine.{next, out}
 use Rattle.net_core.specs.declared.Gate.{Gate}
 use Rattle.net_core.specs.declared.Network.{Network}
 use Rattle.net_core.specs.declared.SignalNames.{SignalNames}
-use Rattle.net_core.specs.Denotes.{Denotes}
-use Rattle.net_core.specs.Sound.{Sound}
 use Rattle.net_core.specs.Step.{AreStarts, Step}
 use Rattle.realise.specs.Carries.{AnswersAs}
 use Rattle.realise.specs.Codes.{code_of}
@@ -28,7 +25,7 @@ use Rattle.state_codes.specs.declared.Codes.{Codes}
 use Rattle.state_codes.specs.declared.split.Part.{Part}
 use Rattle.state_codes.specs.Agreement.{AreDistinct}
 use Rattle.state_codes.specs.Code.{IsCode, need}
-use Rattle.cover_texts.specs.Lines.{cover_text}
+use Rattle.cover_texts.specs.Lines.{cover_comments}
 
 -- the starts are the code of the reset state's pair in the first block that has it
 abbrev pub StartsAtFirstCopy : KissFile → List (List ℕ) → Codes → Network → Type 0
@@ -66,21 +63,17 @@ pub record HasLatches (blocks : List (List ℕ)) (N : Network) : Type 0 where
 abbrev pub HasNamesOf : KissFile → ℕ → Network → Type 0
 HasNamesOf F latches N = (names : SignalNames) × AreNames F latches names × HasNames N names
 
--- The text is that of a network after its comments, and denotes the network. The network is sound and answers every
+-- The comments are those of the blocks, of the codes of their pairs and of the latches. The network answers every
 -- word as the machine of the file does. It goes from code to code of the pairs, which are the states of the machine
 -- E of the cover's pairs. The codes are those of E's split: by the block, and by the place in the block.
-pub record IsTextOfPairs (F : KissFile) (text : List ℕ) (blocks : List (List ℕ)) (E : KissFile) (parts : List Part) (codes : Codes) (N : Network) (notes : List LatchNote) (written : List ℕ) : Type 0 where
+pub record IsNetworkOfPairs (F : KissFile) (text : List ℕ) (blocks : List (List ℕ)) (E : KissFile) (parts : List Part) (codes : Codes) (notes : List LatchNote) (comments : List ℕ) (N : Network) : Type 0 where
   pub spelled : IsTextOf (length F.states) text blocks
   pub cover : IsCover (length F.states) blocks
   pub closed : IsClosedCover F blocks
   pub expansion : IsExpansion F blocks E
   pub split : IsSplitByBlock blocks parts
   pub code : IsCode (length (pairs_of blocks)) parts codes
-  pub whole : written ≡ cover_text F.states blocks codes.bits codes.words notes N
-  pub denotes : Denotes written N
-  pub after : (comments : List (List ℕ)) → AllByRecursion IsComment comments → Denotes (flat_map ended comments ++ written) N
-  pub sound : Sound N
-  pub known_starts : HasKnownStarts N
+  pub told : comments ≡ cover_comments F.states blocks codes.bits codes.words notes
   pub answers : AnswersAs F N
   pub starts : StartsAtFirstCopy F blocks codes N
   pub steps : StepsAsPairs F blocks codes N
@@ -94,8 +87,13 @@ pub record IsTextOfPairs (F : KissFile) (text : List ℕ) (blocks : List (List �
   pub latches : HasLatches blocks N
   pub gates : HasGates F E parts codes N
 
--- the text is that of the cover whose blocks `text` gives
-unfoldable pub IsCoverText : KissFile → List ℕ → List ℕ → Type 0
-IsCoverText F text written =
-    (blocks : List (List ℕ)) × (E : KissFile) × (parts : List Part) × (codes : Codes) × (N : Network) × (notes : List LatchNote)
-    × IsTextOfPairs F text blocks E parts codes N notes written
+-- the network and its comments are those of the cover whose blocks `text` gives
+unfoldable pub IsCoverNetwork : KissFile → List ℕ → CommentedNetwork → Type 0
+IsCoverNetwork F text made =
+    (blocks : List (List ℕ)) × (E : KissFile) × (parts : List Part) × (codes : Codes) × (notes : List LatchNote)
+    × IsNetworkOfPairs F text blocks E parts codes notes made.comments made.network
+
+-- The text is that of such a network after its comments. It denotes the network, also after further comments, and
+-- the network is sound and starts at known values.
+abbrev pub IsCoverText : KissFile → List ℕ → List ℕ → Type 0
+IsCoverText F text written = IsTextWith (IsCoverNetwork F text) written

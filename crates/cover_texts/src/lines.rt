@@ -5,8 +5,7 @@ ghost use Rattle.std.specs.List.{flat_map, zip};
 ghost use Rattle.cover_split.specs.Cover.{IsCover};
 ghost use Rattle.cover_split.specs.Expansion as expansion;
 ghost use Rattle.cover_texts.specs.Inner.Pieces.{pair_line};
-ghost use Rattle.cover_texts.specs.Lines.{cover_lines};
-ghost use Rattle.hs_io.specs.Spelling.{ended};
+ghost use Rattle.cover_texts.specs.Lines.{cover_comments};
 
 use crate::blocks::append_blocks;
 use blif_out::{LatchNote, append_code_field, append_field, append_notes, append_number_field};
@@ -27,7 +26,7 @@ pub(crate) fn append_head(
     requires cover { IsCover (length file.now.states) cover.now.blocks }
     requires words { length codes.now.words ≡ length (expansion.pairs_of cover.now.blocks) }
     requires bits { codes.now.bits ≤ 64 }
-    ensures { OnOk result (text.new.items ≡ text.old.items ++ flat_map ended (cover_lines file.now.states cover.now.blocks codes.now.bits codes.now.words notes.now)) }
+    ensures { OnOk result (text.new.items ≡ text.old.items ++ cover_comments file.now.states cover.now.blocks codes.now.bits codes.now.words notes.now) }
 {
     let blocks = cover.blocks.as_slice();
     text.extend_from_slice(b"# hsdec cover\n")?;

@@ -19,6 +19,7 @@ use Rattle.state_codes.specs.declared.split.Part.{Part}
 use Rattle.state_codes.specs.Agreement.{AreDistinct}
 use Rattle.state_codes.specs.Code.{IsCode, Place, bit_of, places_of, state_code}
 use Rattle.decomposition.specs.Flow.{CandidatesPermit}
+use Rattle.decomposition.specs.Irredundant.{AreIrredundant}
 
 -- a code has no bits but its own
 pub no_bit_past : (n : ℕ) (parts : List Part) (codes : Codes) → IsCode n parts codes → (s i : ℕ) → s < n → codes.bits ≤ i → bit_at (get_or codes.words s 0) i ≡ 0
@@ -73,4 +74,13 @@ module _ (W : KissFile) (parts : List Part) (codes : Codes) (code : IsCode (leng
             let is : IsReadSet W codes.words (IsBitOfCode codes) (output_value W b) set = are.outputs b set stands in
             enough_of (IsBitOfCode codes) (output_value W b) set is
             (output_rule W codes.words codes set.latches (output_value W b) (all_bits_permit distinct b) is.latches).permits;
+      }
+
+  -- and none of their bits can be left out
+  pub irredundant : (sets : Reads) → LatchRuleIsIrredundant → OutputRuleIsIrredundant → CandidatesPermit W parts codes → AreDistinct (length W.states) codes.words → AreReads W parts codes sets → AreIrredundant W codes.words sets
+  irredundant sets latch_rule output_rule permit distinct are =
+      record {
+        latches = λ i set stands.
+            latch_rule W codes.words parts codes i set.latches (next_value W codes.words i) (permit i (omega (arith, slice_get_within sets.latches i set stands, are.latch_count))) (are.latches i set stands).latches;
+        outputs = λ b set stands. output_rule W codes.words codes set.latches (output_value W b) (all_bits_permit distinct b) (are.outputs b set stands).latches;
       }

@@ -27,8 +27,9 @@ use Rattle.state_codes.specs.Laws.Codes.{length-owner}
 use Rattle.state_codes.specs.Split.{IsPart}
 use Rattle.decomposition.specs.Flow.{Flows}
 use Rattle.decomposition.specs.Network.{IsNetworkOf}
+use Rattle.decomposition.specs.Irredundant.{AreIrredundant}
 use Rattle.decomposition.specs.Notes.{AreNotes}
-use Rattle.decomposition.proofs.Enough.{enough}
+use Rattle.decomposition.proofs.Enough.{enough, irredundant}
 use Rattle.decomposition.proofs.Flowing.{flow_permits}
 use Rattle.decomposition.proofs.Pairs.{AreMade, own_pairs, within_parts}
 use Rattle.decomposition.proofs.Writable.{known_starts, rows_in_order}
@@ -76,6 +77,10 @@ module _ (W : KissFile) (parts : List Part) (codes : Codes) (names : SignalNames
     are_enough =
         enough W parts codes asked.code sets asked.latch_rule asked.output_rule (flow_permits W parts codes asked.lawful asked.code asked.stays asked.flows) asked.distinct by_rule
 
+    irredundant_sets : AreIrredundant W codes.words sets
+    irredundant_sets =
+        irredundant W parts codes asked.code sets asked.latch_rule asked.output_rule (flow_permits W parts codes asked.lawful asked.code asked.stays asked.flows) asked.distinct by_rule
+
     -- a note can be made for each set
     pub owners_counted : (lent : List ReadSet) → lent ≡ sets.latches → length codes.owner ≡ length lent
     owners_counted lent is = length-owner (length W.states) parts codes asked.code ∙ sym by_rule.latch_count ∙ ap (λ (list : List ReadSet). length list) (sym is)
@@ -113,6 +118,7 @@ module _ (W : KissFile) (parts : List Part) (codes : Codes) (names : SignalNames
         sets = sets;
         by_rule = by_rule;
         enough = are_enough;
+        irredundant = irredundant_sets;
         realised = realised;
         noted = noted;
         latches = latch_count W codes.bits codes.words sets names N asked.counted are_enough realised;

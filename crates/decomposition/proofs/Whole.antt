@@ -1,14 +1,14 @@
--- The whole text: what is shown of a split, its codes, their network and its header, put together.
-use Rattle.std.proofs.Common.{◌≡◌, ℕ, ◌<◌, ◌≤◌, Bool, All, IfSome, List, ◌++◌, length, get_or, sym, ap, ◌∙◌, subst, arith}
-use Rattle.std.specs.List.{flat_map}
+-- The network with its header: what is shown of a split, its codes, their network and its header, put together.
+use Rattle.std.proofs.Common.{◌≡◌, ℕ, ◌<◌, ◌≤◌, Bool, All, IfSome, List, length, get_or, sym, ap, ◌∙◌, subst, arith}
 use Rattle.std.proofs.lemmas.Option.{slice_get_within}
 use Rattle.list_facts.specs.Laws.Places.{item_at}
 use Rattle.blif_out.specs.declared.header.Header.{Header}
 use Rattle.blif_out.specs.declared.header.LatchNote.{LatchNote}
-use Rattle.blif_out.specs.Head.{Head, net_text_of}
+use Rattle.blif_out.specs.declared.networks.HeadedNetwork.{HeadedNetwork}
+use Rattle.blif_out.specs.Comments.{IsPrintable}
+use Rattle.blif_out.specs.NetworkText.{CanBeWritten, CanBeHeaded}
 use Rattle.blif_out.specs.Writable.{IsWritable}
-use Rattle.blif_out.proofs.Whole.{whole_denotes}
-use Rattle.hs_io.specs.Spelling.{ended, ArePlainFields}
+use Rattle.hs_io.specs.Spelling.{ArePlainFields}
 use Rattle.kiss_file.specs.declared.file.KissFile.{KissFile}
 use Rattle.kiss_file.specs.Lawful.{IsLawful}
 use Rattle.kiss_file.specs.Machine.{Conflicting}
@@ -16,7 +16,6 @@ use Rattle.kiss_file.specs.Laws.Machine.{next_is_a_state}
 use Rattle.machine_table.specs.Staying.{NeverLeaves}
 use Rattle.net_core.specs.declared.Network.{Network}
 use Rattle.net_core.specs.declared.SignalNames.{SignalNames}
-use Rattle.net_core.specs.Denotes.{Denotes}
 use Rattle.realise.specs.Carries.{Carries}
 use Rattle.realise.specs.Laws.{ArePairwiseDistinct}
 use Rattle.realise.specs.Names.{AreNames}
@@ -29,7 +28,7 @@ use Rattle.state_codes.specs.declared.split.Split.{Split}
 use Rattle.state_codes.specs.Code.{IsCode}
 use Rattle.state_codes.specs.Split.{IsPart}
 use Rattle.state_reduce.specs.declared.work.WorkMachine.{WorkMachine}
-use Rattle.decomposition.specs.Decomposition.{HasGates, IsTextOf, PrintsCodes}
+use Rattle.decomposition.specs.Decomposition.{HasGates, IsDecomposed, IsDecomposition, PrintsCodes}
 use Rattle.decomposition.specs.Inner.Headed.{IsHeaderOf, words_by}
 use Rattle.decomposition.specs.Named.{Named}
 use Rattle.decomposition.specs.Network.{IsNetworkOf}
@@ -74,7 +73,7 @@ module _ (F : KissFile) (work : WorkMachine) (codes : Codes) (lawful : IsLawful 
     signal_names = file_names F codes.bits names lawful own
 
     module _ (split : Split) (N : Network) (notes : List LatchNote) (net : IsNetworkOf W split.parts codes names N notes) (reduce : Bool) (is : IsWork reduce F work) where
-      pub net_writable : IsWritable N
+      net_writable : IsWritable N
       net_writable = writable W codes.bits codes.words net.sets names N (counted reduce is) net.enough net.realised signal_names
 
       printed : ArePrinted F is.class codes.words (words_by work.classes codes.words)
@@ -86,10 +85,7 @@ module _ (F : KissFile) (work : WorkMachine) (codes : Codes) (lawful : IsLawful 
       carries : Carries F N (words_by work.classes codes.words)
       carries = carries_file F W is.class N codes.words (words_by work.classes codes.words) lawful.reset stays_of_file (image reduce is) printed net.carries
 
-      pub notes_counted : length notes ≡ length N.latches
-      notes_counted = (net.noted).count ∙ (net.by_rule.latch_count ∙ sym net.latches)
-
-      pub words_printed : length (words_by work.classes codes.words) ≡ length F.states
+      words_printed : length (words_by work.classes codes.words) ≡ length F.states
       words_printed = printed.count
 
       module _ (H : Header) (header : IsHeaderOf F.states work.classes split codes notes H) where
@@ -123,34 +119,47 @@ module _ (F : KissFile) (work : WorkMachine) (codes : Codes) (lawful : IsLawful 
               (noted.each i set.0 note set.1 stands).part;
         }
 
-        -- so the text is that of the split
-        pub text_is : IsCode (length W.states) split.parts codes → All (IsPart (length W.states)) split.parts → length split.parts ≤ 256 → (text : List ℕ) → text ≡ net_text_of H N → Denotes text N → Head text H → IsTextOf reduce F W split.kind split.parts text
-        unfolding IsTextOf
-        text_is code parts few text whole denotes head = (
+        -- so the network and its header are those of the split
+        decomposition : IsCode (length W.states) split.parts codes → All (IsPart (length W.states)) split.parts → length split.parts ≤ 256 → IsDecomposition reduce F W is.class codes N H
+        decomposition code parts few = record {
+          lawful = header_lawful F W is.class split codes (net.sets).latches notes work.classes H lawful (image reduce is) code parts few header.reads net.by_rule.latch_count header noted printed reduce is.classes;
+          answers = carried_answers F N (words_by work.classes codes.words) lawful.reset stays_of_file carries;
+          named = named;
+          classes = subst (AreClasses reduce F) (sym header.classes) is.classes;
+          latches = sym latches_counted;
+          carries = subst (Carries F N) (sym header.words) carries;
+          codes_of_parts = subst (λ (list : List Part). IsCode (length W.states) list codes) (sym header.parts) code;
+          printed = prints;
+          pairs = subst (OwnPairs W N codes.words) (sym header.latches) net.pairs;
+          within = subst (λ (list : List Part). IsWithinParts W N codes.words H.latches list) (sym header.parts) (subst (λ (list : List LatchNote). IsWithinParts W N codes.words list split.parts) (sym header.latches) net.within);
+          gates = subst (λ (list : List Part). HasGates F W list codes N) (sym header.parts) (record { sets = net.sets; by_rule = net.by_rule; enough = net.enough; irredundant = net.irredundant; names = names; own = own; realised = net.realised });
+        }
+
+        pub decomposed : IsCode (length W.states) split.parts codes → All (IsPart (length W.states)) split.parts → length split.parts ≤ 256 → (made : HeadedNetwork) → made.header ≡ H → made.network ≡ N → IsDecomposed reduce F W split.kind split.parts made
+        unfolding IsDecomposed
+        decomposed code parts few made same_header same_network = (
           is.class,
           codes,
-          N,
-          H,
           is.machine,
-          header.kind,
-          header.parts,
-          record {
-            whole = whole;
-            head = head;
-            lawful = header_lawful F W is.class split codes (net.sets).latches notes work.classes H lawful (image reduce is) code parts few header.reads net.by_rule.latch_count header noted printed reduce is.classes;
-            denotes = denotes;
-            after_comments = λ comments are. subst (λ (bytes : List ℕ). Denotes (flat_map ended comments ++ bytes) N) (sym whole) (whole_denotes N H comments net_writable states_written are);
-            sound = net.sound;
-            starts = net.starts;
-            answers = carried_answers F N (words_by work.classes codes.words) lawful.reset stays_of_file carries;
-            named = named;
-            classes = subst (AreClasses reduce F) (sym header.classes) is.classes;
-            latches = sym latches_counted;
-            carries = subst (Carries F N) (sym header.words) carries;
-            codes_of_parts = subst (λ (list : List Part). IsCode (length W.states) list codes) (sym header.parts) code;
-            printed = prints;
-            pairs = subst (OwnPairs W N codes.words) (sym header.latches) net.pairs;
-            within = subst (λ (list : List Part). IsWithinParts W N codes.words H.latches list) (sym header.parts) (subst (λ (list : List LatchNote). IsWithinParts W N codes.words list split.parts) (sym header.latches) net.within);
-            gates = subst (λ (list : List Part). HasGates F W list codes N) (sym header.parts) (record { sets = net.sets; by_rule = net.by_rule; names = names; own = own; realised = net.realised });
-          },
+          ap (λ (K : Header). K.kind) same_header ∙ header.kind,
+          ap (λ (K : Header). K.parts) same_header ∙ header.parts,
+          subst (λ (M : Network). IsDecomposition reduce F W is.class codes M made.header) (sym same_network)
+              (subst (λ (K : Header). IsDecomposition reduce F W is.class codes N K) (sym same_header) (decomposition code parts few)),
         )
+
+        -- and both can be written
+        printable : IsPrintable H
+        printable = record {
+          states = states_written;
+          words = ap (λ (list : List ℕ). length list) header.words ∙ words_printed ∙ ap (λ (list : List (List ℕ)). length list) (sym header.states);
+          latches = omega (arith, latches_noted, short);
+        }
+
+        ready_network : CanBeWritten N
+        ready_network = record { writable = net_writable; starts = net.starts; rows = net.rows; sound = net.sound }
+
+        pub ready : (made : HeadedNetwork) → made.header ≡ H → made.network ≡ N → CanBeHeaded made
+        ready made same_header same_network = record {
+          header = subst IsPrintable (sym same_header) printable;
+          network = subst CanBeWritten (sym same_network) ready_network;
+        }

@@ -1,27 +1,24 @@
--- The headline: what holds of a text that is written as a decomposition of a file's machine.
-use Rattle.std.specs.Prelude.{◌≡◌, ℕ, ◌<◌, ◌++◌, Bool, List, length, slice_get, slice_index, Some}
-use Rattle.std.specs.List.{flat_map, AllByRecursion}
+-- The headline: what holds of a network, its header and their text, that are a decomposition of a file's machine.
+use Rattle.std.specs.Prelude.{◌≡◌, ℕ, ◌<◌, Bool, List, length, slice_get, slice_index, Some}
 use Rattle.blif_out.specs.declared.header.Header.{Header}
 use Rattle.blif_out.specs.declared.header.LatchNote.{LatchNote}
-use Rattle.blif_out.specs.Head.{Head, net_text_of}
+use Rattle.blif_out.specs.declared.networks.HeadedNetwork.{HeadedNetwork}
 use Rattle.blif_out.specs.HeadLaw.{IsLawfulHeader}
-use Rattle.blif_out.specs.Order.{HasKnownStarts}
+use Rattle.blif_out.specs.NetworkText.{IsHeadedText}
 use Rattle.dependence.specs.declared.sets.Reads.{Reads}
 use Rattle.dependence.specs.Reads.{AreReads}
-use Rattle.hs_io.specs.Spelling.{ended, IsComment}
 use Rattle.kiss_file.specs.declared.file.KissFile.{KissFile}
 use Rattle.net_core.specs.declared.Network.{Network}
 use Rattle.net_core.specs.declared.SignalNames.{SignalNames}
-use Rattle.net_core.specs.Denotes.{Denotes}
-use Rattle.net_core.specs.Sound.{Sound}
 use Rattle.realise.specs.Carries.{AnswersAs, Carries}
 use Rattle.realise.specs.Names.{AreNames}
-use Rattle.realise.specs.Realised.{IsRealised}
+use Rattle.realise.specs.Realised.{AreEnough, IsRealised}
 use Rattle.state_codes.specs.declared.Codes.{Codes}
 use Rattle.state_codes.specs.declared.split.Kind.{Kind}
 use Rattle.state_codes.specs.declared.split.Part.{Part}
 use Rattle.state_codes.specs.Code.{IsCode}
 use Rattle.state_reduce.specs.WorkMachine.{IsWorkMachine}
+use Rattle.decomposition.specs.Irredundant.{AreIrredundant}
 use Rattle.decomposition.specs.Named.{Named}
 use Rattle.decomposition.specs.OwnPairs.{OwnPairs}
 use Rattle.decomposition.specs.Within.{IsWithinParts}
@@ -35,36 +32,28 @@ pub record PrintsCodes (F : KissFile) (class : ℕ → ℕ) (codes : Codes) (H :
   pub bits : length H.latches ≡ codes.bits
   pub owners : (i : ℕ) (note : LatchNote) → slice_get H.latches i ≡ Some note → note.part ≡ slice_index codes.owner i
 
--- Each gate lists exactly its read set. The bits of the set are those of the rule, with none to spare, and its
--- inputs are those that matter. The rows of the gate are a good cover of the values at which it gives 1 and of
--- those at which it gives 0.
+-- Each gate lists exactly its read set. The bits of the set are those of the rule. They and its inputs, which are
+-- those that matter, are enough for what the gate gives, and none of the bits can be left out. The rows of the gate
+-- are a good cover of the values at which it gives 1 and of those at which it gives 0.
 pub record HasGates (F W : KissFile) (parts : List Part) (codes : Codes) (N : Network) : Type 0 where
   pub sets : Reads
   pub by_rule : AreReads W parts codes sets
+  pub enough : AreEnough W codes.bits codes.words sets
+  pub irredundant : AreIrredundant W codes.words sets
   pub names : SignalNames
   pub own : AreNames F codes.bits names
   pub realised : IsRealised W codes.bits codes.words sets names N
 
--- The text consists of a header and the text of a network after it, and denotes the network; comments in front of
--- the text do not change what it denotes. Of the network and the header this holds:
--- - The network is sound, starts at known values, and answers every word as the machine of the file does from its
---   reset state.
+-- What holds of a network and its header:
+-- - The network answers every word as the machine of the file does from its reset state.
 -- - The header has the names, the classes, and the codes that carry every step of the file's machine.
 -- - The codes are those that the parts give to the states of the work machine W.
 -- - Each gate of a latch reads only what its own pair and its part permit.
 --
--- The header is the only lawful one that the text has, as HeadOnce of blif_out says. Four fields say again, in the
+-- The header is the only lawful one that a text has, as HeadOnce of blif_out says. Two fields say again, in the
 -- words of a reader of the text, what follows from others, as the line above each of them says.
-pub record IsDecomposition (reduce : Bool) (F W : KissFile) (class : ℕ → ℕ) (codes : Codes) (text : List ℕ) (N : Network) (H : Header) : Type 0 where
-  pub whole : text ≡ net_text_of H N
-  -- follows from `whole`
-  pub head : Head text H
+pub record IsDecomposition (reduce : Bool) (F W : KissFile) (class : ℕ → ℕ) (codes : Codes) (N : Network) (H : Header) : Type 0 where
   pub lawful : IsLawfulHeader H
-  pub denotes : Denotes text N
-  pub after_comments : (comments : List (List ℕ)) → AllByRecursion IsComment comments → Denotes (flat_map ended comments ++ text) N
-  pub sound : Sound N
-  -- follows from the starts of `carries`
-  pub starts : HasKnownStarts N
   -- follows from `carries`, as CarriedAnswers of realise says
   pub answers : AnswersAs F N
   pub named : Named F N H
@@ -78,8 +67,14 @@ pub record IsDecomposition (reduce : Bool) (F W : KissFile) (class : ℕ → ℕ
   pub within : IsWithinParts W N codes.words H.latches H.parts
   pub gates : HasGates F W H.parts codes N
 
--- the text is the text of a split of the work machine W of a file, of this kind and into these parts
-unfoldable pub IsTextOf : Bool → KissFile → KissFile → Kind → List Part → List ℕ → Type 0
-IsTextOf reduce F W kind parts text =
-    (class : ℕ → ℕ) × (codes : Codes) × (N : Network) × (H : Header)
-    × IsWorkMachine reduce F W class × (H.kind ≡ kind) × (H.parts ≡ parts) × IsDecomposition reduce F W class codes text N H
+-- the network and its header are those of a split of the work machine W of a file, of this kind and into these parts
+unfoldable pub IsDecomposed : Bool → KissFile → KissFile → Kind → List Part → HeadedNetwork → Type 0
+IsDecomposed reduce F W kind parts made =
+    (class : ℕ → ℕ) × (codes : Codes)
+    × IsWorkMachine reduce F W class × (made.header.kind ≡ kind) × (made.header.parts ≡ parts) × IsDecomposition reduce F W class codes made.network made.header
+
+-- The text is that of such a network after its header. It consists of the header and the network, denotes the
+-- network, also after further comments, and the network is sound and starts at known values.
+abbrev pub IsDecomposedText : Bool → KissFile → KissFile → Kind → List Part → List ℕ → Type 0
+IsDecomposedText reduce F W kind parts text =
+    (made : HeadedNetwork) × IsDecomposed reduce F W kind parts made × IsHeadedText made.header made.network text

@@ -3,6 +3,7 @@ pub mod Named
 pub mod Notes
 pub mod OwnPairs
 pub mod Within
+pub mod Irredundant
 pub mod Network
 pub mod Decomposition
 pub mod Inner

@@ -12,17 +12,19 @@ use Rattle.realise.specs.Carries.{Carries}
 use Rattle.realise.specs.Realised.{AreEnough, IsRealised}
 use Rattle.state_codes.specs.declared.Codes.{Codes}
 use Rattle.state_codes.specs.declared.split.Part.{Part}
+use Rattle.decomposition.specs.Irredundant.{AreIrredundant}
 use Rattle.decomposition.specs.Notes.{AreNotes}
 use Rattle.decomposition.specs.OwnPairs.{OwnPairs}
 use Rattle.decomposition.specs.Within.{IsWithinParts}
 
--- The gates have read sets by the rule, which are enough for what the gates give. The network has a latch for each
+-- The gates have read sets by the rule, which are enough for what the gates give, with no bit to spare. The network has a latch for each
 -- bit. It is sound, starts at the code of the reset state, and goes from code to code as the machine goes from
 -- state to state. Each gate of a latch reads only what the latch's own pair and its part permit.
 pub record IsNetworkOf (W : KissFile) (parts : List Part) (codes : Codes) (names : SignalNames) (N : Network) (notes : List LatchNote) : Type 0 where
   pub sets : Reads
   pub by_rule : AreReads W parts codes sets
   pub enough : AreEnough W codes.bits codes.words sets
+  pub irredundant : AreIrredundant W codes.words sets
   pub realised : IsRealised W codes.bits codes.words sets names N
   pub noted : AreNotes codes sets.latches notes
   pub latches : length N.latches ≡ codes.bits

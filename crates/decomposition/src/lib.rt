@@ -1,10 +1,10 @@
-//! One way from a split to a text.
+//! One way from a split to a network.
 //!
 //! A split of a machine's states into parts gives codes to the states. The codes and the flow between the parts
-//! give what each gate reads, and these give a network and the header that explains it. [`text_of_split`] does
+//! give what each gate reads, and these give a network and the header that explains it. [`headed_network`] does
 //! this for every split through whose parts information flows as the parts say (`specs/Flow`), so that only the
-//! split is special to a kind of decomposition. The text that it writes denotes a network that answers as the
-//! machine of the file does; `specs/Decomposition` says all that holds of it.
+//! split is special to a kind of decomposition. The network answers as the machine of the file does;
+//! `specs/Decomposition` says all that holds of it, of its header and of their text.
 //!
 //! [`network_of_split`] goes as far as the network, for any machine and any names of its signals;
 //! `specs/Network` says all that is known of it.
@@ -23,4 +23,4 @@ mod writing;
 
 pub use laws::{flow_permits, own_pairs_permit};
 pub use network::{SplitNetwork, network_of_split};
-pub use writing::text_of_split;
+pub use writing::headed_network;

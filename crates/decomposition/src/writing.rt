@@ -1,22 +1,20 @@
-//! From a split and its codes to the text of its network.
+//! From a split and its codes to its network and the header that explains it.
 
 ghost use Rattle.std.specs.Prelude.{◌≡◌, ◌<◌, ◌≤◌, All, Bool, IfOk, IfSome, length};
-ghost use Rattle.blif_out.specs.Order.{HasKnownStarts, HasRowsInOrder};
-ghost use Rattle.blif_out.specs.Writable.{IsWritable};
-ghost use Rattle.hs_io.specs.Spelling.{ArePlainFields};
+ghost use Rattle.blif_out.specs.NetworkText.{CanBeHeaded};
 ghost use Rattle.kiss_file.specs.Lawful.{IsLawful};
 ghost use Rattle.kiss_file.specs.Machine.{Conflicting};
 ghost use Rattle.state_codes.specs.Agreement.{AreDistinct};
 ghost use Rattle.state_codes.specs.Code.{IsCode};
 ghost use Rattle.state_codes.specs.Split.{IsPart};
-ghost use Rattle.decomposition.specs.Decomposition.{IsTextOf};
+ghost use Rattle.decomposition.specs.Decomposition.{IsDecomposed};
 ghost use Rattle.decomposition.specs.Flow.{Flows};
-ghost use Rattle.decomposition.specs.Inner.Headed.{words_by};
-ghost use Rattle.decomposition.specs.Inner.HeadedText.{IsHeadedText, IsNamedNetwork};
+ghost use Rattle.decomposition.specs.Inner.HeadedNetwork.{IsHeaded, IsNamedNetwork};
 ghost use Rattle.state_reduce.specs.Work.{IsWork};
 
 use crate::header::header_of;
 use crate::network::{SplitNetwork, network_of_split};
+use blif_out::HeadedNetwork;
 use kiss_file::{KissFile, StateNames};
 use partition::Partition;
 use realise::names;
@@ -24,16 +22,15 @@ use state_codes::{Codes, Split};
 use state_reduce::WorkMachine;
 use std::alloc::{AllocError, Global};
 
-/// The text of the network of a split, with the codes that `encode` gives for it: its header, and the network,
-/// in which each gate reads no more than it must. The machine is one that `work_machine` gives for the file,
-/// which is accepted.
-pub fn text_of_split(
+/// The network of a split, with the codes that `encode` gives for it, and the header that explains it. Each gate
+/// reads no more than it must. The machine is one that `work_machine` gives for the file, which is accepted.
+pub fn headed_network(
     alloc: Global,
     file: &KissFile,
     work: &WorkMachine,
     split: Split,
     codes: &Codes,
-) -> Result<Vec<u8>, AllocError>
+) -> Result<HeadedNetwork, AllocError>
     requires lawful { IsLawful file.now }
     requires no_conflict { Conflicting file.now → ⊥ }
     requires work { (reduce : Bool) × IsWork reduce file.now work.now }
@@ -43,11 +40,12 @@ pub fn text_of_split(
     requires code { IsCode (length work.now.machine.states) split.parts codes.now }
     requires distinct { AreDistinct (length work.now.machine.states) codes.now.words }
     requires short { codes.now.bits ≤ 64 }
-    ensures { (reduce : Bool) → IsWork reduce file.now work.now
-        → IfOk result (λ text. IsTextOf reduce file.now work.now.machine split.kind split.parts text.items) }
+    ensures ready { IfOk result CanBeHeaded }
+    ensures made { (reduce : Bool) → IsWork reduce file.now work.now
+        → IfOk result (IsDecomposed reduce file.now work.now.machine split.kind split.parts) }
 {
     let made = network_of_file(alloc, file, work, &split, codes)?;
-    text_of_network(alloc, &file.states, &work.classes, split, codes, made)
+    headed(alloc, &file.states, &work.classes, split, codes, made)
 }
 
 /// The network of a split, with the names that the file gives to its signals.
@@ -73,27 +71,21 @@ fn network_of_file(
     network_of_split(alloc, &work.machine, split, codes, &signals)
 }
 
-/// The text of a network after its header. The states of the file have these names and, if classes are given, belong
-/// to these classes.
-fn text_of_network(
+/// A network with its header. The states of the file have these names and, if classes are given, belong to these
+/// classes.
+fn headed(
     alloc: Global,
     states: &StateNames,
     classes: &Option<Partition>,
     split: Split,
     codes: &Codes,
     made: SplitNetwork,
-) -> Result<Vec<u8>, AllocError>
+) -> Result<HeadedNetwork, AllocError>
     requires few { length states.now ≤ 256 }
     requires classes { IfSome classes.now (All (λ class. class < length codes.now.words)) }
-    requires writable { IsWritable made.network }
-    requires starts { HasKnownStarts made.network }
-    requires rows { HasRowsInOrder made.network }
-    requires latches { length made.network.latches ≤ 64 }
-    requires notes { length made.notes ≡ length made.network.latches }
-    requires words { length (words_by classes.now codes.now.words) ≡ length states.now }
-    requires states { ArePlainFields states.now }
-    ensures { IfOk result (λ text. IsHeadedText states.now classes.now split codes.now made text.items) }
+    ensures { IfOk result (IsHeaded states.now classes.now split codes.now made) }
 {
-    let header = header_of(alloc, states, classes, split, codes, made.notes)?;
-    blif_out::text(alloc, &made.network, &header)
+    let SplitNetwork { network, notes } = made;
+    let header = header_of(alloc, states, classes, split, codes, notes)?;
+    Ok(HeadedNetwork { header, network })
 }

@@ -1,2 +1,3 @@
 mod Running
 mod Trying
+pub mod TrialTexts

@@ -1,10 +1,9 @@
 -- What is made of the machine of numbers, its split and its codes.
-use Rattle.std.proofs.Common.{◌≡◌, ℕ, ◌++◌, false, inl, inr, List, [], ◌∷◌, Result, Ok, Err, length, sym, subst, arith}
+use Rattle.std.proofs.Common.{◌≡◌, ℕ, ◌++◌, false, inl, inr, List, [], ◌∷◌, Result, Ok, Err, length, sym, subst, arith, refl, ap, ◌∙◌}
 use Rattle.answers.specs.declared.refusals.Refusal.{Refusal}
 use Rattle.answers.specs.Cause.{CallsForNone}
 use Rattle.answers.specs.Judged.{IsJudged, IsStop}
 use Rattle.answers.specs.Laws.Causes.{none_first}
-use Rattle.decomposition.specs.Decomposition.{IsTextOf}
 use Rattle.state_reduce.specs.declared.work.WorkMachine.{WorkMachine}
 use Rattle.state_reduce.specs.Work.{IsWork}
 use Rattle.hs_texts.proofs.Comments.{trial_lines_are_comments}
@@ -12,12 +11,10 @@ use Rattle.hs_texts.specs.declared.reports.TrialFigures.{TrialFigures}
 use Rattle.hs_texts.specs.Reports.{trial_lines, trial_text}
 use Rattle.kiss_file.specs.declared.file.KissFile.{KissFile}
 use Rattle.machine_gen.specs.MachineOf.{AreSizes}
-use Rattle.net_core.specs.declared.Network.{Network}
-use Rattle.net_core.specs.Denotes.{Denotes}
 use Rattle.net_core.specs.Laws.Determined.{denotes_one}
 use Rattle.split_texts.specs.Splits.{HasNoPlan, IsPlanned, IsSplitOf, LacksSplit, Refuses}
 use Rattle.split_texts.specs.Causes.{HasLongCode, HasNoCode, OfParts}
-use Rattle.split_texts.specs.Written.{AreCodes, IsTextOfParts}
+use Rattle.split_texts.specs.Written.{AreCodes, IsOfParts}
 use Rattle.split_texts.specs.Laws.Causes.{apart_leaves_none, of_parts_none, short_has_none}
 use Rattle.state_codes.specs.declared.Codes.{Codes}
 use Rattle.state_codes.specs.declared.split.Kind.{Kind}
@@ -27,8 +24,15 @@ use Rattle.state_codes.specs.declared.split.Split.{Split}
 use Rattle.state_codes.specs.Fault.{AreApart}
 use Rattle.generated_texts.specs.Figures.{AreFigures}
 use Rattle.generated_texts.specs.Generated.{IsGenerated, OfGenerated}
-use Rattle.generated_texts.specs.Trial.{IsTrialText, LongCodeRow}
+use Rattle.generated_texts.specs.Trial.{LongCodeRow, IsTrialNetwork}
 use Rattle.generated_texts.specs.Laws.Trials.{one_generated, some_in_parallel}
+use Rattle.blif_out.specs.declared.networks.CommentedNetwork.{CommentedNetwork}
+use Rattle.blif_out.specs.declared.networks.HeadedNetwork.{HeadedNetwork}
+use Rattle.blif_out.specs.Comments.{AreComments}
+use Rattle.blif_out.specs.Head.{header_text}
+use Rattle.blif_out.specs.NetworkText.{CanBeHeaded, CanBeText, CanBeWritten}
+use Rattle.blif_out.proofs.NetworkTexts.{comments_join, header_is_comments}
+use Rattle.decomposition.specs.Decomposition.{IsDecomposed}
 
 -- the parts of a parallel split tell all states apart
 pub apart_in_parallel : (F : KissFile) (split : Split) → IsPlanned Parallel [] F split → AreApart (length F.states) split.parts
@@ -60,33 +64,35 @@ module _ (seed a b k : ℕ) (F : KissFile) (sizes : AreSizes a b k) (made : IsGe
 pub planned_by_kind : (W : KissFile) (split : Split) → IsPlanned Parallel [] W split → (text : List ℕ) × IsPlanned split.kind text W split
 planned_by_kind W split planned = ([], subst (λ (kind : Kind). IsPlanned kind [] W split) (sym planned.same_kind) planned)
 
--- a network that the text of a split denotes, the whole denotes
-whole_denotes : (F : KissFile) (parts : List Part) (figures : TrialFigures) (rest : List ℕ) → IsTextOf false F F Parallel parts rest → (N : Network) → Denotes rest N → Denotes (trial_text figures ++ rest) N
-unfolding IsTextOf
-whole_denotes F parts figures rest (class, codes, M, H, work, kind, parts_are, is) N denotes =
-    subst (Denotes (trial_text figures ++ rest)) (denotes_one rest M N is.denotes denotes) (is.after_comments (trial_lines figures) (trial_lines_are_comments figures))
+-- the whole network
+module _ (seed a b k : ℕ) (F : KissFile) (work : WorkMachine) (split : Split) (figures : TrialFigures) (summary : List ℕ) (headed : HeadedNetwork) (made : CommentedNetwork) (summary_is : summary ≡ trial_text figures) (comments : made.comments ≡ summary ++ header_text headed.header) (network : made.network ≡ headed.network) where
+  told : made.comments ≡ trial_text figures ++ header_text headed.header
+  told = comments ∙ ap (λ (front : List ℕ). front ++ header_text headed.header) summary_is
 
--- the whole text
-pub trial_whole : (seed a b k : ℕ) (F : KissFile) (work : WorkMachine) (split : Split) (parts : List Part) (figures : TrialFigures) (rest : List ℕ) → IsWork false F work → IsPlanned Parallel [] work.machine split → parts ≡ split.parts
-    → AreFigures seed a b k work.machine parts figures → IsTextOfParts F work split.kind split.parts rest → (text : List ℕ) → text ≡ trial_text figures ++ rest → IsTrialText seed a b k F text
-trial_whole seed a b k F work split parts figures rest is_work planned same_parts are whole text text_is =
-    let same : work.machine ≡ F = is_work.machine.file in
-    let of_split : AreFigures seed a b k work.machine split.parts figures = subst (λ (ps : List Part). AreFigures seed a b k work.machine ps figures) same_parts are in
-    let of_kind : IsTextOf false F work.machine Parallel split.parts rest = subst (λ (kind : Kind). IsTextOf false F work.machine kind split.parts rest) planned.same_kind (whole false is_work) in
-    let of_file : IsTextOf false F F Parallel split.parts rest = subst (λ (K : KissFile). IsTextOf false F K Parallel split.parts rest) same of_kind in
-    let right : IsSplitOf Parallel [] F split.parts = subst (λ (K : KissFile). IsSplitOf Parallel [] K split.parts) same (record { made = planned.made; apart = apart_in_parallel work.machine split planned }) in (
-      split.parts,
-      figures,
-      rest,
-      subst (λ (K : KissFile). AreFigures seed a b k K split.parts figures) same of_split,
-      right,
-      of_file,
-      text_is,
-      λ N denotes. subst (λ (t : List ℕ). Denotes t N) (sym text_is) (whole_denotes F split.parts figures rest of_file N denotes),
-    )
+  pub trial_ready : CanBeHeaded headed → CanBeText made
+  trial_ready ready = record {
+    comments =
+        subst AreComments (sym told)
+        (comments_join (trial_text figures) (header_text headed.header) (trial_lines figures, trial_lines_are_comments figures, refl) (header_is_comments headed.header ready.header));
+    network = subst CanBeWritten (sym network) ready.network;
+  }
+
+  pub trial_network : IsWork false F work → IsPlanned Parallel [] work.machine split → AreFigures seed a b k work.machine split.parts figures → IsOfParts F work split.kind split.parts headed → IsTrialNetwork seed a b k F made
+  trial_network is_work planned are of_parts =
+      let same : work.machine ≡ F = is_work.machine.file in
+      let of_kind : IsDecomposed false F work.machine Parallel split.parts headed = subst (λ (kind : Kind). IsDecomposed false F work.machine kind split.parts headed) planned.same_kind (of_parts false is_work) in (
+        split.parts,
+        figures,
+        headed,
+        subst (λ (K : KissFile). AreFigures seed a b k K split.parts figures) same are,
+        subst (λ (K : KissFile). IsSplitOf Parallel [] K split.parts) same (record { made = planned.made; apart = apart_in_parallel work.machine split planned }),
+        subst (λ (K : KissFile). IsDecomposed false F K Parallel split.parts headed) same of_kind,
+        network,
+        told,
+      )
 
 -- what is judged of the machine of the numbers
-pub judged_generated : {V : Type 0} (items : V → List ℕ) (seed a b k : ℕ) (F : KissFile) → IsGenerated seed a b k F → (result : Result V Refusal) → IsJudged (LongCodeRow seed a b k) (λ v. IsTrialText seed a b k F (items v)) result
-    → IsJudged (LongCodeRow seed a b k) (λ v. OfGenerated seed a b k (λ G. IsTrialText seed a b k G (items v))) result
-judged_generated items seed a b k F made (Ok v) (none, right) = (none, (F, made, right))
-judged_generated items seed a b k F made (Err refusal) stop = stop
+pub judged_generated : (seed a b k : ℕ) (F : KissFile) → IsGenerated seed a b k F → (result : Result CommentedNetwork Refusal) → IsJudged (LongCodeRow seed a b k) (λ made. CanBeText made × IsTrialNetwork seed a b k F made) result
+    → IsJudged (LongCodeRow seed a b k) (λ made. CanBeText made × OfGenerated seed a b k (λ G. IsTrialNetwork seed a b k G made)) result
+judged_generated seed a b k F made (Ok v) (none, (ready, right)) = (none, (ready, (F, made, right)))
+judged_generated seed a b k F made (Err refusal) stop = stop

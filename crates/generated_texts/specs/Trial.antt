@@ -1,12 +1,14 @@
--- The text of a trial, and why there may be none.
+-- The network of a trial with its comments and its text, and why there may be none.
 use Rattle.std.specs.Prelude.{◌≡◌, ℕ, ◌++◌, false, List, []}
 use Rattle.answers.specs.Cause.{Cause}
-use Rattle.decomposition.specs.Decomposition.{IsTextOf}
+use Rattle.blif_out.specs.declared.networks.CommentedNetwork.{CommentedNetwork}
+use Rattle.blif_out.specs.declared.networks.HeadedNetwork.{HeadedNetwork}
+use Rattle.blif_out.specs.Head.{header_text}
+use Rattle.blif_out.specs.NetworkText.{IsHeadedText, IsNetworkText}
+use Rattle.decomposition.specs.Decomposition.{IsDecomposed}
 use Rattle.hs_texts.specs.declared.reports.TrialFigures.{TrialFigures}
 use Rattle.hs_texts.specs.Reports.{trial_text}
 use Rattle.kiss_file.specs.declared.file.KissFile.{KissFile}
-use Rattle.net_core.specs.declared.Network.{Network}
-use Rattle.net_core.specs.Denotes.{Denotes}
 use Rattle.split_texts.specs.Splits.{IsSplitOf}
 use Rattle.split_texts.specs.Causes.{HasLongCode, OfParts}
 use Rattle.state_codes.specs.declared.split.Kind.TheVariants.{Parallel}
@@ -14,14 +16,28 @@ use Rattle.state_codes.specs.declared.split.Part.{Part}
 use Rattle.generated_texts.specs.Figures.{AreFigures}
 use Rattle.generated_texts.specs.Generated.{OfGenerated}
 
+-- The network is that of the parallel decomposition of the machine, right for its kind, as `parallel` gives it. Its
+-- comments are a summary and, after it, those of the decomposition's header.
+abbrev pub IsTrialNetwork : ℕ → ℕ → ℕ → ℕ → KissFile → CommentedNetwork → Type 0
+IsTrialNetwork seed a b k F made =
+    (parts : List Part) × (figures : TrialFigures) × (headed : HeadedNetwork)
+    × AreFigures seed a b k F parts figures × IsSplitOf Parallel [] F parts × IsDecomposed false F F Parallel parts headed
+    × (made.network ≡ headed.network) × (made.comments ≡ trial_text figures ++ header_text headed.header)
+
 -- The text is a summary and, after it, the text of the parallel decomposition of the machine, right for its kind,
 -- as `parallel` writes it. The whole text denotes the network of the decomposition, since the summary consists of
 -- comments.
-abbrev pub IsTrialText : ℕ → ℕ → ℕ → ℕ → KissFile → List ℕ → Type 0
-IsTrialText seed a b k F text =
-    (parts : List Part) × (figures : TrialFigures) × (rest : List ℕ)
-    × AreFigures seed a b k F parts figures × IsSplitOf Parallel [] F parts × IsTextOf false F F Parallel parts rest
-    × (text ≡ trial_text figures ++ rest) × ((N : Network) → Denotes rest N → Denotes text N)
+pub record IsTrialText (seed a b k : ℕ) (F : KissFile) (text : List ℕ) : Type 0 where
+  pub parts : List Part
+  pub figures : TrialFigures
+  pub headed : HeadedNetwork
+  pub rest : List ℕ
+  pub right : AreFigures seed a b k F parts figures
+  pub split : IsSplitOf Parallel [] F parts
+  pub decomposed : IsDecomposed false F F Parallel parts headed
+  pub of_parallel : IsHeadedText headed.header headed.network rest
+  pub whole : text ≡ trial_text figures ++ rest
+  pub of_network : IsNetworkText (trial_text figures ++ header_text headed.header) headed.network text
 
 -- the codes of the parallel decomposition of the machine of the numbers have more than 64 bits
 abbrev pub LongCodeRow : ℕ → ℕ → ℕ → ℕ → Cause

@@ -1,24 +1,27 @@
-//! The text of a trial.
+//! The network of a trial, with its comments.
 
-ghost use Rattle.std.specs.Prelude.{◌≡◌, ◌≤◌, ◌++◌, ℕ, List, IfOk, OnOk, false};
+ghost use Rattle.std.specs.Prelude.{◌≡◌, ◌≤◌, ◌++◌, IfOk, false};
 ghost use Rattle.answers.specs.Judged.{IsJudged};
+ghost use Rattle.blif_out.specs.Comments.{IsPrintable};
+ghost use Rattle.blif_out.specs.Head.{header_text};
+ghost use Rattle.blif_out.specs.NetworkText.{CanBeText};
 ghost use Rattle.state_reduce.specs.Work.{IsWork};
 ghost use Rattle.kiss_file.specs.Lawful.{IsLawful};
 ghost use Rattle.kiss_file.specs.Machine.{Accepted, Conflicting};
 ghost use Rattle.machine_gen.specs.MachineOf.{AreSizes};
 ghost use Rattle.generated_texts.specs.Generated.{IsGenerated, OfGenerated};
-ghost use Rattle.generated_texts.specs.Trial.{IsTrialText, LongCodeRow};
+ghost use Rattle.generated_texts.specs.Trial.{IsTrialNetwork, LongCodeRow};
 ghost use Rattle.generated_texts.specs.Inner.Coded.{IsCodedSplit, IsSummary};
-ghost use Rattle.split_texts.specs.Written.{IsTextOfParts};
 ghost use Rattle.state_codes.specs.Code.{IsLength};
 
 use crate::figures::{Numbers, figures_of};
-use answers::Refusal;
+use answers::{Bytes, Refusal};
+use blif_out::{CommentedNetwork, HeadedNetwork, header_comments};
 use hs_texts::reports;
 use kiss_file::{Fill, KissFile};
 use machine_gen::make;
 use machine_table::Machine;
-use split_texts::{codes_of, plan, text_of_codes};
+use split_texts::{codes_of, network_of_codes, plan};
 use state_codes::{Codes, Kind, Split};
 use state_reduce::{WorkMachine, work_machine};
 use std::alloc::{AllocError, Global};
@@ -30,22 +33,23 @@ struct CodedSplit {
     codes: Codes,
 }
 
-/// Makes the machine of the numbers, and gives the text of its parallel decomposition after a summary.
-pub fn trial(alloc: Global, seed: u64, a: u16, b: u16, k: u8) -> Result<Vec<u8>, Refusal>
+/// Makes the machine of the numbers, and gives the network of its parallel decomposition, with a summary and the
+/// header as comments.
+pub fn trial(alloc: Global, seed: u64, a: u16, b: u16, k: u8) -> Result<CommentedNetwork, Refusal>
     requires { AreSizes a b k }
-    ensures { IsJudged (LongCodeRow seed a b k) (λ text. OfGenerated seed a b k (λ F. IsTrialText seed a b k F text.items)) result }
+    ensures { IsJudged (LongCodeRow seed a b k) (λ made. CanBeText made × OfGenerated seed a b k (λ F. IsTrialNetwork seed a b k F made)) result }
 {
     let file = make(alloc, seed, a, b, k)?;
     trial_of(alloc, Numbers { seed, a, b, k }, &file)
 }
 
 /// The same for the file of the machine of the numbers.
-fn trial_of(alloc: Global, numbers: Numbers, file: &KissFile) -> Result<Vec<u8>, Refusal>
+fn trial_of(alloc: Global, numbers: Numbers, file: &KissFile) -> Result<CommentedNetwork, Refusal>
     requires sizes { AreSizes numbers.a numbers.b numbers.k }
     requires made { IsGenerated numbers.seed numbers.a numbers.b numbers.k file.now }
     requires lawful { IsLawful file.now }
     requires accepted { Accepted file.now Fill.Refuse }
-    ensures { IsJudged (LongCodeRow numbers.seed numbers.a numbers.b numbers.k) (λ text. IsTrialText numbers.seed numbers.a numbers.b numbers.k file.now text.items) result }
+    ensures { IsJudged (LongCodeRow numbers.seed numbers.a numbers.b numbers.k) (λ made. CanBeText made × IsTrialNetwork numbers.seed numbers.a numbers.b numbers.k file.now made) result }
 {
     let work = machine_of(alloc, file)?;
     trial_on(alloc, numbers, file, &work)
@@ -57,16 +61,16 @@ fn trial_on(
     numbers: Numbers,
     file: &KissFile,
     work: &WorkMachine,
-) -> Result<Vec<u8>, Refusal>
+) -> Result<CommentedNetwork, Refusal>
     requires sizes { AreSizes numbers.a numbers.b numbers.k }
     requires made { IsGenerated numbers.seed numbers.a numbers.b numbers.k work.now.machine }
     requires lawful { IsLawful file.now }
     requires no_conflict { Conflicting file.now → ⊥ }
     requires work { IsWork false file.now work.now }
-    ensures { IsJudged (LongCodeRow numbers.seed numbers.a numbers.b numbers.k) (λ text. IsTrialText numbers.seed numbers.a numbers.b numbers.k file.now text.items) result }
+    ensures { IsJudged (LongCodeRow numbers.seed numbers.a numbers.b numbers.k) (λ made. CanBeText made × IsTrialNetwork numbers.seed numbers.a numbers.b numbers.k file.now made) result }
 {
     let coded = split_of(alloc, numbers, file, work)?;
-    Ok(text_of(alloc, numbers, file, work, coded)?)
+    Ok(network_of(alloc, numbers, file, work, coded)?)
 }
 
 /// The machine of a file that is accepted as it is.
@@ -96,25 +100,26 @@ fn split_of(
     Ok(CodedSplit { split, codes })
 }
 
-/// The summary, and the text of the split after it.
-fn text_of(
+/// The network of the split, with a summary and its header as comments.
+fn network_of(
     alloc: Global,
     numbers: Numbers,
     file: &KissFile,
     work: &WorkMachine,
     coded: CodedSplit,
-) -> Result<Vec<u8>, AllocError>
+) -> Result<CommentedNetwork, AllocError>
     requires sizes { AreSizes numbers.a numbers.b numbers.k }
     requires made { IsGenerated numbers.seed numbers.a numbers.b numbers.k work.now.machine }
     requires lawful { IsLawful file.now }
     requires no_conflict { Conflicting file.now → ⊥ }
     requires work { IsWork false file.now work.now }
     requires coded { IsCodedSplit work.now.machine coded }
-    ensures { IfOk result (λ text. IsTrialText numbers.seed numbers.a numbers.b numbers.k file.now text.items) }
+    ensures ready { IfOk result CanBeText }
+    ensures trial { IfOk result (IsTrialNetwork numbers.seed numbers.a numbers.b numbers.k file.now) }
 {
-    let mut text = summary_of(alloc, numbers, &work.machine, &coded)?;
-    append_text(alloc, file, work, coded, &mut text)?;
-    Ok(text)
+    let summary = summary_of(alloc, numbers, &work.machine, &coded)?;
+    let made = network_of_codes(alloc, file, work, coded.split, &coded.codes)?;
+    with_summary(alloc, summary, made)
 }
 
 /// The summary of a machine and its coded split.
@@ -134,21 +139,21 @@ fn summary_of(
     reports::trial(alloc, &figures)
 }
 
-/// Appends the text of a coded split.
-fn append_text(
+/// A network with a summary and its header as comments.
+fn with_summary(
     alloc: Global,
-    file: &KissFile,
-    work: &WorkMachine,
-    coded: CodedSplit,
-    text: &mut Vec<u8>,
-) -> Result<(), AllocError>
-    requires lawful { IsLawful file.now }
-    requires no_conflict { Conflicting file.now → ⊥ }
-    requires work { IsWork false file.now work.now }
-    requires coded { IsCodedSplit work.now.machine coded }
-    ensures { OnOk result ((rest : List ℕ) × IsTextOfParts file.now work.now coded.split.kind coded.split.parts rest × (text.new.items ≡ text.old.items ++ rest)) }
+    summary: Vec<u8>,
+    made: HeadedNetwork,
+) -> Result<CommentedNetwork, AllocError>
+    requires { IsPrintable made.header }
+    ensures comments { IfOk result (λ commented. commented.comments ≡ summary.items ++ header_text made.header) }
+    ensures network { IfOk result (λ commented. commented.network ≡ made.network) }
 {
-    let rest = text_of_codes(alloc, file, work, coded.split, &coded.codes)?;
-    text.extend_from_slice(&rest)?;
-    Ok(())
+    let HeadedNetwork { header, network } = made;
+    let mut comments = summary;
+    comments.extend_from_slice(&header_comments(alloc, &header)?)?;
+    Ok(CommentedNetwork {
+        comments: Bytes::from(comments),
+        network,
+    })
 }

@@ -4,22 +4,28 @@ use Rattle.answers.specs.declared.numbers.Answer.{Answer}
 use Rattle.answers.specs.declared.numbers.Answer.TheVariants as answers
 use Rattle.answers.specs.declared.refusals.Refusal.{Refusal}
 use Rattle.answers.specs.declared.refusals.Refusal.TheVariants.{More}
+use Rattle.answers.specs.declared.reports.Page.{Page}
 use Rattle.answers.specs.declared.reports.Report.{Report}
 use Rattle.answers.specs.declared.reports.Report.TheVariants.{Evidence, Whole}
+use Rattle.answers.specs.declared.reports.Report.TheVariants as reports
 use Rattle.answers.specs.Cause.{CallsForNone, Cause}
 use Rattle.answers.specs.Judged.{IsJudged, IsReported, IsStop}
 use Rattle.answers.specs.Laws.Causes.{none_first}
 use Rattle.answers.specs.Refusal.{answer_of}
+use Rattle.blif_out.specs.declared.networks.CommentedNetwork.{CommentedNetwork}
+use Rattle.blif_out.specs.NetworkText.{CanBeText}
 use Rattle.generated_texts.specs.Generated.{OfGenerated}
-use Rattle.generated_texts.specs.Trial.{IsTrialText, LongCodeRow}
+use Rattle.generated_texts.specs.Trial.{IsTrialNetwork, LongCodeRow}
 use Rattle.generated_texts.specs.Laws.Trials.{long_code_is_of}
+use Rattle.generated_texts.proofs.TrialTexts.{trial_has_text}
 use Rattle.hsdec_core.specs.declared.tasks.MachineTask.{MachineTask}
 use Rattle.hsdec_core.specs.declared.tasks.Task.{Task}
 use Rattle.hsdec_core.specs.declared.tasks.Task.TheVariants.{Gen, OnMachine, Sim, Trial, Walk}
 use Rattle.operands.specs.Causes.{Never, NoMachineOf, NoNetworkOf, OfMachine, OfNetwork}
 use Rattle.operands.specs.Fill.{fill_of}
 use Rattle.operands.specs.Load.{IsStopAt}
-use Rattle.hsdec_core.specs.Inner.Made.{IsMadeOf, IsMadeOfText, IsPlain}
+use Rattle.hsdec_core.specs.Inner.Made.{IsMadeOf, IsMadeOfNetwork, IsMadeOfText, IsPlain}
+use Rattle.hsdec_core.specs.Inner.Pages.{IsPageOf, report_of}
 use Rattle.hsdec_core.specs.Judgement.{BadSymbols, all_causes, first_cause, first_cause_of, own_cause, second_cause, second_cause_of}
 use Rattle.operands.specs.Laws.Causes.{conflict_is_of, lengthy_is_of, machine_passes, network_passes, no_machine_is_of, no_network_is_of, not_long, open_is_of}
 use Rattle.operands.specs.Opened.{HoldsMachine, HoldsNetwork}
@@ -135,6 +141,11 @@ module _ (job : Job) (holds : List ℕ → Option (List ℕ)) (Faulted : Type 0)
         )
     made_of_machine (Ok (Evidence text limit)) (h, shown) =
         ((bytes, F, held, subst (λ (t : Task). IsShownBy t job F text) (sym is) shown), (bytes, may_file, first_here (OnMachine task) is bytes (More limit) (own_called (More limit) h)))
+    made_of_machine (Ok (reports.Network made)) (none, (ready, drawn)) =
+        let (symbols, may_symbols) = some_symbols in (
+          (ready, λ text told. asked_here (OnMachine task) is text (bytes, F, held, drawn text told)),
+          (bytes, symbols, may_file, may_symbols, passes (OnMachine task) is bytes symbols (machine_none none) (λ refusal h. h)),
+        )
     made_of_machine (Err refusal) (inl wanting, few) = inl wanting
     made_of_machine (Err refusal) (inr h, few) =
         inr (inr (called_first bytes refusal may_file (first_here (OnMachine task) is bytes refusal (own_called refusal h)), own_plain task job F refusal h few))
@@ -259,7 +270,20 @@ module _ (job : Job) (holds : List ℕ → Option (List ℕ)) (Faulted : Type 0)
   made_of_gen text is right =
       made_of_numbers Gen Never (λ t. OfGenerated job.seed job.a job.b job.k (λ F. t ≡ kiss_text F)) (Ok text) is refl (λ refusal h. h) (λ none. none) (λ symbols refusal h. h) (λ t asked. asked) (λ refusal h. absurd h) (λ refusal h. h, right)
 
-  pub made_of_trial : (result : Result (List ℕ) Refusal) → task_of job.command ≡ Trial → IsJudged (LongCodeRow job.seed job.a job.b job.k) (λ text. OfGenerated job.seed job.a job.b job.k (λ F. IsTrialText job.seed job.a job.b job.k F text)) result → IsMadeOfText job holds Faulted result
-  made_of_trial result is judged =
-      made_of_numbers Trial (LongCodeRow job.seed job.a job.b job.k) (λ text. OfGenerated job.seed job.a job.b job.k (λ F. IsTrialText job.seed job.a job.b job.k F text)) result is refl (λ refusal h. h) (λ none. none) (λ symbols refusal h. h) (λ t asked. asked)
-      (λ refusal h. plain_of answers.CodeTooLong refusal tt (long_code_is_of job.seed job.a job.b job.k refusal h)) judged
+  pub made_of_trial : (result : Result CommentedNetwork Refusal) → task_of job.command ≡ Trial
+      → IsJudged (LongCodeRow job.seed job.a job.b job.k) (λ made. CanBeText made × OfGenerated job.seed job.a job.b job.k (λ F. IsTrialNetwork job.seed job.a job.b job.k F made)) result → IsMadeOfNetwork job holds Faulted result
+  made_of_trial (Ok made) is (none, (ready, (F, of_numbers, right))) =
+      let (symbols, may_symbols) = some_symbols in (
+        (ready, λ text told. asked_here Trial is text (F, of_numbers, trial_has_text job.seed job.a job.b job.k F made text ready right told)),
+        ([], symbols, no_file Trial is refl, may_symbols, passes Trial is [] symbols none (λ refusal h. h)),
+      )
+  made_of_trial (Err refusal) is (inl wanting) = inl wanting
+  made_of_trial (Err refusal) is (inr h) =
+      inr (inr (called_first [] refusal (no_file Trial is refl) (first_here Trial is [] refusal h), plain_of answers.CodeTooLong refusal tt (long_code_is_of job.seed job.a job.b job.k refusal h)))
+
+  -- what is put of a report is what the report is
+  pub made_of_page : (report : Report) (page : Page) → IsMadeOf job holds Faulted (Ok report) → IsPageOf report page → IsMadeOf job holds Faulted (report_of (Ok page))
+  made_of_page (Whole text) page made is = subst (λ (p : Page). IsMadeOf job holds Faulted (report_of (Ok p))) (sym is) made
+  made_of_page (Evidence text limit) page made is = subst (λ (p : Page). IsMadeOf job holds Faulted (report_of (Ok p))) (sym is) made
+  made_of_page (reports.Network network) page (drawn, passed) (text, is, told) =
+      subst (λ (p : Page). IsMadeOf job holds Faulted (report_of (Ok p))) (sym is) (drawn.1 text told, passed)

@@ -8,11 +8,20 @@ use Rattle.answers.specs.declared.refusals.Refusal.{Refusal}
 use Rattle.answers.specs.declared.refusals.Refusal.TheVariants.{NoMemory}
 use Rattle.answers.specs.declared.reports.Report.{Report}
 use Rattle.answers.specs.declared.reports.Report.TheVariants.{Whole}
-use Rattle.answers.specs.Cause.{Cause}
+use Rattle.answers.specs.declared.reports.Report.TheVariants as reports
+use Rattle.answers.specs.Cause.{CallsForNone, Cause}
 use Rattle.answers.specs.Judged.{IsJudged, IsReported}
 use Rattle.answers.specs.Laws.Causes.{IsOf}
 use Rattle.answers.specs.Refusal.{answer_of}
+use Rattle.blif_out.specs.declared.networks.CommentedNetwork.{CommentedNetwork}
+use Rattle.blif_out.specs.declared.networks.HeadedNetwork.{HeadedNetwork}
+use Rattle.blif_out.specs.Comments.{AreComments}
+use Rattle.blif_out.specs.Head.{header_text}
+use Rattle.blif_out.specs.NetworkText.{CanBeHeaded, CanBeText, CanBeWritten, IsHeadedText, IsNetworkText}
+use Rattle.blif_out.proofs.NetworkTexts.{header_is_comments, text_has_head}
+use Rattle.net_core.specs.declared.Network.{Network}
 use Rattle.operands.specs.Causes.{Never}
+use Rattle.hsdec_core.specs.Inner.Headed.{IsReportOf}
 use Rattle.hsdec_core.specs.Inner.Made.{IsPlain}
 use Rattle.job_words.specs.Job.{HasFewSlashes}
 use Rattle.kiss_file.specs.declared.file.KissFile.{KissFile}
@@ -37,6 +46,49 @@ judged_reported items cause P Q (Ok v) result is few judged = subst (IsReported 
 judged_reported items cause P Q (Err refusal) result is few (inl wanting) =
     subst (IsReported cause P Q) (sym is) (inl wanting, λ e. let f : answers.NoMemory ≡ answers.More = sym (ap answer_of wanting) ∙ e in cc)
 judged_reported items cause P Q (Err refusal) result is few (inr h) = subst (IsReported cause P Q) (sym is) (inr h, few refusal h)
+
+-- the first half of what is judged
+pub judged_first : {V : Type 0} (cause : Cause) (P Q : V → Type 0) (result : Result V Refusal) → IsJudged cause (λ v. P v × Q v) result → IfOk result P
+judged_first cause P Q (Ok v) (none, both) = both.0
+judged_first cause P Q (Err refusal) stop = tt
+
+-- a network with its comments, or its refusal
+pub drawn_reported : (cause : Cause) (IsRight : CommentedNetwork → Type 0) (P Q : List ℕ → Type 0) (made : Result CommentedNetwork Refusal) (result : Result Report Refusal) → MatchResult made (λ network. result ≡ Ok (reports.Network network)) (λ refusal. result ≡ Err refusal)
+    → ((refusal : Refusal) → cause refusal → answer_of refusal ≢ answers.More)
+    → ((network : CommentedNetwork) → IsRight network → (text : List ℕ) → IsNetworkText network.comments network.network text → P text)
+    → IsJudged cause (λ network. CanBeText network × IsRight network) made → IsReported cause P Q result
+drawn_reported cause IsRight P Q (Ok network) result is few has_text (none, (ready, right)) =
+    subst (IsReported cause P Q) (sym is) (none, (ready, has_text network right))
+drawn_reported cause IsRight P Q (Err refusal) result is few has_text (inl wanting) =
+    subst (IsReported cause P Q) (sym is) (inl wanting, λ e. let f : answers.NoMemory ≡ answers.More = sym (ap answer_of wanting) ∙ e in cc)
+drawn_reported cause IsRight P Q (Err refusal) result is few has_text (inr h) = subst (IsReported cause P Q) (sym is) (inr h, few refusal h)
+
+-- a network with its header, or its refusal
+module _ (cause : Cause) (IsRight : HeadedNetwork → Type 0) (P Q : List ℕ → Type 0) (has_text : (headed : HeadedNetwork) → IsRight headed → (text : List ℕ) → IsHeadedText headed.header headed.network text → P text) where
+  headed_here : (headed : HeadedNetwork) (result : Result Report Refusal) → IsReportOf result headed → CallsForNone cause → CanBeHeaded headed → IsRight headed → IsReported cause P Q result
+  headed_here headed result (inl wanting) none ready right =
+      subst (IsReported cause P Q) (sym wanting) (inl refl, λ e. cc)
+  headed_here headed result (inr (made, is, network, comments)) none ready right =
+      subst (IsReported cause P Q) (sym is) (
+        none,
+        (
+          record {
+            comments = subst AreComments (sym comments) (header_is_comments headed.header ready.header);
+            network = subst CanBeWritten (sym network) ready.network;
+          },
+          λ text told.
+              has_text headed right text (text_has_head headed.header headed.network text
+              (subst (λ (N : Network). IsNetworkText (header_text headed.header) N text) network
+              (subst (λ (bytes : List ℕ). IsNetworkText bytes made.network text) comments told))),
+        ),
+      )
+
+  pub headed_reported : (made : Result HeadedNetwork Refusal) (result : Result Report Refusal) → MatchResult made (IsReportOf result) (λ refusal. result ≡ Err refusal) → ((refusal : Refusal) → cause refusal → answer_of refusal ≢ answers.More)
+      → IsJudged cause (λ headed. CanBeHeaded headed × IsRight headed) made → IsReported cause P Q result
+  headed_reported (Ok headed) result is few (none, (ready, right)) = headed_here headed result is none ready right
+  headed_reported (Err refusal) result is few (inl wanting) =
+      subst (IsReported cause P Q) (sym is) (inl wanting, λ e. let f : answers.NoMemory ≡ answers.More = sym (ap answer_of wanting) ∙ e in cc)
+  headed_reported (Err refusal) result is few (inr h) = subst (IsReported cause P Q) (sym is) (inr h, few refusal h)
 
 -- a refusal of another answer, or one that is plain, is no evidence
 pub few_of : (answer : Answer) (cause : Cause) → answer ≢ answers.More → IsOf answer cause → (refusal : Refusal) → cause refusal → answer_of refusal ≢ answers.More

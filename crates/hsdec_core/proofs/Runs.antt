@@ -4,13 +4,14 @@ use Rattle.answers.specs.declared.numbers.Answer.{Answer}
 use Rattle.answers.specs.declared.numbers.Answer.TheVariants as answers
 use Rattle.answers.specs.declared.refusals.Refusal.{Refusal}
 use Rattle.answers.specs.declared.refusals.Refusal.TheVariants.{More, NoMemory, Usage}
-use Rattle.answers.specs.declared.reports.Report.{Report}
-use Rattle.answers.specs.declared.reports.Report.TheVariants.{Evidence, Whole}
+use Rattle.answers.specs.declared.reports.Page.{Page}
+use Rattle.answers.specs.declared.reports.Page.TheVariants.{Evidence, Whole}
 use Rattle.answers.specs.Cause.{CallsForNone}
 use Rattle.answers.specs.Delivery.{IsDone, IsRefusedWith}
 use Rattle.answers.specs.Refusal.{answer_of}
 use Rattle.hs_io.specs.Pieces.{Appends, AppendsFront}
 use Rattle.hsdec_core.specs.Inner.Made.{IsMadeFor, IsMadeOf, IsPlain, IsUndone}
+use Rattle.hsdec_core.specs.Inner.Pages.{report_of}
 use Rattle.hsdec_core.specs.Judgement.{all_causes, first_cause}
 use Rattle.operands.specs.Loading.{MayBe}
 use Rattle.hsdec_core.specs.Operands.{file_held, symbols_held}
@@ -20,13 +21,13 @@ use Rattle.hsdec_core.proofs.OneAnswer.{all_have_one, first_have_one}
 use Rattle.job_words.specs.declared.jobs.Job.{Job}
 
 -- ---- what was made, and what is answered
-abbrev IsAnsweredBy : Result Report Refusal → Answer → Type 0
+abbrev IsAnsweredBy : Result Page Refusal → Answer → Type 0
 IsAnsweredBy (Ok (Whole text)) result = (result ≡ answers.Done) ⊎ (result ≡ answers.WriteFault)
 IsAnsweredBy (Ok (Evidence text limit)) result = (result ≡ answers.More) ⊎ (result ≡ answers.WriteFault) ⊎ (result ≡ answers.NoMemory)
 IsAnsweredBy (Err refusal) result = (result ≡ answer_of refusal) ⊎ (result ≡ answers.NoMemory)
 
 -- what the delivery of what was made gives
-pub record IsDelivered (made : Result Report Refusal) (given given' : Option (List ℕ)) (PutFaulted Stays : Type 0) (result : Answer) : Type 0 where
+pub record IsDelivered (made : Result Page Refusal) (given given' : Option (List ℕ)) (PutFaulted Stays : Type 0) (result : Answer) : Type 0 where
   pub done : result ≡ answers.Done → IsDone made given given' Stays
   pub refused : result ≢ answers.Done → (refusal : Refusal) × (answer_of refusal ≡ result) × IsRefusedWith made given given' PutFaulted refusal
 
@@ -34,12 +35,12 @@ done_or : (answer : Answer) → (answer ≡ answers.Done) ⊎ (answer ≢ answer
 done_or answers.Done = inl refl
 done_or _ = inr (λ e. cc)
 
-by_done : (made : Result Report Refusal) (given given' : Option (List ℕ)) (Stays : Type 0) (result : Answer) → result ≡ answers.Done → IsDone made given given' Stays → IsAnsweredBy made result
+by_done : (made : Result Page Refusal) (given given' : Option (List ℕ)) (Stays : Type 0) (result : Answer) → result ≡ answers.Done → IsDone made given given' Stays → IsAnsweredBy made result
 by_done (Ok (Whole text)) given given' Stays result e put = inl e
 by_done (Ok (Evidence text limit)) given given' Stays result e put = absurd put
 by_done (Err refusal) given given' Stays result e put = absurd put
 
-by_refused : (made : Result Report Refusal) (given given' : Option (List ℕ)) (PutFaulted : Type 0) (refusal : Refusal) (result : Answer) → answer_of refusal ≡ result → IsRefusedWith made given given' PutFaulted refusal → IsAnsweredBy made result
+by_refused : (made : Result Page Refusal) (given given' : Option (List ℕ)) (PutFaulted : Type 0) (refusal : Refusal) (result : Answer) → answer_of refusal ≡ result → IsRefusedWith made given given' PutFaulted refusal → IsAnsweredBy made result
 by_refused (Ok (Whole text)) given given' PutFaulted refusal result e with_it = inr (sym e ∙ ap answer_of with_it.0)
 by_refused (Ok (Evidence text limit)) given given' PutFaulted refusal result e (inl shown) = inl (sym e ∙ ap answer_of shown.0)
 by_refused (Ok (Evidence text limit)) given given' PutFaulted refusal result e (inr (inl cut)) = inr (inl (sym e ∙ ap answer_of cut.0))
@@ -47,7 +48,7 @@ by_refused (Ok (Evidence text limit)) given given' PutFaulted refusal result e (
 by_refused (Err made) given given' PutFaulted refusal result e (inl same) = inl (sym e ∙ ap answer_of same)
 by_refused (Err made) given given' PutFaulted refusal result e (inr wanting) = inr (sym e ∙ ap answer_of wanting)
 
-answered : (made : Result Report Refusal) (given given' : Option (List ℕ)) (PutFaulted Stays : Type 0) (result : Answer) → IsDelivered made given given' PutFaulted Stays result → IsAnsweredBy made result
+answered : (made : Result Page Refusal) (given given' : Option (List ℕ)) (PutFaulted Stays : Type 0) (result : Answer) → IsDelivered made given given' PutFaulted Stays result → IsAnsweredBy made result
 answered made given given' PutFaulted Stays result delivered =
     elim (done_or result) [
       | inl e ↦ by_done made given given' Stays result e (delivered.done e)
@@ -95,7 +96,7 @@ module _ (job : Job) (holds : List ℕ → Option (List ℕ)) (Faulted : Type 0)
     first_called made wanted result (bytes, symbols, may, may_symbols, inr later) k a =
         absurd (later.0 wanted (subst (λ (b : List ℕ). first_cause job b wanted) (sym (the_same (file_held job holds) told bytes is may)) k))
 
-    pub first_comes : (made : Result Report Refusal) (result : Answer) → IsMadeOf job holds Faulted made → IsAnsweredBy made result → Comes result (first_cause job told)
+    pub first_comes : (made : Result Page Refusal) (result : Answer) → IsMadeOf job holds Faulted (report_of made) → IsAnsweredBy made result → Comes result (first_cause job told)
     first_comes (Ok (Whole text)) result (asked, (bytes, symbols, may, may_symbols, none)) a wanted k =
         absurd (none wanted (inl (subst (λ (b : List ℕ). first_cause job b wanted) (sym (the_same (file_held job holds) told bytes is may)) k)))
     first_comes (Ok (Evidence text limit)) result (shown, (bytes, may, h)) a wanted k =
@@ -120,7 +121,7 @@ module _ (job : Job) (holds : List ℕ → Option (List ℕ)) (Faulted : Type 0)
       shown_cause : (bytes : List ℕ) (limit : ℕ) → MayBe (file_held job holds) bytes → first_cause job bytes (More limit) → all_causes job told told_symbols (More limit)
       shown_cause bytes limit may h = inl (subst (λ (b : List ℕ). first_cause job b (More limit)) (the_same (file_held job holds) told bytes is may) h)
 
-      pub all_come : (made : Result Report Refusal) (result : Answer) → IsMadeOf job holds Faulted made → IsAnsweredBy made result → Comes result (all_causes job told told_symbols)
+      pub all_come : (made : Result Page Refusal) (result : Answer) → IsMadeOf job holds Faulted (report_of made) → IsAnsweredBy made result → Comes result (all_causes job told told_symbols)
       all_come (Ok (Whole text)) result (asked, (bytes, symbols, may, may_symbols, none)) a wanted k = absurd (none wanted (told_back bytes symbols wanted may may_symbols k))
       all_come (Ok (Evidence text limit)) result (shown, (bytes, may, h)) a wanted k =
           shown_answer text limit result (answer_of wanted) (all_have_one job told told_symbols wanted (More limit) k (shown_cause bytes limit may h)) a
@@ -130,7 +131,7 @@ module _ (job : Job) (holds : List ℕ → Option (List ℕ)) (Faulted : Type 0)
           same_answer made result (answer_of wanted) (all_have_one job told told_symbols made wanted (told_causes bytes symbols made may may_symbols h) k) a
 
       -- where nothing calls for a refusal and there is no fault, the answer is Done or want of memory
-      pub completes : (made : Result Report Refusal) (result : Answer) (PutFaulted : Type 0) → IsMadeOf job holds Faulted made → IsAnsweredBy made result → (result ≡ answers.WriteFault → PutFaulted)
+      pub completes : (made : Result Page Refusal) (result : Answer) (PutFaulted : Type 0) → IsMadeOf job holds Faulted (report_of made) → IsAnsweredBy made result → (result ≡ answers.WriteFault → PutFaulted)
           → CallsForNone (all_causes job told told_symbols) → (Faulted → ⊥) → (PutFaulted → ⊥) → (result ≡ answers.Done) ⊎ (result ≡ answers.NoMemory)
       completes (Ok (Whole text)) result PutFaulted is_made (inl e) fault none unfaulted unput = inl e
       completes (Ok (Whole text)) result PutFaulted is_made (inr e) fault none unfaulted unput = absurd (unput (fault e))
@@ -142,14 +143,14 @@ module _ (job : Job) (holds : List ℕ → Option (List ℕ)) (Faulted : Type 0)
 
 -- ---- of the words
 module _ (holds : List ℕ → Option (List ℕ)) (Faulted PutFaulted Stays : Type 0) (given given' : Option (List ℕ)) where
-  pub first_of : (job : Result Job ℕ) (made : Result Report Refusal) (result : Answer) → IsMadeFor job holds Faulted made → IsDelivered made given given' PutFaulted Stays result
+  pub first_of : (job : Result Job ℕ) (made : Result Page Refusal) (result : Answer) → IsMadeFor job holds Faulted made → IsDelivered made given given' PutFaulted Stays result
       → IfOk job (λ j. IfSome (file_held j holds) (λ bytes. Comes result (first_cause j bytes)))
   first_of (Err word) made result is_made delivered = tt
   first_of (Ok j) made result is_made delivered =
       all_told (file_held j holds) (λ bytes. Comes result (first_cause j bytes))
       (λ told is. first_comes j holds Faulted told is made result is_made (answered made given given' PutFaulted Stays result delivered))
 
-  pub all_of : (job : Result Job ℕ) (made : Result Report Refusal) (result : Answer) → IsMadeFor job holds Faulted made → IsDelivered made given given' PutFaulted Stays result
+  pub all_of : (job : Result Job ℕ) (made : Result Page Refusal) (result : Answer) → IsMadeFor job holds Faulted made → IsDelivered made given given' PutFaulted Stays result
       → IfOk job (λ j. IfSome (file_held j holds) (λ bytes. IfSome (symbols_held j holds) (λ symbols. Comes result (all_causes j bytes symbols))))
   all_of (Err word) made result is_made delivered = tt
   all_of (Ok j) made result is_made delivered =
@@ -158,7 +159,7 @@ module _ (holds : List ℕ → Option (List ℕ)) (Faulted PutFaulted Stays : Ty
       (λ symbols symbols_is. all_come j holds Faulted told is symbols symbols_is made result is_made (answered made given given' PutFaulted Stays result delivered)))
 
   -- a failed put had a fault
-  put_fault : (made : Result Report Refusal) (refusal : Refusal) → answer_of refusal ≡ answers.WriteFault → IsRefusedWith made given given' PutFaulted refusal → ((wrong : Refusal) → made ≡ Err wrong → answer_of wrong ≢ answers.WriteFault) → PutFaulted
+  put_fault : (made : Result Page Refusal) (refusal : Refusal) → answer_of refusal ≡ answers.WriteFault → IsRefusedWith made given given' PutFaulted refusal → ((wrong : Refusal) → made ≡ Err wrong → answer_of wrong ≢ answers.WriteFault) → PutFaulted
   put_fault (Ok (Whole text)) refusal e (unwritable, (front, same, some, put, fault)) none = fault
   put_fault (Ok (Evidence text limit)) refusal e (inl shown) none = absurd (let f : answers.More ≡ answers.WriteFault = sym (ap answer_of shown.0) ∙ e in cc)
   put_fault (Ok (Evidence text limit)) refusal e (inr (inl (unwritable, (front, same, some, put, fault)))) none = fault
@@ -179,7 +180,7 @@ module _ (holds : List ℕ → Option (List ℕ)) (Faulted PutFaulted Stays : Ty
   undone_read j refusal (inr (inl failed)) e = failed.0
   undone_read j refusal (inr (inr called)) e = absurd (subst IsPlain e called.1)
 
-  never_unwritable : (job : Result Job ℕ) (made : Result Report Refusal) → IsMadeFor job holds Faulted made → (wrong : Refusal) → made ≡ Err wrong → answer_of wrong ≢ answers.WriteFault
+  never_unwritable : (job : Result Job ℕ) (made : Result Page Refusal) → IsMadeFor job holds Faulted made → (wrong : Refusal) → made ≡ Err wrong → answer_of wrong ≢ answers.WriteFault
   never_unwritable (Ok j) (Ok report) is_made wrong is = absurd (cc)
   never_unwritable (Ok j) (Err refusal) is_made wrong is =
       let same : refusal ≡ wrong = cc in
@@ -192,12 +193,12 @@ module _ (holds : List ℕ → Option (List ℕ)) (Faulted PutFaulted Stays : Ty
       let same : wrong ≡ Usage word = let back : refusal ≡ wrong = cc in sym back ∙ usage in
       λ e. absurd (let f : answers.Usage ≡ answers.WriteFault = sym (ap answer_of same) ∙ e in cc)
 
-  pub write_faults : (job : Result Job ℕ) (made : Result Report Refusal) (result : Answer) → IsMadeFor job holds Faulted made → IsDelivered made given given' PutFaulted Stays result → result ≡ answers.WriteFault → PutFaulted
+  pub write_faults : (job : Result Job ℕ) (made : Result Page Refusal) (result : Answer) → IsMadeFor job holds Faulted made → IsDelivered made given given' PutFaulted Stays result → result ≡ answers.WriteFault → PutFaulted
   write_faults job made result is_made delivered e =
       let (refusal, is, with_it) = delivered.refused (λ done. let f : answers.WriteFault ≡ answers.Done = sym e ∙ done in cc) in
       put_fault made refusal (is ∙ e) with_it (never_unwritable job made is_made)
 
-  read_with : (job : Result Job ℕ) (made : Result Report Refusal) (refusal : Refusal) → answer_of refusal ≡ answers.ReadFault → IsMadeFor job holds Faulted made → IsRefusedWith made given given' PutFaulted refusal → Faulted
+  read_with : (job : Result Job ℕ) (made : Result Page Refusal) (refusal : Refusal) → answer_of refusal ≡ answers.ReadFault → IsMadeFor job holds Faulted made → IsRefusedWith made given given' PutFaulted refusal → Faulted
   read_with (Ok j) (Ok (Whole text)) refusal e is_made with_it = absurd (let f : answers.WriteFault ≡ answers.ReadFault = sym (ap answer_of with_it.0) ∙ e in cc)
   read_with (Ok j) (Ok (Evidence text limit)) refusal e is_made (inl shown) = absurd (let f : answers.More ≡ answers.ReadFault = sym (ap answer_of shown.0) ∙ e in cc)
   read_with (Ok j) (Ok (Evidence text limit)) refusal e is_made (inr (inl cut)) = absurd (let f : answers.WriteFault ≡ answers.ReadFault = sym (ap answer_of cut.0) ∙ e in cc)
@@ -209,12 +210,12 @@ module _ (holds : List ℕ → Option (List ℕ)) (Faulted PutFaulted Stays : Ty
   read_with (Err word) (Err made) refusal e (inr usage) (inl same) = absurd (let f : answers.Usage ≡ answers.ReadFault = sym (ap answer_of (same ∙ usage)) ∙ e in cc)
   read_with (Err word) (Err made) refusal e is_made (inr wanting) = absurd (let f : answers.NoMemory ≡ answers.ReadFault = sym (ap answer_of wanting) ∙ e in cc)
 
-  pub read_faults : (job : Result Job ℕ) (made : Result Report Refusal) (result : Answer) → IsMadeFor job holds Faulted made → IsDelivered made given given' PutFaulted Stays result → result ≡ answers.ReadFault → Faulted
+  pub read_faults : (job : Result Job ℕ) (made : Result Page Refusal) (result : Answer) → IsMadeFor job holds Faulted made → IsDelivered made given given' PutFaulted Stays result → result ≡ answers.ReadFault → Faulted
   read_faults job made result is_made delivered e =
       let (refusal, is, with_it) = delivered.refused (λ done. let f : answers.ReadFault ≡ answers.Done = sym e ∙ done in cc) in
       read_with job made refusal (is ∙ e) is_made with_it
 
-  pub complete_of : (job : Result Job ℕ) (made : Result Report Refusal) (result : Answer) → IsMadeFor job holds Faulted made → IsDelivered made given given' PutFaulted Stays result
+  pub complete_of : (job : Result Job ℕ) (made : Result Page Refusal) (result : Answer) → IsMadeFor job holds Faulted made → IsDelivered made given given' PutFaulted Stays result
       → IfOk job (λ j. IfSome (file_held j holds) (λ bytes. IfSome (symbols_held j holds) (λ symbols. CallsForNone (all_causes j bytes symbols) → (Faulted → ⊥) → (PutFaulted → ⊥) → (result ≡ answers.Done) ⊎ (result ≡ answers.NoMemory))))
   complete_of (Err word) made result is_made delivered = tt
   complete_of (Ok j) made result is_made delivered =
@@ -233,7 +234,7 @@ module _ (holds : List ℕ → Option (List ℕ)) (Faulted PutFaulted Stays : Ty
   stop_of_undone j refusal (inr (inl failed)) = inr (inl failed)
   stop_of_undone j refusal (inr (inr called)) = inr (inr called.0)
 
-  pub refused_of : (job : Result Job ℕ) (made : Result Report Refusal) (refusal : Refusal) → IsMadeFor job holds Faulted made → IsRefusedWith made given given' PutFaulted refusal → IsRefusedFor job holds Faulted PutFaulted refusal
+  pub refused_of : (job : Result Job ℕ) (made : Result Page Refusal) (refusal : Refusal) → IsMadeFor job holds Faulted made → IsRefusedWith made given given' PutFaulted refusal → IsRefusedFor job holds Faulted PutFaulted refusal
   refused_of (Ok j) (Ok (Whole text)) refusal is_made (unwritable, (front, same, some, put, fault)) = inr (unwritable, fault)
   refused_of (Ok j) (Ok (Evidence text limit)) refusal (shown, (bytes, may, h)) (inl more) =
       inl (subst (IsStopOf j holds Faulted) (sym more.0) (shown_stop j bytes limit may h))
@@ -247,7 +248,7 @@ module _ (holds : List ℕ → Option (List ℕ)) (Faulted PutFaulted Stays : Ty
   refused_of (Err word) (Err made) refusal is_made (inr wanting) = inl (inl wanting)
 
   -- refused words are answered as such
-  usage_of : (job : Result Job ℕ) (made : Result Report Refusal) (result : Answer) → IsMadeFor job holds Faulted made → IsDelivered made given given' PutFaulted Stays result → (word : ℕ) → job ≡ Err word → (result ≡ answers.Usage) ⊎ (result ≡ answers.NoMemory)
+  usage_of : (job : Result Job ℕ) (made : Result Page Refusal) (result : Answer) → IsMadeFor job holds Faulted made → IsDelivered made given given' PutFaulted Stays result → (word : ℕ) → job ≡ Err word → (result ≡ answers.Usage) ⊎ (result ≡ answers.NoMemory)
   usage_of (Ok j) made result is_made delivered word is = absurd (cc)
   usage_of (Err first) (Ok report) result is_made delivered word is = absurd is_made
   usage_of (Err first) (Err refusal) result (inl wanting) delivered word is =
@@ -255,21 +256,21 @@ module _ (holds : List ℕ → Option (List ℕ)) (Faulted PutFaulted Stays : Ty
   usage_of (Err first) (Err refusal) result (inr usage) delivered word is =
       elim (answered (Err refusal) given given' PutFaulted Stays result delivered) [ inl e ↦ inl (e ∙ ap answer_of usage) | inr e ↦ inr e ]
 
-  pub usage_if_err : (job : Result Job ℕ) (made : Result Report Refusal) (result : Answer) → IsMadeFor job holds Faulted made → IsDelivered made given given' PutFaulted Stays result → IsErr job → (result ≡ answers.Usage) ⊎ (result ≡ answers.NoMemory)
+  pub usage_if_err : (job : Result Job ℕ) (made : Result Page Refusal) (result : Answer) → IsMadeFor job holds Faulted made → IsDelivered made given given' PutFaulted Stays result → IsErr job → (result ≡ answers.Usage) ⊎ (result ≡ answers.NoMemory)
   usage_if_err (Ok j) made result is_made delivered err = absurd (cc)
   usage_if_err (Err word) made result is_made delivered err = usage_of (Err word) made result is_made delivered word refl
 
   -- ---- texts
-  asked_of : (job : Result Job ℕ) (made : Result Report Refusal) → IsMadeFor job holds Faulted made → IsDone made given given' Stays → IfOk job (λ j. (text : List ℕ) × IsAsked j holds text × Appends given text given' × (text ≡ [] → Stays))
+  asked_of : (job : Result Job ℕ) (made : Result Page Refusal) → IsMadeFor job holds Faulted made → IsDone made given given' Stays → IfOk job (λ j. (text : List ℕ) × IsAsked j holds text × Appends given text given' × (text ≡ [] → Stays))
   asked_of (Ok j) (Ok (Whole text)) is_made put = (text, is_made.0, put.0, put.1)
   asked_of (Ok j) (Ok (Evidence text limit)) is_made put = absurd put
   asked_of (Ok j) (Err refusal) is_made put = absurd put
   asked_of (Err word) made is_made put = tt
 
-  pub text_of : (job : Result Job ℕ) (made : Result Report Refusal) (result : Answer) → IsMadeFor job holds Faulted made → IsDelivered made given given' PutFaulted Stays result → result ≡ answers.Done → IfOk job (λ j. (text : List ℕ) × IsAsked j holds text × Appends given text given' × (text ≡ [] → Stays))
+  pub text_of : (job : Result Job ℕ) (made : Result Page Refusal) (result : Answer) → IsMadeFor job holds Faulted made → IsDelivered made given given' PutFaulted Stays result → result ≡ answers.Done → IfOk job (λ j. (text : List ℕ) × IsAsked j holds text × Appends given text given' × (text ≡ [] → Stays))
   text_of job made result is_made delivered e = asked_of job made is_made (delivered.done e)
 
-  shown_of : (job : Result Job ℕ) (made : Result Report Refusal) (refusal : Refusal) → answer_of refusal ≡ answers.More → IsMadeFor job holds Faulted made → IsRefusedWith made given given' PutFaulted refusal → IfOk job (λ j. (text : List ℕ) × IsEvidence j holds text × Appends given text given')
+  shown_of : (job : Result Job ℕ) (made : Result Page Refusal) (refusal : Refusal) → answer_of refusal ≡ answers.More → IsMadeFor job holds Faulted made → IsRefusedWith made given given' PutFaulted refusal → IfOk job (λ j. (text : List ℕ) × IsEvidence j holds text × Appends given text given')
   shown_of (Ok j) (Ok (Whole text)) refusal e is_made with_it = absurd (let f : answers.WriteFault ≡ answers.More = sym (ap answer_of with_it.0) ∙ e in cc)
   shown_of (Ok j) (Ok (Evidence text limit)) refusal e is_made (inl shown) = (text, is_made.0, shown.1)
   shown_of (Ok j) (Ok (Evidence text limit)) refusal e is_made (inr (inl cut)) = absurd (let f : answers.WriteFault ≡ answers.More = sym (ap answer_of cut.0) ∙ e in cc)
@@ -278,12 +279,12 @@ module _ (holds : List ℕ → Option (List ℕ)) (Faulted PutFaulted Stays : Ty
   shown_of (Ok j) (Err made) refusal e is_made (inr wanting) = absurd (let f : answers.NoMemory ≡ answers.More = sym (ap answer_of wanting) ∙ e in cc)
   shown_of (Err word) made refusal e is_made with_it = tt
 
-  pub evidence_of : (job : Result Job ℕ) (made : Result Report Refusal) (result : Answer) → IsMadeFor job holds Faulted made → IsDelivered made given given' PutFaulted Stays result → result ≡ answers.More → IfOk job (λ j. (text : List ℕ) × IsEvidence j holds text × Appends given text given')
+  pub evidence_of : (job : Result Job ℕ) (made : Result Page Refusal) (result : Answer) → IsMadeFor job holds Faulted made → IsDelivered made given given' PutFaulted Stays result → result ≡ answers.More → IfOk job (λ j. (text : List ℕ) × IsEvidence j holds text × Appends given text given')
   evidence_of job made result is_made delivered e =
       let (refusal, is, with_it) = delivered.refused (λ done. let f : answers.More ≡ answers.Done = sym e ∙ done in cc) in
       shown_of job made refusal (is ∙ e) is_made with_it
 
-  cut_of : (job : Result Job ℕ) (made : Result Report Refusal) (refusal : Refusal) → answer_of refusal ≡ answers.WriteFault → IsMadeFor job holds Faulted made → IsRefusedWith made given given' PutFaulted refusal
+  cut_of : (job : Result Job ℕ) (made : Result Page Refusal) (refusal : Refusal) → answer_of refusal ≡ answers.WriteFault → IsMadeFor job holds Faulted made → IsRefusedWith made given given' PutFaulted refusal
       → IfOk job (λ j. (text : List ℕ) × (text ≢ []) × IsAskedOrShown j holds text × AppendsFront given text given')
   cut_of (Ok j) (Ok (Whole text)) refusal e is_made (unwritable, (front, same, some, put, fault)) =
       (front, some, inl (subst (IsAsked j holds) (sym same) is_made.0), put)
@@ -294,7 +295,7 @@ module _ (holds : List ℕ → Option (List ℕ)) (Faulted PutFaulted Stays : Ty
   cut_of (Ok j) (Err made) refusal e is_made with_it = absurd (elim with_it [ inl same ↦ undone_otherwise j made answers.WriteFault (λ f. cc) (λ f. cc) (λ plain. plain) is_made (ap answer_of (sym same) ∙ e) | inr wanting ↦ let f : answers.NoMemory ≡ answers.WriteFault = sym (ap answer_of wanting) ∙ e in cc ])
   cut_of (Err word) made refusal e is_made with_it = tt
 
-  pub front_of : (job : Result Job ℕ) (made : Result Report Refusal) (result : Answer) → IsMadeFor job holds Faulted made → IsDelivered made given given' PutFaulted Stays result → result ≡ answers.WriteFault
+  pub front_of : (job : Result Job ℕ) (made : Result Page Refusal) (result : Answer) → IsMadeFor job holds Faulted made → IsDelivered made given given' PutFaulted Stays result → result ≡ answers.WriteFault
       → IfOk job (λ j. (text : List ℕ) × (text ≢ []) × IsAskedOrShown j holds text × AppendsFront given text given')
   front_of job made result is_made delivered e =
       let (refusal, is, with_it) = delivered.refused (λ done. let f : answers.WriteFault ≡ answers.Done = sym e ∙ done in cc) in

@@ -2,7 +2,7 @@
 use Rattle.std.proofs.Common.{◌≡◌, ◌⊎◌, ℕ, ◌<◌, ◌≤◌, List, Option, Result, Ok, Err, inl, inr, subst, arith}
 use Rattle.answers.specs.declared.refusals.Refusal.{Refusal}
 use Rattle.answers.specs.declared.reports.Report.{Report}
-use Rattle.answers.specs.declared.reports.Report.TheVariants.{Evidence, Whole}
+use Rattle.answers.specs.declared.reports.Report.TheVariants.{Evidence, Network, Whole}
 use Rattle.hs_io.specs.Counts.{Rose, last_count}
 use Rattle.hsdec_core.specs.Inner.Made.{IsMadeOf}
 use Rattle.job_words.specs.declared.jobs.Job.{Job}
@@ -30,6 +30,7 @@ rose_after old between new first (inr last) = inr last
 with_fault : (job : Job) (holds : List ℕ → Option (List ℕ)) (Faulted More : Type 0) (made : Result Report Refusal) → (Faulted → More) → IsMadeOf job holds Faulted made → IsMadeOf job holds More made
 with_fault job holds Faulted More (Ok (Whole text)) more is = is
 with_fault job holds Faulted More (Ok (Evidence text limit)) more is = is
+with_fault job holds Faulted More (Ok (Network made)) more is = is
 with_fault job holds Faulted More (Err refusal) more (inl wanting) = inl wanting
 with_fault job holds Faulted More (Err refusal) more (inr (inl failed)) = inr (inl (more failed.0, failed.1))
 with_fault job holds Faulted More (Err refusal) more (inr (inr called)) = inr (inr called)

@@ -1,7 +1,7 @@
 //! The program's calls over any shelf and any sinks: words in, bytes out, an answer.
 //!
-//! [`run`] judges the words, loads the operands, has the command make its text in memory, and only then puts
-//! it. The crate `operands` says what FILE, NET and SYMBOLS may hold. The crate of a command's family says what
+//! [`run`] judges the words, loads the operands, has the command make its text or its network in memory, writes the
+//! network as a text (`pages`), and only then puts the text. The crate `operands` says what FILE, NET and SYMBOLS may hold. The crate of a command's family says what
 //! the command does and why it may refuse: `machine_reports`, `split_texts`, `cover_texts`, `shift_texts`,
 //! `symbol_runs` or `generated_texts`. This crate says:
 //!
@@ -21,6 +21,7 @@
 #![tactic(auto)]
 
 mod machine_tasks;
+mod pages;
 mod performing;
 mod running;
 mod symbol_tasks;

@@ -1,14 +1,16 @@
 //! The commands that work on the machine of FILE alone.
 
-ghost use Rattle.std.specs.Prelude.{◌≡◌, ◌≤◌, ◌↔◌, ℕ, Err, List, MatchResult, Ok};
+ghost use Rattle.std.specs.Prelude.{◌≡◌, ◌≤◌, ◌↔◌, ℕ, Err, IfOk, List, MatchResult, Ok};
 ghost use Rattle.hs_io.specs.Counts.{Rose};
 ghost use Rattle.answers.specs.declared.refusals.Refusal.TheVariants.{NoMemory};
-ghost use Rattle.answers.specs.declared.reports.Report.TheVariants.{Whole};
+ghost use Rattle.answers.specs.declared.reports.Report.TheVariants.{Network, Whole};
 ghost use Rattle.answers.specs.Judged.{IsReported};
+ghost use Rattle.blif_out.specs.NetworkText.{CanBeHeaded};
 ghost use Rattle.hsdec_core.specs.declared.tasks.MachineTask.TheVariants.{OfWork};
 ghost use Rattle.hsdec_core.specs.declared.tasks.Task.TheVariants.{OnMachine};
 ghost use Rattle.hsdec_core.specs.declared.tasks.WorkTask.TheVariants as works;
 ghost use Rattle.operands.specs.Fill.{fill_of};
+ghost use Rattle.hsdec_core.specs.Inner.Headed.{IsReportOf};
 ghost use Rattle.hsdec_core.specs.Inner.Made.{IsMadeOf};
 ghost use Rattle.hsdec_core.specs.Judgement.{file_cause, list_cause, own_cause, work_cause};
 ghost use Rattle.hsdec_core.specs.Operands.{AreGranted};
@@ -22,6 +24,7 @@ ghost use Rattle.state_codes.specs.declared.split.Kind.TheVariants as kinds;
 
 use crate::tasks::{FileTask, ListTask, MachineTask, WorkTask};
 use answers::{Bytes, Refusal, Report};
+use blif_out::{CommentedNetwork, HeadedNetwork, header_comments};
 use cover_texts::cover;
 use hs_io::Shelf;
 use job_words::Job;
@@ -96,7 +99,7 @@ fn on_file(
         FileTask::Reduce => whole(reduce(alloc, file, machine, fill(job))),
         FileTask::Low => judged(low(alloc, machine, job.second.bytes())),
         FileTask::High => judged(high(alloc, machine, job.second.bytes())),
-        FileTask::Cover => judged(cover(alloc, file, machine, job.second.bytes())),
+        FileTask::Cover => drawn(cover(alloc, file, machine, job.second.bytes())),
     }
 }
 
@@ -116,16 +119,19 @@ fn on_work(
 {
     match task {
         WorkTask::Definite => judged(definite(alloc, file, machine, fill(job), job.reduce)),
-        WorkTask::Shift => judged(shift(alloc, file, machine, fill(job), job.reduce)),
-        WorkTask::Decompose(kind) => judged(decompose(
-            alloc,
-            kind,
-            job.second.bytes(),
-            file,
-            machine,
-            fill(job),
-            job.reduce,
-        )),
+        WorkTask::Shift => drawn(shift(alloc, file, machine, fill(job), job.reduce)),
+        WorkTask::Decompose(kind) => {
+            let made = decompose(
+                alloc,
+                kind,
+                job.second.bytes(),
+                file,
+                machine,
+                fill(job),
+                job.reduce,
+            );
+            headed(alloc, made)
+        }
     }
 }
 
@@ -162,4 +168,22 @@ fn judged(text: Result<Vec<u8>, Refusal>) -> Result<Report, Refusal>
 {
     let text = text?;
     Ok(Report::Whole(Bytes::from(text)))
+}
+
+/// The report of a network with its comments, or its refusal.
+fn drawn(made: Result<CommentedNetwork, Refusal>) -> Result<Report, Refusal>
+    ensures { MatchResult made (λ network. result ≡ Ok (Network network)) (λ refusal. result ≡ Err refusal) }
+{
+    let made = made?;
+    Ok(Report::Network(made))
+}
+
+/// The report of a network with its header, or its refusal.
+fn headed(alloc: Global, made: Result<HeadedNetwork, Refusal>) -> Result<Report, Refusal>
+    requires { IfOk made CanBeHeaded }
+    ensures { MatchResult made (IsReportOf result) (λ refusal. result ≡ Err refusal) }
+{
+    let HeadedNetwork { header, network } = made?;
+    let comments = Bytes::from(header_comments(alloc, &header)?);
+    Ok(Report::Network(CommentedNetwork { comments, network }))
 }

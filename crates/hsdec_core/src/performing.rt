@@ -9,16 +9,18 @@ ghost use Rattle.job_words.specs.declared.command.Command.TheVariants as command
 ghost use Rattle.job_words.specs.Job.{HasFewSlashes, HasSizes, IsLimit, JobOf};
 
 use crate::machine_tasks::on_machine;
+use crate::pages::page_of;
 use crate::symbol_tasks::{sim, walk};
 use crate::tasks::{Task, task_of_command};
-use answers::{Bytes, Refusal, Report};
+use answers::{Bytes, Page, Refusal, Report};
 use generated_texts::{generate, trial};
 use hs_io::Shelf;
 use job_words::{Job, JobFail, Words, job};
 use std::alloc::Global;
 
-/// Makes in memory what the words ask for: judges the words, and passes their job to its command.
-pub fn perform<F: Shelf>(alloc: Global, words: &Words, shelf: &mut F) -> Result<Report, Refusal>
+/// Makes in memory what is put for the words: judges the words, passes their job to its command, and writes the
+/// network that the command may give.
+pub fn perform<F: Shelf>(alloc: Global, words: &Words, shelf: &mut F) -> Result<Page, Refusal>
     requires few { length words.now < 2 ^ 32 - 1 }
     requires granted { IfOk (JobOf words.now) (AreGranted (F.grants shelf.old)) }
     ensures made { IsMadeFor
@@ -30,7 +32,10 @@ pub fn perform<F: Shelf>(alloc: Global, words: &Words, shelf: &mut F) -> Result<
     ensures never_falls { F.faults shelf.old ≤ F.faults shelf.new }
 {
     match job(alloc, words) {
-        Ok(job) => perform_job(alloc, &job, shelf),
+        Ok(job) => {
+            let report = perform_job(alloc, &job, shelf)?;
+            Ok(page_of(alloc, report)?)
+        }
         Err(JobFail::Usage { word }) => Err(Refusal::Usage { word }),
         Err(JobFail::NoMemory) => Err(Refusal::NoMemory),
     }
@@ -58,8 +63,8 @@ fn perform_job<F: Shelf>(alloc: Global, job: &Job, shelf: &mut F) -> Result<Repo
             Ok(Report::Whole(Bytes::from(text)))
         }
         Task::Trial => {
-            let text = trial(alloc, job.seed, job.a, job.b, job.k)?;
-            Ok(Report::Whole(Bytes::from(text)))
+            let made = trial(alloc, job.seed, job.a, job.b, job.k)?;
+            Ok(Report::Network(made))
         }
     }
 }

@@ -1,17 +1,14 @@
--- The text of a register denotes its network: the lines before it are comments.
-use Rattle.std.proofs.Common.{◌≡◌, ◌≢◌, ℕ, List, [], ◌∷◌, arith, codes, map, refl, subst, sym}
+-- The lines before the network of a register are comments.
+use Rattle.std.proofs.Common.{◌≢◌, ℕ, List, [], ◌∷◌, arith, codes, map, refl}
 use Rattle.std.specs.Fmt.{decimal}
 use Rattle.std.specs.List.{AllByRecursion, flat_map}
 use Rattle.list_facts.specs.Laws.Everywhere.{each_append, each_weaker}
+use Rattle.blif_out.specs.Comments.{AreComments}
 use Rattle.blif_out.specs.Head.{comment_text}
-use Rattle.blif_out.specs.Writable.{IsWritable}
-use Rattle.blif_out.proofs.Denoting.{net_denotes}
 use Rattle.blif_out.proofs.Visible.{AreVisible, decimal_visible}
 use Rattle.blif_out.proofs.Words.{name_word}
 use Rattle.hs_io.specs.Spelling.{IsComment, IsFieldByte, spaced}
-use Rattle.net_core.specs.declared.Network.{Network}
-use Rattle.net_core.specs.Denotes.{Denotes}
-use Rattle.shift_texts.specs.ShiftText.{shift_fields, shift_text}
+use Rattle.shift_texts.specs.ShiftText.{shift_comments, shift_fields}
 
 -- visible fields stand in one line
 within_line : (fields : List (List ℕ)) → AreVisible fields → AllByRecursion (λ b. b ≢ 10) (flat_map spaced fields)
@@ -25,11 +22,11 @@ hsdec_fields = ((name_word (codes "hsdec") (omega arith) refl).field.visible, ((
 order_fields : (k : ℕ) → AreVisible (codes "order" ∷ decimal k ∷ [])
 order_fields k = ((name_word (codes "order") (omega arith) refl).field.visible, (decimal_visible k, tt))
 
-are_comments : (k : ℕ) → AllByRecursion IsComment (map comment_text (shift_fields k))
-are_comments k = (
+lines_are_comments : (k : ℕ) → AllByRecursion IsComment (map comment_text (shift_fields k))
+lines_are_comments k = (
   (refl, within_line (codes "hsdec" ∷ codes "shift" ∷ []) hsdec_fields),
   ((refl, within_line (codes "order" ∷ decimal k ∷ []) (order_fields k)), tt),
 )
 
-pub text_denotes : (k : ℕ) (N : Network) (text : List ℕ) → IsWritable N → text ≡ shift_text k N → Denotes text N
-text_denotes k N text writable is = subst (λ (bytes : List ℕ). Denotes bytes N) (sym is) (net_denotes N (map comment_text (shift_fields k)) writable (are_comments k))
+pub are_comments : (k : ℕ) → AreComments (shift_comments k)
+are_comments k = (map comment_text (shift_fields k), lines_are_comments k, refl)

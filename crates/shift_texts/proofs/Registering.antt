@@ -1,8 +1,8 @@
 -- The register of the work machine, its names, and what it answers.
 use Rattle.std.proofs.Common.{◌≡◌, ◌*◌, ℕ, All, Bool, List, length, sym, ap, ◌∙◌, subst, arith}
 use Rattle.answers.specs.Cause.{CallsForNone}
-use Rattle.blif_out.specs.Order.{HasKnownStarts, HasRowsInOrder}
-use Rattle.blif_out.specs.Writable.{IsWritable}
+use Rattle.blif_out.specs.Comments.{AreComments}
+use Rattle.blif_out.specs.NetworkText.{CanBeWritten, CanBeText}
 use Rattle.state_reduce.specs.declared.work.WorkMachine.{WorkMachine}
 use Rattle.state_reduce.specs.Work.{IsWork}
 use Rattle.decomposition.proofs.Carrying.{IsImage, image_of}
@@ -23,8 +23,8 @@ use Rattle.shift_real.proofs.StartContent.{order_once}
 use Rattle.state_reduce.proofs.Working.{classes_answer_alike}
 use Rattle.shift_texts.specs.Causes.{HasNoShortOrder, NeverInReset, RefusesShift}
 use Rattle.shift_texts.specs.Inner.Registers.{IsRegisterOf}
-use Rattle.shift_texts.specs.ShiftText.{IsShiftText, shift_text}
-use Rattle.shift_texts.proofs.Commenting.{text_denotes}
+use Rattle.shift_texts.specs.ShiftText.{IsShiftNetwork, shift_comments}
+use Rattle.shift_texts.proofs.Commenting.{are_comments}
 use Rattle.shift_texts.proofs.Judging.{none_called, work_of}
 use Rattle.shift_texts.proofs.Writing as writing
 
@@ -79,34 +79,33 @@ module _ (reduce : Bool) (F : KissFile) (work : WorkMachine) (is_work : IsWork r
     signal_names : AreSignalNames is.names
     signal_names = file_names F (k * W.inputs) is.names lawful is.own
 
-    pub writable_at : IsWritable N
-    writable_at = writing.writable W k is.names N signal_names (names_for is.names is.own) is.register
+    ready : CanBeWritten N
+    ready = record {
+      writable = writing.writable W k is.names N signal_names (names_for is.names is.own) is.register;
+      starts = writing.starts_known W k is.names N signal_names (names_for is.names is.own) is.register;
+      rows = writing.rows_in_order W k is.names N signal_names (names_for is.names is.own) is.register;
+      sound = is.sound;
+    }
 
-    pub starts_at : HasKnownStarts N
-    starts_at = writing.starts_known W k is.names N signal_names (names_for is.names is.own) is.register
-
-    pub rows_at : HasRowsInOrder N
-    rows_at = writing.rows_in_order W k is.names N signal_names (names_for is.names is.own) is.register
-
-    pub text_is : (text : List ℕ) → CallsForNone (HasNoShortOrder W) → CallsForNone (NeverInReset W) → text ≡ shift_text k N → CallsForNone (RefusesShift reduce F) × IsShiftText reduce F text
-    text_is text none reached whole = (
+    pub network_is : (comments : List ℕ) → CallsForNone (HasNoShortOrder W) → CallsForNone (NeverInReset W) → comments ≡ shift_comments k
+        → CallsForNone (RefusesShift reduce F) × (CanBeText (record { comments = comments; network = N }) × IsShiftNetwork reduce F (record { comments = comments; network = N }))
+    network_is comments none reached told = (
       none_called reduce F work is_work none reached,
       (
-        W,
-        k,
-        N,
-        is.names,
-        record {
-          work = work_of reduce F work is_work;
-          order = short.order;
-          whole = whole;
-          denotes = text_denotes k N text writable_at whole;
-          sound = is.sound;
-          starts = starts_at;
-          answers = answers_file N is.answers;
-          own = is.own;
-          register = is.register;
-          steps = is.steps;
-        },
+        record { comments = subst AreComments (sym told) (are_comments k); network = ready },
+        (
+          W,
+          k,
+          is.names,
+          record {
+            work = work_of reduce F work is_work;
+            order = short.order;
+            told = told;
+            answers = answers_file N is.answers;
+            own = is.own;
+            register = is.register;
+            steps = is.steps;
+          },
+        ),
       ),
     )

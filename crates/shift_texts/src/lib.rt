@@ -1,4 +1,4 @@
-//! The text of the shift register of a definite machine.
+//! The shift register of a definite machine.
 //!
 //! [`shift`] makes the machine that a command works on, and refuses it in three cases:
 //!
@@ -6,10 +6,10 @@
 //! - the register has too many bits;
 //! - no word of as many symbols as the order ends in the reset state.
 //!
-//! Otherwise it writes the network of the register after two comments, the second of which gives the order.
+//! Otherwise it gives the network of the register with two comments, the second of which gives the order.
 //!
 //! `specs/Causes` says which refusals a machine calls for, in their order, and `specs/ShiftText` what holds of
-//! the text that is written. The laws of `specs/Laws` say that all refusals that `shift` calls for have one
+//! the network and its text. The laws of `specs/Laws` say that all refusals that `shift` calls for have one
 //! answer ([`shift_has_one_answer`]).
 #![tactic(auto)]
 

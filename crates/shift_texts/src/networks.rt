@@ -21,7 +21,7 @@ use std::alloc::{AllocError, Global};
 
 /// The network of the register of the machine that is worked on, which is definite and has this order. The
 /// signals have the names of the file.
-pub fn register_of(
+pub(crate) fn register_of(
     alloc: Global,
     file: &KissFile,
     work: &WorkMachine,

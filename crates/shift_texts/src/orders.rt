@@ -16,7 +16,11 @@ use std::alloc::Global;
 const MOST_BITS: usize = 12;
 
 /// The order of the machine that is worked on, if its register has few bits.
-pub fn short_order(alloc: Global, file: &KissFile, work: &WorkMachine) -> Result<usize, Refusal>
+pub(crate) fn short_order(
+    alloc: Global,
+    file: &KissFile,
+    work: &WorkMachine,
+) -> Result<usize, Refusal>
     requires work { (reduce : Bool) × IsWork reduce file.now work.now }
     ensures { IsJudged (HasNoShortOrder work.now.machine) (HasShortOrder work.now.machine) result }
 {

@@ -1,23 +1,25 @@
-//! The text of the register of a file's machine.
+//! The register of a file's machine.
 
 ghost use Rattle.std.specs.Prelude.{◌≡◌, Bool};
 ghost use Rattle.answers.specs.Judged.{IsJudged};
+ghost use Rattle.blif_out.specs.NetworkText.{CanBeText};
 ghost use Rattle.kiss_file.specs.Lawful.{IsLawful};
 ghost use Rattle.kiss_file.specs.Machine.{Accepted, Conflicting};
 ghost use Rattle.state_reduce.specs.Work.{IsWork};
 ghost use Rattle.shift_texts.specs.Causes.{RefusesShift};
-ghost use Rattle.shift_texts.specs.ShiftText.{IsShiftText};
+ghost use Rattle.shift_texts.specs.ShiftText.{IsShiftNetwork};
 
-use crate::comments::text_of;
+use crate::comments::comments_of;
 use crate::networks::register_of;
 use crate::orders::short_order;
 use answers::Refusal;
+use blif_out::CommentedNetwork;
 use kiss_file::{Fill, KissFile};
 use machine_table::Machine;
 use state_reduce::{WorkMachine, work_machine};
 use std::alloc::Global;
 
-/// The network of the shift register of the machine that is worked on, after comments that give its order. The
+/// The network of the shift register of the machine that is worked on, with comments that give its order. The
 /// machine is that of the file under the fill; with `reduce` the machine of the classes of alike states is
 /// worked on.
 pub fn shift(
@@ -26,24 +28,25 @@ pub fn shift(
     machine: Machine,
     fill: Fill,
     reduce: bool,
-) -> Result<Vec<u8>, Refusal>
+) -> Result<CommentedNetwork, Refusal>
     requires lawful { IsLawful file.now }
     requires accepted { Accepted file.now fill }
     requires machine { machine ≡ file.now }
-    ensures { IsJudged (RefusesShift reduce file.now) (λ text. IsShiftText reduce file.now text.items) result }
+    ensures { IsJudged (RefusesShift reduce file.now) (λ made. CanBeText made × IsShiftNetwork reduce file.now made) result }
 {
     let work = work_machine(alloc, file, machine, fill, reduce)?;
     shift_of(alloc, file, &work)
 }
 
 /// The same for a machine that is worked on.
-fn shift_of(alloc: Global, file: &KissFile, work: &WorkMachine) -> Result<Vec<u8>, Refusal>
+fn shift_of(alloc: Global, file: &KissFile, work: &WorkMachine) -> Result<CommentedNetwork, Refusal>
     requires lawful { IsLawful file.now }
     requires no_conflict { Conflicting file.now → ⊥ }
     requires work { (reduce : Bool) × IsWork reduce file.now work.now }
-    ensures { (reduce : Bool) → IsWork reduce file.now work.now → IsJudged (RefusesShift reduce file.now) (λ text. IsShiftText reduce file.now text.items) result }
+    ensures { (reduce : Bool) → IsWork reduce file.now work.now → IsJudged (RefusesShift reduce file.now) (λ made. CanBeText made × IsShiftNetwork reduce file.now made) result }
 {
     let order = short_order(alloc, file, work)?;
-    let net = register_of(alloc, file, work, order)?;
-    Ok(text_of(alloc, order, &net)?)
+    let network = register_of(alloc, file, work, order)?;
+    let comments = comments_of(alloc, order)?;
+    Ok(CommentedNetwork { comments, network })
 }

@@ -1,13 +1,14 @@
 -- What `encode` answers: codes of parts that tell all states apart, or the refusal that the parts call for.
-use Rattle.std.proofs.Common.{◌≡◌, ◌≢◌, ◌⊎◌, ◌≤◌, ℕ, All, Bool, Global, List, [], ◌∷◌, Result, Ok, Err, IfOk, Vec, inl, inr, length, refl, sym, ◌∙◌, subst}
+use Rattle.std.proofs.Common.{◌≡◌, ◌≢◌, ◌⊎◌, ◌≤◌, ℕ, All, Bool, List, [], ◌∷◌, Result, Ok, Err, IfOk, inl, inr, length, refl, sym, ◌∙◌, subst}
 use Rattle.std.specs.declared.alloc.AllocError.{AllocError}
 use Rattle.answers.specs.declared.refusals.Refusal.{Refusal}
 use Rattle.answers.specs.declared.refusals.Refusal.TheVariants as refusals
 use Rattle.answers.specs.Cause.{CallsForNone}
 use Rattle.answers.specs.Judged.{IsStop}
 use Rattle.answers.specs.Laws.Causes.{none_first}
+use Rattle.blif_out.specs.declared.networks.HeadedNetwork.{HeadedNetwork}
 use Rattle.state_reduce.specs.declared.work.WorkMachine.{WorkMachine}
-use Rattle.decomposition.specs.Decomposition.{IsTextOf}
+use Rattle.decomposition.specs.Decomposition.{IsDecomposed}
 use Rattle.state_reduce.specs.Work.{IsWork}
 use Rattle.kiss_file.specs.declared.file.KissFile.{KissFile}
 use Rattle.state_codes.specs.declared.CodeFail.{CodeFail}
@@ -21,7 +22,7 @@ use Rattle.state_codes.specs.Fault.{CodeFault, FirstTogether}
 use Rattle.state_codes.specs.Split.{IsPart}
 use Rattle.split_texts.specs.Causes.{HasLongCode, HasNoCode, LeavesTogether}
 use Rattle.split_texts.specs.Inner.Named.{NamesStates}
-use Rattle.split_texts.specs.Written.{AreCodes, IsTextOfParts}
+use Rattle.split_texts.specs.Written.{AreCodes, IsOfParts}
 use Rattle.split_texts.specs.Laws.Causes.{apart_leaves_none, short_has_none}
 use Rattle.split_texts.specs.Laws.Codes.{apart_of_codes}
 
@@ -57,8 +58,8 @@ module _ (W : KissFile) (parts : List Part) (n : ℕ) (count : n ≡ length W.st
         let fault : CodeFault (length W.states) parts (CodeTooLong bits) = fault_of (CodeTooLong bits) is (λ e. cc) in
         inr (inr (apart_leaves_none W parts fault.0, inl (bits, refl, fault.1, fault.2)))
 
--- ---- the text
-pub text_of_parts : (F : KissFile) (work : WorkMachine) (kind : Kind) (parts : List Part) (result : Result (Vec ℕ Global) AllocError) → ((reduce : Bool) → IsWork reduce F work → IfOk result (λ written. IsTextOf reduce F work.machine kind parts written.items))
-    → IfOk result (λ written. IsTextOfParts F work kind parts written.items)
-text_of_parts F work kind parts (Ok written) is = is
-text_of_parts F work kind parts (Err wanting) is = tt
+-- ---- the network
+pub of_parts : (F : KissFile) (work : WorkMachine) (kind : Kind) (parts : List Part) (result : Result HeadedNetwork AllocError) → ((reduce : Bool) → IsWork reduce F work → IfOk result (IsDecomposed reduce F work.machine kind parts))
+    → IfOk result (IsOfParts F work kind parts)
+of_parts F work kind parts (Ok made) is = is
+of_parts F work kind parts (Err wanting) is = tt

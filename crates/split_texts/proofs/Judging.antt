@@ -1,13 +1,15 @@
 -- What comes of a plan and of a split is what comes of a decomposition.
-use Rattle.std.proofs.Common.{◌≤◌, ℕ, Bool, Global, List, [], ◌∷◌, Result, Ok, Err, Vec, inl, inr, length, refl, subst, arith}
+use Rattle.std.proofs.Common.{◌≤◌, ℕ, Bool, List, [], ◌∷◌, Result, Ok, Err, inl, inr, length, refl, subst, arith}
 use Rattle.std.proofs.lemmas.Bool.{cases_lt}
 use Rattle.answers.specs.declared.refusals.Refusal.{Refusal}
 use Rattle.answers.specs.declared.refusals.Refusal.TheVariants.{CodeTooLong}
 use Rattle.answers.specs.Cause.{CallsForNone}
 use Rattle.answers.specs.Judged.{IsJudged, IsStop}
 use Rattle.answers.specs.Laws.Causes.{none_first}
+use Rattle.blif_out.specs.declared.networks.HeadedNetwork.{HeadedNetwork}
+use Rattle.blif_out.specs.NetworkText.{CanBeHeaded}
 use Rattle.state_reduce.specs.declared.work.WorkMachine.{WorkMachine}
-use Rattle.decomposition.specs.Decomposition.{HasGates, IsTextOf}
+use Rattle.decomposition.specs.Decomposition.{HasGates, IsDecomposed}
 use Rattle.state_reduce.specs.Work.{IsWork, IsWorkOf}
 use Rattle.kiss_file.specs.declared.file.KissFile.{KissFile}
 use Rattle.kiss_file.specs.Lawful.{IsLawful}
@@ -22,7 +24,7 @@ use Rattle.state_codes.specs.declared.split.Split.{Split}
 use Rattle.state_codes.specs.Code.{IsCode}
 use Rattle.state_codes.specs.Fault.{AreApart}
 use Rattle.split_texts.specs.Causes.{HasLongCode, HasNoCode, HasNoText, IsNotWritten, LeavesTogether, OfParts}
-use Rattle.split_texts.specs.Written.{IsTextOfParts, IsWritten, KeepsPromises}
+use Rattle.split_texts.specs.Written.{IsOfKind, IsOfParts, KeepsPromises}
 use Rattle.split_texts.specs.Laws.Codes.{length_of_codes}
 use Rattle.split_texts.specs.Laws.Causes.{apart_leaves_none, of_parts_none, on_work_none}
 use Rattle.split_texts.proofs.Listing.{read_by_rule}
@@ -83,23 +85,26 @@ module _ (kind : Kind) (text : List ℕ) (reduce : Bool) (F : KissFile) (work : 
         ]
 
     -- what the kind promises of codes and gates
-    kept : CallsForNone (HasNoCode work.machine split.parts) → AreApart (length work.machine.states) split.parts → (written : List ℕ) → KeepsPromises kind reduce F work.machine split.parts written
-    kept none apart written class codes N H same is =
+    kept : CallsForNone (HasNoCode work.machine split.parts) → AreApart (length work.machine.states) split.parts → KeepsPromises kind reduce F work.machine split.parts
+    kept none apart class codes N H same is =
         let code : IsCode (length work.machine.states) split.parts codes = subst (λ (list : List Part). IsCode (length work.machine.states) list codes) same is.codes_of_parts in
         let gates : HasGates F work.machine split.parts codes N = subst (λ (list : List Part). HasGates F work.machine list codes N) same is.gates in
         promises_kept kind text work.machine split.parts codes N (λ refusal bad. plan.0 refusal (inl bad)) plan.1.made code
         (read_by_rule F work codes lawful no_conflict code.written.states (short codes none apart code) reduce is_work split.parts N gates)
 
-    pub judged_text : (result : Result (Vec ℕ Global) Refusal) → IsJudged (HasNoCode work.machine split.parts) (λ written. AreApart (length work.machine.states) split.parts × IsTextOfParts F work split.kind split.parts written.items) result
-        → IsJudged (IsNotWritten kind text reduce F) (λ written. IsWritten kind text reduce F written.items) result
-    judged_text (Err refusal) stop = stop_of_code refusal stop
-    judged_text (Ok written) (none, (apart, is)) = (
+    pub judged_network : (result : Result HeadedNetwork Refusal) → IsJudged (HasNoCode work.machine split.parts) (λ made. AreApart (length work.machine.states) split.parts × CanBeHeaded made × IsOfParts F work split.kind split.parts made) result
+        → IsJudged (IsNotWritten kind text reduce F) (λ made. CanBeHeaded made × IsOfKind kind text reduce F made) result
+    judged_network (Err refusal) stop = stop_of_code refusal stop
+    judged_network (Ok made) (none, (apart, ready, is)) = (
       on_work_none kind text reduce F work.machine work_is (text_of_code kind text work.machine split.parts plan.1.made plan.0 none),
       (
-        work.machine,
-        split.parts,
-        record { made = plan.1.made; apart = apart },
-        subst (λ (k : Kind). IsTextOf reduce F work.machine k split.parts written.items) plan.1.same_kind (is reduce is_work),
-        kept none apart written.items,
+        ready,
+        (
+          work.machine,
+          split.parts,
+          record { made = plan.1.made; apart = apart },
+          subst (λ (k : Kind). IsDecomposed reduce F work.machine k split.parts made) plan.1.same_kind (is reduce is_work),
+          kept none apart,
+        ),
       ),
     )

@@ -1,8 +1,10 @@
--- The headline: what holds of a text that is written as a decomposition of a file's machine.
+-- The headline: what holds of a network, its header and their text, that are a decomposition of a file's machine.
 use Rattle.std.specs.Prelude.{◌≡◌, ◌≤◌, ℕ, Bool, List}
 use Rattle.blif_out.specs.declared.header.Header.{Header}
+use Rattle.blif_out.specs.declared.networks.HeadedNetwork.{HeadedNetwork}
+use Rattle.blif_out.specs.NetworkText.{IsHeadedText}
 use Rattle.state_reduce.specs.declared.work.WorkMachine.{WorkMachine}
-use Rattle.decomposition.specs.Decomposition.{IsDecomposition, IsTextOf}
+use Rattle.decomposition.specs.Decomposition.{IsDecomposed, IsDecomposition}
 use Rattle.state_reduce.specs.Work.{IsWork}
 use Rattle.kiss_file.specs.declared.file.KissFile.{KissFile}
 use Rattle.net_core.specs.declared.Network.{Network}
@@ -15,19 +17,24 @@ use Rattle.state_codes.specs.Agreement.{AreDistinct}
 use Rattle.state_codes.specs.Code.{IsCode}
 use Rattle.state_codes.specs.Fault.{AreApart}
 
--- the codes and the network of a text keep what the kind promises: a least code, for example, has gates that read
--- the fewest bits
-abbrev pub KeepsPromises : Kind → Bool → KissFile → KissFile → List Part → List ℕ → Type 0
-KeepsPromises kind reduce F W parts written =
-    (class : ℕ → ℕ) (codes : Codes) (N : Network) (H : Header) → H.parts ≡ parts → IsDecomposition reduce F W class codes written N H → (row_of kind).promises W codes N
+-- The codes, network and header of every decomposition into these parts keep what the kind promises: a least code,
+-- for example, has gates that read the fewest bits. That there is one says the clause beside it, `IsDecomposed`.
+abbrev pub KeepsPromises : Kind → Bool → KissFile → KissFile → List Part → Type 0
+KeepsPromises kind reduce F W parts =
+    (class : ℕ → ℕ) (codes : Codes) (N : Network) (H : Header) → H.parts ≡ parts → IsDecomposition reduce F W class codes N H → (row_of kind).promises W codes N
 
--- The text is a decomposition of the machine of a file, of this kind: it is the text of a split of the work machine
--- into parts that the kind asks for. By `IsTextOf` the text denotes a network that answers as the machine of the
+-- The network and its header are a decomposition of the machine of a file, of this kind: they are those of a split
+-- of the work machine into parts that the kind asks for. By `IsDecomposed` the network answers as the machine of the
 -- file does. Its codes carry every step, and each gate reads what its pair and its part permit, with nothing to
 -- spare. These codes and this network also keep what the kind promises.
+abbrev pub IsOfKind : Kind → List ℕ → Bool → KissFile → HeadedNetwork → Type 0
+IsOfKind kind text reduce F made =
+    (W : KissFile) × (parts : List Part) × IsSplitOf kind text W parts × IsDecomposed reduce F W kind parts made × KeepsPromises kind reduce F W parts
+
+-- the text is that of such a network after its header
 abbrev pub IsWritten : Kind → List ℕ → Bool → KissFile → List ℕ → Type 0
 IsWritten kind text reduce F written =
-    (W : KissFile) × (parts : List Part) × IsSplitOf kind text W parts × IsTextOf reduce F W kind parts written × KeepsPromises kind reduce F W parts written
+    (made : HeadedNetwork) × IsOfKind kind text reduce F made × IsHeadedText made.header made.network written
 
 -- the codes that the parts give to n states, which the parts all distinguish
 pub record AreCodes (n : ℕ) (parts : List Part) (codes : Codes) : Type 0 where
@@ -36,6 +43,6 @@ pub record AreCodes (n : ℕ) (parts : List Part) (codes : Codes) : Type 0 where
   pub distinct : AreDistinct n codes.words
   pub short : codes.bits ≤ 64
 
--- the text is the text of the parts, whichever machine of the file the command works on
-abbrev pub IsTextOfParts : KissFile → WorkMachine → Kind → List Part → List ℕ → Type 0
-IsTextOfParts F work kind parts written = (reduce : Bool) → IsWork reduce F work → IsTextOf reduce F work.machine kind parts written
+-- the network and its header are those of the parts, whichever machine of the file the command works on
+abbrev pub IsOfParts : KissFile → WorkMachine → Kind → List Part → HeadedNetwork → Type 0
+IsOfParts F work kind parts made = (reduce : Bool) → IsWork reduce F work → IsDecomposed reduce F work.machine kind parts made

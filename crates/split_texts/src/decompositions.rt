@@ -2,24 +2,26 @@
 
 ghost use Rattle.std.specs.Prelude.{◌≡◌, Bool};
 ghost use Rattle.answers.specs.Judged.{IsJudged};
+ghost use Rattle.blif_out.specs.NetworkText.{CanBeHeaded};
 ghost use Rattle.kiss_file.specs.Lawful.{IsLawful};
 ghost use Rattle.kiss_file.specs.Machine.{Accepted, Conflicting};
 ghost use Rattle.split_texts.specs.Given.{HasFewParts};
 ghost use Rattle.split_texts.specs.Causes.{IsNotWritten};
-ghost use Rattle.split_texts.specs.Written.{IsWritten};
+ghost use Rattle.split_texts.specs.Written.{IsOfKind};
 ghost use Rattle.state_reduce.specs.Work.{IsWork};
 ghost use Rattle.state_codes.specs.declared.split.Kind.TheVariants as kinds;
 
 use crate::plans::plan;
-use crate::writing::write;
+use crate::writing::network_of_plan;
 use answers::Refusal;
+use blif_out::HeadedNetwork;
 use kiss_file::{Fill, KissFile};
 use machine_table::Machine;
 use state_codes::Kind;
 use state_reduce::{WorkMachine, work_machine};
 use std::alloc::Global;
 
-/// The text of the decomposition of a kind. `text` is the operand PARTS, which only the kind `Assign` reads.
+/// The network of the decomposition of a kind, with its header. `text` is the operand PARTS, which only the kind `Assign` reads.
 /// With `reduce` the machine that is split is the machine of the classes of alike states.
 pub fn decompose(
     alloc: Global,
@@ -29,12 +31,12 @@ pub fn decompose(
     machine: Machine,
     fill: Fill,
     reduce: bool,
-) -> Result<Vec<u8>, Refusal>
+) -> Result<HeadedNetwork, Refusal>
     requires few { kind ≡ kinds.Assign → HasFewParts text.now }
     requires lawful { IsLawful file.now }
     requires accepted { Accepted file.now fill }
     requires machine { machine ≡ file.now }
-    ensures { IsJudged (IsNotWritten kind text.now reduce file.now) (λ written. IsWritten kind text.now reduce file.now written.items) result }
+    ensures { IsJudged (IsNotWritten kind text.now reduce file.now) (λ made. CanBeHeaded made × IsOfKind kind text.now reduce file.now made) result }
 {
     let work = work_machine(alloc, file, machine, fill, reduce)?;
     decompose_work(alloc, kind, text, file, &work)
@@ -47,14 +49,14 @@ fn decompose_work(
     text: &[u8],
     file: &KissFile,
     work: &WorkMachine,
-) -> Result<Vec<u8>, Refusal>
+) -> Result<HeadedNetwork, Refusal>
     requires few { kind ≡ kinds.Assign → HasFewParts text.now }
     requires lawful { IsLawful file.now }
     requires no_conflict { Conflicting file.now → ⊥ }
     requires work { (reduce : Bool) × IsWork reduce file.now work.now }
     ensures { (reduce : Bool) → IsWork reduce file.now work.now
-        → IsJudged (IsNotWritten kind text.now reduce file.now) (λ written. IsWritten kind text.now reduce file.now written.items) result }
+        → IsJudged (IsNotWritten kind text.now reduce file.now) (λ made. CanBeHeaded made × IsOfKind kind text.now reduce file.now made) result }
 {
     let split = plan(alloc, kind, text, &work.machine)?;
-    write(alloc, file, work, split)
+    network_of_plan(alloc, file, work, split)
 }

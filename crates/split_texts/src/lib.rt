@@ -1,4 +1,4 @@
-//! The decompositions of a machine, of every kind: the split, its codes, and the text of its network.
+//! The decompositions of a machine, of every kind: the split, its codes, and its network.
 //!
 //! `specs/Kinds` is the one table of the kinds. Its row for a kind says:
 //!
@@ -11,10 +11,11 @@
 //! sound (`specs/Laws/Kinds`), and one call. `specs/Splits` says what a plan is, and why there may be none. A plan
 //! does not know yet whether its parts distinguish all states: given parts may not. The codes show it.
 //!
-//! [`decompose`] makes the machine that a command works on, plans its split, and writes it. [`codes_of`] gives the
-//! codes of a split, or the refusal that says why it has none, and [`text_of_codes`] gives the text of its network.
-//! `specs/Causes` says which refusals a machine without a text calls for, in their order. `specs/Written` says what
-//! holds of a written text; it is the headline. `specs/LeastNetwork` has the promises of the least code.
+//! [`decompose`] makes the machine that a command works on, plans its split, and gives its network with the header
+//! that explains it. [`codes_of`] gives the codes of a split, or the refusal that says why it has none, and
+//! [`network_of_codes`] gives its network. `specs/Causes` says which refusals a machine without a decomposition calls
+//! for, in their order. `specs/Written` says what holds of the network, its header and their text; it is the
+//! headline. `specs/LeastNetwork` has the promises of the least code.
 #![tactic(auto)]
 
 mod decompositions;
@@ -23,4 +24,4 @@ mod writing;
 
 pub use decompositions::decompose;
 pub use plans::plan;
-pub use writing::{codes_of, text_of_codes, write};
+pub use writing::{codes_of, network_of_codes, network_of_plan};

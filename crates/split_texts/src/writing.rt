@@ -1,40 +1,42 @@
-//! The codes of a split, and the text of its network.
+//! The codes of a split, and its network with the header that explains it.
 
 ghost use Rattle.std.specs.Prelude.{ℕ, ◌<◌, Bool, IfOk, List, length};
 ghost use Rattle.answers.specs.Judged.{IsJudged};
+ghost use Rattle.blif_out.specs.NetworkText.{CanBeHeaded};
 ghost use Rattle.state_reduce.specs.Work.{IsWork};
 ghost use Rattle.kiss_file.specs.Lawful.{IsLawful};
 ghost use Rattle.kiss_file.specs.Machine.{Conflicting};
 ghost use Rattle.split_texts.specs.Splits.{IsPlanned};
 ghost use Rattle.split_texts.specs.Causes.{HasNoCode};
 ghost use Rattle.split_texts.specs.Inner.Named.{NamesStates};
-ghost use Rattle.split_texts.specs.Written.{AreCodes, IsTextOfParts};
+ghost use Rattle.split_texts.specs.Written.{AreCodes, IsOfParts};
 ghost use Rattle.state_codes.specs.Fault.{AreApart};
 
 use answers::Refusal;
-use decomposition::text_of_split;
+use blif_out::HeadedNetwork;
+use decomposition::headed_network;
 use hs_io::Name;
 use kiss_file::KissFile;
 use state_codes::{CodeFail, Codes, Split, encode};
 use state_reduce::{WorkMachine, state_name};
 use std::alloc::{AllocError, Global};
 
-/// The text of a split that `plan` gives for a machine that `work_machine` gives for the file.
-pub fn write(
+/// The network of a split that `plan` gives for a machine that `work_machine` gives for the file.
+pub fn network_of_plan(
     alloc: Global,
     file: &KissFile,
     work: &WorkMachine,
     split: Split,
-) -> Result<Vec<u8>, Refusal>
+) -> Result<HeadedNetwork, Refusal>
     requires lawful { IsLawful file.now }
     requires no_conflict { Conflicting file.now → ⊥ }
     requires work { (reduce : Bool) × IsWork reduce file.now work.now }
     requires planned { (text : List ℕ) × IsPlanned split.kind text work.now.machine split }
     ensures { IsJudged (HasNoCode work.now.machine split.parts)
-        (λ written. AreApart (length work.now.machine.states) split.parts × IsTextOfParts file.now work.now split.kind split.parts written.items) result }
+        (λ made. AreApart (length work.now.machine.states) split.parts × CanBeHeaded made × IsOfParts file.now work.now split.kind split.parts made) result }
 {
     let codes = codes_of(alloc, file, work, &split)?;
-    Ok(text_of_codes(alloc, file, work, split, &codes)?)
+    Ok(network_of_codes(alloc, file, work, split, &codes)?)
 }
 
 /// The codes of a split that `plan` gives.
@@ -77,21 +79,22 @@ fn not_apart(
     })
 }
 
-/// The text of a split with the codes that `codes_of` gives for it.
-pub fn text_of_codes(
+/// The network of a split with the codes that `codes_of` gives for it.
+pub fn network_of_codes(
     alloc: Global,
     file: &KissFile,
     work: &WorkMachine,
     split: Split,
     codes: &Codes,
-) -> Result<Vec<u8>, AllocError>
+) -> Result<HeadedNetwork, AllocError>
     requires lawful { IsLawful file.now }
     requires no_conflict { Conflicting file.now → ⊥ }
     requires work { (reduce : Bool) × IsWork reduce file.now work.now }
     requires planned { (text : List ℕ) × IsPlanned split.kind text work.now.machine split }
     requires codes { AreCodes (length work.now.machine.states) split.parts codes.now }
-    ensures { IfOk result (λ written. IsTextOfParts file.now work.now split.kind split.parts written.items) }
+    ensures ready { IfOk result CanBeHeaded }
+    ensures made { IfOk result (IsOfParts file.now work.now split.kind split.parts) }
 {
     work.machine.keeps_its_states();
-    text_of_split(alloc, file, work, split, codes)
+    headed_network(alloc, file, work, split, codes)
 }

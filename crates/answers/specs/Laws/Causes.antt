@@ -6,7 +6,7 @@ use Rattle.answers.specs.declared.numbers.Answer.TheVariants as answers
 use Rattle.answers.specs.declared.refusals.Refusal.{Refusal}
 use Rattle.answers.specs.declared.refusals.Refusal.TheVariants.{NoMemory}
 use Rattle.answers.specs.declared.reports.Report.{Report}
-use Rattle.answers.specs.declared.reports.Report.TheVariants.{Evidence, Whole}
+use Rattle.answers.specs.declared.reports.Report.TheVariants.{Evidence, Network, Whole}
 use Rattle.answers.specs.Cause.{CallsForNone, Cause, FirstOf}
 use Rattle.answers.specs.Judged.{IsJudged, IsReported, IsStop}
 use Rattle.answers.specs.Refusal.{answer_of}
@@ -67,4 +67,5 @@ pub reported_within : (cause other : Cause) (P Q P' Q' : List ℕ → Type 0) (r
     → ((text : List ℕ) → P text → P' text) → ((text : List ℕ) → Q text → Q' text) → IsReported cause P Q result → IsReported other P' Q' result
 reported_within cause other P Q P' Q' (Ok (Whole text)) within none whole shown (none_here, h) = (none none_here, whole text h)
 reported_within cause other P Q P' Q' (Ok (Evidence text limit)) within none whole shown (h, is) = (within _ h, shown text is)
+reported_within cause other P Q P' Q' (Ok (Network made)) within none whole shown (none_here, (ready, drawn)) = (none none_here, (ready, λ text told. whole text (drawn text told)))
 reported_within cause other P Q P' Q' (Err refusal) within none whole shown (h, few) = (stop_within cause other refusal within h, few)

@@ -4,10 +4,14 @@ use Rattle.answers.specs.declared.numbers.Answer.{Answer}
 use Rattle.answers.specs.declared.numbers.Answer.TheVariants as answers
 use Rattle.answers.specs.declared.refusals.Refusal.{Refusal}
 use Rattle.answers.specs.declared.refusals.Refusal.TheVariants.{More, NoMemory, Usage}
+use Rattle.answers.specs.declared.reports.Page.{Page}
 use Rattle.answers.specs.declared.reports.Report.{Report}
-use Rattle.answers.specs.declared.reports.Report.TheVariants.{Evidence, Whole}
+use Rattle.answers.specs.declared.reports.Report.TheVariants.{Evidence, Network, Whole}
 use Rattle.answers.specs.Cause.{CallsForNone}
+use Rattle.answers.specs.Judged.{IsDrawn}
 use Rattle.answers.specs.Refusal.{answer_of}
+use Rattle.blif_out.specs.declared.networks.CommentedNetwork.{CommentedNetwork}
+use Rattle.hsdec_core.specs.Inner.Pages.{report_of}
 use Rattle.hsdec_core.specs.Judgement.{all_causes, first_cause}
 use Rattle.operands.specs.Loading.{MayBe}
 use Rattle.hsdec_core.specs.Operands.{file_held, symbols_held}
@@ -40,6 +44,7 @@ abbrev pub IsMadeOf : Job → (List ℕ → Option (List ℕ)) → Type 0 → Re
 IsMadeOf job holds Faulted (Ok (Whole text)) = IsAsked job holds text × IsPassed job holds
 IsMadeOf job holds Faulted (Ok (Evidence text limit)) =
     IsEvidence job holds text × ((bytes : List ℕ) × MayBe (file_held job holds) bytes × first_cause job bytes (More limit))
+IsMadeOf job holds Faulted (Ok (Network made)) = IsDrawn (IsAsked job holds) made × IsPassed job holds
 IsMadeOf job holds Faulted (Err refusal) = IsUndone job holds Faulted refusal
 
 -- a text is made for a job, or the job is refused
@@ -47,7 +52,13 @@ abbrev pub IsMadeOfText : Job → (List ℕ → Option (List ℕ)) → Type 0 �
 IsMadeOfText job holds Faulted (Ok text) = IsMadeOf job holds Faulted (Ok (Whole text))
 IsMadeOfText job holds Faulted (Err refusal) = IsMadeOf job holds Faulted (Err refusal)
 
-abbrev pub IsMadeFor : Result Job ℕ → (List ℕ → Option (List ℕ)) → Type 0 → Result Report Refusal → Type 0
-IsMadeFor (Ok job) holds Faulted made = IsMadeOf job holds Faulted made
-IsMadeFor (Err word) holds Faulted (Ok report) = ⊥
+-- a network with its comments is made for a job, or the job is refused
+abbrev pub IsMadeOfNetwork : Job → (List ℕ → Option (List ℕ)) → Type 0 → Result CommentedNetwork Refusal → Type 0
+IsMadeOfNetwork job holds Faulted (Ok made) = IsMadeOf job holds Faulted (Ok (Network made))
+IsMadeOfNetwork job holds Faulted (Err refusal) = IsMadeOf job holds Faulted (Err refusal)
+
+-- what is to be put for a job or for refused words
+abbrev pub IsMadeFor : Result Job ℕ → (List ℕ → Option (List ℕ)) → Type 0 → Result Page Refusal → Type 0
+IsMadeFor (Ok job) holds Faulted made = IsMadeOf job holds Faulted (report_of made)
+IsMadeFor (Err word) holds Faulted (Ok page) = ⊥
 IsMadeFor (Err word) holds Faulted (Err refusal) = (refusal ≡ NoMemory) ⊎ (refusal ≡ Usage word)

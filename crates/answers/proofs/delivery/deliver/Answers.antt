@@ -1,7 +1,7 @@
 use Rattle.std.proofs.Common.{◌≡◌, Ok, ap, ◌∙◌, refl, sym, subst}
 use Rattle.answers.specs.Delivery.{LinePut}
 use Rattle.answers.specs.declared.refusals.Refusal.TheVariants.{More, NoMemory, Unwritable}
-use Rattle.answers.specs.declared.reports.Report.TheVariants.{Evidence, Whole}
+use Rattle.answers.specs.declared.reports.Page.TheVariants.{Evidence, Whole}
 use Rattle.answers.proofs.delivery.deliver.Goals as goal
 use Rattle.answers.proofs.Delivering.{cut_evidence, cut_whole, shown, wanting}
 use Rattle.hs_texts.specs.ErrLines.{more_line}

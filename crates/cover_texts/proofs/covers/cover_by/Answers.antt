@@ -1,6 +1,6 @@
 use Rattle.std.proofs.Common.{length, refl}
 use Rattle.std.proofs.lemmas.Result.{err_from_is_err_and}
-use Rattle.cover_texts.proofs.Judged.{judged_text}
+use Rattle.cover_texts.proofs.Judged.{judged_network}
 use Rattle.cover_texts.proofs.Judging.{stop_of_machine}
 use Rattle.cover_texts.proofs.covers.cover_by.Goals as goal
 
@@ -12,4 +12,5 @@ returns-in_err-pairs c = λ text is.
 
 pub returns : goal.returns
 returns c = λ text is.
-    judged_text c.args.file.now c.args.machine.now c.in_ok-pairs.pairs c.requires.machine text c.args.blocks.now.blocks is c.in_ok-pairs.ensures c.in_ok-text_of_pairs.field-0.items c.in_ok-text_of_pairs.ensures
+    let made = c.in_ok-network_of_pairs.ensures in
+    judged_network c.args.file.now c.args.machine.now c.in_ok-pairs.pairs c.requires.machine text c.args.blocks.now.blocks is c.in_ok-pairs.ensures c.in_ok-network_of_pairs.field-0 made.ready made.whole

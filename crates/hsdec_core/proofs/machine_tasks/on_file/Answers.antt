@@ -1,13 +1,14 @@
 use Rattle.std.proofs.Common.{IfOk, refl, subst, length}
 use Rattle.answers.specs.declared.numbers.Answer.TheVariants as answers
 use Rattle.answers.specs.Judged.{IsJudged}
+use Rattle.blif_out.specs.NetworkText.{CanBeText}
 use Rattle.cover_texts.specs.Flaws.{BadCoverRow}
 use Rattle.cover_texts.specs.Laws.Causes.{bad_cover_is_of}
-use Rattle.cover_texts.specs.Written.{IsCoverText}
+use Rattle.cover_texts.specs.Written.{IsCoverNetwork}
 use Rattle.hsdec_core.specs.declared.tasks.FileTask.TheVariants.{Check, Cover, High, Low, Reduce}
 use Rattle.hsdec_core.specs.Judgement.{file_cause}
 use Rattle.hsdec_core.specs.Promise.{IsFileText}
-use Rattle.hsdec_core.proofs.Reports.{few_of, judged_reported, reported_as, whole_reported}
+use Rattle.hsdec_core.proofs.Reports.{drawn_reported, few_of, judged_reported, reported_as, whole_reported}
 use Rattle.hsdec_core.proofs.machine_tasks.on_file.Goals as goal
 use Rattle.machine_reports.specs.PartnerTexts.{IsHighText, IsLowText}
 use Rattle.machine_reports.specs.ReducedText.{IsReducedText}
@@ -47,6 +48,6 @@ pub returns-in-Cover : goal.returns-in-Cover
 returns-in-Cover c =
     let F = c.args.file.now in
     reported_as (λ task. file_cause task c.args.job.now) (λ task. IsFileText task c.args.job.now) (λ _ _ _. ⊥)
-    _ Cover F F c.judged-in-Cover.result c.in-Cover.is refl
-    (judged_reported (λ v. v.items) _ _ _ c.cover.result c.judged-in-Cover.result c.judged-in-Cover.ensures (few_of answers.CoverRefused _ (λ e. cc) (bad_cover_is_of F c.args.job.now.second))
-    (subst (λ text. IsJudged (BadCoverRow F text) (λ v. IsCoverText F text v.items) c.cover.result) c.bytes-in-Cover.ensures c.cover.ensures))
+    _ Cover F F c.drawn.result c.in-Cover.is refl
+    (drawn_reported _ (IsCoverNetwork F c.args.job.now.second) _ _ c.cover.result c.drawn.result c.drawn.ensures (few_of answers.CoverRefused _ (λ e. cc) (bad_cover_is_of F c.args.job.now.second)) (λ network right text told. (network, right, told))
+    (subst (λ text. IsJudged (BadCoverRow F text) (λ made. CanBeText made × IsCoverNetwork F text made) c.cover.result) c.bytes-in-Cover.ensures c.cover.ensures))

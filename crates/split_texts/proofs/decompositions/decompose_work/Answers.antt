@@ -1,5 +1,5 @@
 use Rattle.std.proofs.lemmas.Result.{err_from_is_err_and}
-use Rattle.split_texts.proofs.Judging.{judged_text, stop_of_plan}
+use Rattle.split_texts.proofs.Judging.{judged_network, stop_of_plan}
 use Rattle.split_texts.proofs.decompositions.decompose_work.Goals as goal
 
 pub returns-in_err-split : goal.returns-in_err-split
@@ -9,4 +9,4 @@ returns-in_err-split c = λ reduce is.
 
 pub returns : goal.returns
 returns c = λ reduce is.
-    judged_text c.args.kind c.args.text.now reduce c.args.file.now c.args.work.now c.requires.lawful c.requires.no_conflict is c.in_ok-split.split c.in_ok-split.ensures c.write.result c.write.ensures
+    judged_network c.args.kind c.args.text.now reduce c.args.file.now c.args.work.now c.requires.lawful c.requires.no_conflict is c.in_ok-split.split c.in_ok-split.ensures c.network_of_plan.result c.network_of_plan.ensures

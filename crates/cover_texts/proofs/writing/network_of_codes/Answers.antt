@@ -1,7 +1,7 @@
 use Rattle.std.proofs.lemmas.Result.{IfOk-weaker}
 use Rattle.cover_texts.proofs.Flowing.{parts_flow, parts_lawful}
-use Rattle.cover_texts.proofs.Whole.{apart, code_here, counted, distinct_here, net_writable, text_is, words_counted}
-use Rattle.cover_texts.proofs.writing.text_of_codes.Goals as goal
+use Rattle.cover_texts.proofs.Whole.{apart, code_here, counted, distinct_here, ready, whole, words_counted}
+use Rattle.cover_texts.proofs.writing.network_of_codes.Goals as goal
 
 pub network_of_split-requires-clause-parts : goal.network_of_split-requires-clause-parts
 network_of_split-requires-clause-parts c = parts_lawful c.args.file.now c.args.pairs.now c.args.cover.now.blocks c.args.split.now.parts c.requires.expanded.expansion c.requires.parts
@@ -25,27 +25,24 @@ pub network_of_split-requires-clause-apart : goal.network_of_split-requires-clau
 network_of_split-requires-clause-apart c =
     apart c.args.file.now c.args.pairs.now c.args.cover.now.blocks c.args.split.now.parts c.args.codes.now c.requires.lawful c.requires.cover c.requires.expanded c.requires.parts c.requires.codes c.in_ok-signals.signals c.in_ok-signals.ensures
 
-pub text_of_network-requires-clause-words : goal.text_of_network-requires-clause-words
-text_of_network-requires-clause-words c = words_counted c.args.file.now c.args.pairs.now c.args.cover.now.blocks c.args.split.now.parts c.args.codes.now c.requires.lawful c.requires.cover c.requires.expanded c.requires.parts c.requires.codes
+pub commented-requires-clause-words : goal.commented-requires-clause-words
+commented-requires-clause-words c = words_counted c.args.file.now c.args.pairs.now c.args.cover.now.blocks c.args.split.now.parts c.args.codes.now c.requires.lawful c.requires.cover c.requires.expanded c.requires.parts c.requires.codes
 
-pub text_of_network-requires-clause-bits : goal.text_of_network-requires-clause-bits
-text_of_network-requires-clause-bits c = c.requires.codes.short
+pub commented-requires-clause-bits : goal.commented-requires-clause-bits
+commented-requires-clause-bits c = c.requires.codes.short
 
-pub text_of_network-requires-clause-writable : goal.text_of_network-requires-clause-writable
-text_of_network-requires-clause-writable c =
-    net_writable c.args.file.now c.args.pairs.now c.args.cover.now.blocks c.args.split.now.parts c.args.codes.now c.requires.lawful c.requires.cover c.requires.expanded c.requires.parts c.requires.codes c.in_ok-signals.signals c.in_ok-signals.ensures
-    c.in_ok-made.made.network c.in_ok-made.made.notes c.in_ok-made.ensures c.keeps_its_states.ensures.next c.keeps_its_states.ensures.table
+pub returns-clause-ready : goal.returns-clause-ready
+returns-clause-ready c =
+    IfOk-weaker c.commented.result _ _
+    (λ made told.
+    ready c.args.file.now c.args.pairs.now c.args.cover.now.blocks c.args.split.now.parts c.args.codes.now c.requires.lawful c.requires.cover c.requires.expanded c.requires.parts c.requires.codes c.in_ok-signals.signals c.in_ok-signals.ensures
+    c.in_ok-made.made.network c.in_ok-made.made.notes c.in_ok-made.ensures c.keeps_its_states.ensures.next c.keeps_its_states.ensures.table made told.comments told.network)
+    c.commented.ensures
 
-pub text_of_network-requires-clause-starts : goal.text_of_network-requires-clause-starts
-text_of_network-requires-clause-starts c = c.in_ok-made.ensures.starts
-
-pub text_of_network-requires-clause-rows : goal.text_of_network-requires-clause-rows
-text_of_network-requires-clause-rows c = c.in_ok-made.ensures.rows
-
-pub returns : goal.returns
-returns c =
-    IfOk-weaker c.text_of_network.result _ _
-    (λ written told.
-    text_is c.args.file.now c.args.pairs.now c.args.cover.now.blocks c.args.split.now.parts c.args.codes.now c.requires.lawful c.requires.cover c.requires.expanded c.requires.parts c.requires.codes c.in_ok-signals.signals c.in_ok-signals.ensures
-    c.in_ok-made.made.network c.in_ok-made.made.notes c.in_ok-made.ensures c.keeps_its_states.ensures.next c.keeps_its_states.ensures.table c.net_text_denotes.ensures written.items told)
-    c.text_of_network.ensures
+pub returns-clause-whole : goal.returns-clause-whole
+returns-clause-whole c =
+    IfOk-weaker c.commented.result _ _
+    (λ made told.
+    whole c.args.file.now c.args.pairs.now c.args.cover.now.blocks c.args.split.now.parts c.args.codes.now c.requires.lawful c.requires.cover c.requires.expanded c.requires.parts c.requires.codes c.in_ok-signals.signals c.in_ok-signals.ensures
+    c.in_ok-made.made.network c.in_ok-made.made.notes c.in_ok-made.ensures c.keeps_its_states.ensures.next c.keeps_its_states.ensures.table made told.comments told.network)
+    c.commented.ensures
