@@ -48,7 +48,7 @@ heads : {X : Type 0} (x y : X) (xs ys : List X) → ◌≡◌ {A = List X} (x �
 heads x y xs ys same = (cc, cc)
 
 -- latches of the same names, with the same known starts
-same_latches : (one other : List Latch) (bits : List Bool) → map (λ latch. latch.input) one ≡ map (λ latch. latch.input) other → map (λ latch. latch.output) one ≡ map (λ latch. latch.output) other
+pub same_latches : (one other : List Latch) (bits : List Bool) → map (λ latch. latch.input) one ≡ map (λ latch. latch.input) other → map (λ latch. latch.output) one ≡ map (λ latch. latch.output) other
     → AreStarts one bits → AreStarts other bits → one ≡ other
 same_latches [] [] bits inputs outputs starts also = refl
 same_latches [] (y ∷ ys) bits inputs outputs starts also = cc

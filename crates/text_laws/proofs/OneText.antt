@@ -10,8 +10,11 @@ use Rattle.net_sim.specs.Run.{IsRun}
 use Rattle.net_sim.specs.Symbols.{IsSymbolFile, SaysSymbol}
 use Rattle.net_sim.proofs.Exclusive.{run_once}
 use Rattle.realise.specs.Carries.{AnswersAs}
-use Rattle.decomposition.specs.Decomposition.{IsTextOf}
+use Rattle.blif_out.specs.declared.networks.HeadedNetwork.{HeadedNetwork}
+use Rattle.decomposition.specs.Decomposition.{IsDecomposed}
 use Rattle.text_laws.specs.OneText.{GiveOneText}
+use Rattle.state_codes.specs.declared.split.Kind.{Kind}
+use Rattle.state_codes.specs.declared.split.Part.{Part}
 use Rattle.symbol_runs.specs.Texts.{IsWalkText}
 
 -- the symbols of a file have so many bits
@@ -33,9 +36,14 @@ run_of_walk F N symbols walked (starts, are, answered) inputs (word, file, is) =
   is = is;
 }
 
+-- the network of a decomposition answers and has inputs as the machine of the file
+answers_of : (reduce : Bool) (F W : KissFile) (kind : Kind) (parts : List Part) (made : HeadedNetwork) → IsDecomposed reduce F W kind parts made → AnswersAs F made.network × (length made.network.inputs ≡ F.inputs)
+unfolding IsDecomposed
+answers_of reduce F W kind parts made (class, codes, work, of_kind, are, is) = (is.answers, is.carries.inputs)
+
 pub one_text : GiveOneText
-unfolding IsTextOf
-one_text kind parts reduce F N written symbols simulated walked (W, made, split, (class, codes, M, H, work, of_kind, are, is), kept) denotes ran walk =
-    let same : M ≡ N = denotes_one written M N is.denotes denotes in
+one_text kind operand reduce F N written symbols simulated walked (made, (W, parts, split, decomposed, kept), told) denotes ran walk =
+    let same : made.network ≡ N = denotes_one written made.network N told.of_network.denotes denotes in
+    let both = answers_of reduce F W kind parts made decomposed in
     run_once N None symbols simulated walked ran
-    (run_of_walk F N symbols walked (subst (AnswersAs F) same is.answers) (ap (λ (K : Network). length K.inputs) (sym same) ∙ is.carries.inputs) walk)
+    (run_of_walk F N symbols walked (subst (AnswersAs F) same both.0) (ap (λ (K : Network). length K.inputs) (sym same) ∙ both.1) walk)

@@ -1,8 +1,11 @@
 -- Two texts of one job have one header, and networks that are equal but for the rows of their gates.
-use Rattle.std.proofs.Common.{◌≡◌, ◌∙◌, ℕ, Bool, List, length, sym, ap, subst, arith}
+use Rattle.std.proofs.Common.{◌≡◌, ◌∙◌, ℕ, Bool, List, length, sym, subst, arith}
 use Rattle.blif_out.specs.declared.header.Header.{Header}
-use Rattle.blif_out.specs.Head.{net_text_of}
-use Rattle.decomposition.specs.Decomposition.{HasGates, IsDecomposition, IsTextOf, PrintsCodes}
+use Rattle.blif_out.specs.declared.networks.HeadedNetwork.{HeadedNetwork}
+use Rattle.blif_out.specs.Head.{header_text}
+use Rattle.blif_out.specs.HeadLaw.{IsLawfulHeader}
+use Rattle.blif_out.specs.NetworkText.{IsHeadedText, IsNetworkText}
+use Rattle.decomposition.specs.Decomposition.{HasGates, IsDecomposed, IsDecomposition, PrintsCodes}
 use Rattle.decomposition.specs.OwnPairs.{OwnPairs}
 use Rattle.state_reduce.specs.Work.{IsWorkOf}
 use Rattle.state_reduce.specs.Laws.Works.{one_work}
@@ -41,22 +44,22 @@ record IsSecond (F W : KissFile) (class : ℕ → ℕ) (codes : Codes) (parts : 
   pairs : OwnPairs W M codes.words K.latches
   printed : PrintsCodes F class codes K
 
-second_of : (reduce : Bool) (F W : KissFile) (class : ℕ → ℕ) (codes more : Codes) (parts : List Part) (text : List ℕ) (M : Network) (K : Header) → codes ≡ more → parts ≡ K.parts → IsDecomposition reduce F W class more text M K → IsSecond F W class codes parts M K
-second_of reduce F W class codes more parts text M K same same_parts is = record {
+second_of : (reduce : Bool) (F W : KissFile) (class : ℕ → ℕ) (codes more : Codes) (parts : List Part) (M : Network) (K : Header) → codes ≡ more → parts ≡ K.parts → IsDecomposition reduce F W class more M K → IsSecond F W class codes parts M K
+second_of reduce F W class codes more parts M K same same_parts is = record {
   gates = subst (λ (list : List Part). HasGates F W list codes M) (sym same_parts) (subst (λ (c : Codes). HasGates F W K.parts c M) (sym same) is.gates);
   pairs = subst (λ (c : Codes). OwnPairs W M c.words K.latches) (sym same) is.pairs;
   printed = subst (λ (c : Codes). PrintsCodes F class c K) (sym same) is.printed;
 }
 
-module _ (reduce : Bool) (F W : KissFile) (class more_class : ℕ → ℕ) (codes more : Codes) (text other : List ℕ) (N M : Network) (H K : Header)
+module _ (reduce : Bool) (F W : KissFile) (class more_class : ℕ → ℕ) (codes more : Codes) (N M : Network) (H K : Header)
     (work : IsWorkMachine reduce F W class) (more_work : IsWorkMachine reduce F W more_class) (kind : H.kind ≡ K.kind) (parts : H.parts ≡ K.parts)
-    (one : IsDecomposition reduce F W class codes text N H) (two : IsDecomposition reduce F W more_class more other M K) where
+    (one : IsDecomposition reduce F W class codes N H) (two : IsDecomposition reduce F W more_class more M K) where
   same_codes : codes ≡ more
   same_codes = codes_are_one (length W.states) H.parts codes more one.codes_of_parts
       (subst (λ (list : List Part). IsCode (length W.states) list more) (sym parts) two.codes_of_parts)
 
   second : IsSecond F W more_class codes H.parts M K
-  second = second_of reduce F W more_class codes more H.parts other M K same_codes parts two
+  second = second_of reduce F W more_class codes more H.parts M K same_codes parts two
 
   nets : EqualButForRows N M
   nets = nets_of F W H.parts codes N M one.gates second.gates
@@ -75,40 +78,36 @@ module _ (reduce : Bool) (F W : KissFile) (class more_class : ℕ → ℕ) (code
       (omega (arith, one.gates.realised.gate_count))
       one.printed second.printed one.pairs second.pairs)
 
-  pub differ : DifferInRowsAlone text other
-  differ = record {
-    header = H;
-    network = N;
-    other_network = M;
-    lawful = one.lawful;
-    whole = one.whole;
-    other_whole = two.whole ∙ ap (λ (header : Header). net_text_of header M) (sym headers);
-    denotes = one.denotes;
-    other_denotes = two.denotes;
-    equal = nets;
-  }
+  pub differ : (text other : List ℕ) → IsHeadedText H N text → IsHeadedText K M other → (header : Header) × IsLawfulHeader header × DifferInRowsAlone (header_text header) text other
+  differ text other told told_too = (
+    H,
+    one.lawful,
+    record {
+      network = N;
+      other_network = M;
+      one = told.of_network;
+      two = subst (λ (header : Header). IsNetworkText (header_text header) M other) (sym headers) told_too.of_network;
+      equal = nets;
+    },
+  )
 
--- texts of one machine
-of_one_machine : (reduce : Bool) (F W : KissFile) (kind : Kind) (parts : List Part) (text other : List ℕ) → IsTextOf reduce F W kind parts text → IsTextOf reduce F W kind parts other → DifferInRowsAlone text other
-unfolding IsTextOf
-of_one_machine reduce F W kind parts text other (class, codes, N, H, work, is_kind, are_parts, one) (more_class, more, M, K, more_work, more_kind, more_parts, two) =
-    differ reduce F W class more_class codes more text other N M H K work more_work (is_kind ∙ sym more_kind) (are_parts ∙ sym more_parts) one two
+-- networks of one machine
+of_one_machine : (reduce : Bool) (F W : KissFile) (kind : Kind) (parts : List Part) (made more : HeadedNetwork) (text other : List ℕ) → IsDecomposed reduce F W kind parts made → IsDecomposed reduce F W kind parts more
+    → IsHeadedText made.header made.network text → IsHeadedText more.header more.network other → (header : Header) × IsLawfulHeader header × DifferInRowsAlone (header_text header) text other
+unfolding IsDecomposed
+of_one_machine reduce F W kind parts made more text other (class, codes, work, is_kind, are_parts, one) (more_class, more_codes, more_work, more_kind, more_parts, two) =
+    differ reduce F W class more_class codes more_codes made.network more.network made.header more.header work more_work (is_kind ∙ sym more_kind) (are_parts ∙ sym more_parts) one two text other
 
 -- the work machine of the file
-machine_of : (reduce : Bool) (F W : KissFile) (kind : Kind) (parts : List Part) (text : List ℕ) → IsTextOf reduce F W kind parts text → IsWorkOf reduce F W
-unfolding IsTextOf
-machine_of reduce F W kind parts text (class, codes, N, H, work, is_kind, are_parts, is) = (class, work)
-
--- texts of one split
-of_one_split : (reduce : Bool) (F W V : KissFile) (kind : Kind) (parts : List Part) (text other : List ℕ) → IsTextOf reduce F W kind parts text → IsTextOf reduce F V kind parts other → DifferInRowsAlone text other
-of_one_split reduce F W V kind parts text other one two =
-    let same : V ≡ W = one_work reduce F V W (machine_of reduce F V kind parts other two) (machine_of reduce F W kind parts text one) in
-    of_one_machine reduce F W kind parts text other one (subst (λ (machine : KissFile). IsTextOf reduce F machine kind parts other) same two)
+machine_of : (reduce : Bool) (F W : KissFile) (kind : Kind) (parts : List Part) (made : HeadedNetwork) → IsDecomposed reduce F W kind parts made → IsWorkOf reduce F W
+unfolding IsDecomposed
+machine_of reduce F W kind parts made (class, codes, work, is_kind, are_parts, is) = (class, work)
 
 -- there is one work machine, and one choice of parts
 pub rows_alone_differ : RowsAloneDiffer
-rows_alone_differ kind operand reduce F text other (W, parts, split, one, kept) (V, others, twin, two, kept_too) =
-    let same : V ≡ W = one_work reduce F V W (machine_of reduce F V kind others other two) (machine_of reduce F W kind parts text one) in
-    let made : AreParts kind operand W others = subst (λ (machine : KissFile). AreParts kind operand machine others) same twin.made in
-    let same_parts : others ≡ parts = parts_once kind operand W others parts made split.made in
-    of_one_split reduce F W V kind parts text other one (subst (λ (list : List Part). IsTextOf reduce F V kind list other) same_parts two)
+rows_alone_differ kind operand reduce F text other (made, (W, parts, split, one, kept), told) (more, (V, others, twin, two, kept_too), told_too) =
+    let same : V ≡ W = one_work reduce F V W (machine_of reduce F V kind others more two) (machine_of reduce F W kind parts made one) in
+    let here : AreParts kind operand W others = subst (λ (machine : KissFile). AreParts kind operand machine others) same twin.made in
+    let same_parts : others ≡ parts = parts_once kind operand W others parts here split.made in
+    of_one_machine reduce F W kind parts made more text other one
+    (subst (λ (list : List Part). IsDecomposed reduce F W kind list more) same_parts (subst (λ (machine : KissFile). IsDecomposed reduce F machine kind others more) same two)) told told_too

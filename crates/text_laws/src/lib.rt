@@ -28,11 +28,17 @@
 #![tactic(auto)]
 
 ghost use Rattle.text_laws.specs.OneText.{GiveOneText};
-ghost use Rattle.text_laws.specs.Rows.{RowsAloneDiffer};
+ghost use Rattle.text_laws.specs.Rows.{RowsAloneDiffer, ShiftRowsAloneDiffer};
 
-/// Two texts of one job have one header, and networks that are equal but for the rows of their gates.
+/// Two texts of one decomposition have one header, and networks that are equal but for the rows of their gates.
 pub fn rows_alone_differ()
     ensures { RowsAloneDiffer }
+{}
+
+/// Two texts of one shift register have the same comments, and networks that are equal but for the rows of their
+/// gates.
+pub fn shift_rows_alone_differ()
+    ensures { ShiftRowsAloneDiffer }
 {}
 
 /// For a decomposition that a command wrote, `sim` of its network and `walk` of its machine give one text.
