@@ -34,8 +34,8 @@ use Rattle.realise.specs.Codes.{code_of}
 use Rattle.realise.specs.Laws.{ArePairwiseDistinct}
 use Rattle.realise.specs.Names.{AreNames}
 use Rattle.realise.specs.Realised.{AreCounted}
-use Rattle.realise.proofs.Apart.{names_apart}
-use Rattle.realise.proofs.Carrying.{carried_answers}
+use Rattle.realise.specs.Laws.Apart.{names_apart}
+use Rattle.realise.specs.Laws.Carrying.{carried_answers}
 use Rattle.state_codes.specs.declared.Codes.{Codes}
 use Rattle.state_codes.specs.declared.split.Part.{Part}
 use Rattle.state_codes.specs.Agreement.{AreDistinct}

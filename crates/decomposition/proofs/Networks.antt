@@ -17,7 +17,7 @@ use Rattle.realise.specs.Codes.{code_of}
 use Rattle.realise.specs.Laws.{ArePairwiseDistinct}
 use Rattle.realise.specs.Realised.{AreCounted, AreEnough, IsRealised}
 use Rattle.realise.proofs.FlatNetworks.{realised_flat}
-use Rattle.realise.proofs.Gates.{latch_count}
+use Rattle.realise.specs.Laws.Gates.{latch_count}
 use Rattle.realise.proofs.Stepping.{realised_carries}
 use Rattle.state_codes.specs.declared.Codes.{Codes}
 use Rattle.state_codes.specs.declared.split.Part.{Part}

@@ -20,7 +20,7 @@ use Rattle.net_core.specs.Flat.{IsFlat}
 use Rattle.partition.specs.Partition.{IsPartition}
 use Rattle.realise.specs.Laws.{ArePairwiseDistinct}
 use Rattle.realise.specs.Realised.{AreCounted, AreEnough, IsGateFor, IsRealised, IsWithin, name_at}
-use Rattle.realise.proofs.Gates.{driven_names}
+use Rattle.realise.specs.Laws.Gates.{driven_names}
 use Rattle.state_codes.specs.declared.Codes.{Codes}
 use Rattle.state_codes.specs.declared.split.Part.{Part}
 use Rattle.state_codes.specs.Agreement.{IsBitPartition}

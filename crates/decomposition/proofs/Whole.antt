@@ -20,8 +20,8 @@ use Rattle.realise.specs.Carries.{Carries}
 use Rattle.realise.specs.Laws.{ArePairwiseDistinct}
 use Rattle.realise.specs.Names.{AreNames}
 use Rattle.realise.specs.Realised.{AreCounted}
-use Rattle.realise.proofs.Apart.{names_apart}
-use Rattle.realise.proofs.Carrying.{carried_answers}
+use Rattle.realise.specs.Laws.Apart.{names_apart}
+use Rattle.realise.specs.Laws.Carrying.{carried_answers}
 use Rattle.state_codes.specs.declared.Codes.{Codes}
 use Rattle.state_codes.specs.declared.split.Part.{Part}
 use Rattle.state_codes.specs.declared.split.Split.{Split}

@@ -30,7 +30,7 @@ use Rattle.net_core.specs.Step.{AreStarts, bit_of_start, character_holds, row_ho
 use Rattle.realise.specs.Names.{AreNames, input_letter, next_letter, output_letter, own_name, own_names, prefix, state_letter}
 use Rattle.realise.specs.Realised.{AreCounted, AreEnough, IsRealised, name_at}
 use Rattle.gate_rows.specs.Covers.{IsGoodCover}
-use Rattle.realise.proofs.Gates.{IsSomeGate, driven_names, each_gate}
+use Rattle.realise.specs.Laws.Gates.{IsSomeGate, driven_names, each_gate}
 
 -- ---- own names
 -- bytes that a signal's name may have

@@ -1,3 +1,2 @@
 pub mod Sufficing
 pub mod Halves
-pub mod Chosen

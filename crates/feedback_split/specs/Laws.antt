@@ -1,4 +1,5 @@
 -- What follows from the definitions alone.
+pub mod Chosen
 use Rattle.std.specs.Prelude.{◌≡◌, List}
 use Rattle.kiss_file.specs.declared.file.KissFile.{KissFile}
 use Rattle.state_codes.specs.declared.split.Part.{Part}

@@ -17,7 +17,7 @@ use Rattle.least_codes.specs.Laws.{LeastCodeExists, LeastCodeHasZeros, LeastSpli
 use Rattle.least_codes.specs.LeastCode.{AreCodes, IsLeastCode, TextsBefore}
 use Rattle.least_codes.specs.LeastReads.{AreLeastReads}
 use Rattle.least_codes.proofs.BitParts.{give_least_code, least_split, parts_here}
-use Rattle.least_codes.proofs.Chosen.{texts_apart}
+use Rattle.least_codes.specs.Laws.Chosen.{texts_apart}
 use Rattle.least_codes.proofs.Costs.{cost_once, costs_all, costs_more, costs_none}
 use Rattle.least_codes.proofs.Deciding.{Decided, all_decided}
 use Rattle.least_codes.proofs.Halves.{some_one}

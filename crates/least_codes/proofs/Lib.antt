@@ -10,7 +10,6 @@ pub mod Turning
 pub mod Halves
 pub mod Least
 pub mod BitParts
-pub mod Chosen
 pub mod Reading
 pub mod Greedy
 pub mod Sharing

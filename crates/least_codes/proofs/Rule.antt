@@ -16,7 +16,7 @@ use Rattle.least_codes.specs.Laws.{RuleGivesLeast, RuleGivesLeastSet}
 use Rattle.least_codes.specs.LeastCode.{AreCodes}
 use Rattle.least_codes.specs.LeastReads.{AreEnough, AreLeastReads}
 use Rattle.least_codes.proofs.Ascending.{contains_head, increasing_ascend}
-use Rattle.least_codes.proofs.Chosen.{least_list_is_one}
+use Rattle.least_codes.specs.Laws.Chosen.{least_list_is_one}
 use Rattle.least_codes.proofs.Greedy.{AreBelow, IsOdd, NeverHas, fewest, first}
 use Rattle.least_codes.proofs.Least.{need_of_eight, need_of_four}
 use Rattle.least_codes.proofs.Reading.{all_bits_permit}

@@ -1,4 +1,5 @@
 -- What follows from the definitions alone.
+pub mod Chosen
 use Rattle.std.specs.Prelude.{◌≡◌, ◌↔◌, ℕ, ◌^◌, ◌<◌, ◌≤◌, Bool, Contains, List, Some, length, slice_get, slice_index}
 use Rattle.std.specs.List.Sorted.{IsStrictlyIncreasing}
 use Rattle.kiss_file.specs.declared.file.KissFile.{KissFile}

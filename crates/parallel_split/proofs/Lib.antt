@@ -4,5 +4,3 @@ pub mod Gathering
 pub mod Spared
 pub mod Remaining
 pub mod Parts
-pub mod Once
-pub mod Chosen

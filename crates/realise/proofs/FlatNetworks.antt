@@ -13,7 +13,7 @@ use Rattle.net_core.specs.Sound.{driven_by, drivers_of}
 use Rattle.net_core.specs.Laws.Members.{times, times-append}
 use Rattle.realise.specs.Laws.{ArePairwiseDistinct, RealisedIsFlat}
 use Rattle.realise.specs.Realised.{AreCounted, AreEnough, IsRealised, name_at}
-use Rattle.realise.proofs.Gates.{IsSomeGate, driven_names, each_gate}
+use Rattle.realise.specs.Laws.Gates.{IsSomeGate, driven_names, each_gate}
 
 -- names at numbers below their count are among them
 named : (names : List (List ℕ)) (count : ℕ) (numbers : List ℕ) → length names ≡ count → All (λ a. a < count) numbers → All (Contains names) (map (name_at names) numbers)

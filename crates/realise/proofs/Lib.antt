@@ -1,10 +1,7 @@
-pub mod Apart
 pub mod AskedRows
-pub mod Carrying
 pub mod EqualReads
 pub mod FilledRows
 pub mod FlatNetworks
 pub mod Free
 pub mod GateLists
-pub mod Gates
 pub mod Stepping

@@ -25,7 +25,7 @@ use Rattle.realise.specs.Laws.{ArePairwiseDistinct, RealisedCarries}
 use Rattle.realise.specs.Realised.{AreCounted, AreEnough, HasGate, IsGateFor, IsRealised, IsWithin, name_at}
 use Rattle.realise.specs.Rows.{read_values}
 use Rattle.realise.proofs.FlatNetworks.{realised_flat}
-use Rattle.realise.proofs.Gates.{latch_count, latch_gate, output_gate}
+use Rattle.realise.specs.Laws.Gates.{latch_count, latch_gate, output_gate}
 
 -- ---- the value of a gate
 -- some row of the gate holds the values

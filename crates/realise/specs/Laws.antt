@@ -1,4 +1,7 @@
 -- What follows from the definitions alone.
+pub mod Apart
+pub mod Carrying
+pub mod Gates
 use Rattle.std.specs.Prelude.{◌≡◌, ℕ, ◌<◌, ◌≤◌, Bool, List, length, count_by}
 use Rattle.std.specs.Str.{bytes_eq}
 use Rattle.dependence.specs.declared.sets.ReadSet.{ReadSet}

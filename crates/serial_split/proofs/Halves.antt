@@ -17,7 +17,7 @@ use Rattle.state_codes.specs.Laws.InnerLabels.{complement_apart}
 use Rattle.serial_split.specs.Kind.{IsSerial}
 use Rattle.serial_split.specs.Best.{IsBestSerial}
 use Rattle.serial_split.specs.Inner.Chain.{part_after}
-use Rattle.serial_split.proofs.Greatest.{nothing_between, ones_are_one}
+use Rattle.serial_split.specs.Laws.Greatest.{nothing_between, ones_are_one}
 
 module _ (F : KissFile) (first second : List ℕ) (parts : List Part) (two : parts ≡ part_after first 0 ∷ part_after second 1 ∷ []) where
   lone : (P : Part → Type 0) → P (part_after first 0) → P (part_after second 1) → All P parts

@@ -1,5 +1,3 @@
 pub mod Numbers
-pub mod Greatest
 pub mod Steps
 pub mod Halves
-pub mod Chosen

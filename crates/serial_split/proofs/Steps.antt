@@ -19,7 +19,7 @@ use Rattle.serial_split.specs.Kind.{Descends, HasNoneNontrivial, IsCascade}
 use Rattle.serial_split.specs.Best.{DescendsTightly, IsBestCascade}
 use Rattle.serial_split.specs.Choice.{IsCascadeChoice, StepsDown, partitions_of}
 use Rattle.serial_split.specs.Inner.Chain.{IsChain, IsStep, ReadThoseBefore, StepsTo}
-use Rattle.serial_split.proofs.Greatest.{greatest_nontrivial, none_above_zero, none_of_one_state, nothing_between, one_above, ones_are_one}
+use Rattle.serial_split.specs.Laws.Greatest.{greatest_nontrivial, none_above_zero, none_of_one_state, nothing_between, one_above, ones_are_one}
 
 -- one step more
 steps_more : (F : KissFile) (c d e : List ℕ) (parts : List Part) (part : Part) → StepsTo F c parts d → IsStep F d part e → StepsTo F c (parts ++ part ∷ []) e

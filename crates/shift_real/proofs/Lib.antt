@@ -5,7 +5,6 @@ pub mod LastMember
 pub mod LongerWords
 pub mod Blocks
 pub mod ContentLists
-pub mod StartContent
 pub mod Shifting
 pub mod GateLists
 pub mod Along

@@ -40,7 +40,7 @@ use Rattle.shift_real.specs.Words.{IsWord}
 use Rattle.shift_real.proofs.Blocks.{image_at}
 use Rattle.shift_real.proofs.ContentWords.{values_length}
 use Rattle.shift_real.proofs.Shifting.{latches_follow, shifted_word, states_follow}
-use Rattle.shift_real.proofs.StartContent.{order_once}
+use Rattle.shift_real.specs.Laws.StartContent.{order_once}
 
 -- names at numbers below their count are among them
 named : (names : List (List ℕ)) (count : ℕ) (numbers : List ℕ) → length names ≡ count → All (λ a. a < count) numbers → All (Contains names) (map (name_at names) numbers)

@@ -1,4 +1,5 @@
 -- What a definite machine and its register do at a symbol.
+pub mod StartContent
 use Rattle.std.specs.Prelude.{◌≡◌, ℕ, ◌*◌, ◌<◌, ◌++◌, Bool, List, length, take}
 use Rattle.kiss_file.specs.declared.file.KissFile.{KissFile}
 use Rattle.kiss_file.specs.Machine.{next}

@@ -10,13 +10,13 @@ use std::alloc::{AllocError, Global};
 
 /// A content of the register: the values of the latches, latch i at 2^i, and the state after its symbols.
 #[derive(Clone, Copy)]
-pub struct Content {
-    pub latches: u64,
-    pub state: u16,
+pub(crate) struct Content {
+    pub(crate) latches: u64,
+    pub(crate) state: u16,
 }
 
 /// The contents after all words of k symbols, in ascending order of the words as binary numbers.
-pub fn contents(alloc: Global, m: &Machine, k: usize) -> Result<Vec<Content>, AllocError>
+pub(crate) fn contents(alloc: Global, m: &Machine, k: usize) -> Result<Vec<Content>, AllocError>
     requires { k * m.now.inputs ≤ 12 }
     ensures { IfOk result (λ contents. AreContents m.now k contents.items) }
 {
@@ -77,7 +77,7 @@ fn turned(x: u32, inputs: u8) -> u64
 }
 
 /// The place of the first content after which the machine is in this state.
-pub fn first_reaching(contents: &[Content], state: usize) -> Option<usize>
+pub(crate) fn first_reaching(contents: &[Content], state: usize) -> Option<usize>
     ensures within { IfSome result (λ i. i < length contents.now) }
     ensures some { IfSome result (λ i. (content : Content) → slice_get contents.now i ≡ Some content → content.state ≡ state) }
     ensures first { IfSome result (λ i. (j : ℕ) (content : Content) → j < i → slice_get contents.now j ≡ Some content → content.state ≢ state) }

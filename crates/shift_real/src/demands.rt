@@ -14,7 +14,7 @@ use std::alloc::{AllocError, Global};
 
 /// What the first state of its class gives of output b, for each content whose latches outside the mask are 0.
 /// The demands come class by class, and have the numbers of the contents as words.
-pub fn content_demands(
+pub(crate) fn content_demands(
     alloc: Global,
     m: &Machine,
     classes: &[u16],

@@ -12,7 +12,7 @@ use std::alloc::{AllocError, Global};
 
 /// Appends the gates of the given number of latches. The latches of the newest symbol take its bits. Each other
 /// latch takes the latch that has the same bit of the next newer symbol.
-pub fn add_latch_gates(
+pub(crate) fn add_latch_gates(
     alloc: Global,
     names: &SignalNames,
     bits: usize,

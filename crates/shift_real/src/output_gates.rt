@@ -20,7 +20,7 @@ use net_core::{Gate, Gates, SignalNames};
 use std::alloc::{AllocError, Global};
 
 /// Appends the gates of the outputs, for the states after the contents of k symbols.
-pub fn add_output_gates(
+pub(crate) fn add_output_gates(
     alloc: Global,
     m: &Machine,
     k: usize,

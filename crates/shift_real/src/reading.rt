@@ -13,16 +13,16 @@ use std::alloc::{AllocError, Global};
 
 /// What the gate of an output reads.
 #[derive(Drop)]
-pub struct OutputReading {
+pub(crate) struct OutputReading {
     /// The class of each content: the first state that gives what the state after the content gives.
-    pub classes: Vec<u16>,
+    pub(crate) classes: Vec<u16>,
     /// The latches that are read, latch i at 2^i.
-    pub mask: u64,
-    pub set: ReadSet,
+    pub(crate) mask: u64,
+    pub(crate) set: ReadSet,
 }
 
 /// What the gate of an output reads, for the states after the contents of so many symbols.
-pub fn output_reading(
+pub(crate) fn output_reading(
     alloc: Global,
     m: &Machine,
     k: usize,
@@ -79,7 +79,11 @@ fn latch_matters(classes: &[u16], bits: usize, latch: usize) -> bool
 }
 
 /// The effects of the inputs at these states. No latch is asked for, so any codes will do.
-pub fn effects_after(alloc: Global, m: &Machine, states: &[u16]) -> Result<Vec<Effect>, AllocError>
+pub(crate) fn effects_after(
+    alloc: Global,
+    m: &Machine,
+    states: &[u16],
+) -> Result<Vec<Effect>, AllocError>
     ensures { IfOk result (λ effects. AreEffectsAfter m.now states.now (length m.now.states) effects.items) }
 {
     let codes = vec![in alloc; 0u64; m.states()]?;

@@ -33,13 +33,16 @@ impl From<AllocError> for RegisterFail {
 
 /// The contents of as many symbols as the order of a machine.
 #[derive(Drop)]
-pub struct RegisterContents {
-    pub order: usize,
-    pub contents: Vec<Content>,
+pub(crate) struct RegisterContents {
+    pub(crate) order: usize,
+    pub(crate) contents: Vec<Content>,
 }
 
 /// What the register of a machine can hold.
-pub fn register_contents(alloc: Global, m: &Machine) -> Result<RegisterContents, RegisterFail>
+pub(crate) fn register_contents(
+    alloc: Global,
+    m: &Machine,
+) -> Result<RegisterContents, RegisterFail>
     requires { (k : ℕ) × HasShortOrder m.now k }
     ensures held { IfOk result (AreRegisterContents m.now) }
     ensures refused { IfErr result (IsRegisterCause m.now) }
@@ -54,7 +57,7 @@ pub fn register_contents(alloc: Global, m: &Machine) -> Result<RegisterContents,
 }
 
 /// What the latches start at, among what the register can hold.
-pub fn start_among(m: &Machine, held: &RegisterContents) -> Result<u64, RegisterFail>
+pub(crate) fn start_among(m: &Machine, held: &RegisterContents) -> Result<u64, RegisterFail>
     requires { AreRegisterContents m.now held.now }
     ensures start { IfOk result (λ number. (k : ℕ) → IsOrder m.now k → WritesStart m.now k number) }
     ensures refused { IfErr result (IsRegisterCause m.now) }

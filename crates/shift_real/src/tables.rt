@@ -9,7 +9,7 @@ use machine_table::Machine;
 use std::alloc::{AllocError, Global};
 
 /// The states after the contents of k symbols, each at the number whose bits are the latches, latch i at 2^i.
-pub fn state_table(
+pub(crate) fn state_table(
     alloc: Global,
     m: &Machine,
     k: usize,
@@ -29,7 +29,7 @@ pub fn state_table(
 }
 
 /// For each state, the first state that gives the same bit of the output at each symbol.
-pub fn first_alike(alloc: Global, m: &Machine, b: u8) -> Result<Vec<u16>, AllocError>
+pub(crate) fn first_alike(alloc: Global, m: &Machine, b: u8) -> Result<Vec<u16>, AllocError>
     requires { b < m.now.outputs }
     ensures { IfOk result (λ firsts. AreFirsts m.now b (length m.now.states) firsts.items) }
 {
@@ -57,7 +57,11 @@ fn first_for(m: &Machine, firsts: &[u16], b: u8, s: usize) -> usize
 }
 
 /// For each state of a table, the first state that is alike to it.
-pub fn classes_of(alloc: Global, firsts: &[u16], table: &[u16]) -> Result<Vec<u16>, AllocError>
+pub(crate) fn classes_of(
+    alloc: Global,
+    firsts: &[u16],
+    table: &[u16],
+) -> Result<Vec<u16>, AllocError>
     requires { All (λ s. s < length firsts.now) table.now }
     ensures { IfOk result (λ classes. classes.items ≡ map (slice_index firsts.now) table.now) }
 {
@@ -69,7 +73,7 @@ pub fn classes_of(alloc: Global, firsts: &[u16], table: &[u16]) -> Result<Vec<u1
 }
 
 /// Whether the state is one of these.
-pub fn is_among(states: &[u16], state: usize) -> bool
+pub(crate) fn is_among(states: &[u16], state: usize) -> bool
     ensures { IsTrue result ↔ Contains states.now state }
 {
     for s in states {

@@ -12,7 +12,7 @@ use Rattle.machine_reports.specs.Causes.{KeepsApart}
 use Rattle.machine_reports.proofs.Defining.{none_apart}
 use Rattle.shift_real.specs.Definite.{IsOrder}
 use Rattle.shift_real.specs.Register.{HasShortOrder}
-use Rattle.shift_real.proofs.StartContent.{order_once}
+use Rattle.shift_real.specs.Laws.StartContent.{order_once}
 use Rattle.shift_texts.specs.Causes.{HasLongRegister, HasNoRegister, HasNoShortOrder, NeverInReset, RefusesShift}
 
 -- ---- of a machine

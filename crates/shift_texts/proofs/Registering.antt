@@ -15,11 +15,11 @@ use Rattle.net_core.specs.declared.SignalNames.{SignalNames}
 use Rattle.net_core.specs.Sound.{Sound}
 use Rattle.net_core.specs.Step.{NetAnswers}
 use Rattle.realise.specs.Names.{AreNames}
-use Rattle.realise.proofs.Apart.{names_apart}
+use Rattle.realise.specs.Laws.Apart.{names_apart}
 use Rattle.shift_real.specs.Definite.{IsOrder}
 use Rattle.shift_real.specs.Register.{HasShortOrder, IsNotReached}
 use Rattle.shift_real.specs.ShiftNetwork.{AnswersAs, AreNamesFor, IsRegister, StepsAlong}
-use Rattle.shift_real.proofs.StartContent.{order_once}
+use Rattle.shift_real.specs.Laws.StartContent.{order_once}
 use Rattle.state_reduce.proofs.Working.{classes_answer_alike}
 use Rattle.shift_texts.specs.Causes.{HasNoShortOrder, NeverInReset, RefusesShift}
 use Rattle.shift_texts.specs.Inner.Registers.{IsRegisterOf}

@@ -19,7 +19,7 @@ use Rattle.gate_rows.specs.Names.{name_at}
 use Rattle.shift_real.specs.Gates.{IsReadAfter, taking}
 use Rattle.shift_real.specs.Register.{IsStart, bits_of, latch_values, word_number}
 use Rattle.shift_real.specs.ShiftNetwork.{IsRegister}
-use Rattle.shift_real.proofs.StartContent.{order_once}
+use Rattle.shift_real.specs.Laws.StartContent.{order_once}
 use Rattle.shift_texts.specs.ShiftText.{IsShiftOf}
 use Rattle.state_reduce.specs.Laws.Works.{one_work}
 use Rattle.text_laws.specs.Rows.{DifferInRowsAlone, EqualButForRows, HasSameSignals, ShiftRowsAloneDiffer}

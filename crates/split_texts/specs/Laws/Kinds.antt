@@ -5,16 +5,16 @@ use Rattle.answers.specs.declared.numbers.Answer.TheVariants as answers
 use Rattle.answers.specs.Cause.{CallsForNone}
 use Rattle.answers.specs.Laws.Causes.{HasOneAnswer, one_of}
 use Rattle.decomposition.specs.Flow.{Flows}
-use Rattle.feedback_split.proofs.Chosen as feedbacks
+use Rattle.feedback_split.specs.Laws.Chosen as feedbacks
 use Rattle.kiss_file.specs.declared.file.KissFile.{KissFile}
-use Rattle.least_codes.proofs.Chosen.{least_split_is_one}
+use Rattle.least_codes.specs.Laws.Chosen.{least_split_is_one}
 use Rattle.machine_table.specs.Staying.{NeverLeaves}
 use Rattle.net_core.specs.declared.Network.{Network}
-use Rattle.parallel_split.proofs.Chosen as parallels
+use Rattle.parallel_split.specs.Laws.Chosen as parallels
 use Rattle.operands.specs.PartFaults.{BadParts}
 use Rattle.operands.specs.Laws.Parts.{bad_parts_is_of, one_list_of_parts}
 use Rattle.partition.specs.Partition.{zero_of}
-use Rattle.serial_split.proofs.Chosen as serials
+use Rattle.serial_split.specs.Laws.Chosen as serials
 use Rattle.state_codes.specs.declared.Codes.{Codes}
 use Rattle.state_codes.specs.declared.split.Kind.{Kind}
 use Rattle.state_codes.specs.declared.split.Kind.TheVariants.{Code, Assign, Parallel, Serial, Cascade, Feedback, Least}

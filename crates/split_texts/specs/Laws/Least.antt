@@ -8,7 +8,7 @@ use Rattle.answers.specs.Cause.{CallsForNone}
 use Rattle.answers.specs.Laws.Causes.{IsOf}
 use Rattle.answers.specs.Refusal.{answer_of}
 use Rattle.kiss_file.specs.declared.file.KissFile.{KissFile}
-use Rattle.least_codes.proofs.Chosen.{given_codes_are_least}
+use Rattle.least_codes.specs.Laws.Chosen.{given_codes_are_least}
 use Rattle.least_codes.proofs.Gates.{least_code_reads_least}
 use Rattle.least_codes.specs.Gates.{EachReadsLeast}
 use Rattle.least_codes.specs.Kind.{GiveLeastCode, IsLeastSplit}

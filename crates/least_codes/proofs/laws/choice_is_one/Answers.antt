@@ -1,4 +1,4 @@
-use Rattle.least_codes.proofs.Chosen.{given_codes_are_least, least_code_is_one, least_split_is_one}
+use Rattle.least_codes.specs.Laws.Chosen.{given_codes_are_least, least_code_is_one, least_split_is_one}
 use Rattle.least_codes.proofs.laws.choice_is_one.Goals as goal
 
 pub returns-clause-code : goal.returns-clause-code

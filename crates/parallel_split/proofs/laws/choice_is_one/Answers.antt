@@ -1,4 +1,4 @@
-use Rattle.parallel_split.proofs.Chosen.{choice_is_one}
+use Rattle.parallel_split.specs.Laws.Chosen.{choice_is_one}
 use Rattle.parallel_split.proofs.laws.choice_is_one.Goals as goal
 
 pub returns : goal.returns

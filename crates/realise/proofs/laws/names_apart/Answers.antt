@@ -1,4 +1,4 @@
-use Rattle.realise.proofs.Apart.{names_apart}
+use Rattle.realise.specs.Laws.Apart.{names_apart}
 use Rattle.realise.proofs.laws.names_apart.Goals as goal
 
 pub returns : goal.returns

@@ -9,7 +9,7 @@ use Rattle.state_codes.specs.declared.split.Part.{Part}
 use Rattle.serial_split.specs.Choice.{partitions_of}
 use Rattle.serial_split.specs.Kind.{HasNoneNontrivial}
 use Rattle.serial_split.specs.Inner.Chain.{part_after}
-use Rattle.serial_split.proofs.Greatest.{greatest_nontrivial, none_above_zero, none_of_one_state, one_zero_or_not}
+use Rattle.serial_split.specs.Laws.Greatest.{greatest_nontrivial, none_above_zero, none_of_one_state, one_zero_or_not}
 use Rattle.serial_split.proofs.Halves.{serial_best, serial_lawful, serial_parts}
 use Rattle.serial_split.proofs.serial.split.Goals as goal
 

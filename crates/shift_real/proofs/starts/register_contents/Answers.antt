@@ -1,6 +1,6 @@
 use Rattle.std.proofs.Common.{subst}
 use Rattle.shift_real.specs.Definite.{IsOrderCause}
-use Rattle.shift_real.proofs.StartContent.{none_apart, short_bits}
+use Rattle.shift_real.specs.Laws.StartContent.{none_apart, short_bits}
 use Rattle.shift_real.proofs.starts.register_contents.Goals as goal
 
 pub unreachable-requires : goal.unreachable-requires

@@ -1,4 +1,4 @@
-use Rattle.shift_real.proofs.StartContent.{none_found, start_found}
+use Rattle.shift_real.specs.Laws.StartContent.{none_found, start_found}
 use Rattle.shift_real.proofs.starts.start_among.Goals as goal
 
 pub returns-in-Some-clause-start : goal.returns-in-Some-clause-start

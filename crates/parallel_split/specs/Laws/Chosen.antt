@@ -17,7 +17,7 @@ use Rattle.state_codes.specs.Kinds.{IsOwnCarrier}
 use Rattle.state_codes.specs.Split.{lone_part}
 use Rattle.parallel_split.specs.Choice.{IsFirstHeld, IsParallelChoice, IsSeparating, LeavesOut, SeparatesTo}
 use Rattle.parallel_split.specs.Laws.{ChoiceIsOne}
-use Rattle.parallel_split.proofs.Once.{ascending_once, meets_are_one, ones_are_one}
+use Rattle.parallel_split.specs.Laws.Once.{ascending_once, meets_are_one, ones_are_one}
 
 -- no two first states
 firsts_are_one : (c : List ℕ) (s t u v : ℕ) → IsFirstHeld c s t → IsFirstHeld c u v → s ≡ u

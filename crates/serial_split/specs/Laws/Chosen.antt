@@ -16,7 +16,7 @@ use Rattle.state_codes.specs.Laws.InnerLabels.{inside_once}
 use Rattle.serial_split.specs.Choice.{IsBelow, IsCascadeChoice, IsSerialChoice, StepsDown, partitions_of}
 use Rattle.serial_split.specs.Kind.{IsCascade, IsSerial}
 use Rattle.serial_split.specs.Laws.{CascadeChoiceIsOne, SerialChoiceIsOne}
-use Rattle.serial_split.proofs.Greatest.{ones_are_one}
+use Rattle.serial_split.specs.Laws.Greatest.{ones_are_one}
 
 below_once : (F : KissFile) (top p other : List ℕ) → IsBelow F top p → IsBelow F top other → p ≡ other
 below_once F top p other one two =
