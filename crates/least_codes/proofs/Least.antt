@@ -1,15 +1,14 @@
 -- The best of all codes with zeros for state 0 is the least code.
-use Rattle.std.proofs.Common.{◌≡◌, ◌↔◌, ◌∙◌, ℕ, ◌-◌, ◌^◌, ◌<◌, ◌≤◌, List, None, length, get_or, inl, inr, ap, subst, sym, arith}
-use Rattle.std.proofs.lemmas.Bool.{cases_eq, cases_lt}
+use Rattle.std.proofs.Common.{◌≡◌, ◌∙◌, ℕ, ◌-◌, ◌^◌, ◌<◌, ◌≤◌, List, None, length, get_or, inl, inr, ap, sym, arith}
+use Rattle.std.proofs.lemmas.Bool.{cases_eq}
 use Rattle.std.proofs.lemmas.List.FromFn.{get_or-range_with_len, length-range_with_len}
 use Rattle.std.proofs.lemmas.Nat.{pow_pos}
-use Rattle.std.proofs.lemmas.Nat.Bits.{bit_at-zero, bit_at_ones, bit_at_ones_above}
+use Rattle.std.proofs.lemmas.Nat.Bits.{bit_at-zero}
 use Rattle.std.proofs.Math.Pow.{pow_mono}
 use Rattle.std.specs.Int.{bit_at}
 use Rattle.std.specs.List.{range_with_len}
 use Rattle.kiss_file.specs.declared.file.KissFile.{KissFile}
 use Rattle.machine_table.specs.Staying.{NeverLeaves}
-use Rattle.dependence.specs.Permits.{InWord}
 use Rattle.state_codes.specs.Code.{need}
 use Rattle.state_codes.specs.Laws.Need.{first_enough, need-enough}
 use Rattle.least_codes.specs.declared.code.Best.{Best}
@@ -24,16 +23,6 @@ need_of_four n some few = first_enough n 2 (omega (arith, few)) (λ fewer below.
 -- and three for 5 to 8
 pub need_of_eight : (n : ℕ) → 4 < n → n ≤ 8 → 3 ≡ need n
 need_of_eight n some few = first_enough n 3 (omega (arith, few)) (λ fewer below. omega (arith, some, pow_mono {i = fewer} {j = 2} (omega (arith, below))))
-
--- the bits of ones are those below their number
-pub ones_are_below : (word bits : ℕ) → word ≡ 2 ^ bits - 1 → (c : ℕ) → InWord word c ↔ (c < bits)
-ones_are_below word bits is c = (
-  (λ one. elim (cases_lt c bits) [
-    | inl below ↦ below
-    | inr above ↦ absurd (omega (arith, subst (λ (n : ℕ). bit_at n c ≡ 1) is one, bit_at_ones_above bits c above))
-  ]),
-  (λ below. subst (λ (n : ℕ). bit_at n c ≡ 1) (sym is) (bit_at_ones bits c below)),
-)
 
 -- the numbers of the states, as codes
 pub numbers_are_codes : (n bits : ℕ) → n ≤ 2 ^ bits → AreCodes n bits (range_with_len 0 n)

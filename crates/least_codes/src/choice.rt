@@ -1,11 +1,12 @@
 //! Sets of bits that distinguish states.
 
-ghost use Rattle.std.specs.Prelude.{◌≡◌, ◌↔◌, ◌<◌, ◌≤◌, ◌+◌, ◌⊎◌, ℕ, All, IfNone, IfSome, IsTrue, length};
+ghost use Rattle.std.specs.Prelude.{◌≡◌, ◌↔◌, ◌<◌, ◌≤◌, ℕ, All, IfNone, IfSome, IsTrue, length};
 ghost use Rattle.dependence.specs.Permits.{AgreeOn, InWord};
 ghost use Rattle.least_codes.specs.Inner.Apart.{IsPair, TellsApart};
 ghost use Rattle.least_codes.specs.Inner.Choice.{HasNone, IsFirstChoice, IsLeastChoice};
 
 use crate::two_states::TwoStates;
+use dependence::{has_bit, with_bit};
 
 /// What a set of bits has to be: candidates, all below `bits`, that distinguish the two states of each pair.
 #[derive(Clone, Copy)]
@@ -45,22 +46,6 @@ fn tells_apart(words: &[u64], apart: &[TwoStates], set: u64) -> bool
     true
 }
 
-/// Whether bit c is in the set.
-fn has(set: u64, c: u32) -> bool
-    requires { c < 64 }
-    ensures { IsTrue result ↔ InWord set c }
-{
-    (set >> c) & 1 == 1
-}
-
-/// The set together with bit c.
-fn with(set: u64, c: u32) -> u64
-    requires { c < 64 }
-    ensures { (d : ℕ) → InWord result d ↔ (InWord set d ⊎ (d ≡ c)) }
-{
-    set | (1 << c)
-}
-
 /// The first set that has the chosen bits and `left` candidates from bit `from` on, and distinguishes the
 /// states.
 fn first_with(question: &Question, chosen: u64, from: u32, left: u32) -> Option<u64>
@@ -81,10 +66,10 @@ fn first_with(question: &Question, chosen: u64, from: u32, left: u32) -> Option<
     if from == question.bits {
         return None;
     }
-    if !has(question.candidates, from) {
+    if !has_bit(question.candidates, from) {
         return first_with(question, chosen, from + 1, left);
     }
-    match first_with(question, with(chosen, from), from + 1, left - 1) {
+    match first_with(question, with_bit(chosen, from), from + 1, left - 1) {
         Some(set) => Some(set),
         None => first_with(question, chosen, from + 1, left),
     }

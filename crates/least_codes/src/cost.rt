@@ -1,23 +1,15 @@
 //! The least numbers of bits that the latches of a code can read.
 
-ghost use Rattle.std.specs.Prelude.{◌≡◌, ◌↔◌, ◌<◌, ◌≤◌, ℕ, All, IfOk, length};
+ghost use Rattle.std.specs.Prelude.{◌≡◌, ◌<◌, ◌≤◌, All, IfOk, length};
 ghost use Rattle.kiss_file.specs.declared.file.KissFile.{KissFile};
-ghost use Rattle.dependence.specs.Permits.{InWord};
 ghost use Rattle.least_codes.specs.Cost.{IsCost, IsLatchCost};
 ghost use Rattle.least_codes.specs.Inner.Table.{IsInside, IsTable};
 ghost use Rattle.least_codes.specs.LeastCode.{AreCodes};
 
 use crate::choice::{Question, least_choice};
 use crate::table::{Images, apart_at};
+use dependence::bits_below;
 use std::alloc::{AllocError, Global};
-
-/// The set of the bits below a number.
-fn bits_below(bits: u32) -> u64
-    requires { bits ≤ 3 }
-    ensures { (c : ℕ) → InWord result c ↔ (c < bits) }
-{
-    (1 << bits) - 1
-}
 
 /// The least number of bits that the gate of a latch can read.
 fn latch_cost(
@@ -39,7 +31,7 @@ fn latch_cost(
     let question = Question {
         words,
         apart: apart.as_slice(),
-        candidates: bits_below(bits),
+        candidates: bits_below(bits as usize),
         bits,
     };
     Ok(least_choice(&question).size)

@@ -29,29 +29,29 @@ if_none (Some x) P Q more is = tt
 
 pub returns-in-Some-clause-some : goal.returns-in-Some-clause-some
 returns-in-Some-clause-some t c =
-    found_with c.args.question.now c.args.chosen c.args.from c.args.left (omega arith) c.with.result c.with.ensures c.in-Some.set
-    (c.has.ensures.0 c.if-not-has.false) c.in-Some.ensures.some
+    found_with c.args.question.now c.args.chosen c.args.from c.args.left (omega arith) c.with_bit.result c.with_bit.ensures c.in-Some.set
+    (c.has_bit.ensures.0 c.if-not-has_bit.false) c.in-Some.ensures.some
 
 pub returns-in-None-clause-some : goal.returns-in-None-clause-some
 returns-in-None-clause-some t c =
-    let here : NoneHere c.args.question.now c.args.chosen c.args.from c.args.left (omega arith) = none_with c.args.question.now c.args.chosen c.args.from c.args.left (omega arith) c.with.result c.with.ensures c.in-None.ensures.none in
+    let here : NoneHere c.args.question.now c.args.chosen c.args.from c.args.left (omega arith) = none_with c.args.question.now c.args.chosen c.args.from c.args.left (omega arith) c.with_bit.result c.with_bit.ensures c.in-None.ensures.none in
     if_some c.first_with-in-None.result (IsFirstChoice c.args.question.now c.args.chosen (c.args.from + 1) c.args.left) (IsFirstChoice c.args.question.now c.args.chosen c.args.from c.args.left)
     (λ set found. found_later c.args.question.now c.args.chosen c.args.from c.args.left (omega arith) set here found) c.first_with-in-None.ensures.some
 
 pub returns-in-None-clause-none : goal.returns-in-None-clause-none
 returns-in-None-clause-none t c =
-    let here : NoneHere c.args.question.now c.args.chosen c.args.from c.args.left (omega arith) = none_with c.args.question.now c.args.chosen c.args.from c.args.left (omega arith) c.with.result c.with.ensures c.in-None.ensures.none in
+    let here : NoneHere c.args.question.now c.args.chosen c.args.from c.args.left (omega arith) = none_with c.args.question.now c.args.chosen c.args.from c.args.left (omega arith) c.with_bit.result c.with_bit.ensures c.in-None.ensures.none in
     if_none c.first_with-in-None.result (HasNone c.args.question.now c.args.chosen (c.args.from + 1) c.args.left) (HasNone c.args.question.now c.args.chosen c.args.from c.args.left)
     (λ none. none_later c.args.question.now c.args.chosen c.args.from c.args.left (omega arith) here none) c.first_with-in-None.ensures.none
 
-pub returns-then-not-has-clause-some : goal.returns-then-not-has-clause-some
-returns-then-not-has-clause-some t c =
-    let here : NoneHere c.args.question.now c.args.chosen c.args.from c.args.left (omega arith) = none_out c.args.question.now c.args.chosen c.args.from c.args.left (omega arith) (λ is. true≢false (sym (c.has.ensures.1 is) ∙ c.if-not-has.true)) in
+pub returns-then-not-has_bit-clause-some : goal.returns-then-not-has_bit-clause-some
+returns-then-not-has_bit-clause-some t c =
+    let here : NoneHere c.args.question.now c.args.chosen c.args.from c.args.left (omega arith) = none_out c.args.question.now c.args.chosen c.args.from c.args.left (omega arith) (λ is. true≢false (sym (c.has_bit.ensures.1 is) ∙ c.if-not-has_bit.true)) in
     if_some c.first_with.result (IsFirstChoice c.args.question.now c.args.chosen (c.args.from + 1) c.args.left) (IsFirstChoice c.args.question.now c.args.chosen c.args.from c.args.left)
     (λ set found. found_later c.args.question.now c.args.chosen c.args.from c.args.left (omega arith) set here found) c.first_with.ensures.some
 
-pub returns-then-not-has-clause-none : goal.returns-then-not-has-clause-none
-returns-then-not-has-clause-none t c =
-    let here : NoneHere c.args.question.now c.args.chosen c.args.from c.args.left (omega arith) = none_out c.args.question.now c.args.chosen c.args.from c.args.left (omega arith) (λ is. true≢false (sym (c.has.ensures.1 is) ∙ c.if-not-has.true)) in
+pub returns-then-not-has_bit-clause-none : goal.returns-then-not-has_bit-clause-none
+returns-then-not-has_bit-clause-none t c =
+    let here : NoneHere c.args.question.now c.args.chosen c.args.from c.args.left (omega arith) = none_out c.args.question.now c.args.chosen c.args.from c.args.left (omega arith) (λ is. true≢false (sym (c.has_bit.ensures.1 is) ∙ c.if-not-has_bit.true)) in
     if_none c.first_with.result (HasNone c.args.question.now c.args.chosen (c.args.from + 1) c.args.left) (HasNone c.args.question.now c.args.chosen c.args.from c.args.left)
     (λ none. none_later c.args.question.now c.args.chosen c.args.from c.args.left (omega arith) here none) c.first_with.ensures.none
