@@ -26,7 +26,7 @@ use Rattle.kiss_file.specs.Laws.NumberedNames.{length-numbered_names}
 use Rattle.cover_split.specs.Cover.{IsCover}
 use Rattle.cover_split.specs.Expansion.{AnswersAlike, AnswersAsStates, IsExpansion, IsNextPair, IsPair, IsTarget, pairs_of}
 use Rattle.cover_split.specs.Inner.Rows.{IsBuilt, IsPairRow}
-use Rattle.cover_split.proofs.PairLemmas.{length-pairs_of, one_pair, some_pair}
+use Rattle.cover_split.specs.Laws.Pairs.{length-pairs_of, one_pair, some_pair}
 use Rattle.cover_split.proofs.PartLemmas.{one_target}
 
 -- ---- all ones

@@ -2,7 +2,6 @@ pub mod Reading
 pub mod ReadingBlocks
 pub mod Within
 pub mod Holding
-pub mod PairLemmas
 pub mod Outcomes
 pub mod PartLemmas
 pub mod PartSizes

@@ -11,7 +11,7 @@ use Rattle.cover_split.specs.declared.cover.CoverFail.{CoverFail}
 use Rattle.cover_split.specs.declared.cover.CoverFail.TheVariants.{BadText, Contained, Missing, TooMany, Trivial, NoMemory}
 use Rattle.cover_split.specs.Cover.{IsBlock, IsCover, IsWithin, NoneIsWithin}
 use Rattle.cover_split.specs.Refusal.{BlocksFault, CoverFault, IsFirstBad, IsFirstMissing, IsFirstWithin, IsStatePiece, IsTextOf, IsTextOfFault}
-use Rattle.cover_split.specs.Text.{pieces_of}
+use Rattle.cover_split.specs.Text.{pieces_by_block}
 use Rattle.cover_split.proofs.Reading.{block_pieces}
 
 -- ---- one text, one list of blocks
@@ -37,12 +37,12 @@ same_blocks n text one two few first second =
 -- ---- the text of blocks has no bad piece
 no_bad : (n : ℕ) (text : List ℕ) (blocks : List (List ℕ)) (block place : ℕ) → n ≤ 256 → IsTextOf n text blocks → IsFirstBad n text block place → ⊥
 no_bad n text blocks block place few is fault =
-    let inside : block < length (pieces_of text) = slice_get_within (pieces_of text) block fault.pieces fault.at_block in
-    let counted : length (pieces_of text) ≡ length blocks = ap length is.spelled ∙ length-map blocks (map decimal) in
-    let there : get_or (pieces_of text) block [] ≡ map decimal (get_or blocks block []) =
+    let inside : block < length (pieces_by_block text) = slice_get_within (pieces_by_block text) block fault.pieces fault.at_block in
+    let counted : length (pieces_by_block text) ≡ length blocks = ap length is.spelled ∙ length-map blocks (map decimal) in
+    let there : get_or (pieces_by_block text) block [] ≡ map decimal (get_or blocks block []) =
     ap (λ (all : List (List (List ℕ))). get_or all block []) is.spelled ∙ get_or-map (map decimal) blocks block [] [] (omega arith) in
     let same : fault.pieces ≡ map decimal (get_or blocks block []) =
-    same_Some fault.pieces (map decimal (get_or blocks block [])) (sym fault.at_block ∙ slice_get-get_or (pieces_of text) block [] inside ∙ ap Some there) in
+    same_Some fault.pieces (map decimal (get_or blocks block [])) (sym fault.at_block ∙ slice_get-get_or (pieces_by_block text) block [] inside ∙ ap Some there) in
     fault.bad (block_pieces n fault.pieces (get_or blocks block []) few (All-get_or (IsBlock n) blocks block [] (omega arith) is.lawful) same place fault.within)
 
 -- ---- the first of each kind is one
@@ -55,7 +55,7 @@ one_bad n text a b c d first second =
             | inl behind ↦ absurd (second.bad (first.blocks_before c second.pieces behind second.at_block d second.within))
             | inr level ↦
                 let block : a ≡ c = omega arith in
-                let pieces : first.pieces ≡ second.pieces = same_Some first.pieces second.pieces (sym first.at_block ∙ ap (slice_get (pieces_of text)) block ∙ second.at_block) in
+                let pieces : first.pieces ≡ second.pieces = same_Some first.pieces second.pieces (sym first.at_block ∙ ap (slice_get (pieces_by_block text)) block ∙ second.at_block) in
                 elim (cases_lt b d) [
                   | inl left ↦ absurd (first.bad (subst (λ (p : List (List ℕ)). IsStatePiece n p b) (sym pieces) (second.before b left)))
                   | inr right ↦

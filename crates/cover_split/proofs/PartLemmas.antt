@@ -13,13 +13,13 @@ use Rattle.partition.specs.Refusal.{AllLawful}
 use Rattle.partition.specs.Laws.Extremes.{zero_of_is_partition, zero_of_is_zero}
 use Rattle.partition.specs.Laws.Labels.{IsPartition-of, label-lt-blocks_of-take}
 use Rattle.state_codes.specs.declared.split.Part.{Part}
-use Rattle.state_codes.specs.Split.{IsPart}
+use Rattle.state_codes.specs.Split.{IsPart, own_part}
 use Rattle.state_codes.specs.Kinds.{IsOwnCarrier, PartsMeetInZero}
 use Rattle.state_codes.specs.Laws.InnerLabels.{complement_apart}
 use Rattle.cover_split.specs.Cover.{IsBlock, IsCover, block_at}
 use Rattle.cover_split.specs.Expansion.{IsExpansion, IsPair, IsTarget, pairs_of}
-use Rattle.cover_split.specs.Parts.{IsByBlock, IsClosedFront, IsLongest, IsSplitByBlock, own_part}
-use Rattle.cover_split.proofs.PairLemmas.{few_blocks, length-pairs_of, pair_at, pair_has, pair_of, placed, some_pair, start_of}
+use Rattle.cover_split.specs.Parts.{IsByBlock, IsClosedFront, IsLongest, IsSplitByBlock}
+use Rattle.cover_split.specs.Laws.Pairs.{few_blocks, length-pairs_of, pair_at, pair_has, pair_of, placed, some_pair, start_of}
 
 -- the block of each pair
 unfoldable pub labels_of : List (List ℕ) → List ℕ
@@ -60,7 +60,7 @@ module _ (n : ℕ) (blocks : List (List ℕ)) (cover : IsCover n blocks) where
       let inside : i ≤ length (labels_of blocks) = omega (arith, slice_get_within (pairs_of blocks) i (j, s) pair, length-labels_of blocks) in
       omega (arith, label-lt-blocks_of-take (labels_of blocks) (start_of blocks k + 0) i earlier inside, label_is blocks (start_of blocks k + 0) k (get_or (block_at blocks k) 0 0) 0 first)
 
-  pub labels_lawful : AllLawful (labels_of blocks)
+  labels_lawful : AllLawful (labels_of blocks)
   labels_lawful place within =
       let it = some_pair blocks place (omega (arith, length-labels_of blocks)) in
       let is : get_or (labels_of blocks) place 0 ≡ it.0 = label_is blocks place it.0 it.1 0 it.2 in
@@ -70,14 +70,21 @@ module _ (n : ℕ) (blocks : List (List ℕ)) (cover : IsCover n blocks) where
         low zero s pair is = omega (arith, is)
         low (suc k) s pair is = omega (arith, is, earlier_block place (suc k) s k pair refl)
 
-  pub labels_few : length (labels_of blocks) ≤ 256
+  labels_few : length (labels_of blocks) ≤ 256
   labels_few = omega (arith, length-labels_of blocks, length-pairs_of blocks, cover.few)
 
-  pub labels_some : labels_of blocks ≡ [] → ⊥
-  labels_some none =
+  labels_some : 0 < length (labels_of blocks)
+  labels_some =
       let state = cover.each 0 (omega (arith, cover.count.0)) in
       let pair = pair_of blocks state.0 0 state.2 in
-      omega (arith, slice_get_within (pairs_of blocks) pair.0 (state.0, 0) pair.1, length-labels_of blocks, ap length none)
+      omega (arith, slice_get_within (pairs_of blocks) pair.0 (state.0, 0) pair.1, length-labels_of blocks)
+
+  pub labels_are_lawful : IsPartition (length (labels_of blocks)) (labels_of blocks)
+  labels_are_lawful = record {
+    count = (labels_some, labels_few);
+    length = refl;
+    numbered = λ s within. (labels_lawful s within).0;
+  }
 
 -- labels by blocks
 pub by_block : (blocks : List (List ℕ)) (p : List ℕ) → p ≡ labels_of blocks → IsPartition (length p) p → IsByBlock blocks p

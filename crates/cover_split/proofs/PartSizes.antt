@@ -11,7 +11,7 @@ use Rattle.partition.specs.Laws.Labels.{block_stands, label-lt-blocks_of}
 use Rattle.cover_split.specs.Cover.{IsBlock, IsCover, block_at}
 use Rattle.cover_split.specs.Expansion.{IsPair, pairs_from, pairs_of, pairs_with}
 use Rattle.cover_split.specs.Parts.{IsByBlock, IsLongest}
-use Rattle.cover_split.proofs.PairLemmas.{pair_at, pair_has, some_pair, start_of}
+use Rattle.cover_split.specs.Laws.Pairs.{pair_at, pair_has, some_pair, start_of}
 use Rattle.cover_split.proofs.PartLemmas.{label_is, labels_of}
 
 -- how many of the pairs are of block j

@@ -7,7 +7,8 @@ use Rattle.std.proofs.lemmas.List.Elements.{All-get_or, All-nil, All-push}
 use Rattle.std.proofs.lemmas.Option.{get_or_from_slice_get, same_Some, slice_get_read}
 use Rattle.std.specs.Fmt.{decimal}
 use Rattle.cover_split.specs.Cover.{IsBlock}
-use Rattle.cover_split.specs.Inner.Pieces.{IsBlockText, IsFirstBadPiece, pieces_in}
+use Rattle.cover_split.specs.Inner.Pieces.{IsBlockText, IsFirstBadPiece}
+use Rattle.partition.specs.Text.{pieces_of}
 use Rattle.cover_split.specs.Refusal.{IsStatePiece}
 
 -- the least number that may stand next: 0 at first, and then one more than the last
@@ -114,11 +115,11 @@ same_spelled pieces block whole spelled =
     let inside : k < length block = omega arith in
     get_or_from_slice_get pieces k (decimal (get_or block k 0)) [] (spelled k inside) ∙ sym (get_or-map decimal block k 0 [] inside))
 
-pub reading_whole : (n : ℕ) (text block : List ℕ) (low : ℕ) → 0 < length (pieces_in text) → IsReading n (pieces_in text) block low → length block ≡ length (pieces_in text)
+pub reading_whole : (n : ℕ) (text block : List ℕ) (low : ℕ) → 0 < length (pieces_of text) → IsReading n (pieces_of text) block low → length block ≡ length (pieces_of text)
     → IsBlockText n text block
 reading_whole n text block low some so_far whole = record {
   lawful = record { some = omega arith; states = so_far.states; ascending = so_far.ascending };
-  spelled = same_spelled (pieces_in text) block whole so_far.spelled;
+  spelled = same_spelled (pieces_of text) block whole so_far.spelled;
 }
 
 -- each piece of a block of states is a state piece

@@ -10,11 +10,12 @@ use Rattle.std.specs.Fmt.{decimal}
 use Rattle.std.specs.List.{onto_first, slice_split}
 use Rattle.std.specs.Option.{option_map}
 use Rattle.cover_split.specs.Cover.{IsBlock, places_of}
-use Rattle.cover_split.specs.Inner.Pieces.{IsBlockFault, IsBlockText, IsFirstBadPiece, pieces_in}
+use Rattle.cover_split.specs.Inner.Pieces.{IsBlockFault, IsBlockText, IsFirstBadPiece}
+use Rattle.partition.specs.Text.{pieces_of}
 use Rattle.cover_split.specs.Refusal.{CoverFault, IsFirstBad, IsTextOf}
 use Rattle.cover_split.specs.declared.cover.CoverFail.{CoverFail}
 use Rattle.cover_split.specs.declared.cover.CoverFail.TheVariants.{BadText, Contained, Missing, TooMany, Trivial, NoMemory}
-use Rattle.cover_split.specs.Text.{pieces_of, Spells}
+use Rattle.cover_split.specs.Text.{pieces_by_block, Spells}
 use Rattle.cover_split.proofs.Reading.{block_pieces}
 
 -- the parts between slashes
@@ -24,15 +25,15 @@ parts_of text = slice_split (λ byte. byte == 47) text
 -- the first parts are the texts of these blocks
 pub record IsReadingBlocks (n : ℕ) (text : List ℕ) (blocks : List (List ℕ)) : Type 0 where
   pub lawful : All (IsBlock n) blocks
-  pub spelled : (k : ℕ) → k < length blocks → slice_get (pieces_of text) k ≡ Some (map decimal (get_or blocks k []))
+  pub spelled : (k : ℕ) → k < length blocks → slice_get (pieces_by_block text) k ≡ Some (map decimal (get_or blocks k []))
 
 pub no_blocks : (n : ℕ) (text : List ℕ) → IsReadingBlocks n text []
 no_blocks n text = record { lawful = All-nil (IsBlock n); spelled = λ k within. absurd (omega arith) }
 
 -- the pieces of the part at a place
-pieces_there : (text : List ℕ) (k : ℕ) (part : List ℕ) → (k < length (parts_of text)) × (part ≡ get_or (parts_of text) k part) → slice_get (pieces_of text) k ≡ Some (pieces_in part)
+pieces_there : (text : List ℕ) (k : ℕ) (part : List ℕ) → (k < length (parts_of text)) × (part ≡ get_or (parts_of text) k part) → slice_get (pieces_by_block text) k ≡ Some (pieces_of part)
 pieces_there text k part turn =
-    slice_get-map pieces_in (parts_of text) k ∙ ap (option_map pieces_in) (slice_get_read (parts_of text) (length (parts_of text)) k part refl turn.0 turn.1)
+    slice_get-map pieces_of (parts_of text) k ∙ ap (option_map pieces_of) (slice_get_read (parts_of text) (length (parts_of text)) k part refl turn.0 turn.1)
 
 module _ (n : ℕ) (text : List ℕ) (blocks : List (List ℕ)) (part : List ℕ) (so_far : IsReadingBlocks n text blocks)
     (turn : (length blocks < length (parts_of text)) × (part ≡ get_or (parts_of text) (length blocks) part)) where
@@ -42,20 +43,20 @@ module _ (n : ℕ) (text : List ℕ) (blocks : List (List ℕ)) (part : List ℕ
     lawful = All-push (IsBlock n) blocks block so_far.lawful is.lawful;
     spelled = spelled;
   } where
-    spelled : (k : ℕ) → k < length (blocks ++ block ∷ []) → slice_get (pieces_of text) k ≡ Some (map decimal (get_or (blocks ++ block ∷ []) k []))
+    spelled : (k : ℕ) → k < length (blocks ++ block ∷ []) → slice_get (pieces_by_block text) k ≡ Some (map decimal (get_or (blocks ++ block ∷ []) k []))
     spelled k within =
         elim (cases_lt k (length blocks)) [
           | inl old ↦ so_far.spelled k old ∙ ap (λ (b : List ℕ). Some (map decimal b)) (sym (get_or_append_left blocks (block ∷ []) [] k old))
           | inr last ↦
               let here : length blocks ≡ k = omega (arith, length_push blocks block) in
-              subst (λ (i : ℕ). slice_get (pieces_of text) i ≡ Some (map decimal block)) here (pieces_there text (length blocks) part turn ∙ ap Some is.spelled)
+              subst (λ (i : ℕ). slice_get (pieces_by_block text) i ≡ Some (map decimal block)) here (pieces_there text (length blocks) part turn ∙ ap Some is.spelled)
               ∙ ap (λ (b : List ℕ). Some (map decimal b)) (sym (get_or_push blocks block [] k here))
         ]
 
   -- the part is no block
-  pub blocks_bad : (place : ℕ) → n ≤ 256 → IsFirstBadPiece n (pieces_in part) place → IsFirstBad n text (length blocks) place
+  pub blocks_bad : (place : ℕ) → n ≤ 256 → IsFirstBadPiece n (pieces_of part) place → IsFirstBad n text (length blocks) place
   blocks_bad place few fault = record {
-    pieces = pieces_in part;
+    pieces = pieces_of part;
     at_block = pieces_there text (length blocks) part turn;
     within = fault.within;
     bad = fault.bad;
@@ -79,19 +80,19 @@ module _ (n : ℕ) (text : List ℕ) (blocks : List (List ℕ)) (part : List ℕ
 pub blocks_whole : (n : ℕ) (text : List ℕ) (blocks : List (List ℕ)) → IsReadingBlocks n text blocks → length blocks ≡ length (parts_of text) → IsTextOf n text blocks
 blocks_whole n text blocks so_far whole = record {
   lawful = so_far.lawful;
-  spelled = ext_get_or [] (pieces_of text) (map (map decimal) blocks) (length-map (parts_of text) pieces_in ∙ sym whole ∙ sym (length-map blocks (map decimal)))
+  spelled = ext_get_or [] (pieces_by_block text) (map (map decimal) blocks) (length-map (parts_of text) pieces_of ∙ sym whole ∙ sym (length-map blocks (map decimal)))
       (λ k within.
-      let inside : k < length blocks = omega (arith, length-map (parts_of text) pieces_in) in
-      get_or_from_slice_get (pieces_of text) k (map decimal (get_or blocks k [])) [] (so_far.spelled k inside)
+      let inside : k < length blocks = omega (arith, length-map (parts_of text) pieces_of) in
+      get_or_from_slice_get (pieces_by_block text) k (map decimal (get_or blocks k [])) [] (so_far.spelled k inside)
       ∙ sym (get_or-map (map decimal) blocks k [] [] inside));
 }
 
 -- ---- there are at most as many pieces as bytes and one more
-one_byte_more : (x : ℕ) (part : List ℕ) → length (pieces_in (x ∷ part)) ≤ length (pieces_in part) + 1
+one_byte_more : (x : ℕ) (part : List ℕ) → length (pieces_of (x ∷ part)) ≤ length (pieces_of part) + 1
 one_byte_more x part =
     elim (cases_Bool (x == 44)) [
       | inl cut ↦ omega (arith, ap length (slice_split-cons_yes (λ byte. byte == 44) x part cut))
-      | inr kept ↦ omega (arith, ap length (slice_split-cons_no (λ byte. byte == 44) x part kept), onto (pieces_in part) (omega (arith, length-slice_split (λ byte. byte == 44) part)))
+      | inr kept ↦ omega (arith, ap length (slice_split-cons_no (λ byte. byte == 44) x part kept), onto (pieces_of part) (omega (arith, length-slice_split (λ byte. byte == 44) part)))
     ]
   where
     onto : (pieces : List (List ℕ)) → 0 < length pieces → length (onto_first x pieces) ≡ length pieces
@@ -99,19 +100,19 @@ one_byte_more x part =
     onto (piece ∷ pieces) some = refl
 
 abbrev total : List (List ℕ) → ℕ
-total parts = sum_by length (map pieces_in parts)
+total parts = sum_by length (map pieces_of parts)
 
 onto_total : (x : ℕ) (parts : List (List ℕ)) → 0 < length parts → total (onto_first x parts) ≤ total parts + 1
 onto_total x [] some = absurd (omega arith)
 onto_total x (part ∷ parts) some =
-    omega (arith, sum_by-cons length (pieces_in (x ∷ part)) (map pieces_in parts), sum_by-cons length (pieces_in part) (map pieces_in parts), one_byte_more x part)
+    omega (arith, sum_by-cons length (pieces_of (x ∷ part)) (map pieces_of parts), sum_by-cons length (pieces_of part) (map pieces_of parts), one_byte_more x part)
 
-pub pieces_total : (text : List ℕ) → sum_by length (pieces_of text) ≤ length text + 1
+pub pieces_total : (text : List ℕ) → sum_by length (pieces_by_block text) ≤ length text + 1
 pieces_total [] = omega arith
 pieces_total (x ∷ text) =
     elim (cases_Bool (x == 47)) [
       | inl cut ↦
-          omega (arith, pieces_total text, ap total (slice_split-cons_yes (λ byte. byte == 47) x text cut), sum_by-cons length (pieces_in []) (pieces_of text))
+          omega (arith, pieces_total text, ap total (slice_split-cons_yes (λ byte. byte == 47) x text cut), sum_by-cons length (pieces_of []) (pieces_by_block text))
       | inr kept ↦
           omega (
             arith,

@@ -18,7 +18,7 @@ use Rattle.cover_split.specs.declared.joint.Joint.{Joint}
 use Rattle.cover_split.specs.Inner.Joints.{AreJoints, HoldsAllOf, IsJoint}
 use Rattle.cover_split.specs.Inner.Rows.{AddsRows, AreRowsBelow, IsPairRow, IsPlaceOf}
 use Rattle.cover_split.proofs.JointLemmas.{joint_target, target_some}
-use Rattle.cover_split.proofs.PairLemmas.{pair_of}
+use Rattle.cover_split.specs.Laws.Pairs.{pair_of}
 
 -- a pair of a block and a state in it is among the pairs
 pub pair_among : (blocks : List (List ℕ)) (j s : ℕ) → Has blocks j s → Contains (pairs_of blocks) (j, s)

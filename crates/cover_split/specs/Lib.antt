@@ -4,3 +4,4 @@ pub mod Refusal
 pub mod Expansion
 pub mod Parts
 pub mod Inner
+pub mod Laws

@@ -20,10 +20,6 @@ pub record IsLongest (blocks : List (List ℕ)) (size : ℕ) : Type 0 where
   pub reached : length (block_at blocks block) ≡ size
   pub longest : (other : ℕ) → length (block_at blocks other) ≤ size
 
--- the part that has this partition, is its own carrier and reads the parts with these numbers
-abbrev pub own_part : List ℕ → List ℕ → Part
-own_part partition reads = record { partition = partition; carrier = partition; reads = reads }
-
 -- the first part is the partition by blocks; the second, which reads it, separates the pairs of each block
 pub record IsSplitByBlock (blocks : List (List ℕ)) (parts : List Part) : Type 0 where
   pub first : Part

@@ -3,7 +3,7 @@ use Rattle.std.specs.Prelude.{◌≡◌, ℕ, ◌+◌, ◌<◌, ◌≤◌, All, 
 use Rattle.std.specs.Fmt.{decimal}
 use Rattle.cover_split.specs.declared.cover.CoverFail.{CoverFail}
 use Rattle.cover_split.specs.declared.cover.CoverFail.TheVariants.{BadText, Contained, Missing, TooMany, Trivial, NoMemory}
-use Rattle.cover_split.specs.Text.{pieces_of, Spells}
+use Rattle.cover_split.specs.Text.{pieces_by_block, Spells}
 use Rattle.cover_split.specs.Cover.{IsBlock, IsCovered, IsTrivial, IsWithin, NoneIsWithin, places_of}
 
 -- the piece at the given place of a block is the number of a state; if the piece before it is also the number
@@ -21,11 +21,11 @@ AreStatePieces n pieces = (place : ℕ) → place < length pieces → IsStatePie
 -- the piece at this place of this block is the first of the text that is not such a number
 pub record IsFirstBad (n : ℕ) (text : List ℕ) (block place : ℕ) : Type 0 where
   pub pieces : List (List ℕ)
-  pub at_block : slice_get (pieces_of text) block ≡ Some pieces
+  pub at_block : slice_get (pieces_by_block text) block ≡ Some pieces
   pub within : place < length pieces
   pub bad : IsStatePiece n pieces place → ⊥
   pub before : (earlier : ℕ) → earlier < place → IsStatePiece n pieces earlier
-  pub blocks_before : (earlier : ℕ) (others : List (List ℕ)) → earlier < block → slice_get (pieces_of text) earlier ≡ Some others → AreStatePieces n others
+  pub blocks_before : (earlier : ℕ) (others : List (List ℕ)) → earlier < block → slice_get (pieces_by_block text) earlier ≡ Some others → AreStatePieces n others
 
 -- b is the least block that has all of block a, and no block before a is within another
 pub record IsFirstWithin (blocks : List (List ℕ)) (a b : ℕ) : Type 0 where

@@ -1,14 +1,16 @@
 //! Joint pieces of a block: cubes on which each state of the block has one next state and one list of outputs.
 //!
 //! The cube of all symbols is halved until, for each state of the block, one of the state's pieces holds the
-//! whole cube. A half is given only the pieces that meet it. Each symbol is in exactly one of the cubes.
+//! whole cube. A half is given only the pieces that meet it. Each symbol is in exactly one of the cubes. A cube is
+//! halved at the dash at which most pieces of the first state without such a piece have a bit, so that few of
+//! them meet both halves.
 ghost use Rattle.std.specs.Prelude.{◌≡◌, ◌<◌, ◌≤◌, ◌↔◌, All, IfOk, IsTrue, MatchResult, OnOk, Some, length, slice_get};
 ghost use Rattle.cubes.specs.declared.cube.Cube.{Cube};
 ghost use Rattle.machine_table.specs.declared.covering.Piece.{Piece};
 ghost use Rattle.cover_split.specs.Inner.Joints.{AddsJoints, AreJoints, AreListsFor, AreListsMet, AreMet, AreSpread, HasEachNext, IsDash, IsSettled, IsTargetOf, IsWholePiece};
 
 use crate::cover::{Block, has_state, states_at};
-use cubes::Cube;
+use cubes::{Cube, bit};
 use hs_list::Items;
 use machine_table::{Machine, Piece};
 use std::alloc::{AllocError, AllocFailed, Global};
@@ -159,8 +161,7 @@ fn settled(alloc: Global, cube: &Cube, lists: &[Pieces]) -> Result<Division, All
     Ok(Division::Whole(found))
 }
 
-/// A piece that holds the whole cube, or a place at which the first piece that meets the cube has a bit and the
-/// cube has a dash.
+/// A piece that holds the whole cube, or a place at which to halve it.
 fn whole_piece(cube: &Cube, pieces: &[Piece]) -> Result<Piece, u32>
     requires { AreSpread cube.now pieces.now }
     ensures { MatchResult result (IsWholePiece cube.now pieces.now) (IsDash cube.now) }
@@ -176,8 +177,55 @@ fn whole_piece(cube: &Cube, pieces: &[Piece]) -> Result<Piece, u32>
         place = place.or(Some(free));
     }
     match place {
-        Some(place) => Err(place),
+        Some(place) => Err(most_looked_at(cube, pieces, place)),
         None => unreachable!(),
+    }
+}
+
+/// The dash of the cube at which most pieces have a bit, the lowest of several. If no piece has a bit at a dash,
+/// it is this dash.
+fn most_looked_at(cube: &Cube, pieces: &[Piece], dash: u32) -> u32
+    requires { IsDash cube.now dash }
+    ensures { IsDash cube.now result }
+{
+    let counts = looks_at(pieces);
+    let mut best = dash;
+    let mut most = 0;
+    for place in 0..32u32 {
+        let count = counts[place as usize];
+        if most < count && is_dash(cube, place) {
+            best = place;
+            most = count;
+        }
+    }
+    best
+}
+
+/// Whether the cube has a dash at the place.
+fn is_dash(cube: &Cube, place: u32) -> bool
+    requires { place < 32 }
+    ensures { IsTrue result ↔ IsDash cube.now place }
+{
+    place < u32::from(cube.width) && !bit(u64::from(cube.care), place as usize)
+}
+
+/// For each place, how many pieces have a bit there.
+fn looks_at(pieces: &[Piece]) -> [u32; 32] {
+    let mut counts = [0; 32];
+    for piece in pieces {
+        add_looks(&mut counts, piece.cube.care);
+    }
+    counts
+}
+
+/// Counts one more at each place of a bit that is 1.
+fn add_looks(counts: &mut [u32; 32], care: u32) {
+    let mut rest = care;
+    while rest != 0 {
+        if let Some(count) = counts.get_mut(rest.trailing_zeros() as usize) {
+            *count = count.saturating_add(1);
+        }
+        rest &= rest - 1;
     }
 }
 

@@ -4,11 +4,11 @@ ghost use Rattle.state_codes.specs.Kinds.{PartsMeetInZero};
 ghost use Rattle.state_codes.specs.Split.{IsPart};
 ghost use Rattle.cover_split.specs.Cover.{IsCover};
 ghost use Rattle.cover_split.specs.Expansion.{pairs_of};
-ghost use Rattle.cover_split.specs.Parts.{IsByBlock, IsClosedFront, IsSplitByBlock, own_part};
+ghost use Rattle.cover_split.specs.Parts.{IsByBlock, IsClosedFront, IsSplitByBlock};
 
 use crate::cover::{Block, Cover};
 use crate::pairs::pairs_of;
-use partition::{PartFail, Partition};
+use partition::Partition;
 use state_codes::{Kind, Part, PartNumbers, Parts, Split};
 use std::alloc::{AllocError, Global};
 
@@ -20,32 +20,22 @@ pub fn split(alloc: Global, cover: &Cover) -> Result<Split, AllocError>
     ensures by_block { IfOk result (λ split. IsSplitByBlock cover.now.blocks split.parts) }
     ensures in_zero { IfOk result (λ split. PartsMeetInZero split.parts) }
     ensures closed { IfOk result (λ split. IsClosedFront cover.now.blocks split.parts) }
-
     ensures few { IfOk result (λ split. length split.parts ≤ 256) }
     ensures lawful { IfOk result (λ split. All (IsPart (length (pairs_of cover.now.blocks))) split.parts) }
 {
     let first = by_block(alloc, cover.blocks.as_slice())?;
     let second = first.complement(alloc)?;
-    let mut parts = Parts::new(alloc);
-    parts.push(own_part(alloc, first, PartNumbers::new(alloc))?)?;
+    let none = PartNumbers::new(alloc);
     let mut reads = PartNumbers::new(alloc);
     reads.push(0)?;
-    parts.push(own_part(alloc, second, reads)?)?;
+    let one = Part::new(alloc, first, none)?;
+    let other = Part::new(alloc, second, reads)?;
+    let mut parts = Parts::new(alloc);
+    parts.push(one)?;
+    parts.push(other)?;
     Ok(Split {
         kind: Kind::Serial,
         parts,
-    })
-}
-
-/// The part that is its own carrier and reads the parts with these numbers.
-fn own_part(alloc: Global, partition: Partition, reads: PartNumbers) -> Result<Part, AllocError>
-    ensures { IfOk result (λ part. part ≡ own_part partition reads) }
-{
-    let carrier = partition.copy(alloc)?;
-    Ok(Part {
-        partition,
-        carrier,
-        reads,
     })
 }
 
@@ -57,14 +47,8 @@ fn by_block(alloc: Global, blocks: &[Block]) -> Result<Partition, AllocError>
 {
     let pairs = pairs_of(alloc, blocks)?;
     let labels = blocks_of_pairs(alloc, pairs.as_slice())?;
-    match Partition::from_labels(alloc, labels.as_slice()) {
-        Ok(partition) => Ok(partition),
-        Err(PartFail::NoMemory) => Err(AllocError),
-        Err(PartFail::Empty) => unreachable!(),
-        Err(PartFail::NotCanonical { .. }) => unreachable!(),
-        Err(PartFail::BadText { .. }) => unreachable!(),
-        Err(PartFail::WrongLength { .. }) => unreachable!(),
-    }
+    let partition = Partition::of_lawful(alloc, labels.as_slice())?;
+    Ok(partition)
 }
 
 /// The block of each pair.

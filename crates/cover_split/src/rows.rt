@@ -1,5 +1,5 @@
 //! The rows of the pairs.
-ghost use Rattle.std.specs.Prelude.{◌≡◌, ◌-◌, ◌<◌, ◌≤◌, ◌^◌, Contains, IfOk, IsSome, OnOk, Some, length, slice_index};
+ghost use Rattle.std.specs.Prelude.{◌≡◌, ◌<◌, Contains, IfOk, IsSome, OnOk, Some, length, slice_index};
 ghost use Rattle.cover_split.specs.Cover.{IsCover, block_at};
 ghost use Rattle.cover_split.specs.Expansion.{pairs_of};
 ghost use Rattle.cover_split.specs.Inner.Joints.{AllLead, AreJoints, AreJointsOfEach, IsJoint};
@@ -9,7 +9,7 @@ use crate::cover::{Block, states_at};
 use crate::joint::{Joint, Joints, joints_at};
 use crate::pairs::{number_of, pair_at};
 use kiss_file::{KissRow, Rows};
-use machine_table::Machine;
+use machine_table::{Machine, all_outputs};
 use std::alloc::{AllocError, Global};
 
 /// A pair: its number, its block, and the place of its state in the block.
@@ -108,16 +108,7 @@ fn row_of(
         cube: joint.cube,
         from: at.number,
         to: Some(number_of(pairs, target, piece.next)),
-        care: full_care(m.outputs()),
+        care: all_outputs(m.outputs()),
         value: piece.outputs,
     }
-}
-
-/// The care of a row that gives all outputs.
-fn full_care(outputs: u8) -> u64
-    requires some { 0 < outputs }
-    requires bound { outputs ≤ 64 }
-    ensures { result ≡ 2 ^ outputs - 1 }
-{
-    u64::MAX >> (64 - outputs)
 }

@@ -2,7 +2,7 @@
 use Rattle.std.proofs.Common.{◌≡◌, ◌≢◌, ◌⊎◌, ◌≤◌, ℕ, List, Result, Err, inl, inr, length, sym, ◌∙◌, subst, arith}
 use Rattle.cover_split.specs.Cover.{IsCover}
 use Rattle.cover_split.specs.Expansion.{pairs_of}
-use Rattle.cover_split.proofs.PairLemmas.{few_blocks}
+use Rattle.cover_split.specs.Laws.Pairs.{few_blocks}
 use Rattle.cover_texts.specs.Inner.Steps.{AreParts}
 use Rattle.cover_texts.proofs.Sizes.{short_length}
 use Rattle.state_codes.specs.declared.CodeFail.{CodeFail}

@@ -14,9 +14,9 @@ use Rattle.blif_out.proofs.Visible.{AreVisible, IsVisible, decimal_visible, head
 use Rattle.blif_out.proofs.Words.{name_word}
 use Rattle.cover_split.specs.Cover.{IsBlock, block_at}
 use Rattle.cover_split.specs.Expansion.{pairs_of}
-use Rattle.cover_split.proofs.PairLemmas.{pair_has}
 use Rattle.cover_texts.specs.Lines.{block_fields, cover_comments, cover_fields, cover_lines, pair_fields}
 use Rattle.hs_io.specs.Spelling.{ArePlainFields, IsComment, IsFieldByte, spaced}
+use Rattle.cover_split.specs.Laws.Pairs.{pair_has}
 use Rattle.state_codes.specs.declared.split.Kind.TheVariants as kinds
 
 -- ---- the states of pairs

@@ -9,7 +9,7 @@ use Rattle.cover_split.specs.declared.cover.CoverFail.TheVariants as fails
 use Rattle.cover_split.specs.Cover.{IsCover}
 use Rattle.cover_split.specs.Expansion.{IsFirstLeaving}
 use Rattle.cover_split.specs.Refusal.{CoverFault, IsTextOf}
-use Rattle.cubes.specs.Symbol.{symbol_of, digit}
+use Rattle.cubes.specs.Symbol.{digit, symbol_of}
 use Rattle.kiss_file.specs.declared.file.KissFile.{KissFile}
 
 -- the least state that is in no block has this name

@@ -9,7 +9,7 @@ use Rattle.cover_split.specs.Cover.{IsCover}
 use Rattle.cover_split.specs.Expansion.{AnswersAlike, IsClosedCover, IsExpansion, IsFirstLeaving, pairs_of}
 use Rattle.cover_split.specs.Parts.{IsClosedFront, IsSplitByBlock}
 use Rattle.cover_split.specs.Refusal.{CoverFault, IsTextOf}
-use Rattle.cubes.specs.Symbol.{symbol_of, digit}
+use Rattle.cubes.specs.Symbol.{digit, symbol_of}
 use Rattle.kiss_file.specs.declared.file.KissFile.{KissFile}
 use Rattle.state_codes.specs.declared.Codes.{Codes}
 use Rattle.state_codes.specs.declared.split.Part.{Part}

@@ -3,7 +3,7 @@ use Rattle.std.proofs.lemmas.Result.{err_from_is_err_and}
 use Rattle.kiss_file.specs.NumberedNames.{numbered_names}
 use Rattle.cover_split.specs.Expansion.{IsFirstCopy, IsFirstWith, pairs_of}
 use Rattle.cover_split.specs.Inner.Rows.{AreRowsBelow}
-use Rattle.cover_split.proofs.PairLemmas.{few_blocks, length-pairs_of}
+use Rattle.cover_split.specs.Laws.Pairs.{few_blocks, length-pairs_of}
 use Rattle.cover_split.proofs.RowLemmas.{pair_among}
 use Rattle.cover_split.proofs.expansion.file_of_pairs.Goals as goal
 

@@ -8,7 +8,7 @@ use Rattle.cover_split.specs.Cover.{IsBlock, block_at}
 use Rattle.cover_split.specs.Expansion.{StaysWithin}
 use Rattle.cover_split.specs.Inner.Joints.{AllLead, AreJoints, AreJointsOfEach, IsLeastLeaving}
 use Rattle.cover_split.proofs.JointLemmas.{first_leaving_from, joints_more, no_joints, stays_from_lead}
-use Rattle.cover_split.proofs.PairLemmas.{few_blocks}
+use Rattle.cover_split.specs.Laws.Pairs.{few_blocks}
 use Rattle.cover_split.proofs.expansion.joints_of_blocks.Goals as goal
 
 pub joints-requires-clause-states : goal.joints-requires-clause-states

@@ -1,4 +1,4 @@
-use Rattle.cover_split.proofs.PairLemmas.{length-pairs_of}
+use Rattle.cover_split.specs.Laws.Pairs.{length-pairs_of}
 use Rattle.cover_split.proofs.laws.pairs_fill_places.Goals as goal
 
 pub returns : goal.returns

@@ -3,7 +3,7 @@ use Rattle.std.specs.Fmt.{decimal, digits}
 use Rattle.std.specs.List.{slice_get}
 use Rattle.std.proofs.lemmas.Option.{same_Some}
 use Rattle.cover_split.specs.Refusal.{AreStatePieces, IsStatePiece}
-use Rattle.cover_split.specs.Text.{pieces_of}
+use Rattle.cover_split.specs.Text.{pieces_by_block}
 use Rattle.cover_split.proofs.laws.worked_texts.Goals as goal
 
 pub returns-clause-three : goal.returns-clause-three
@@ -78,6 +78,6 @@ returns-clause-nothing c = record {
       let only : place ≡ 0 = omega (arith, within, ap (λ (list : List (List ℕ)). length list) same) in
       subst (λ (k : ℕ). IsStatePiece 3 others k) (sym only) (subst (λ (list : List (List ℕ)). IsStatePiece 3 list 0) same (first_one (codes "0" ∷ []) 0 (omega arith) refl))
 
-  each : (earlier : ℕ) (others : List (List ℕ)) → earlier < 1 → slice_get (pieces_of (codes "0/")) earlier ≡ Some others → AreStatePieces 3 others
+  each : (earlier : ℕ) (others : List (List ℕ)) → earlier < 1 → slice_get (pieces_by_block (codes "0/")) earlier ≡ Some others → AreStatePieces 3 others
   each zero others below there = alone others there
   each (suc more) others below there = absurd (omega (arith, below))

@@ -1,6 +1,6 @@
 use Rattle.std.proofs.Common.{ℕ, ◌++◌, List, map, take, sym, ap, ◌∙◌, arith}
 use Rattle.cover_split.specs.Expansion.{pairs_of}
-use Rattle.cover_split.proofs.PairLemmas.{pairs_of-none, pairs_of-take-all, pairs_of-take-more}
+use Rattle.cover_split.specs.Laws.Pairs.{pairs_of-none, pairs_of-take-all, pairs_of-take-more}
 use Rattle.cover_split.proofs.pairs.pairs_of.Goals as goal
 
 pub loop-j-init : goal.loop-j-init

@@ -1,7 +1,8 @@
 use Rattle.std.proofs.Common.{◌≡◌, ℕ, List, [], ◌∷◌, ◌++◌, map, refl, ap, ◌∙◌, subst}
 use Rattle.state_codes.specs.declared.split.Part.{Part}
 use Rattle.cover_split.specs.Expansion.{pairs_of}
-use Rattle.cover_split.specs.Parts.{IsByBlock, own_part}
+use Rattle.cover_split.specs.Parts.{IsByBlock}
+use Rattle.state_codes.specs.Split.{own_part}
 use Rattle.cover_split.proofs.PartLemmas.{closed_parts, in_zero, labels_of, lawful_parts, split_by_block}
 use Rattle.cover_split.proofs.PartSizes.{front_count, front_nontrivial, longest}
 use Rattle.cover_split.proofs.parts.split.Goals as goal
@@ -19,8 +20,8 @@ named blocks read p same is = is ∙ ap (λ (b : List (List ℕ)). map (λ pair.
 
 pub returns-clause-by_block : goal.returns-clause-by_block
 returns-clause-by_block c =
-    let parts = two c.new-parts.result c.push.new.self c.push-3.new.self c.in_ok-own_part.field-0 c.in_ok-own_part-2.field-0 c.in_ok-first.first c.in_ok-second.second c.new.result c.new-reads.result c.push-2.new.self
-    c.new-parts.ensures c.in_ok-push.ensures.ok c.in_ok-push-3.ensures.ok c.new.ensures c.new-reads.ensures c.in_ok-push-2.ensures.ok c.in_ok-own_part.ensures c.in_ok-own_part-2.ensures in
+    let parts = two c.new-parts.result c.push-2.new.self c.push-3.new.self c.in_ok-one.one c.in_ok-other.other c.in_ok-first.first c.in_ok-second.second c.new-none.result c.new-reads.result c.push.new.self
+    c.new-parts.ensures c.in_ok-push-2.ensures.ok c.in_ok-push-3.ensures.ok c.new-none.ensures c.new-reads.ensures c.in_ok-push.ensures.ok c.in_ok-one.ensures c.in_ok-other.ensures in
     let is = subst (λ (blocks : List (List ℕ)). IsByBlock blocks c.in_ok-first.first) c.as_slice.ensures c.in_ok-first.ensures.by_block in
     let labels = named c.args.cover.now.blocks c.as_slice.result.now c.in_ok-first.first c.as_slice.ensures c.in_ok-first.ensures.labels in
     let cover = c.requires.1 in
@@ -30,21 +31,21 @@ returns-clause-by_block c =
 
 pub returns-clause-in_zero : goal.returns-clause-in_zero
 returns-clause-in_zero c =
-    let parts = two c.new-parts.result c.push.new.self c.push-3.new.self c.in_ok-own_part.field-0 c.in_ok-own_part-2.field-0 c.in_ok-first.first c.in_ok-second.second c.new.result c.new-reads.result c.push-2.new.self
-    c.new-parts.ensures c.in_ok-push.ensures.ok c.in_ok-push-3.ensures.ok c.new.ensures c.new-reads.ensures c.in_ok-push-2.ensures.ok c.in_ok-own_part.ensures c.in_ok-own_part-2.ensures in
+    let parts = two c.new-parts.result c.push-2.new.self c.push-3.new.self c.in_ok-one.one c.in_ok-other.other c.in_ok-first.first c.in_ok-second.second c.new-none.result c.new-reads.result c.push.new.self
+    c.new-parts.ensures c.in_ok-push-2.ensures.ok c.in_ok-push-3.ensures.ok c.new-none.ensures c.new-reads.ensures c.in_ok-push.ensures.ok c.in_ok-one.ensures c.in_ok-other.ensures in
     let is = subst (λ (blocks : List (List ℕ)). IsByBlock blocks c.in_ok-first.first) c.as_slice.ensures c.in_ok-first.ensures.by_block in
     in_zero c.args.cover.now.blocks c.in_ok-first.first c.in_ok-second.second c.push-3.new.self parts is c.in_ok-second.ensures.inside
 
 pub returns-clause-closed : goal.returns-clause-closed
 returns-clause-closed c =
-    let parts = two c.new-parts.result c.push.new.self c.push-3.new.self c.in_ok-own_part.field-0 c.in_ok-own_part-2.field-0 c.in_ok-first.first c.in_ok-second.second c.new.result c.new-reads.result c.push-2.new.self
-    c.new-parts.ensures c.in_ok-push.ensures.ok c.in_ok-push-3.ensures.ok c.new.ensures c.new-reads.ensures c.in_ok-push-2.ensures.ok c.in_ok-own_part.ensures c.in_ok-own_part-2.ensures in
+    let parts = two c.new-parts.result c.push-2.new.self c.push-3.new.self c.in_ok-one.one c.in_ok-other.other c.in_ok-first.first c.in_ok-second.second c.new-none.result c.new-reads.result c.push.new.self
+    c.new-parts.ensures c.in_ok-push-2.ensures.ok c.in_ok-push-3.ensures.ok c.new-none.ensures c.new-reads.ensures c.in_ok-push.ensures.ok c.in_ok-one.ensures c.in_ok-other.ensures in
     let is = subst (λ (blocks : List (List ℕ)). IsByBlock blocks c.in_ok-first.first) c.as_slice.ensures c.in_ok-first.ensures.by_block in
     closed_parts c.args.cover.now.blocks c.in_ok-first.first c.in_ok-second.second c.push-3.new.self parts is
 
 pub returns-clause-lawful : goal.returns-clause-lawful
 returns-clause-lawful c =
-    let parts = two c.new-parts.result c.push.new.self c.push-3.new.self c.in_ok-own_part.field-0 c.in_ok-own_part-2.field-0 c.in_ok-first.first c.in_ok-second.second c.new.result c.new-reads.result c.push-2.new.self
-    c.new-parts.ensures c.in_ok-push.ensures.ok c.in_ok-push-3.ensures.ok c.new.ensures c.new-reads.ensures c.in_ok-push-2.ensures.ok c.in_ok-own_part.ensures c.in_ok-own_part-2.ensures in
+    let parts = two c.new-parts.result c.push-2.new.self c.push-3.new.self c.in_ok-one.one c.in_ok-other.other c.in_ok-first.first c.in_ok-second.second c.new-none.result c.new-reads.result c.push.new.self
+    c.new-parts.ensures c.in_ok-push-2.ensures.ok c.in_ok-push-3.ensures.ok c.new-none.ensures c.new-reads.ensures c.in_ok-push.ensures.ok c.in_ok-one.ensures c.in_ok-other.ensures in
     let is = subst (λ (blocks : List (List ℕ)). IsByBlock blocks c.in_ok-first.first) c.as_slice.ensures c.in_ok-first.ensures.by_block in
     lawful_parts c.args.cover.now.blocks c.in_ok-first.first c.in_ok-second.second c.push-3.new.self parts is c.in_ok-second.ensures.inside

@@ -1,7 +1,7 @@
 use Rattle.std.proofs.Common.{ℕ, ◌≡◌, ◌<◌, ◌-◌, ◌^◌, List, Some, Contains, get_or, length, slice_get, refl, subst, sym, ap, ◌∙◌, arith}
 use Rattle.std.proofs.lemmas.Option.{slice_get_read}
 use Rattle.machine_table.specs.declared.covering.Piece.{Piece}
-use Rattle.cover_split.proofs.PairLemmas.{length-pairs_of}
+use Rattle.cover_split.specs.Laws.Pairs.{length-pairs_of}
 use Rattle.cover_split.proofs.RowLemmas.{goes_among, pair_row, place_inside}
 use Rattle.cover_split.proofs.rows.row_of.Goals as goal
 
@@ -31,4 +31,4 @@ returns-clause-row c =
     let there = read c.args.joint.now.pieces c.as_slice.result.now c.args.at.place piece c.as_slice.ensures inside c.index-as_slice-at.is in
     pair_row F blocks c.args.at.number c.args.at.block c.args.at.place c.requires.at c.args.joint.now c.requires.joint piece c.in-Some.target c.number_of.result _ there c.in-Some.is
     (subst (λ (ps : List (ℕ × ℕ)). slice_get ps c.number_of.result ≡ Some (c.in-Some.target, piece.next)) c.requires.pairs c.number_of.ensures)
-    refl refl refl (c.full_care.ensures ∙ ap (λ (n : ℕ). 2 ^ n - 1) c.outputs.ensures.count) refl
+    refl refl refl (c.all_outputs.ensures ∙ ap (λ (n : ℕ). 2 ^ n - 1) c.outputs.ensures.count) refl

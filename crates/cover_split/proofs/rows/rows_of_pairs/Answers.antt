@@ -2,7 +2,7 @@ use Rattle.std.proofs.Common.{ℕ, ◌≡◌, ◌<◌, List, Contains, get_or, l
 use Rattle.cover_split.specs.Cover.{block_at}
 use Rattle.cover_split.specs.Expansion.{IsPair, pairs_of}
 use Rattle.cover_split.specs.Inner.Rows.{AreRowsBelow, IsPlaceOf}
-use Rattle.cover_split.proofs.PairLemmas.{length-pairs_of, pair_has}
+use Rattle.cover_split.specs.Laws.Pairs.{length-pairs_of, pair_has}
 use Rattle.cover_split.proofs.RowLemmas.{no_rows, rows_more}
 use Rattle.cover_split.proofs.rows.rows_of_pairs.Goals as goal
 

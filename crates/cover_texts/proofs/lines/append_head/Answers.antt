@@ -2,7 +2,7 @@ use Rattle.std.proofs.Common.{◌≡◌, ℕ, ◌<◌, All, List, ◌++◌, code
 use Rattle.std.specs.List.{enumerate_from, flat_map, zip}
 use Rattle.list_facts.specs.Laws.Appending.{text_more}
 use Rattle.cover_split.specs.Expansion.{pairs_of}
-use Rattle.cover_split.proofs.PairLemmas.{few_blocks}
+use Rattle.cover_split.specs.Laws.Pairs.{few_blocks}
 use Rattle.cover_texts.specs.Inner.Pieces.{block_line, pair_line}
 use Rattle.cover_texts.proofs.Appending.{head_is}
 use Rattle.cover_texts.proofs.Comments.{states_below}
