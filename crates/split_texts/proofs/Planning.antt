@@ -41,8 +41,8 @@ planned_here kind k text W split is fit some plan =
     (fit, record { none = (λ none. cc, λ none. absurd (some none)); some = plan })
 
 -- ---- parts that are given
-pub read_few : (n : ℕ) (text : List ℕ) (parts : Vec Partition Global) → HasFewParts text → ArePartTexts n text parts.items → (0 < vec_len parts) × (vec_len parts ≤ 256)
-read_few n text parts few texts = subst (λ (count : ℕ). (0 < count) × (count ≤ 256)) (sym parts.ok.0) (few_partitions n text parts.items few texts)
+pub read_few : (n : ℕ) (text : List ℕ) (parts : Vec Partition Global) → HasFewParts text → ArePartTexts n text parts.items → vec_len parts ≤ 256
+read_few n text parts few texts = subst (λ (count : ℕ). count ≤ 256) (sym parts.ok.0) (few_partitions n text parts.items few texts).1
 
 -- as many states as are asked for are those of the machine
 pub assigned_here : (n : ℕ) (text : List ℕ) (W : KissFile) (parts : Vec Partition Global) (split : Split) → n ≡ length W.states → CallsForNone (BadParts n text) × ArePartTexts n text parts.items → split.kind ≡ Assign → split.parts ≡ given_parts (vec_len parts) 0 parts.items

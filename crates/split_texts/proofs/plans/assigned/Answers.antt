@@ -1,11 +1,8 @@
 use Rattle.split_texts.proofs.Planning.{assigned_here, read_few}
 use Rattle.split_texts.proofs.plans.assigned.Goals as goal
 
-pub given-requires-clause-some : goal.given-requires-clause-some
-given-requires-clause-some c = (read_few c.states.result c.args.text.now c.in_ok-parts.parts c.requires c.in_ok-parts.ensures.1).0
-
-pub given-requires-clause-count : goal.given-requires-clause-count
-given-requires-clause-count c = (read_few c.states.result c.args.text.now c.in_ok-parts.parts c.requires c.in_ok-parts.ensures.1).1
+pub given-requires : goal.given-requires
+given-requires c = read_few c.states.result c.args.text.now c.in_ok-parts.parts c.requires c.in_ok-parts.ensures.1
 
 pub returns : goal.returns
 returns c =
