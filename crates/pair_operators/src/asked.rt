@@ -7,6 +7,7 @@ ghost use Rattle.pair_operators.specs.Inner.Keys.{AreKeys, AreMixed, mixed};
 use machine_table::Machine;
 use partition::Partition;
 use std::alloc::{AllocError, Global};
+use std::marker::Model;
 
 /// The most symbols that are asked.
 const MOST_ASKED: usize = 256;
@@ -14,14 +15,23 @@ const MOST_ASKED: usize = 256;
 /// The next state of each state, at one symbol.
 #[derive(Drop)]
 pub struct NextColumn {
-    pub(crate) states: Vec<u16>,
+    pub states: Vec<u16>,
 }
 
-/// Symbols of one machine at which states were told apart, each with the next states there. They are kept from one
-/// call of [`high_beside`](crate::high_beside) to the next, which asks them first.
+/// Symbols of one machine at which states were told apart, seen by contracts as the list of the next states there. They
+/// are kept from one call of [`high_beside`](crate::high_beside) to the next, which asks them first.
 #[derive(Drop)]
 pub struct AskedSymbols {
-    pub(crate) columns: Vec<NextColumn>,
+    columns: Vec<NextColumn>,
+}
+
+impl Model for AskedSymbols {
+    ghost use Rattle.std.specs.Prelude.{List};
+    ghost use Rattle.pair_operators.specs.declared.asked.NextColumn.{NextColumn};
+
+    ghost Value = { List NextColumn };
+
+    ghost view = { λ asked. asked.columns.items };
 }
 
 /// A number for each state. States with different numbers do not go together.

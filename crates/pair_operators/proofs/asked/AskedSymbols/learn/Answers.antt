@@ -1,4 +1,4 @@
-use Rattle.std.proofs.Common.{◌∙◌, sym}
+use Rattle.std.proofs.Common.{◌∙◌, All, subst, sym}
 use Rattle.std.proofs.lemmas.List.Elements.{All-push, All-same}
 use Rattle.std.proofs.lemmas.Result.{IfOk-from_err, err_from_is_err_and}
 use Rattle.pair_operators.specs.Asked.{IsNextColumn}
@@ -33,7 +33,9 @@ pub returns-in_err-push-clause-keys : goal.returns-in_err-push-clause-keys
 returns-in_err-push-clause-keys c = IfOk-from_err _ _ c.from_residual-in_err-push.ensures.0
 
 pub returns-clause-asked : goal.returns-clause-asked
-returns-clause-asked c = All-same (IsNextColumn c.args.m.now) _ _ c.in_ok-push.ensures.items (All-push (IsNextColumn c.args.m.now) c.args.self.now.columns.items c.in_ok-column.column c.requires.asked c.in_ok-column.ensures)
+returns-clause-asked c =
+    let known : All (IsNextColumn c.args.m.now) c.self.inside.columns.items = subst (All (IsNextColumn c.args.m.now)) (sym c.self.view_is) c.requires.asked in
+    All-same (IsNextColumn c.args.m.now) _ _ c.in_ok-push.ensures.items (All-push (IsNextColumn c.args.m.now) c.self.inside.columns.items c.in_ok-column.column known c.in_ok-column.ensures)
 
 pub returns-clause-keys : goal.returns-clause-keys
 returns-clause-keys c = keys_after c.args.m.now c.args.q.now c.in_ok-column.column c.args.keys c.in_ok-more.more c.in_ok-column.ensures c.requires.keys c.in_ok-more.ensures
