@@ -10,7 +10,7 @@ use Rattle.cover_split.specs.declared.cover.Cover.{Cover}
 use Rattle.cover_split.specs.declared.cover.CoverFail.{CoverFail}
 use Rattle.cover_split.specs.declared.cover.CoverFail.TheVariants.{BadText, Contained, Missing, TooMany, Trivial, NoMemory}
 use Rattle.cover_split.specs.Cover.{IsBlock, IsCover, IsWithin, NoneIsWithin}
-use Rattle.cover_split.specs.Refusal.{BlocksFault, CoverFault, IsFirstBad, IsFirstMissing, IsFirstWithin, IsStatePiece, IsTextOf, IsTextOfFault}
+use Rattle.cover_split.specs.Refusal.{BlocksFault, CoverFault, IsFirstBad, IsFirstMissing, IsFirstWithin, IsStatePiece, SpellsBlocks, IsTextOfFault}
 use Rattle.cover_split.specs.Text.{pieces_by_block}
 use Rattle.cover_split.proofs.Reading.{block_pieces}
 
@@ -25,7 +25,7 @@ same_block n one two few first second same =
     decimal_injective (get_or one k 0) (get_or two k 0) (omega arith) (omega arith)
     (sym (get_or-map decimal one k 0 [] within) ∙ ap (λ (all : List (List ℕ)). get_or all k []) same ∙ get_or-map decimal two k 0 [] (omega arith)))
 
-pub same_blocks : (n : ℕ) (text : List ℕ) (one two : List (List ℕ)) → n ≤ 256 → IsTextOf n text one → IsTextOf n text two → one ≡ two
+pub same_blocks : (n : ℕ) (text : List ℕ) (one two : List (List ℕ)) → n ≤ 256 → SpellsBlocks n text one → SpellsBlocks n text two → one ≡ two
 same_blocks n text one two few first second =
     let same : map (map decimal) one ≡ map (map decimal) two = sym first.spelled ∙ second.spelled in
     let sizes : length one ≡ length two = sym (length-map one (map decimal)) ∙ ap length same ∙ length-map two (map decimal) in
@@ -35,7 +35,7 @@ same_blocks n text one two few first second =
     (sym (get_or-map (map decimal) one k [] [] within) ∙ ap (λ (all : List (List (List ℕ))). get_or all k []) same ∙ get_or-map (map decimal) two k [] [] (omega arith)))
 
 -- ---- the text of blocks has no bad piece
-no_bad : (n : ℕ) (text : List ℕ) (blocks : List (List ℕ)) (block place : ℕ) → n ≤ 256 → IsTextOf n text blocks → IsFirstBad n text block place → ⊥
+no_bad : (n : ℕ) (text : List ℕ) (blocks : List (List ℕ)) (block place : ℕ) → n ≤ 256 → SpellsBlocks n text blocks → IsFirstBad n text block place → ⊥
 no_bad n text blocks block place few is fault =
     let inside : block < length (pieces_by_block text) = slice_get_within (pieces_by_block text) block fault.pieces fault.at_block in
     let counted : length (pieces_by_block text) ≡ length blocks = ap length is.spelled ∙ length-map blocks (map decimal) in
@@ -176,7 +176,7 @@ one_fault n text one two few first second =
           ]
     ]
 
-no_fault : (n : ℕ) (text : List ℕ) (blocks : List (List ℕ)) (fail : CoverFail) → n ≤ 256 → IsTextOf n text blocks → IsCover n blocks → CoverFault n text fail → ⊥
+no_fault : (n : ℕ) (text : List ℕ) (blocks : List (List ℕ)) (fail : CoverFail) → n ≤ 256 → SpellsBlocks n text blocks → IsCover n blocks → CoverFault n text fail → ⊥
 no_fault n text blocks fail few is cover fault =
     elim (fault_kind n text fail fault) [
       | inl bad ↦ no_bad n text blocks bad.0 bad.1 few is bad.3
@@ -184,7 +184,7 @@ no_fault n text blocks fail few is cover fault =
     ]
 
 -- a fault of blocks is one of their text
-pub text_fault : (n : ℕ) (text : List ℕ) (blocks : List (List ℕ)) (fail : CoverFail) → IsTextOf n text blocks → BlocksFault n blocks fail → CoverFault n text fail
+pub text_fault : (n : ℕ) (text : List ℕ) (blocks : List (List ℕ)) (fail : CoverFail) → SpellsBlocks n text blocks → BlocksFault n blocks fail → CoverFault n text fail
 text_fault n text blocks (BadText block place) is fault = absurd fault
 text_fault n text blocks (Contained a b) is fault = (blocks, is, fault)
 text_fault n text blocks (Missing s) is fault = (blocks, is, fault)
@@ -195,9 +195,9 @@ text_fault n text blocks NoMemory is fault = absurd fault
 -- ---- what is answered
 abbrev IsAnswer : ℕ → List ℕ → Result Cover CoverFail → Type 0
 IsAnswer n text r =
-    MatchResult r (λ cover. IsTextOf n text cover.blocks × IsCover n cover.blocks) (λ fail. (fail ≡ NoMemory) ⊎ CoverFault n text fail)
+    MatchResult r (λ cover. SpellsBlocks n text cover.blocks × IsCover n cover.blocks) (λ fail. (fail ≡ NoMemory) ⊎ CoverFault n text fail)
 
-pub accepts : (n : ℕ) (text : List ℕ) (blocks : List (List ℕ)) (r : Result Cover CoverFail) → n ≤ 256 → IsAnswer n text r → IsTextOf n text blocks → IsCover n blocks
+pub accepts : (n : ℕ) (text : List ℕ) (blocks : List (List ℕ)) (r : Result Cover CoverFail) → n ≤ 256 → IsAnswer n text r → SpellsBlocks n text blocks → IsCover n blocks
     → MatchResult r (λ cover. cover.blocks ≡ blocks) (λ fail. fail ≡ NoMemory)
 accepts n text blocks (Ok cover) few answer is lawful = same_blocks n text cover.blocks blocks few answer.0 is
 accepts n text blocks (Err fail) few answer is lawful =

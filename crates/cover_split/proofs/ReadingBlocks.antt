@@ -12,7 +12,7 @@ use Rattle.std.specs.Option.{option_map}
 use Rattle.cover_split.specs.Cover.{IsBlock, places_of}
 use Rattle.cover_split.specs.Inner.Pieces.{IsBlockFault, IsBlockText, IsFirstBadPiece}
 use Rattle.partition.specs.Text.{pieces_of}
-use Rattle.cover_split.specs.Refusal.{CoverFault, IsFirstBad, IsTextOf}
+use Rattle.cover_split.specs.Refusal.{CoverFault, IsFirstBad, SpellsBlocks}
 use Rattle.cover_split.specs.declared.cover.CoverFail.{CoverFail}
 use Rattle.cover_split.specs.declared.cover.CoverFail.TheVariants.{BadText, Contained, Missing, TooMany, Trivial, NoMemory}
 use Rattle.cover_split.specs.Text.{pieces_by_block, Spells}
@@ -77,7 +77,7 @@ module _ (n : ℕ) (text : List ℕ) (blocks : List (List ℕ)) (part : List ℕ
   blocks_fault number NoMemory few is fault = inl refl
 
 -- all parts are read
-pub blocks_whole : (n : ℕ) (text : List ℕ) (blocks : List (List ℕ)) → IsReadingBlocks n text blocks → length blocks ≡ length (parts_of text) → IsTextOf n text blocks
+pub blocks_whole : (n : ℕ) (text : List ℕ) (blocks : List (List ℕ)) → IsReadingBlocks n text blocks → length blocks ≡ length (parts_of text) → SpellsBlocks n text blocks
 blocks_whole n text blocks so_far whole = record {
   lawful = so_far.lawful;
   spelled = ext_get_or [] (pieces_by_block text) (map (map decimal) blocks) (length-map (parts_of text) pieces_of ∙ sym whole ∙ sym (length-map blocks (map decimal)))

@@ -54,13 +54,13 @@ BlocksFault n blocks Trivial = AreApartAndWhole n blocks × (places_of blocks �
 BlocksFault n blocks NoMemory = ⊥
 
 -- the text has the numbers of blocks of states
-pub record IsTextOf (n : ℕ) (text : List ℕ) (blocks : List (List ℕ)) : Type 0 where
+pub record SpellsBlocks (n : ℕ) (text : List ℕ) (blocks : List (List ℕ)) : Type 0 where
   pub lawful : All (IsBlock n) blocks
   pub spelled : Spells text blocks
 
 -- the text is that of blocks which are not a cover, for this reason
 abbrev pub IsTextOfFault : ℕ → List ℕ → CoverFail → Type 0
-IsTextOfFault n text fail = (blocks : List (List ℕ)) × IsTextOf n text blocks × BlocksFault n blocks fail
+IsTextOfFault n text fail = (blocks : List (List ℕ)) × SpellsBlocks n text blocks × BlocksFault n blocks fail
 
 -- why the text is refused
 abbrev pub CoverFault : ℕ → List ℕ → CoverFail → Type 0

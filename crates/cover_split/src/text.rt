@@ -5,7 +5,7 @@ ghost use Rattle.partition.specs.Partition.{IsStateCount};
 ghost use Rattle.partition.specs.Numerals.{IsPlain};
 ghost use Rattle.cover_split.specs.declared.cover.CoverFail.{CoverFail};
 ghost use Rattle.cover_split.specs.Cover.{IsBlock, IsCover, IsTrivial, places_of};
-ghost use Rattle.cover_split.specs.Refusal.{BlocksFault, CoverFault, IsTextOf};
+ghost use Rattle.cover_split.specs.Refusal.{BlocksFault, CoverFault, SpellsBlocks};
 ghost use Rattle.cover_split.specs.Inner.Pieces.{IsBlockFault, IsBlockText};
 
 use crate::cover::{Block, Blocks, Cover, CoverFail};
@@ -19,9 +19,9 @@ const MOST_PLACES: usize = 256;
 /// commas. Faults are looked for in the order of `CoverFail`, each of them in the whole text.
 pub fn parse(alloc: Global, text: &[u8], n: usize) -> Result<Cover, CoverFail>
     requires { IsStateCount n }
-    ensures text { IfOk result (λ cover. IsTextOf n text.now cover.blocks) }
+    ensures text { IfOk result (λ cover. SpellsBlocks n text.now cover.blocks) }
     ensures cover { IfOk result (λ cover. IsCover n cover.blocks) }
-    ensures accepted { (blocks : List (List ℕ)) → IsTextOf n text.now blocks → IsCover n blocks
+    ensures accepted { (blocks : List (List ℕ)) → SpellsBlocks n text.now blocks → IsCover n blocks
         → MatchResult result (λ cover. cover.blocks ≡ blocks) (λ fail. fail ≡ CoverFail.NoMemory) }
     ensures refused { (fail : CoverFail) → result ≡ Err fail
         → (fail ≡ CoverFail.NoMemory) ⊎ CoverFault n text.now fail }
@@ -35,7 +35,7 @@ pub fn parse(alloc: Global, text: &[u8], n: usize) -> Result<Cover, CoverFail>
 fn read_cover(alloc: Global, text: &[u8], n: usize) -> Result<Cover, CoverFail>
     requires { IsStateCount n }
     ensures { MatchResult result
-        (λ cover. IsTextOf n text.now cover.blocks × IsCover n cover.blocks)
+        (λ cover. SpellsBlocks n text.now cover.blocks × IsCover n cover.blocks)
         (λ fail. (fail ≡ CoverFail.NoMemory) ⊎ CoverFault n text.now fail) }
 {
     let blocks = read_blocks(alloc, text, n)?;
@@ -105,7 +105,7 @@ fn have_one_state(blocks: &[Block]) -> bool
 fn read_blocks(alloc: Global, text: &[u8], n: usize) -> Result<Blocks, CoverFail>
     requires { IsStateCount n }
     ensures { MatchResult result
-        (λ blocks. IsTextOf n text.now blocks × (places_of blocks < 2 ^ 64))
+        (λ blocks. SpellsBlocks n text.now blocks × (places_of blocks < 2 ^ 64))
         (λ fail. (fail ≡ CoverFail.NoMemory) ⊎ CoverFault n text.now fail) }
 {
     let mut found = Blocks::new(alloc);

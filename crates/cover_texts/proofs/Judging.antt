@@ -11,13 +11,13 @@ use Rattle.cover_split.specs.declared.cover.CoverFail.{CoverFail}
 use Rattle.cover_split.specs.declared.cover.CoverFail.TheVariants as fails
 use Rattle.cover_split.specs.Cover.{IsCover}
 use Rattle.cover_split.specs.Expansion.{IsClosedCover, IsFirstLeaving}
-use Rattle.cover_split.specs.Refusal.{CoverFault, IsTextOf}
+use Rattle.cover_split.specs.Refusal.{CoverFault, SpellsBlocks}
 use Rattle.cover_texts.specs.Flaws.{BadCoverRow, IsFlaw}
-use Rattle.cover_texts.specs.Inner.Steps.{IsRead, IsRefusalOf, LeavesWith}
+use Rattle.cover_texts.specs.Inner.Steps.{IsRead, IsFailRefusal, LeavesWith}
 use Rattle.kiss_file.specs.declared.file.KissFile.{KissFile}
 
 -- ---- a text that is no cover
-stop_of_fault : (F : KissFile) (text : List ℕ) (fail : CoverFail) (refusal : Refusal) → IsRefusalOf F fail refusal → CoverFault (length F.states) text fail → IsStop (BadCoverRow F text) refusal
+stop_of_fault : (F : KissFile) (text : List ℕ) (fail : CoverFail) (refusal : Refusal) → IsFailRefusal F fail refusal → CoverFault (length F.states) text fail → IsStop (BadCoverRow F text) refusal
 stop_of_fault F text (fails.BadText block place) refusal is fault = inr (Place block place, is, fault)
 stop_of_fault F text (fails.Contained a b) refusal is fault = inr (Within a b, is, fault)
 stop_of_fault F text (fails.Missing state) refusal (name, is, named) fault = inr (Lacks name, is, record { state = state; missing = fault; named = named })
@@ -25,8 +25,8 @@ stop_of_fault F text (fails.TooMany found) refusal is fault = inr (Places found,
 stop_of_fault F text fails.Trivial refusal is fault = inr (Trivial, is, fault)
 stop_of_fault F text fails.NoMemory refusal is fault = inl is
 
-pub stop_of_fail : (F : KissFile) (text : List ℕ) (fail : CoverFail) (refusal : Refusal) → IsRefusalOf F fail refusal → (fail ≡ fails.NoMemory) ⊎ CoverFault (length F.states) text fail → IsStop (BadCoverRow F text) refusal
-stop_of_fail F text fail refusal is (inl wanting) = inl (subst (λ (f : CoverFail). IsRefusalOf F f refusal) wanting is)
+pub stop_of_fail : (F : KissFile) (text : List ℕ) (fail : CoverFail) (refusal : Refusal) → IsFailRefusal F fail refusal → (fail ≡ fails.NoMemory) ⊎ CoverFault (length F.states) text fail → IsStop (BadCoverRow F text) refusal
+stop_of_fail F text fail refusal is (inl wanting) = inl (subst (λ (f : CoverFail). IsFailRefusal F f refusal) wanting is)
 stop_of_fail F text fail refusal is (inr fault) = stop_of_fault F text fail refusal is fault
 
 -- the state that is missing is one
@@ -38,8 +38,8 @@ missing_below n text fail state (inr fault) is =
 
 -- ---- a text that is one
 module _ (n : ℕ) (text : List ℕ) (result : Result Cover CoverFail) (cover : Cover) (is : result ≡ Ok cover) where
-  pub alone_from : ((blocks : List (List ℕ)) → IsTextOf n text blocks → IsCover n blocks → MatchResult result (λ (c : Cover). c.blocks ≡ blocks) (λ fail. fail ≡ fails.NoMemory))
-      → (others : List (List ℕ)) → IsTextOf n text others → IsCover n others → cover.blocks ≡ others
+  pub alone_from : ((blocks : List (List ℕ)) → SpellsBlocks n text blocks → IsCover n blocks → MatchResult result (λ (c : Cover). c.blocks ≡ blocks) (λ fail. fail ≡ fails.NoMemory))
+      → (others : List (List ℕ)) → SpellsBlocks n text others → IsCover n others → cover.blocks ≡ others
   alone_from accepted others told lawful = subst (λ (r : Result Cover CoverFail). MatchResult r (λ (c : Cover). c.blocks ≡ others) (λ fail. fail ≡ fails.NoMemory)) is (accepted others told lawful)
 
   pub faultless_from : ((fail : CoverFail) → CoverFault n text fail → (result ≡ Err fail) ⊎ (result ≡ Err fails.NoMemory)) → (fail : CoverFail) → CoverFault n text fail → ⊥
@@ -82,11 +82,11 @@ module _ (F M : KissFile) (n : ℕ) (same : M ≡ F) (count : n ≡ length M.sta
   pub missing_here : (fail : CoverFail) (state : ℕ) → (fail ≡ fails.NoMemory) ⊎ CoverFault n text fail → fail ≡ fails.Missing state → state < length F.states
   missing_here fail state refused is = missing_below (length F.states) text fail state (fault_here fail refused) is
 
-  pub stop_here : (fail : CoverFail) (refusal : Refusal) → IsRefusalOf F fail refusal → (fail ≡ fails.NoMemory) ⊎ CoverFault n text fail → IsStop (BadCoverRow F text) refusal
+  pub stop_here : (fail : CoverFail) (refusal : Refusal) → IsFailRefusal F fail refusal → (fail ≡ fails.NoMemory) ⊎ CoverFault n text fail → IsStop (BadCoverRow F text) refusal
   stop_here fail refusal is refused = stop_of_fail F text fail refusal is (fault_here fail refused)
 
-  pub read_from : (result : Result Cover CoverFail) (cover : Cover) → result ≡ Ok cover → IsTextOf n text cover.blocks → IsCover n cover.blocks
-      → ((blocks : List (List ℕ)) → IsTextOf n text blocks → IsCover n blocks → MatchResult result (λ (c : Cover). c.blocks ≡ blocks) (λ fail. fail ≡ fails.NoMemory))
+  pub read_from : (result : Result Cover CoverFail) (cover : Cover) → result ≡ Ok cover → SpellsBlocks n text cover.blocks → IsCover n cover.blocks
+      → ((blocks : List (List ℕ)) → SpellsBlocks n text blocks → IsCover n blocks → MatchResult result (λ (c : Cover). c.blocks ≡ blocks) (λ fail. fail ≡ fails.NoMemory))
       → ((fail : CoverFail) → CoverFault n text fail → (result ≡ Err fail) ⊎ (result ≡ Err fails.NoMemory)) → IsRead (length F.states) text cover.blocks
   read_from result cover is told lawful accepted caused =
       subst (λ (k : ℕ). IsRead k text cover.blocks) counted

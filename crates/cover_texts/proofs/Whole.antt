@@ -10,8 +10,8 @@ use Rattle.blif_out.specs.NetworkText.{CanBeWritten, CanBeText}
 use Rattle.blif_out.specs.Writable.{IsWritable}
 use Rattle.cover_split.specs.Cover.{IsCover}
 use Rattle.cover_split.specs.Expansion.{pairs_of}
-use Rattle.cover_split.specs.Refusal.{IsTextOf}
-use Rattle.cover_texts.specs.Inner.Steps.{AreCodes, AreParts, IsExpanded}
+use Rattle.cover_split.specs.Refusal.{SpellsBlocks}
+use Rattle.cover_texts.specs.Inner.Steps.{AreCodesOfPairs, AreParts, IsExpanded}
 use Rattle.cover_texts.specs.Inner.Whole.{IsWhole}
 use Rattle.cover_texts.specs.Lines.{cover_comments}
 use Rattle.cover_texts.specs.Written.{FrontReadsFront, HasLatches, IsNetworkOfPairs, StartsAtFirstCopy, StepsAsPairs}
@@ -41,7 +41,7 @@ use Rattle.state_codes.specs.declared.split.Part.{Part}
 use Rattle.state_codes.specs.Agreement.{AreDistinct}
 use Rattle.state_codes.specs.Code.{IsCode}
 
-module _ (F E : KissFile) (blocks : List (List ℕ)) (parts : List Part) (codes : Codes) (lawful : IsLawful F) (cover : IsCover (length F.states) blocks) (is : IsExpanded F blocks E) (are : AreParts blocks parts) (coded : AreCodes blocks parts codes) where
+module _ (F E : KissFile) (blocks : List (List ℕ)) (parts : List Part) (codes : Codes) (lawful : IsLawful F) (cover : IsCover (length F.states) blocks) (is : IsExpanded F blocks E) (are : AreParts blocks parts) (coded : AreCodesOfPairs blocks parts codes) where
   pub counts : length E.states ≡ length (pairs_of blocks)
   counts = states_counted F E blocks is.expansion
 
@@ -123,7 +123,7 @@ module _ (F E : KissFile) (blocks : List (List ℕ)) (parts : List Part) (codes 
 
       -- ---- the network with its comments
       module _ (made : CommentedNetwork) (comments : made.comments ≡ cover_comments F.states blocks codes.bits codes.words notes) (network : made.network ≡ N) where
-        of_pairs : (text : List ℕ) → IsTextOf (length F.states) text blocks → IsNetworkOfPairs F text blocks E parts codes notes made.comments N
+        of_pairs : (text : List ℕ) → SpellsBlocks (length F.states) text blocks → IsNetworkOfPairs F text blocks E parts codes notes made.comments N
         of_pairs text told = record {
           spelled = told;
           cover = cover;

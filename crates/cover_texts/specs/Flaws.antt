@@ -8,7 +8,7 @@ use Rattle.answers.specs.Cause.{Cause}
 use Rattle.cover_split.specs.declared.cover.CoverFail.TheVariants as fails
 use Rattle.cover_split.specs.Cover.{IsCover}
 use Rattle.cover_split.specs.Expansion.{IsFirstLeaving}
-use Rattle.cover_split.specs.Refusal.{CoverFault, IsTextOf}
+use Rattle.cover_split.specs.Refusal.{CoverFault, SpellsBlocks}
 use Rattle.cubes.specs.Symbol.{digit, symbol_of}
 use Rattle.kiss_file.specs.declared.file.KissFile.{KissFile}
 
@@ -22,7 +22,7 @@ pub record LacksState (F : KissFile) (text name : List ℕ) : Type 0 where
 -- its next states. The digits are those of the least such symbol.
 pub record LeavesAt (F : KissFile) (text : List ℕ) (block : ℕ) (digits : List ℕ) : Type 0 where
   pub blocks : List (List ℕ)
-  pub spelled : IsTextOf (length F.states) text blocks
+  pub spelled : SpellsBlocks (length F.states) text blocks
   pub cover : IsCover (length F.states) blocks
   pub symbol : ℕ
   pub first : IsFirstLeaving F blocks block symbol

@@ -7,7 +7,7 @@ use Rattle.blif_out.specs.NetworkText.{IsTextWith}
 use Rattle.cover_split.specs.Cover.{IsCover}
 use Rattle.cover_split.specs.Expansion.{IsClosedCover, IsExpansion, IsFirstCopy, IsPair, IsTarget, pairs_of}
 use Rattle.cover_split.specs.Parts.{IsLongest, IsSplitByBlock}
-use Rattle.cover_split.specs.Refusal.{IsTextOf}
+use Rattle.cover_split.specs.Refusal.{SpellsBlocks}
 use Rattle.decomposition.specs.Decomposition.{HasGates}
 use Rattle.decomposition.specs.Named.{HasNames}
 use Rattle.decomposition.specs.OwnPairs.{OwnPairs, ReadsLatch}
@@ -67,7 +67,7 @@ HasNamesOf F latches N = (names : SignalNames) × AreNames F latches names × Ha
 -- word as the machine of the file does. It goes from code to code of the pairs, which are the states of the machine
 -- E of the cover's pairs. The codes are those of E's split: by the block, and by the place in the block.
 pub record IsNetworkOfPairs (F : KissFile) (text : List ℕ) (blocks : List (List ℕ)) (E : KissFile) (parts : List Part) (codes : Codes) (notes : List LatchNote) (comments : List ℕ) (N : Network) : Type 0 where
-  pub spelled : IsTextOf (length F.states) text blocks
+  pub spelled : SpellsBlocks (length F.states) text blocks
   pub cover : IsCover (length F.states) blocks
   pub closed : IsClosedCover F blocks
   pub expansion : IsExpansion F blocks E

@@ -4,7 +4,7 @@ ghost use Rattle.std.specs.Prelude.{◌≡◌, ◌<◌, ℕ, IfOk, MatchResult, 
 ghost use Rattle.answers.specs.Judged.{IsStop};
 ghost use Rattle.cover_split.specs.declared.cover.CoverFail.TheVariants as fails;
 ghost use Rattle.cover_texts.specs.Flaws.{BadCoverRow};
-ghost use Rattle.cover_texts.specs.Inner.Steps.{IsRead, IsRefusalOf};
+ghost use Rattle.cover_texts.specs.Inner.Steps.{IsRead, IsFailRefusal};
 
 use answers::{CoverFlaw, Refusal};
 use cover_split::{Cover, CoverFail, parse};
@@ -32,7 +32,7 @@ pub(crate) fn read(
 /// The refusal that says why a text is not a cover.
 fn refusal_of(alloc: Global, file: &KissFile, fail: CoverFail) -> Result<Refusal, AllocError>
     requires { (state : ℕ) → fail ≡ fails.Missing state → state < length file.now.states }
-    ensures { IfOk result (IsRefusalOf file.now fail) }
+    ensures { IfOk result (IsFailRefusal file.now fail) }
 {
     let flaw = match fail {
         CoverFail::BadText { block, place } => CoverFlaw::Place { block, place },

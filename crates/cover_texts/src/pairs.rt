@@ -4,7 +4,7 @@ ghost use Rattle.std.specs.Prelude.{◌≡◌, ◌⊎◌, ℕ, IfOk, MatchResult
 ghost use Rattle.answers.specs.declared.refusals.Refusal.TheVariants as refusals;
 ghost use Rattle.cover_split.specs.Cover.{IsCover};
 ghost use Rattle.cover_split.specs.Expansion.{pairs_of};
-ghost use Rattle.cover_texts.specs.Inner.Steps.{AreCodes, AreParts, IsExpanded, LeavesWith};
+ghost use Rattle.cover_texts.specs.Inner.Steps.{AreCodesOfPairs, AreParts, IsExpanded, LeavesWith};
 ghost use Rattle.partition.specs.Partition.{IsStateCount};
 
 use answers::{CoverFlaw, Refusal, symbol_text};
@@ -56,7 +56,7 @@ pub(crate) fn codes_of_pairs(
     requires pairs { n ≡ length (pairs_of cover.now.blocks) }
     requires cover { (m : ℕ) × IsCover m cover.now.blocks }
     requires parts { AreParts cover.now.blocks split.now.parts }
-    ensures { IfOk result (AreCodes cover.now.blocks split.now.parts) }
+    ensures { IfOk result (AreCodesOfPairs cover.now.blocks split.now.parts) }
 {
     let _ = cover.blocks.as_slice();
     match encode(alloc, split, n) {

@@ -4,7 +4,7 @@ ghost use Rattle.std.specs.Prelude.{◌≡◌, ◌≤◌, IfOk, length};
 ghost use Rattle.blif_out.specs.NetworkText.{CanBeText};
 ghost use Rattle.cover_split.specs.Cover.{IsCover};
 ghost use Rattle.cover_split.specs.Expansion as expansion;
-ghost use Rattle.cover_texts.specs.Inner.Steps.{AreCodes, AreParts, IsExpanded};
+ghost use Rattle.cover_texts.specs.Inner.Steps.{AreCodesOfPairs, AreParts, IsExpanded};
 ghost use Rattle.cover_texts.specs.Inner.Commented.{IsCommented};
 ghost use Rattle.cover_texts.specs.Inner.Whole.{IsWhole};
 ghost use Rattle.kiss_file.specs.Lawful.{IsLawful};
@@ -53,7 +53,7 @@ fn network_of_codes(
     requires cover { IsCover (length file.now.states) cover.now.blocks }
     requires expanded { IsExpanded file.now cover.now.blocks pairs.now }
     requires parts { AreParts cover.now.blocks split.now.parts }
-    requires codes { AreCodes cover.now.blocks split.now.parts codes.now }
+    requires codes { AreCodesOfPairs cover.now.blocks split.now.parts codes.now }
     ensures ready { IfOk result CanBeText }
     ensures whole { IfOk result (IsWhole file.now cover.now.blocks pairs.now) }
 {

@@ -7,7 +7,7 @@ use Rattle.std.proofs.lemmas.Option.{same_Some}
 use Rattle.kiss_file.specs.declared.file.KissRow.{KissRow}
 use Rattle.dependence.specs.declared.effects.Effect.{Effect}
 use Rattle.dependence.specs.declared.bit.Bit.{Bit}
-use Rattle.dependence.specs.Inner.Effects.{Adds, AreApart, DifferMore, Show, ShowAcross, ShowBeside}
+use Rattle.dependence.specs.Inner.Effects.{Adds, AreGivenApart, DifferMore, Show, ShowAcross, ShowBeside}
 use Rattle.dependence.specs.Said.{row_value}
 use Rattle.dependence.proofs.Adding.{adds_as, adds_none, adds_then, turned}
 
@@ -145,7 +145,7 @@ module _ (inputs : ℕ) (words : List ℕ) where
       sym (ap (λ k. get_or rows k shown.row) (sym first) ∙ shown.among.2) ∙ one_of rows shown.row shown.shown.other (omega (arith, first, shown.among.1)) ∙ ap (λ k. get_or rows k shown.shown.other) (sym second) ∙ shown.shown.among.2 in
       let itself : Show inputs words shown.row shown.row a gate = subst (λ (it : KissRow). Show inputs words it shown.row a gate) (sym same) shown.shown.show in
       not_apart (row_value words gate shown.row) itself.values) where
-        not_apart : (value : Option Bool) → AreApart value value → ⊥
+        not_apart : (value : Option Bool) → AreGivenApart value value → ⊥
         not_apart value (v, w, is_v, is_w, apart) = apart (same_Some v w (sym is_v ∙ is_w))
 
         one_of : (rows : List KissRow) (d e : KissRow) → 0 < length rows → get_or rows 0 d ≡ get_or rows 0 e

@@ -16,7 +16,7 @@ use Rattle.dependence.specs.declared.effects.Effect.{Effect}
 use Rattle.dependence.specs.declared.bit.Bit.{Bit}
 use Rattle.dependence.specs.declared.bit.Bit.TheVariants.{Latch, Output}
 use Rattle.dependence.specs.Effects.{ActsBy, acts_on}
-use Rattle.dependence.specs.Inner.Effects.{Adds, AreApart, IsActed, Show, acts_in}
+use Rattle.dependence.specs.Inner.Effects.{Adds, AreGivenApart, IsActed, Show, acts_in}
 use Rattle.dependence.specs.Said.{next_bit, row_value}
 use Rattle.dependence.proofs.Symbols.{clash_turned, one_place}
 
@@ -112,7 +112,7 @@ none_acts inputs d no_latch no_output a gate acts =
       by_gate (Output b) acts = false≢true (sym (ap (λ n. bit n b) no_output ∙ bit-zero b) ∙ acts)
 
 -- ---- what two rows show
-apart_turned : (first second : Option Bool) → AreApart first second → AreApart second first
+apart_turned : (first second : Option Bool) → AreGivenApart first second → AreGivenApart second first
 apart_turned first second (v, w, is_v, is_w, apart) = (w, v, is_w, is_v, λ same. apart (sym same))
 
 pub turned : (inputs : ℕ) (words : List ℕ) (one other : KissRow) (a : ℕ) (gate : Bit) → Show inputs words one other a gate → Show inputs words other one a gate
@@ -122,9 +122,9 @@ turned inputs words one other a gate show = record {
 }
 
 module _ (words : List ℕ) (one other : KissRow) (latches outputs : ℕ)
-    (of_latches : (i : ℕ) → (bit latches i ≡ true) ↔ AreApart (next_bit words i one) (next_bit words i other))
-    (of_outputs : (b : ℕ) → (bit outputs b ≡ true) ↔ AreApart (given_bit b one) (given_bit b other)) where
-  acts_by_values : (gate : Bit) → (acts_in latches outputs gate ≡ true) ↔ AreApart (row_value words gate one) (row_value words gate other)
+    (of_latches : (i : ℕ) → (bit latches i ≡ true) ↔ AreGivenApart (next_bit words i one) (next_bit words i other))
+    (of_outputs : (b : ℕ) → (bit outputs b ≡ true) ↔ AreGivenApart (given_bit b one) (given_bit b other)) where
+  acts_by_values : (gate : Bit) → (acts_in latches outputs gate ≡ true) ↔ AreGivenApart (row_value words gate one) (row_value words gate other)
   acts_by_values (Latch i) = of_latches i
   acts_by_values (Output b) = of_outputs b
 
@@ -153,34 +153,34 @@ differs_to true false other = refl
 differs_to false true other = refl
 differs_to false false other = absurd (other refl)
 
-some_apart : (v w : Bool) → (not (beq v w) ≡ true) ↔ AreApart (Some v) (Some w)
+some_apart : (v w : Bool) → (not (beq v w) ≡ true) ↔ AreGivenApart (Some v) (Some w)
 some_apart v w = (
   (λ is. (v, w, refl, refl, differs_from v w is)),
   (λ apart. differs_to v w (λ same. apart.4 (sym (same_Some v apart.0 apart.2) ∙ same ∙ same_Some w apart.1 apart.3))),
 )
 
-words_apart : (words : List ℕ) (i t u : ℕ) → (bit (bit_xor (get_or words t 0) (get_or words u 0)) i ≡ true) ↔ AreApart (Some (bit (get_or words t 0) i)) (Some (bit (get_or words u 0) i))
+words_apart : (words : List ℕ) (i t u : ℕ) → (bit (bit_xor (get_or words t 0) (get_or words u 0)) i ≡ true) ↔ AreGivenApart (Some (bit (get_or words t 0) i)) (Some (bit (get_or words u 0) i))
 words_apart words i t u =
     let both = some_apart (bit (get_or words t 0) i) (bit (get_or words u 0) i) in
     ((λ is. both.0 (sym (bit-xor (get_or words t 0) (get_or words u 0) i) ∙ is)), (λ apart. bit-xor (get_or words t 0) (get_or words u 0) i ∙ both.1 apart))
 
 pub latches_apart : (words : List ℕ) (one other : KissRow) (i t u : ℕ) → one.to ≡ Some t → other.to ≡ Some u
-    → (bit (bit_xor (get_or words t 0) (get_or words u 0)) i ≡ true) ↔ AreApart (next_bit words i one) (next_bit words i other)
+    → (bit (bit_xor (get_or words t 0) (get_or words u 0)) i ≡ true) ↔ AreGivenApart (next_bit words i one) (next_bit words i other)
 latches_apart words one other i t u goes leads =
     let coded = λ (s : ℕ). bit (get_or words s 0) i in
     let first : next_bit words i one ≡ Some (bit (get_or words t 0) i) = ap (λ (o : Option ℕ). option_map coded o) goes in
     let second : next_bit words i other ≡ Some (bit (get_or words u 0) i) = ap (λ (o : Option ℕ). option_map coded o) leads in
     let both = words_apart words i t u in (
-      (λ is. subst (λ (o : Option Bool). AreApart o (next_bit words i other)) (sym first) (subst (AreApart (Some (bit (get_or words t 0) i))) (sym second) (both.0 is))),
-      (λ apart. both.1 (subst (AreApart (Some (bit (get_or words t 0) i))) second (subst (λ (o : Option Bool). AreApart o (next_bit words i other)) first apart))),
+      (λ is. subst (λ (o : Option Bool). AreGivenApart o (next_bit words i other)) (sym first) (subst (AreGivenApart (Some (bit (get_or words t 0) i))) (sym second) (both.0 is))),
+      (λ apart. both.1 (subst (AreGivenApart (Some (bit (get_or words t 0) i))) second (subst (λ (o : Option Bool). AreGivenApart o (next_bit words i other)) first apart))),
     )
 
-given_apart : (a b v w : Bool) → (((a && b) && not (beq v w)) ≡ true) ↔ AreApart (if a then Some v else None) (if b then Some w else None)
+given_apart : (a b v w : Bool) → (((a && b) && not (beq v w)) ≡ true) ↔ AreGivenApart (if a then Some v else None) (if b then Some w else None)
 given_apart true true v w = some_apart v w
 given_apart true false v w = ((λ is. absurd (false≢true is)), (λ apart. let gone : None ≡ Some apart.1 = apart.3 in absurd (cc)))
 given_apart false b v w = ((λ is. absurd (false≢true is)), (λ apart. let gone : None ≡ Some apart.0 = apart.2 in absurd (cc)))
 
-pub outputs_apart : (one other : KissRow) (b : ℕ) → (bit (bit_and (bit_and one.care other.care) (bit_xor one.value other.value)) b ≡ true) ↔ AreApart (given_bit b one) (given_bit b other)
+pub outputs_apart : (one other : KissRow) (b : ℕ) → (bit (bit_and (bit_and one.care other.care) (bit_xor one.value other.value)) b ≡ true) ↔ AreGivenApart (given_bit b one) (given_bit b other)
 outputs_apart one other b =
     let digits : bit (bit_and (bit_and one.care other.care) (bit_xor one.value other.value)) b ≡ ((bit one.care b && bit other.care b) && not (beq (bit one.value b) (bit other.value b))) =
     bit-and (bit_and one.care other.care) (bit_xor one.value other.value) b

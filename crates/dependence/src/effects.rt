@@ -5,7 +5,7 @@ ghost use Rattle.cubes.specs.Symbol.{bit};
 ghost use Rattle.kiss_file.specs.Machine.{given_bit};
 ghost use Rattle.dependence.specs.Permits.{InWord};
 ghost use Rattle.dependence.specs.Effects.{ActsBy, AddsState, HasPlace, acts_on};
-ghost use Rattle.dependence.specs.Inner.Effects.{Adds, AreApart, AreEffects, DifferMore, HasBits, IsActed, Show, ShowAcross, ShowBeside};
+ghost use Rattle.dependence.specs.Inner.Effects.{Adds, AreGivenApart, AreEffects, DifferMore, HasBits, IsActed, Show, ShowAcross, ShowBeside};
 ghost use Rattle.dependence.specs.Said.{next_bit};
 
 use crate::bit::Bit;
@@ -195,7 +195,7 @@ fn add_of_two(effects: &mut [Effect], words: &[u64], one: &KissRow, other: &Kiss
 fn latches_apart(words: &[u64], one: &KissRow, other: &KissRow) -> u64
     requires next { IfSome one.now.to (λ t. t < length words.now) }
     requires other_next { IfSome other.now.to (λ t. t < length words.now) }
-    ensures { (i : ℕ) → IsTrue (bit result i) ↔ AreApart (next_bit words.now i one.now) (next_bit words.now i other.now) }
+    ensures { (i : ℕ) → IsTrue (bit result i) ↔ AreGivenApart (next_bit words.now i one.now) (next_bit words.now i other.now) }
 {
     match (one.to, other.to) {
         (Some(t), Some(u)) => words[usize::from(t)] ^ words[usize::from(u)],
@@ -205,7 +205,7 @@ fn latches_apart(words: &[u64], one: &KissRow, other: &KissRow) -> u64
 
 /// The outputs at which both rows give a bit, and the bits differ.
 fn outputs_apart(one: &KissRow, other: &KissRow) -> u64
-    ensures { (b : ℕ) → IsTrue (bit result b) ↔ AreApart (given_bit b one.now) (given_bit b other.now) }
+    ensures { (b : ℕ) → IsTrue (bit result b) ↔ AreGivenApart (given_bit b one.now) (given_bit b other.now) }
 {
     one.care & other.care & (one.value ^ other.value)
 }

@@ -2,7 +2,7 @@
 
 ghost use Rattle.std.specs.Prelude.{◌≡◌, ◌<◌, length};
 ghost use Rattle.dependence.specs.Bit.{IsBit, value_of};
-ghost use Rattle.dependence.specs.Inner.Judging.{IsJudged};
+ghost use Rattle.dependence.specs.Inner.Judging.{IsBitDecided};
 ghost use Rattle.dependence.specs.Permits.{InWord};
 ghost use Rattle.dependence.specs.ReadRule.{IsReadRule};
 
@@ -30,7 +30,7 @@ fn judged(m: &Machine, words: &[u64], set: u64, c: u32, gate: Bit) -> u64
     requires words { length words.now ≡ length m.now.states }
     requires gate { IsBit m.now gate }
     requires bit { c < 64 }
-    ensures { IsJudged m.now words.now (value_of m.now words.now gate) set c result }
+    ensures { IsBitDecided m.now words.now (value_of m.now words.now gate) set c result }
 {
     let rest = without(set, c);
     if rest != set && permits_gate(m, words, rest, gate) {

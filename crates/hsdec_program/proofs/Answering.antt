@@ -11,10 +11,10 @@ use Rattle.answers.specs.Refusal.{answer_of}
 use Rattle.hsdec_core.specs.Judgement.{all_causes}
 use Rattle.hsdec_core.specs.Operands.{IfAllTold, file_held, symbols_held}
 use Rattle.hsdec_core.specs.Stop.{IsRefusedFor, IsStopFor}
-use Rattle.hsdec_program.specs.Status.{IsAnswerBy, IsCompleteBy, IsGivenOut, IsJudged, IsPageAnswer, IsRefusedBy}
+use Rattle.hsdec_program.specs.Status.{IsAnswerBy, IsCompleteBy, IsGivenOut, IsAnswerCalledFor, IsPageAnswer, IsRefusedBy}
 
 -- ---- words that ask for no page
-pub answered_by_run : (page : Option (List ℕ)) (words : List (List ℕ)) (holds : List ℕ → Option (List ℕ)) (given : Answer) (out out' : Option (List ℕ)) (Stays : Type 0) → page ≡ None → IsJudged words holds given → IsGivenOut words holds given out out' Stays → IsAnswerBy page words holds given out out' Stays
+pub answered_by_run : (page : Option (List ℕ)) (words : List (List ℕ)) (holds : List ℕ → Option (List ℕ)) (given : Answer) (out out' : Option (List ℕ)) (Stays : Type 0) → page ≡ None → IsAnswerCalledFor words holds given → IsGivenOut words holds given out out' Stays → IsAnswerBy page words holds given out out' Stays
 answered_by_run None words holds given out out' Stays none judged put = (judged, put)
 answered_by_run (Some page) words holds given out out' Stays none judged put = absurd (cc)
 

@@ -19,7 +19,7 @@ use Rattle.job_words.specs.Job.{JobOf}
 
 -- ---- words that do not ask for a page
 -- the words are judged, and what they and the texts of the shelf call for is answered
-pub record IsJudged (words : List (List ℕ)) (holds : List ℕ → Option (List ℕ)) (given : Answer) : Type 0 where
+pub record IsAnswerCalledFor (words : List (List ℕ)) (holds : List ℕ → Option (List ℕ)) (given : Answer) : Type 0 where
   pub usage : IsErr (JobOf words) → (given ≡ Usage) ⊎ (given ≡ NoMemory)
   pub comes : IfTold words holds (λ job bytes. Comes given (first_cause job bytes))
   pub all_come : IfAllTold words holds (λ job bytes symbols. Comes given (all_causes job bytes symbols))
@@ -55,7 +55,7 @@ IsPageRefusal PutFaulted refusal = ((refusal ≡ refusals.Unwritable) × PutFaul
 -- the answer, by the page that the words ask for, if they ask for one
 abbrev pub IsAnswerBy : Option (List ℕ) → List (List ℕ) → (List ℕ → Option (List ℕ)) → Answer → Option (List ℕ) → Option (List ℕ) → Type 0 → Type 0
 IsAnswerBy (Some page) words holds given out out' Stays = IsPageAnswer page given out out'
-IsAnswerBy None words holds given out out' Stays = IsJudged words holds given × IsGivenOut words holds given out out' Stays
+IsAnswerBy None words holds given out out' Stays = IsAnswerCalledFor words holds given × IsGivenOut words holds given out out' Stays
 
 -- the answer to words, with what out was given before and after; in every case memory may run out
 abbrev pub IsAnswerTo : List (List ℕ) → (List ℕ → Option (List ℕ)) → Answer → Option (List ℕ) → Option (List ℕ) → Type 0 → Type 0

@@ -21,7 +21,7 @@ use Rattle.state_codes.specs.Split.{given_parts, others, own_part}
 use Rattle.least_codes.specs.Inner.Parts.{AreBitLabels, bit_labels}
 use Rattle.kiss_file.specs.declared.file.KissFile.{KissFile}
 use Rattle.least_codes.specs.Kind.{GiveLeastCode, IsLeastSplit}
-use Rattle.least_codes.specs.LeastCode.{AreCodes, IsLeastCode}
+use Rattle.least_codes.specs.LeastCode.{AreCodeWords, IsLeastCode}
 use Rattle.state_codes.specs.Laws.OwnCarriers.{inside_itself, zeros, zeros_need}
 
 -- the label of a state is its bit
@@ -134,7 +134,7 @@ given_at count j zero k (first ∷ partitions) p at is =
 given_at count j (suc i) k (first ∷ partitions) p at is = given_at count (suc j) i k partitions p at (omega (arith, is))
 
 -- partitions of the bits of codes in which each bit is 1 for some state, and state 0 has zeros
-module _ (n bits : ℕ) (words : List ℕ) (partitions : List (List ℕ)) (count : IsStateCount n) (codes : AreCodes n bits words) (are : AreBitLabels bits words partitions) (first : get_or words 0 0 ≡ 0)
+module _ (n bits : ℕ) (words : List ℕ) (partitions : List (List ℕ)) (count : IsStateCount n) (codes : AreCodeWords n bits words) (are : AreBitLabels bits words partitions) (first : get_or words 0 0 ≡ 0)
     (some : (i : ℕ) → i < bits → (s : ℕ) × (s < n) × (bit_at (get_or words s 0) i ≡ 1)) where
   read : (i : ℕ) → i < bits → get_or partitions i [] ≡ bit_labels i words
   read i below = get_or_from_slice_get partitions i (bit_labels i words) [] (are.each i below)

@@ -16,8 +16,8 @@ use Rattle.least_codes.specs.Cost.{IsCost, IsLatchCost}
 use Rattle.least_codes.specs.Inner.Apart.{IsPair, TellsApart}
 use Rattle.least_codes.specs.Inner.Choice.{IsLeastChoice}
 use Rattle.least_codes.specs.Inner.Costs.{AreCosts}
-use Rattle.least_codes.specs.Inner.Table.{AreApartIn, IsInside, IsSplitBy, IsTable}
-use Rattle.least_codes.specs.LeastCode.{AreCodes}
+use Rattle.least_codes.specs.Inner.Table.{AreApartIn, IsInside, IsSplitBy, IsImageTable}
+use Rattle.least_codes.specs.LeastCode.{AreCodeWords}
 use Rattle.least_codes.proofs.LeastSets.{fewest_from_choice}
 use Rattle.least_codes.proofs.Rows.{apart_from_table}
 
@@ -69,7 +69,7 @@ apart_pairs n table words i apart inside are k d within =
     subst (IsPair n) split.of (All-contains (IsInside n) table split.row inside split.listed).pair
 
 -- all bits tell all states apart
-pub codes_tell : (bits : ℕ) (words : List ℕ) (apart : List TwoStates) (candidates : ℕ) → AreCodes (length words) bits words → All (IsPair (length words)) apart → ((c : ℕ) → InWord candidates c ↔ (c < bits)) → TellsApart words apart (InWord candidates)
+pub codes_tell : (bits : ℕ) (words : List ℕ) (apart : List TwoStates) (candidates : ℕ) → AreCodeWords (length words) bits words → All (IsPair (length words)) apart → ((c : ℕ) → InWord candidates c ↔ (c < bits)) → TellsApart words apart (InWord candidates)
 codes_tell bits words apart candidates codes pairs same k d within agree =
     let pair : TwoStates = get_or apart k d in
     let lawful = pairs k d within in
@@ -79,7 +79,7 @@ codes_tell bits words apart candidates codes pairs same k d within agree =
     omega (arith, at, lawful.0)
 
 -- what the least choice says of a latch
-pub latch_from_choice : (F : KissFile) (q : Question) (bits i : ℕ) (table : List Images) (choice : Choice) → IsTable F table → AreApartIn table q.words.now i q.apart.now → ((c : ℕ) → InWord q.candidates c ↔ (c < bits)) → IsLeastChoice q choice
+pub latch_from_choice : (F : KissFile) (q : Question) (bits i : ℕ) (table : List Images) (choice : Choice) → IsImageTable F table → AreApartIn table q.words.now i q.apart.now → ((c : ℕ) → InWord q.candidates c ↔ (c < bits)) → IsLeastChoice q choice
     → IsLatchCost F q.words.now bits i choice.size
 latch_from_choice F q bits i table choice of apart same least = record {
   reads = least.reads;

@@ -14,7 +14,7 @@ use Rattle.least_codes.specs.Cost.{IsCost, IsLatchCost}
 use Rattle.least_codes.specs.Inner.Costs.{AreCosts}
 use Rattle.least_codes.specs.Inner.Parts.{AreBitLabels, bit_labels}
 use Rattle.least_codes.specs.Laws.{LeastCodeExists, LeastCodeHasZeros, LeastSplitExists}
-use Rattle.least_codes.specs.LeastCode.{AreCodes, IsLeastCode, TextsBefore}
+use Rattle.least_codes.specs.LeastCode.{AreCodeWords, IsLeastCode, TextsBefore}
 use Rattle.least_codes.specs.LeastReads.{AreLeastReads}
 use Rattle.least_codes.proofs.BitParts.{give_least_code, least_split, parts_here}
 use Rattle.least_codes.specs.Laws.Chosen.{texts_apart}
@@ -41,7 +41,7 @@ distinct_decided words s t =
       ]
     ]
 
-codes_decided : (n bits : ℕ) (words : List ℕ) → Decided (AreCodes n bits words)
+codes_decided : (n bits : ℕ) (words : List ℕ) → Decided (AreCodeWords n bits words)
 codes_decided n bits words =
     elim (cases_eq (length words) n) [
       | inr other ↦ inr (λ codes. other codes.count)
@@ -55,7 +55,7 @@ codes_decided n bits words =
     ]
 
 module _ (F : KissFile) (bits : ℕ) where
-  costs_exist : (words : List ℕ) → AreCodes (length F.states) bits words → (i : ℕ) → (cost : ℕ) × AreCosts F words bits i cost
+  costs_exist : (words : List ℕ) → AreCodeWords (length F.states) bits words → (i : ℕ) → (cost : ℕ) × AreCosts F words bits i cost
   costs_exist words codes zero = (0, costs_none F words bits)
   costs_exist words codes (suc i) =
       let before : (cost : ℕ) × AreCosts F words bits i cost = costs_exist words codes i in
@@ -63,7 +63,7 @@ module _ (F : KissFile) (bits : ℕ) where
       let here : IsLatchCost F words bits i (length least.0) = record { reads = least.0; fewest = least.1.fewest; size = refl } in
       (before.0 + length least.0, subst (λ (k : ℕ). AreCosts F words bits k (before.0 + length least.0)) (omega arith) (costs_more F words bits i before.0 (length least.0) before.1 here))
 
-  cost_exists : (words : List ℕ) → AreCodes (length F.states) bits words → (cost : ℕ) × IsCost F words bits cost
+  cost_exists : (words : List ℕ) → AreCodeWords (length F.states) bits words → (cost : ℕ) × IsCost F words bits cost
   cost_exists words codes =
       let all : (cost : ℕ) × AreCosts F words bits bits cost = costs_exist words codes bits in
       (all.0, costs_all F words bits bits all.0 refl all.1)
@@ -71,36 +71,36 @@ module _ (F : KissFile) (bits : ℕ) where
   -- of some lists, the codes that cost least and have the first texts
   record BestOf (pool : List (List ℕ)) : Type 0 where
     words : List ℕ
-    codes : AreCodes (length F.states) bits words
+    codes : AreCodeWords (length F.states) bits words
     cost : ℕ
     costs : IsCost F words bits cost
-    least : (others : List ℕ) (other : ℕ) → In pool others → AreCodes (length F.states) bits others → IsCost F others bits other → cost ≤ other
-    first : (others : List ℕ) → In pool others → AreCodes (length F.states) bits others → IsCost F others bits cost → (others ≡ words) ⊎ TextsBefore words others
+    least : (others : List ℕ) (other : ℕ) → In pool others → AreCodeWords (length F.states) bits others → IsCost F others bits other → cost ≤ other
+    first : (others : List ℕ) → In pool others → AreCodeWords (length F.states) bits others → IsCost F others bits cost → (others ≡ words) ⊎ TextsBefore words others
 
   abbrev NoneOf : List (List ℕ) → Type 0
-  NoneOf pool = (others : List ℕ) → In pool others → AreCodes (length F.states) bits others → ⊥
+  NoneOf pool = (others : List ℕ) → In pool others → AreCodeWords (length F.states) bits others → ⊥
 
   -- the best of the rest stays so
   stays : (here : List ℕ) (rest : List (List ℕ)) → (best : BestOf rest)
-      → ((cost : ℕ) → AreCodes (length F.states) bits here → IsCost F here bits cost → (best.cost ≤ cost) × (cost ≡ best.cost → (here ≡ best.words) ⊎ TextsBefore best.words here)) → BestOf (here ∷ rest)
+      → ((cost : ℕ) → AreCodeWords (length F.states) bits here → IsCost F here bits cost → (best.cost ≤ cost) × (cost ≡ best.cost → (here ≡ best.words) ⊎ TextsBefore best.words here)) → BestOf (here ∷ rest)
   stays here rest best no_better = record {
     words = best.words;
     codes = best.codes;
     cost = best.cost;
     costs = best.costs;
     least = λ others other is codes cost. elim is [
-      | inl at ↦ (no_better other (subst (AreCodes (length F.states) bits) (sym at) codes) (subst (λ (list : List ℕ). IsCost F list bits other) (sym at) cost)).0
+      | inl at ↦ (no_better other (subst (AreCodeWords (length F.states) bits) (sym at) codes) (subst (λ (list : List ℕ). IsCost F list bits other) (sym at) cost)).0
       | inr later ↦ best.least others other later codes cost
     ];
     first = λ others is codes cost. elim is [
-      | inl at ↦ subst (λ (list : List ℕ). (list ≡ best.words) ⊎ TextsBefore best.words list) at ((no_better best.cost (subst (AreCodes (length F.states) bits) (sym at) codes) (subst (λ (list : List ℕ). IsCost F list bits best.cost) (sym at) cost)).1 refl)
+      | inl at ↦ subst (λ (list : List ℕ). (list ≡ best.words) ⊎ TextsBefore best.words list) at ((no_better best.cost (subst (AreCodeWords (length F.states) bits) (sym at) codes) (subst (λ (list : List ℕ). IsCost F list bits best.cost) (sym at) cost)).1 refl)
       | inr later ↦ best.first others later codes cost
     ];
   }
 
   -- or codes ahead of the rest are better
-  takes : (here : List ℕ) (rest : List (List ℕ)) (codes : AreCodes (length F.states) bits here) (cost : ℕ) → IsCost F here bits cost
-      → ((others : List ℕ) (other : ℕ) → In rest others → AreCodes (length F.states) bits others → IsCost F others bits other → (cost ≤ other) × (other ≡ cost → (others ≡ here) ⊎ TextsBefore here others)) → BestOf (here ∷ rest)
+  takes : (here : List ℕ) (rest : List (List ℕ)) (codes : AreCodeWords (length F.states) bits here) (cost : ℕ) → IsCost F here bits cost
+      → ((others : List ℕ) (other : ℕ) → In rest others → AreCodeWords (length F.states) bits others → IsCost F others bits other → (cost ≤ other) × (other ≡ cost → (others ≡ here) ⊎ TextsBefore here others)) → BestOf (here ∷ rest)
   takes here rest codes cost costs better = record {
     words = here;
     codes = codes;
@@ -117,7 +117,7 @@ module _ (F : KissFile) (bits : ℕ) where
   }
 
   -- the better of codes and the best of the rest
-  better_of : (here : List ℕ) (rest : List (List ℕ)) → AreCodes (length F.states) bits here → BestOf rest → BestOf (here ∷ rest)
+  better_of : (here : List ℕ) (rest : List (List ℕ)) → AreCodeWords (length F.states) bits here → BestOf rest → BestOf (here ∷ rest)
   better_of here rest codes best =
       let cost : (cost : ℕ) × IsCost F here bits cost = cost_exists here codes in
       elim (cases_order cost.0 best.cost) [
@@ -158,7 +158,7 @@ module _ (F : KissFile) (bits : ℕ) where
         ]
         | inr not ↦ elim (best_of rest) [
           | inl best ↦ inl (stays here rest best (λ cost codes costs. absurd (not codes)))
-          | inr none ↦ inr (λ others is codes. elim is [ inl at ↦ not (subst (AreCodes (length F.states) bits) (sym at) codes) | inr later ↦ none others later codes ])
+          | inr none ↦ inr (λ others is codes. elim is [ inl at ↦ not (subst (AreCodeWords (length F.states) bits) (sym at) codes) | inr later ↦ none others later codes ])
         ]
       ]
 
@@ -181,10 +181,10 @@ least_code_exists F =
     pool : List (List ℕ)
     pool = all_lists (2 ^ need (length F.states)) (length F.states)
 
-    among : (others : List ℕ) → AreCodes (length F.states) (need (length F.states)) others → In (all_lists (2 ^ need (length F.states)) (length F.states)) others
+    among : (others : List ℕ) → AreCodeWords (length F.states) (need (length F.states)) others → In (all_lists (2 ^ need (length F.states)) (length F.states)) others
     among others codes = in_all (2 ^ need (length F.states)) (length F.states) others codes.count codes.short
 
-    numbers : AreCodes (length F.states) (need (length F.states)) (range_with_len 0 (length F.states))
+    numbers : AreCodeWords (length F.states) (need (length F.states)) (range_with_len 0 (length F.states))
     numbers = numbers_are_codes (length F.states) (need (length F.states)) (need-enough (length F.states))
 
 -- codes that begin with another word are turned over to ones that begin with zeros
@@ -204,7 +204,7 @@ least_code_has_zeros F words stays some least =
     zeros : get_or (turned (get_or words 0 0) words) 0 0 ≡ 0
     zeros = turned_at (length F.states) words least.codes.count (get_or words 0 0) 0 some ∙ xor_itself (get_or words 0 0)
 
-    codes : AreCodes (length F.states) (need (length F.states)) (turned (get_or words 0 0) words)
+    codes : AreCodeWords (length F.states) (need (length F.states)) (turned (get_or words 0 0) words)
     codes = turned_codes (length F.states) words least.codes.count (get_or words 0 0) (need (length F.states)) (least.codes.short 0 some) least.codes
 
 -- the labels by each of the first bits

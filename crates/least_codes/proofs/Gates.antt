@@ -23,7 +23,7 @@ use Rattle.dependence.specs.Reads.{IsReadSet}
 use Rattle.dependence.specs.Laws.Judged.{permits_more}
 use Rattle.least_codes.specs.Kind.{IsLeastSplit}
 use Rattle.least_codes.specs.Laws.{LeastCodeReadsLeast}
-use Rattle.least_codes.specs.LeastCode.{AreCodes}
+use Rattle.least_codes.specs.LeastCode.{AreCodeWords}
 use Rattle.least_codes.specs.LeastReads.{AreLeastReads}
 use Rattle.state_codes.specs.Laws.OwnCarriers.{no_inner}
 use Rattle.least_codes.proofs.Reading.{other_among}
@@ -96,7 +96,7 @@ module _ (n : ℕ) (parts : List Part) (codes : Codes) (code : IsCode n parts co
         ]
 
 -- the rule, for as many bits as are needed
-rule_of_bits : (F : KissFile) (words : List ℕ) (value : ℕ → List Bool → Bool) (reads : List ℕ) (bits : ℕ) → need (length F.states) ≡ bits → 3 ≤ length F.states → length F.states ≤ 8 → AreCodes (length F.states) (need (length F.states)) words
+rule_of_bits : (F : KissFile) (words : List ℕ) (value : ℕ → List Bool → Bool) (reads : List ℕ) (bits : ℕ) → need (length F.states) ≡ bits → 3 ≤ length F.states → length F.states ≤ 8 → AreCodeWords (length F.states) (need (length F.states)) words
     → IsStrictlyIncreasing reads → IsReadRule F words (λ c. c < bits) (Contains reads) value → AreLeastReads F words (λ c. c < bits) value reads
 rule_of_bits F words value reads bits needed some most codes ascending rule =
     subst (λ (k : ℕ). AreLeastReads F words (λ c. c < k) value reads) needed
@@ -120,8 +120,8 @@ least_code_reads_least F parts codes reads some most split give code by_rule = r
   needed : need (length F.states) ≡ codes.bits
   needed = sym (ap (λ (one : Codes). one.bits) same ∙ give.size)
 
-  are : AreCodes (length F.states) (need (length F.states)) codes.words
-  are = subst (λ (one : Codes). AreCodes (length F.states) (need (length F.states)) one.words) (sym same) give.least.codes
+  are : AreCodeWords (length F.states) (need (length F.states)) codes.words
+  are = subst (λ (one : Codes). AreCodeWords (length F.states) (need (length F.states)) one.words) (sym same) give.least.codes
 
   least_by : (value : ℕ → List Bool → Bool) (list : List ℕ) → IsStrictlyIncreasing list → IsReadRule F codes.words (IsBitOfCode codes) (Contains list) value → AreLeastReads F codes.words (IsBitOfCode codes) value list
   least_by value list ascending rule = rule_of_bits F codes.words value list codes.bits needed some most are ascending rule

@@ -11,7 +11,7 @@ use Rattle.std.specs.List.{list_any}
 use Rattle.cubes.specs.Laws.Numbers.{pow-suc}
 use Rattle.state_codes.specs.Code.{need}
 use Rattle.state_codes.specs.Laws.Need.{need-least}
-use Rattle.least_codes.specs.LeastCode.{AreCodes}
+use Rattle.least_codes.specs.LeastCode.{AreCodeWords}
 use Rattle.least_codes.proofs.Turning.{turned, turned_at, turned_codes}
 
 -- some state has the bit, or none has it
@@ -59,11 +59,11 @@ few_below xs n apart below =
     defaults i d within = get_or_default xs i 0 d within
 
 -- codes that all have a 0 at one bit, and those with a 1 there in its place, are twice as many
-module _ (n bits : ℕ) (words : List ℕ) (i : ℕ) (codes : AreCodes n bits words) (within : i < bits) (none : (s : ℕ) → s < n → bit_at (get_or words s 0) i ≡ 0) where
+module _ (n bits : ℕ) (words : List ℕ) (i : ℕ) (codes : AreCodeWords n bits words) (within : i < bits) (none : (s : ℕ) → s < n → bit_at (get_or words s 0) i ≡ 0) where
   flipped : List ℕ
   flipped = turned (2 ^ i) words
 
-  flipped_codes : AreCodes n bits flipped
+  flipped_codes : AreCodeWords n bits flipped
   unfolding flipped
   flipped_codes = turned_codes n words codes.count (2 ^ i) bits (pow_below i bits within) codes
 
@@ -108,7 +108,7 @@ module _ (n bits : ℕ) (words : List ℕ) (i : ℕ) (codes : AreCodes n bits wo
     ]
 
 -- so with as few bits as they need, some state has the bit
-pub some_one : (n : ℕ) (words : List ℕ) (i : ℕ) → AreCodes n (need n) words → i < need n → (s : ℕ) × (s < n) × (bit_at (get_or words s 0) i ≡ 1)
+pub some_one : (n : ℕ) (words : List ℕ) (i : ℕ) → AreCodeWords n (need n) words → i < need n → (s : ℕ) × (s < n) × (bit_at (get_or words s 0) i ≡ 1)
 some_one n words i codes within =
     elim (some_or_none words i n) [
       | inl found ↦ found

@@ -12,8 +12,8 @@ use Rattle.machine_table.specs.Staying.{NeverLeaves}
 use Rattle.state_codes.specs.Code.{need}
 use Rattle.state_codes.specs.Laws.Need.{first_enough, need-enough}
 use Rattle.least_codes.specs.declared.code.Best.{Best}
-use Rattle.least_codes.specs.Inner.Lists.{AreBefore, AreSeen, IsBest, IsDraft, IsKept}
-use Rattle.least_codes.specs.LeastCode.{AreCodes, IsLeastCode, TextsBefore}
+use Rattle.least_codes.specs.Inner.Lists.{AreBefore, AreSeen, IsBest, IsDraft, IsBestSeen}
+use Rattle.least_codes.specs.LeastCode.{AreCodeWords, IsLeastCode, TextsBefore}
 use Rattle.least_codes.proofs.Turning.{before_nonzero, cost_alike, turned, turned_alike, turned_at, turned_codes, xor_itself}
 
 -- two bits for 3 and 4 states
@@ -25,7 +25,7 @@ pub need_of_eight : (n : ℕ) → 4 < n → n ≤ 8 → 3 ≡ need n
 need_of_eight n some few = first_enough n 3 (omega (arith, few)) (λ fewer below. omega (arith, some, pow_mono {i = fewer} {j = 2} (omega (arith, below))))
 
 -- the numbers of the states, as codes
-pub numbers_are_codes : (n bits : ℕ) → n ≤ 2 ^ bits → AreCodes n bits (range_with_len 0 n)
+pub numbers_are_codes : (n bits : ℕ) → n ≤ 2 ^ bits → AreCodeWords n bits (range_with_len 0 n)
 numbers_are_codes n bits enough = record {
   count = length-range_with_len 0 n;
   short = λ s within. omega (arith, get_or-range_with_len 0 n s 0 within, within, enough);
@@ -61,7 +61,7 @@ module _ (words : List ℕ) (zeros : (s : ℕ) → get_or words s 0 ≡ 0) where
 
   module _ (F : KissFile) (some : 0 < length F.states) where
     -- there are codes
-    pub some_kept : IsKept F (need (length F.states)) (AreSeen words 1 0) None → ⊥
+    pub some_kept : IsBestSeen F (need (length F.states)) (AreSeen words 1 0) None → ⊥
     some_kept kept =
         let n : ℕ = length F.states in
         kept (range_with_len 0 n) (numbers_are_codes n (need n) (need-enough n)) (seen_zero (range_with_len 0 n) (get_or-range_with_len 0 n 0 0 some ∙ omega arith))

@@ -7,9 +7,9 @@ use Rattle.kiss_file.specs.declared.file.KissFile.{KissFile}
 use Rattle.dependence.specs.Permits.{InWord}
 use Rattle.least_codes.specs.declared.choice.Choice.{Choice}
 use Rattle.least_codes.specs.declared.choice.Question.{Question}
-use Rattle.least_codes.specs.Inner.Apart.{AreApart, TellsApart}
+use Rattle.least_codes.specs.Inner.Apart.{AreToldApart, TellsApart}
 use Rattle.least_codes.specs.Inner.Choice.{And, AreChosen, HasNone, IsFirstChoice, IsLeastChoice, Tell}
-use Rattle.least_codes.specs.LeastReads.{AreEnough, AreFewest, AreLeastReads, IsLeastReadSet}
+use Rattle.least_codes.specs.LeastReads.{AreEnoughBits, AreFewest, AreLeastReads, IsLeastReadSet}
 use Rattle.least_codes.proofs.Ascending.{Listing, ascend_increasing, increasing_ascend, listing}
 use Rattle.least_codes.proofs.Telling.{permits_from_tells, tells_from_permits, tells_more}
 
@@ -43,24 +43,24 @@ module _ (q : Question) where
       none (length all.list) (omega (arith, all.few)) all.list (record { size = refl; ascend = all.ascend; each = all.each })
       (tells_more q.words.now q.apart.now (InWord q.candidates) (And 0 all.list) (λ c is. inr (all.all c is (omega arith))) tells)
 
-module _ (F : KissFile) (value : ℕ → List Bool → Bool) (q : Question) (are : AreApart F value q.apart.now) where
+module _ (F : KissFile) (value : ℕ → List Bool → Bool) (q : Question) (are : AreToldApart F value q.apart.now) where
   -- a choice that tells the states apart is enough
   pub enough_from_chosen : (Candidate : ℕ → Type 0) → ((c : ℕ) → InWord q.candidates c → Candidate c) → (size : ℕ) (reads : List ℕ) → AreChosen q.candidates 0 size reads → TellsApart q.words.now q.apart.now (Contains reads)
-      → AreEnough F q.words.now Candidate value reads
+      → AreEnoughBits F q.words.now Candidate value reads
   enough_from_chosen Candidate of size reads chosen tells = record {
     ascending = ascend_increasing 0 reads chosen.ascend;
     candidates = All-from_get_or Candidate reads 0 (λ k within. of (get_or reads k 0) (chosen.each (get_or reads k 0) (Contains-get_or reads k 0 within)));
     permit = permits_from_tells F q.words.now value q.apart.now are (Contains reads) tells;
   }
 
-  pub chosen_from_enough : (Candidate : ℕ → Type 0) → ((c : ℕ) → Candidate c → InWord q.candidates c) → (reads : List ℕ) → AreEnough F q.words.now Candidate value reads → AreChosen q.candidates 0 (length reads) reads
+  pub chosen_from_enough : (Candidate : ℕ → Type 0) → ((c : ℕ) → Candidate c → InWord q.candidates c) → (reads : List ℕ) → AreEnoughBits F q.words.now Candidate value reads → AreChosen q.candidates 0 (length reads) reads
   chosen_from_enough Candidate of reads enough = record {
     size = refl;
     ascend = increasing_ascend 0 reads enough.ascending (λ some. omega arith);
     each = λ c is. of c (All-contains Candidate reads c enough.candidates is);
   }
 
-  pub tells_from_enough : (Candidate : ℕ → Type 0) (reads : List ℕ) → AreEnough F q.words.now Candidate value reads → TellsApart q.words.now q.apart.now (Contains reads)
+  pub tells_from_enough : (Candidate : ℕ → Type 0) (reads : List ℕ) → AreEnoughBits F q.words.now Candidate value reads → TellsApart q.words.now q.apart.now (Contains reads)
   tells_from_enough Candidate reads enough = tells_from_permits F q.words.now value q.apart.now are (Contains reads) enough.permit
 
   module _ (Candidate : ℕ → Type 0) (same : (c : ℕ) → InWord q.candidates c ↔ Candidate c) where
@@ -78,7 +78,7 @@ module _ (F : KissFile) (value : ℕ → List Bool → Bool) (q : Question) (are
           least.first others (record { size = omega (arith, size, least.of.size); ascend = chosen.ascend; each = chosen.each }) (tells_from_enough Candidate others enough);
     }
 
-pub set_from_choice : (F : KissFile) (value : ℕ → List Bool → Bool) (q : Question) (choice : Choice) → AreApart F value q.apart.now → IsLeastChoice q choice → IsLeastReadSet F q.words.now (InWord q.candidates) value choice.set
+pub set_from_choice : (F : KissFile) (value : ℕ → List Bool → Bool) (q : Question) (choice : Choice) → AreToldApart F value q.apart.now → IsLeastChoice q choice → IsLeastReadSet F q.words.now (InWord q.candidates) value choice.set
 set_from_choice F value q choice are least = record {
   reads = least.reads;
   bits = least.bits;

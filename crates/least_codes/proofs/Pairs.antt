@@ -6,7 +6,7 @@ use Rattle.std.proofs.lemmas.List.Elements.{All-nil, All-push, All-weaker, Conta
 use Rattle.kiss_file.specs.declared.file.KissFile.{KissFile}
 use Rattle.dependence.specs.Bit.{GiveTheSame}
 use Rattle.least_codes.specs.declared.two_states.TwoStates.{TwoStates}
-use Rattle.least_codes.specs.Inner.Apart.{AreApart, AreApartOf, ArePairs, ArePairsUpTo, Differ, IsPair}
+use Rattle.least_codes.specs.Inner.Apart.{AreToldApart, AreApartOf, ArePairs, ArePairsUpTo, Differ, IsPair}
 
 pub pairs_begun : (pairs : List TwoStates) (t : ℕ) → ArePairs pairs t → ArePairsUpTo pairs t 0
 pairs_begun pairs t are = record {
@@ -71,7 +71,7 @@ module _ (F : KissFile) (value : ℕ → List Bool → Bool) where
       ];
     }
 
-  pub apart_all : (pairs apart : List TwoStates) (i : ℕ) → length pairs ≤ i → ArePairs pairs (length F.states) → AreApartOf F value (take i pairs) apart → AreApart F value apart
+  pub apart_all : (pairs apart : List TwoStates) (i : ℕ) → length pairs ≤ i → ArePairs pairs (length F.states) → AreApartOf F value (take i pairs) apart → AreToldApart F value apart
   apart_all pairs apart i all are before = record {
     lawful = before.lawful;
     differ = before.differ;

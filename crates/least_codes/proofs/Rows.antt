@@ -15,8 +15,8 @@ use Rattle.dependence.specs.Bit.{GiveTheSame}
 use Rattle.dependence.specs.Laws.Agreeing.{same_each}
 use Rattle.least_codes.specs.declared.two_states.TwoStates.{TwoStates}
 use Rattle.least_codes.specs.declared.table.Images.{Images}
-use Rattle.least_codes.specs.Inner.Apart.{AreApart, ArePairs, IsPair}
-use Rattle.least_codes.specs.Inner.Table.{AreApartIn, HasRow, IsRow, IsSplitBy, IsTable, IsTableOf, KeepsBit}
+use Rattle.least_codes.specs.Inner.Apart.{AreToldApart, ArePairs, IsPair}
+use Rattle.least_codes.specs.Inner.Table.{AreApartIn, HasRow, IsRow, IsSplitBy, IsImageTable, IsTableOf, KeepsBit}
 
 -- numbers below 2 are equal where the tests for 1 are
 pub same_from_tests : (x y : ℕ) → x < 2 → y < 2 → (x == 1) ≡ (y == 1) → x ≡ y
@@ -48,7 +48,7 @@ table_more F pairs table i d row within before of is = record {
   ];
 }
 
-pub table_all : (F : KissFile) (pairs : List TwoStates) (table : List Images) (i : ℕ) → length pairs ≤ i → ArePairs pairs (length F.states) → IsTableOf F (take i pairs) table → IsTable F table
+pub table_all : (F : KissFile) (pairs : List TwoStates) (table : List Images) (i : ℕ) → length pairs ≤ i → ArePairs pairs (length F.states) → IsTableOf F (take i pairs) table → IsImageTable F table
 table_all F pairs table i all are before = record {
   rows = before.rows;
   each = λ s t below in_t. before.each (record { s = s; t = t }) (subst (λ (list : List TwoStates). Contains list (record { s = s; t = t })) (sym (take_all i pairs all)) (are.each s t below in_t));
@@ -113,7 +113,7 @@ module _ (words : List ℕ) (i : ℕ) where
     }
 
 -- the states that the table has apart are those whose next values differ
-module _ (F : KissFile) (words : List ℕ) (i : ℕ) (table : List Images) (of : IsTable F table) where
+module _ (F : KissFile) (words : List ℕ) (i : ℕ) (table : List Images) (of : IsImageTable F table) where
   keeps_from_same : (row : Images) → Contains table row → GiveTheSame F (next_value F words i) row.pair.s row.pair.t → KeepsBit words i row
   keeps_from_same row listed same k d within =
       let is_row : IsRow F row = All-contains (IsRow F) table row of.rows listed in
@@ -128,7 +128,7 @@ module _ (F : KissFile) (words : List ℕ) (i : ℕ) (table : List Images) (of :
       let v : ℕ = next F row.pair.t (symbol_of F.inputs x) in
       All-contains (λ (image : ℕ × ℕ). HaveOneBit words i image.0 image.1) row.images.items (u, v) keeps ((is_row.images u v).1 (x, below, refl, refl)))
 
-  pub apart_from_table : (apart : List TwoStates) → AreApartIn table words i apart → AreApart F (next_value F words i) apart
+  pub apart_from_table : (apart : List TwoStates) → AreApartIn table words i apart → AreToldApart F (next_value F words i) apart
   apart_from_table apart are = record {
     lawful = λ k d within. let split : IsSplitBy table words i (get_or apart k d) = are.split k d within in subst (IsPair (length F.states)) split.of (All-contains (IsRow F) table split.row of.rows split.listed).inside.pair;
     differ = λ k d within same. let split : IsSplitBy table words i (get_or apart k d) = are.split k d within in split.differ (keeps_from_same split.row split.listed (subst (λ (pair : TwoStates). GiveTheSame F (next_value F words i) pair.s pair.t) (sym split.of) same));

@@ -13,8 +13,8 @@ use Rattle.dependence.specs.Laws.Judged.{permits_more}
 use Rattle.dependence.specs.Laws.Irredundant.{rule_least}
 use Rattle.least_codes.specs.Inner.Choice.{Ascend}
 use Rattle.least_codes.specs.Laws.{RuleGivesLeast, RuleGivesLeastSet}
-use Rattle.least_codes.specs.LeastCode.{AreCodes}
-use Rattle.least_codes.specs.LeastReads.{AreEnough, AreLeastReads}
+use Rattle.least_codes.specs.LeastCode.{AreCodeWords}
+use Rattle.least_codes.specs.LeastReads.{AreEnoughBits, AreLeastReads}
 use Rattle.least_codes.proofs.Ascending.{contains_head, increasing_ascend}
 use Rattle.least_codes.specs.Laws.Chosen.{least_list_is_one}
 use Rattle.least_codes.proofs.Greedy.{AreBelow, IsOdd, NeverHas, fewest, first}
@@ -22,7 +22,7 @@ use Rattle.least_codes.proofs.Least.{need_of_eight, need_of_four}
 use Rattle.least_codes.proofs.Reading.{all_bits_permit}
 use Rattle.least_codes.proofs.Sharing.{same_at_all}
 
-module _ (F : KissFile) (words : List ℕ) (value : ℕ → List Bool → Bool) (reads : List ℕ) (some : 3 ≤ length F.states) (most : length F.states ≤ 8) (codes : AreCodes (length F.states) (need (length F.states)) words)
+module _ (F : KissFile) (words : List ℕ) (value : ℕ → List Bool → Bool) (reads : List ℕ) (some : 3 ≤ length F.states) (most : length F.states ≤ 8) (codes : AreCodeWords (length F.states) (need (length F.states)) words)
     (ascending : IsStrictlyIncreasing reads) (rule : IsReadRule F words (λ c. c < need (length F.states)) (Contains reads) value) where
   abbrev Candidate : ℕ → Type 0
   Candidate c = c < need (length F.states)
@@ -33,7 +33,7 @@ module _ (F : KissFile) (words : List ℕ) (value : ℕ → List Bool → Bool) 
   up : (list : List ℕ) → IsStrictlyIncreasing list → Ascend 0 list
   up list increasing = increasing_ascend 0 list increasing (λ any. omega arith)
 
-  enough : AreEnough F words Candidate value reads
+  enough : AreEnoughBits F words Candidate value reads
   enough = record {
     ascending = ascending;
     candidates = All-from_get_or Candidate reads 0 (λ k within. rule.candidates (get_or reads k 0) (Contains-get_or reads k 0 within));
@@ -43,17 +43,17 @@ module _ (F : KissFile) (words : List ℕ) (value : ℕ → List Bool → Bool) 
     least = rule_least F words Candidate (Contains reads) value (among_or_not reads) rule (need (length F.states)) (λ c is. is) (all_bits_permit F words (need (length F.states)) value codes)
 
   -- no others that permit the value are among the bits below a read one and the read ones above it
-  never : (others : List ℕ) → AreEnough F words Candidate value others → NeverHas (need (length F.states)) reads others
+  never : (others : List ℕ) → AreEnoughBits F words Candidate value others → NeverHas (need (length F.states)) reads others
   never others permit c is covered = rule.needed c is (permits_more F words (Contains others) (Beside Candidate (Contains reads) c) value covered permit.permit)
 
-  below : (others : List ℕ) → AreEnough F words Candidate value others → AreBelow (need (length F.states)) others
+  below : (others : List ℕ) → AreEnoughBits F words Candidate value others → AreBelow (need (length F.states)) others
   below others permit c is = All-contains Candidate others c permit.candidates is
 
-  never_odd : (others : List ℕ) → AreEnough F words Candidate value others → IsOdd reads others → ⊥
+  never_odd : (others : List ℕ) → AreEnoughBits F words Candidate value others → IsOdd reads others → ⊥
   never_odd others permit odd =
       elim (cases_lt 4 (length F.states)) [
         | inl many ↦ rule.needed 0 (subst (λ (list : List ℕ). Contains list 0) (sym odd.two) (contains_head 0 (1 ∷ [])))
-            (same_at_all F words value many (subst (λ (k : ℕ). AreCodes (length F.states) k words) (sym (need_of_eight (length F.states) many most)) codes)
+            (same_at_all F words value many (subst (λ (k : ℕ). AreCodeWords (length F.states) k words) (sym (need_of_eight (length F.states) many most)) codes)
             (subst (λ (list : List ℕ). PermitsValue F words (Contains list) value) odd.two enough.permit)
             (subst (λ (list : List ℕ). PermitsValue F words (Contains list) value) odd.one permit.permit)
             (Beside Candidate (Contains reads) 0))
@@ -76,20 +76,20 @@ rule_gives_least F words value reads some most codes ascending rule = record {
   small : need (length F.states) ≤ 3
   small = three F words value reads some most codes ascending rule
 
-  own : AreEnough F words (λ c. c < need (length F.states)) value reads
+  own : AreEnoughBits F words (λ c. c < need (length F.states)) value reads
   own = enough F words value reads some most codes ascending rule
 
-  up_here : (others : List ℕ) → AreEnough F words (λ c. c < need (length F.states)) value others → Ascend 0 others
+  up_here : (others : List ℕ) → AreEnoughBits F words (λ c. c < need (length F.states)) value others → Ascend 0 others
   up_here others permit = up F words value reads some most codes ascending rule others permit.ascending
 
-  below_here : (others : List ℕ) → AreEnough F words (λ c. c < need (length F.states)) value others → AreBelow (need (length F.states)) others
+  below_here : (others : List ℕ) → AreEnoughBits F words (λ c. c < need (length F.states)) value others → AreBelow (need (length F.states)) others
   below_here others permit = below F words value reads some most codes ascending rule others permit
 
-  never_here : (others : List ℕ) → AreEnough F words (λ c. c < need (length F.states)) value others → NeverHas (need (length F.states)) reads others
+  never_here : (others : List ℕ) → AreEnoughBits F words (λ c. c < need (length F.states)) value others → NeverHas (need (length F.states)) reads others
   never_here others permit = never F words value reads some most codes ascending rule others permit
 
 -- least reads ask nothing of candidates but which they are
-enough_of : (F : KissFile) (words : List ℕ) (Candidate Other : ℕ → Type 0) (value : ℕ → List Bool → Bool) (reads : List ℕ) → ((c : ℕ) → Candidate c → Other c) → AreEnough F words Candidate value reads → AreEnough F words Other value reads
+enough_of : (F : KissFile) (words : List ℕ) (Candidate Other : ℕ → Type 0) (value : ℕ → List Bool → Bool) (reads : List ℕ) → ((c : ℕ) → Candidate c → Other c) → AreEnoughBits F words Candidate value reads → AreEnoughBits F words Other value reads
 enough_of F words Candidate Other value reads to permit = record {
   ascending = permit.ascending;
   candidates = All-from_get_or Other reads 0 (λ k within. to (get_or reads k 0) (All-contains Candidate reads (get_or reads k 0) permit.candidates (Contains-get_or reads k 0 within)));

@@ -6,7 +6,7 @@ use Rattle.kiss_file.specs.declared.file.KissFile.{KissFile}
 use Rattle.dependence.specs.Permits.{PermitsValue}
 use Rattle.dependence.specs.Laws.Judged.{permits_more}
 use Rattle.least_codes.specs.Inner.Choice.{Ascend}
-use Rattle.least_codes.specs.LeastReads.{AreEnough, AreLeastReads, ListBefore}
+use Rattle.least_codes.specs.LeastReads.{AreEnoughBits, AreLeastReads, ListBefore}
 use Rattle.least_codes.proofs.Ascending.{ascend_increasing, ascend_lower, contains_cases, contains_head, contains_later, increasing_ascend}
 use Rattle.least_codes.proofs.Deciding.{Decided, permits_decided}
 
@@ -206,7 +206,7 @@ module _ (Candidate : ℕ → Type 0) (decided : (c : ℕ) → Decided (Candidat
     least : Fewest (λ list. PermitsValue F words (Contains list) value)
     least = fewest_found (λ list. PermitsValue F words (Contains list) value) (permits_decided F words value) (λ list all. permits_more F words Candidate (Contains list) value all permits)
 
-    some_of : (others : List ℕ) → AreEnough F words Candidate value others → AreSome 0 (length others) others
+    some_of : (others : List ℕ) → AreEnoughBits F words Candidate value others → AreSome 0 (length others) others
     some_of others enough = record {
       size = refl;
       ascend = increasing_ascend 0 others enough.ascending (λ any. omega arith);

@@ -9,7 +9,7 @@ use Rattle.std.specs.List.{range_with_len}
 use Rattle.kiss_file.specs.declared.file.KissFile.{KissFile}
 use Rattle.state_codes.specs.Agreement.{CodesAgreeAt}
 use Rattle.dependence.specs.Permits.{PermitsValue}
-use Rattle.least_codes.specs.LeastCode.{AreCodes}
+use Rattle.least_codes.specs.LeastCode.{AreCodeWords}
 use Rattle.least_codes.proofs.Greedy.{of_one, of_two}
 use Rattle.least_codes.proofs.Halves.{few_below}
 
@@ -83,7 +83,7 @@ some_share f k values more small =
 front : List ℕ → ℕ → ℕ
 front words s = bit_at (get_or words s 0) 0 + 2 * bit_at (get_or words s 0) 1
 
-module _ (F : KissFile) (words : List ℕ) (value : ℕ → List Bool → Bool) (many : 4 < length F.states) (codes : AreCodes (length F.states) 3 words) where
+module _ (F : KissFile) (words : List ℕ) (value : ℕ → List Bool → Bool) (many : 4 < length F.states) (codes : AreCodeWords (length F.states) 3 words) where
   small : (s : ℕ) → s < 5 → front words s < 4
   unfolding front
   small s below = omega (arith, bit_at-lt (get_or words s 0) 0, bit_at-lt (get_or words s 0) 1)

@@ -5,13 +5,13 @@ use Rattle.std.proofs.lemmas.List.Elements.{All-contains}
 use Rattle.kiss_file.specs.declared.file.KissFile.{KissFile}
 use Rattle.dependence.specs.Permits.{AgreeOn, PermitsValue}
 use Rattle.least_codes.specs.declared.two_states.TwoStates.{TwoStates}
-use Rattle.least_codes.specs.Inner.Apart.{AreApart, TellsApart}
+use Rattle.least_codes.specs.Inner.Apart.{AreToldApart, TellsApart}
 
 -- a greater set tells apart what a smaller one does
 pub tells_more : (words : List ℕ) (apart : List TwoStates) (R S : ℕ → Type 0) → ((c : ℕ) → R c → S c) → TellsApart words apart R → TellsApart words apart S
 tells_more words apart R S more tells k d within agree = tells k d within (λ c is. agree c (more c is))
 
-module _ (F : KissFile) (words : List ℕ) (value : ℕ → List Bool → Bool) (apart : List TwoStates) (are : AreApart F value apart) (R : ℕ → Type 0) where
+module _ (F : KissFile) (words : List ℕ) (value : ℕ → List Bool → Bool) (apart : List TwoStates) (are : AreToldApart F value apart) (R : ℕ → Type 0) where
   -- states that agree on the set give the same, the lower one first
   ordered : TellsApart words apart R → (s t : ℕ) → s < t → t < length F.states → AgreeOn words R s t → (x : List Bool) → length x ≡ F.inputs → value s x ≡ value t x
   ordered tells s t before in_t agree x size =

@@ -4,7 +4,7 @@ use Rattle.std.proofs.lemmas.Bool.{cases_eq, cases_order}
 use Rattle.std.proofs.lemmas.List.{ext_get_or}
 use Rattle.std.proofs.lemmas.Nat.Bits.{bit_at-lt, same_from_bits_below}
 use Rattle.std.specs.Int.{bit_at}
-use Rattle.least_codes.specs.LeastCode.{AreCodes, TextsBefore}
+use Rattle.least_codes.specs.LeastCode.{AreCodeWords, TextsBefore}
 
 -- the first number at which two functions differ
 record Unlike (f g : ℕ → ℕ) (k : ℕ) : Type 0 where
@@ -27,7 +27,7 @@ unlike_or_same f g (suc k) =
       ]
     ]
 
-pub texts_total : (n bits : ℕ) (one other : List ℕ) → AreCodes n bits one → AreCodes n bits other → (one ≡ other) ⊎ (TextsBefore one other ⊎ TextsBefore other one)
+pub texts_total : (n bits : ℕ) (one other : List ℕ) → AreCodeWords n bits one → AreCodeWords n bits other → (one ≡ other) ⊎ (TextsBefore one other ⊎ TextsBefore other one)
 texts_total n bits one other codes codes_other =
     elim (unlike_or_same (λ s. get_or one s 0) (λ s. get_or other s 0) n) [
       | inr same ↦ inl (ext_get_or 0 one other (codes.count ∙ sym codes_other.count) (λ s within. same s (omega (arith, within, codes.count))))

@@ -9,12 +9,12 @@ use Rattle.std.proofs.lemmas.Nat.{and_mask}
 use Rattle.kiss_file.specs.declared.file.KissFile.{KissFile}
 use Rattle.least_codes.specs.declared.code.Best.{Best}
 use Rattle.least_codes.specs.Cost.{IsCost}
-use Rattle.least_codes.specs.Inner.Lists.{AreBefore, AreSeen, BeginSame, IsDraft, IsKept, IsLessThan, IsUsed, Stays, Takes}
-use Rattle.least_codes.specs.LeastCode.{AreCodes, TextsBefore}
+use Rattle.least_codes.specs.Inner.Lists.{AreBefore, AreSeen, BeginSame, IsDraft, IsBestSeen, IsLessThan, IsUsed, Stays, Takes}
+use Rattle.least_codes.specs.LeastCode.{AreCodeWords, TextsBefore}
 use Rattle.least_codes.proofs.Costs.{cost_once}
 
 -- what was seen may be told in another way
-pub kept_same : (F : KissFile) (bits : ℕ) (Seen Other : List ℕ → Type 0) → ((others : List ℕ) → AreCodes (length F.states) bits others → Seen others ↔ Other others) → (best : Option Best) → IsKept F bits Seen best → IsKept F bits Other best
+pub kept_same : (F : KissFile) (bits : ℕ) (Seen Other : List ℕ → Type 0) → ((others : List ℕ) → AreCodeWords (length F.states) bits others → Seen others ↔ Other others) → (best : Option Best) → IsBestSeen F bits Seen best → IsBestSeen F bits Other best
 kept_same F bits Seen Other same None kept = λ others codes seen. kept others codes ((same others codes).1 seen)
 kept_same F bits Seen Other same (Some best) kept = record {
   codes = kept.codes;
@@ -210,7 +210,7 @@ module _ (n bits : ℕ) (words : List ℕ) (s : ℕ) (within : s < n) (size : le
           | inr above ↦ absurd (omega (arith, draft.begun order.bit above, subst (λ (u : ℕ). bit_at (get_or words u 0) order.bit ≡ 1) at order.one))
         ]
 
-  pub same_next : (others : List ℕ) → AreCodes n bits others → BeginSame words s bits others ↔ BeginSame words (s + 1) 0 others
+  pub same_next : (others : List ℕ) → AreCodeWords n bits others → BeginSame words s bits others ↔ BeginSame words (s + 1) 0 others
   same_next others codes = (
     (λ same. record {
       states = λ u below. elim (cases_eq u s) [
@@ -226,7 +226,7 @@ module _ (n bits : ℕ) (words : List ℕ) (s : ℕ) (within : s < n) (size : le
   )
 
   -- no codes begin with one that is used
-  pub none_used : IsUsed words s → (others : List ℕ) → AreCodes n bits others → BeginSame words s bits others → ⊥
+  pub none_used : IsUsed words s → (others : List ℕ) → AreCodeWords n bits others → BeginSame words s bits others → ⊥
   none_used used others codes same =
       let whole : BeginSame words (s + 1) 0 others = (same_next others codes).0 same in
       let at : used.0 ≡ s = codes.distinct used.0 s (omega (arith, used.1, within)) within (whole.states used.0 (omega (arith, used.1)) ∙ used.2 ∙ sym (whole.states s (omega arith))) in
@@ -234,19 +234,19 @@ module _ (n bits : ℕ) (words : List ℕ) (s : ℕ) (within : s < n) (size : le
 
 -- codes of which all states are there
 module _ (F : KissFile) (bits : ℕ) (words : List ℕ) (size : length F.states ≡ length words) (draft : IsDraft bits words (length words) 0) where
-  pub whole : AreCodes (length words) bits words
+  pub whole : AreCodeWords (length words) bits words
   whole = record { count = refl; short = draft.short; distinct = draft.distinct }
 
-  whole_here : AreCodes (length F.states) bits words
-  whole_here = subst (λ (n : ℕ). AreCodes n bits words) (sym size) whole
+  whole_here : AreCodeWords (length F.states) bits words
+  whole_here = subst (λ (n : ℕ). AreCodeWords n bits words) (sym size) whole
 
-  same_whole : (others : List ℕ) → AreCodes (length F.states) bits others → BeginSame words (length words) 0 others → others ≡ words
+  same_whole : (others : List ℕ) → AreCodeWords (length F.states) bits others → BeginSame words (length words) 0 others → others ≡ words
   same_whole others codes same = ext_get_or 0 others words (codes.count ∙ size) (λ u within. same.states u (omega (arith, within, codes.count, size)))
 
-  pub judged_kept : (cost : ℕ) (old new : Option Best) → IsCost F words bits cost → Takes words cost old new ⊎ Stays cost old new → IsKept F bits (AreBefore words (length words) 0) old → IsKept F bits (AreSeen words (length words) 0) new
+  pub judged_kept : (cost : ℕ) (old new : Option Best) → IsCost F words bits cost → Takes words cost old new ⊎ Stays cost old new → IsBestSeen F bits (AreBefore words (length words) 0) old → IsBestSeen F bits (AreSeen words (length words) 0) new
   judged_kept cost old new costs (inl takes) kept =
-      subst (IsKept F bits (AreSeen words (length words) 0)) (sym takes.is) (record {
-        codes = subst (AreCodes (length F.states) bits) (sym takes.words_are) whole_here;
+      subst (IsBestSeen F bits (AreSeen words (length words) 0)) (sym takes.is) (record {
+        codes = subst (AreCodeWords (length F.states) bits) (sym takes.words_are) whole_here;
         seen = inr (record { states = λ u below. ap (λ (list : List ℕ). get_or list u 0) takes.words_are; bits = λ c below. absurd (omega (arith, below)) });
         cost = subst (λ (list : List ℕ). IsCost F list bits takes.best.cost) (sym takes.words_are) (subst (IsCost F words bits) (sym takes.cost_is) costs);
         least = λ others other codes seen of_others. elim seen [
@@ -259,12 +259,12 @@ module _ (F : KissFile) (bits : ℕ) (words : List ℕ) (size : length F.states 
         ];
       })
     where
-      dearer : (old : Option Best) → IsLessThan cost old → IsKept F bits (AreBefore words (length words) 0) old → (others : List ℕ) (other : ℕ) → AreCodes (length F.states) bits others → AreBefore words (length words) 0 others → IsCost F others bits other → cost < other
+      dearer : (old : Option Best) → IsLessThan cost old → IsBestSeen F bits (AreBefore words (length words) 0) old → (others : List ℕ) (other : ℕ) → AreCodeWords (length F.states) bits others → AreBefore words (length words) 0 others → IsCost F others bits other → cost < other
       dearer None less kept others other codes before of_others = absurd (kept others codes before)
       dearer (Some best) less kept others other codes before of_others = omega (arith, less, kept.least others other codes before of_others)
   judged_kept cost None new costs (inr stays) kept = absurd (stays.not_less tt)
   judged_kept cost (Some best) new costs (inr stays) kept =
-      subst (IsKept F bits (AreSeen words (length words) 0)) (sym stays.same) (record {
+      subst (IsBestSeen F bits (AreSeen words (length words) 0)) (sym stays.same) (record {
         codes = kept.codes;
         seen = inl kept.seen;
         cost = kept.cost;
@@ -288,17 +288,17 @@ module _ (F : KissFile) (bits : ℕ) (words : List ℕ) (size : length F.states 
   in_states : s < length F.states
   in_states = omega (arith, within, size)
 
-  pub used_kept : IsUsed words s → (best : Option Best) → IsKept F bits (AreBefore words s bits) best → IsKept F bits (AreSeen words s bits) best
+  pub used_kept : IsUsed words s → (best : Option Best) → IsBestSeen F bits (AreBefore words s bits) best → IsBestSeen F bits (AreSeen words s bits) best
   used_kept used best =
       kept_same F bits (AreBefore words s bits) (AreSeen words s bits) (λ others codes. (
         (λ before. inl before),
         (λ seen. elim seen [ inl before ↦ before | inr same ↦ absurd (none_used (length F.states) bits words s in_states (sym size) draft used others codes same) ]),
       )) best
 
-  pub kept_next : (best : Option Best) → IsKept F bits (AreBefore words s bits) best → IsKept F bits (AreBefore words (s + 1) 0) best
+  pub kept_next : (best : Option Best) → IsBestSeen F bits (AreBefore words s bits) best → IsBestSeen F bits (AreBefore words (s + 1) 0) best
   kept_next best = kept_same F bits (AreBefore words s bits) (AreBefore words (s + 1) 0) (λ others codes. before_next (length F.states) bits words s in_states (sym size) draft others) best
 
-  pub kept_back : (best : Option Best) → IsKept F bits (AreSeen words (s + 1) 0) best → IsKept F bits (AreSeen words s bits) best
+  pub kept_back : (best : Option Best) → IsBestSeen F bits (AreSeen words (s + 1) 0) best → IsBestSeen F bits (AreSeen words s bits) best
   kept_back best =
       kept_same F bits (AreSeen words (s + 1) 0) (AreSeen words s bits) (λ others codes. (
         (λ seen. elim seen [
@@ -348,7 +348,7 @@ draft_zero bits words s i below draft = record {
   later = draft.later;
 }
 
-pub kept_zero : (F : KissFile) (bits : ℕ) (words : List ℕ) (s i : ℕ) → IsDraft bits words s i → (best : Option Best) → IsKept F bits (AreBefore words s i) best → IsKept F bits (AreBefore words s (i + 1)) best
+pub kept_zero : (F : KissFile) (bits : ℕ) (words : List ℕ) (s i : ℕ) → IsDraft bits words s i → (best : Option Best) → IsBestSeen F bits (AreBefore words s i) best → IsBestSeen F bits (AreBefore words s (i + 1)) best
 kept_zero F bits words s i draft best = kept_same F bits (AreBefore words s i) (AreBefore words s (i + 1)) (λ others codes. before_zero words s i (draft.begun i (omega arith)) others) best
 
 -- the words with bit i of state s
@@ -387,12 +387,12 @@ module _ (words : List ℕ) (s i : ℕ) (within : s < length words) (small : i <
   }
 
   module _ (F : KissFile) (bits : ℕ) (draft : IsDraft bits words s i) (best : Option Best) where
-    pub kept_one : IsKept F bits (AreSeen words s (i + 1)) best → IsKept F bits (AreBefore (with_one words s i) s (i + 1)) best
+    pub kept_one : IsBestSeen F bits (AreSeen words s (i + 1)) best → IsBestSeen F bits (AreBefore (with_one words s i) s (i + 1)) best
     kept_one =
         kept_same F bits (AreSeen words s (i + 1)) (AreBefore (with_one words s i) s (i + 1)) (λ others codes. seen_wider words s i (draft.begun i (omega arith)) (with_one words s i) one_there (λ c below. bits_kept c (omega (arith, below)))
         (λ u below. words_kept u (omega (arith, below))) others) best
 
-    pub kept_both : IsKept F bits (AreSeen (with_one words s i) s (i + 1)) best → IsKept F bits (AreSeen words s i) best
+    pub kept_both : IsBestSeen F bits (AreSeen (with_one words s i) s (i + 1)) best → IsBestSeen F bits (AreSeen words s i) best
     kept_both =
         kept_same F bits (AreSeen (with_one words s i) s (i + 1)) (AreSeen words s i) (λ others codes. seen_both words s i (draft.begun i (omega arith)) (with_one words s i) one_there (λ c below. bits_kept c (omega (arith, below)))
         (λ u below. words_kept u (omega (arith, below))) others) best
@@ -422,11 +422,11 @@ module _ (F : KissFile) (bits : ℕ) (words : List ℕ) (size : length F.states 
         let one : bit_at (get_or words s 0) order.bit ≡ 1 = subst (λ (u : ℕ). bit_at (get_or words u 0) order.bit ≡ 1) at order.one in
         omega (arith, one, past words refl order.bit)
 
-  pub whole_before : (best : Option Best) → IsKept F bits (AreBefore words s i) best → IsKept F bits (AreBefore words (length words) 0) best
+  pub whole_before : (best : Option Best) → IsBestSeen F bits (AreBefore words s i) best → IsBestSeen F bits (AreBefore words (length words) 0) best
   whole_before best kept =
-      subst (λ (k : ℕ). IsKept F bits (AreBefore words k 0) best) all (kept_same F bits (AreBefore words s i) (AreBefore words s 0) (λ others codes. before_whole others) best kept)
+      subst (λ (k : ℕ). IsBestSeen F bits (AreBefore words k 0) best) all (kept_same F bits (AreBefore words s i) (AreBefore words s 0) (λ others codes. before_whole others) best kept)
 
-  pub whole_seen : (best : Option Best) → IsKept F bits (AreSeen words (length words) 0) best → IsKept F bits (AreSeen words s i) best
+  pub whole_seen : (best : Option Best) → IsBestSeen F bits (AreSeen words (length words) 0) best → IsBestSeen F bits (AreSeen words s i) best
   whole_seen best kept =
       kept_same F bits (AreSeen words s 0) (AreSeen words s i) (λ others codes. (
         (λ seen. elim seen [
@@ -437,4 +437,4 @@ module _ (F : KissFile) (bits : ℕ) (words : List ℕ) (size : length F.states 
           | inl before ↦ inl ((before_whole others).0 before)
           | inr same ↦ inr (record { states = same.states; bits = λ c below. absurd (omega (arith, below)) })
         ]),
-      )) best (subst (λ (k : ℕ). IsKept F bits (AreSeen words k 0) best) (sym all) kept)
+      )) best (subst (λ (k : ℕ). IsBestSeen F bits (AreSeen words k 0) best) (sym all) kept)

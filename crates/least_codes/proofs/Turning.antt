@@ -12,8 +12,8 @@ use Rattle.machine_table.specs.Staying.{NeverLeaves}
 use Rattle.state_codes.specs.Agreement.{CodesAgreeAt}
 use Rattle.dependence.specs.Permits.{PermitsValue, next_value}
 use Rattle.least_codes.specs.Cost.{IsCost, IsLatchCost}
-use Rattle.least_codes.specs.LeastCode.{AreCodes, TextsBefore}
-use Rattle.least_codes.specs.LeastReads.{AreEnough}
+use Rattle.least_codes.specs.LeastCode.{AreCodeWords, TextsBefore}
+use Rattle.least_codes.specs.LeastReads.{AreEnoughBits}
 use Rattle.least_codes.proofs.Rows.{same_from_tests}
 
 -- any two states agree in the same bits
@@ -25,7 +25,7 @@ turned_round : (n : ℕ) (words others : List ℕ) → AgreeAlike n words others
 turned_round n words others alike = record { to = alike.from; from = alike.to }
 
 module _ (F : KissFile) (stays : NeverLeaves F) where
-  enough_alike : (words others : List ℕ) → AgreeAlike (length F.states) words others → (Candidate : ℕ → Type 0) (i : ℕ) (reads : List ℕ) → AreEnough F words Candidate (next_value F words i) reads → AreEnough F others Candidate (next_value F others i) reads
+  enough_alike : (words others : List ℕ) → AgreeAlike (length F.states) words others → (Candidate : ℕ → Type 0) (i : ℕ) (reads : List ℕ) → AreEnoughBits F words Candidate (next_value F words i) reads → AreEnoughBits F others Candidate (next_value F others i) reads
   enough_alike words others alike Candidate i reads enough = record {
     ascending = enough.ascending;
     candidates = enough.candidates;
@@ -78,7 +78,7 @@ module _ (n : ℕ) (words : List ℕ) (size : length words ≡ n) (mask : ℕ) w
         (sym (turned_bit s c in_s) ∙ agree ∙ turned_bit t c in_t);
   }
 
-  pub turned_codes : (bits : ℕ) → mask < 2 ^ bits → AreCodes n bits words → AreCodes n bits (turned mask words)
+  pub turned_codes : (bits : ℕ) → mask < 2 ^ bits → AreCodeWords n bits words → AreCodeWords n bits (turned mask words)
   unfolding turned
   turned_codes bits small codes = record {
     count = counted;

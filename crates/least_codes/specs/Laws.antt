@@ -14,7 +14,7 @@ use Rattle.dependence.specs.ReadRule.{IsReadRule}
 use Rattle.dependence.specs.Reads.{AreReads}
 use Rattle.least_codes.specs.Gates.{EachReadsLeast}
 use Rattle.least_codes.specs.Kind.{GiveLeastCode, IsLeastSplit}
-use Rattle.least_codes.specs.LeastCode.{AreCodes, IsLeastCode}
+use Rattle.least_codes.specs.LeastCode.{AreCodeWords, IsLeastCode}
 use Rattle.least_codes.specs.LeastReads.{AreBitsOf, AreLeastReads, IsLeastReadSet}
 
 -- a machine has at most one least code
@@ -68,7 +68,7 @@ PartsTellAll =
 -- all bits of codes that are different for different states permit any value
 abbrev pub AllBitsPermit : Type 0
 AllBitsPermit =
-    (F : KissFile) (words : List ℕ) (bits : ℕ) (value : ℕ → List Bool → Bool) → AreCodes (length F.states) bits words
+    (F : KissFile) (words : List ℕ) (bits : ℕ) (value : ℕ → List Bool → Bool) → AreCodeWords (length F.states) bits words
     → PermitsValue F words (λ c. c < bits) value
 
 -- Suppose that 3 to 8 states have different codes of as few bits as they need. Then the rule of reads gives the
@@ -77,7 +77,7 @@ AllBitsPermit =
 abbrev pub RuleGivesLeast : Type 0
 RuleGivesLeast =
     (F : KissFile) (words : List ℕ) (value : ℕ → List Bool → Bool) (reads : List ℕ) → 3 ≤ length F.states → length F.states ≤ 8
-    → AreCodes (length F.states) (need (length F.states)) words → IsStrictlyIncreasing reads
+    → AreCodeWords (length F.states) (need (length F.states)) words → IsStrictlyIncreasing reads
     → IsReadRule F words (λ c. c < need (length F.states)) (Contains reads) value
     → AreLeastReads F words (λ c. c < need (length F.states)) value reads
 
@@ -85,7 +85,7 @@ RuleGivesLeast =
 abbrev pub RuleGivesLeastSet : Type 0
 RuleGivesLeastSet =
     (F : KissFile) (words : List ℕ) (value : ℕ → List Bool → Bool) (reads : List ℕ) (candidates set : ℕ) → 3 ≤ length F.states → length F.states ≤ 8
-    → AreCodes (length F.states) (need (length F.states)) words → IsStrictlyIncreasing reads
+    → AreCodeWords (length F.states) (need (length F.states)) words → IsStrictlyIncreasing reads
     → IsReadRule F words (λ c. c < need (length F.states)) (Contains reads) value
     → ((c : ℕ) → InWord candidates c ↔ (c < need (length F.states))) → IsLeastReadSet F words (InWord candidates) value set
     → AreBitsOf set reads

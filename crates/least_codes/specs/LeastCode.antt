@@ -7,7 +7,7 @@ use Rattle.state_codes.specs.Code.{need}
 use Rattle.least_codes.specs.Cost.{IsCost}
 
 -- codes of n states of the given number of bits, different for different states
-pub record AreCodes (n bits : ℕ) (words : List ℕ) : Type 0 where
+pub record AreCodeWords (n bits : ℕ) (words : List ℕ) : Type 0 where
   pub count : length words ≡ n
   pub short : (s : ℕ) → s < n → slice_index words s < 2 ^ bits
   pub distinct : AreDistinct n words
@@ -25,8 +25,8 @@ pub record TextsBefore (words others : List ℕ) : Type 0 where
 -- no codes of as few bits as the states need cost less, and of those that cost the same these have the first
 -- texts
 pub record IsLeastCode (F : KissFile) (words : List ℕ) : Type 0 where
-  pub codes : AreCodes (length F.states) (need (length F.states)) words
+  pub codes : AreCodeWords (length F.states) (need (length F.states)) words
   pub cost : ℕ
   pub costs : IsCost F words (need (length F.states)) cost
-  pub least : (others : List ℕ) (other : ℕ) → AreCodes (length F.states) (need (length F.states)) others → IsCost F others (need (length F.states)) other → cost ≤ other
-  pub first : (others : List ℕ) → AreCodes (length F.states) (need (length F.states)) others → IsCost F others (need (length F.states)) cost → (others ≡ words) ⊎ TextsBefore words others
+  pub least : (others : List ℕ) (other : ℕ) → AreCodeWords (length F.states) (need (length F.states)) others → IsCost F others (need (length F.states)) other → cost ≤ other
+  pub first : (others : List ℕ) → AreCodeWords (length F.states) (need (length F.states)) others → IsCost F others (need (length F.states)) cost → (others ≡ words) ⊎ TextsBefore words others

@@ -12,20 +12,20 @@ ListBefore (a ∷ list) [] = ⊥
 ListBefore (a ∷ list) (b ∷ other) = (a < b) ⊎ ((a ≡ b) × ListBefore list other)
 
 -- candidates, ascending, that permit the value
-pub record AreEnough (F : KissFile) (words : List ℕ) (Candidate : ℕ → Type 0) (value : ℕ → List Bool → Bool) (reads : List ℕ) : Type 0 where
+pub record AreEnoughBits (F : KissFile) (words : List ℕ) (Candidate : ℕ → Type 0) (value : ℕ → List Bool → Bool) (reads : List ℕ) : Type 0 where
   pub ascending : IsStrictlyIncreasing reads
   pub candidates : All Candidate reads
   pub permit : PermitsValue F words (Contains reads) value
 
 -- no fewer candidates permit it
 pub record AreFewest (F : KissFile) (words : List ℕ) (Candidate : ℕ → Type 0) (value : ℕ → List Bool → Bool) (reads : List ℕ) : Type 0 where
-  pub enough : AreEnough F words Candidate value reads
-  pub fewest : (others : List ℕ) → AreEnough F words Candidate value others → length reads ≤ length others
+  pub enough : AreEnoughBits F words Candidate value reads
+  pub fewest : (others : List ℕ) → AreEnoughBits F words Candidate value others → length reads ≤ length others
 
 -- among the lists of the fewest candidates, this list is the first
 pub record AreLeastReads (F : KissFile) (words : List ℕ) (Candidate : ℕ → Type 0) (value : ℕ → List Bool → Bool) (reads : List ℕ) : Type 0 where
   pub fewest : AreFewest F words Candidate value reads
-  pub first : (others : List ℕ) → AreEnough F words Candidate value others → length others ≡ length reads → (others ≡ reads) ⊎ ListBefore reads others
+  pub first : (others : List ℕ) → AreEnoughBits F words Candidate value others → length others ≡ length reads → (others ≡ reads) ⊎ ListBefore reads others
 
 -- the word has the bits of the list and no other
 abbrev pub AreBitsOf : ℕ → List ℕ → Type 0

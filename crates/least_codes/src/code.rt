@@ -2,9 +2,9 @@
 
 ghost use Rattle.std.specs.Prelude.{◌≡◌, ◌↔◌, ◌⊎◌, ◌<◌, ◌≤◌, ◌+◌, ℕ, All, IfOk, IsTrue, List, OnOk, length, slice_index};
 ghost use Rattle.kiss_file.specs.declared.file.KissFile.{KissFile};
-ghost use Rattle.least_codes.specs.Inner.Lists.{AreBefore, AreSeen, IsDraft, IsJudged, IsKept, IsLessThan, IsUsed};
-ghost use Rattle.least_codes.specs.Inner.Table.{IsInside, IsTable};
-ghost use Rattle.least_codes.specs.LeastCode.{AreCodes, IsLeastCode};
+ghost use Rattle.least_codes.specs.Inner.Lists.{AreBefore, AreSeen, IsDraft, IsBestWith, IsBestSeen, IsLessThan, IsUsed};
+ghost use Rattle.least_codes.specs.Inner.Table.{IsInside, IsImageTable};
+ghost use Rattle.least_codes.specs.LeastCode.{AreCodeWords, IsLeastCode};
 ghost use Rattle.state_codes.specs.Code.{need};
 
 use crate::cost::code_cost;
@@ -39,8 +39,8 @@ fn judge(
 ) -> Result<(), AllocError>
     requires bits { bits ≤ 3 }
     requires inside { All (IsInside (length words.now)) table.now }
-    requires codes { AreCodes (length words.now) bits words.now }
-    ensures { OnOk result (IsJudged table.now bits words.now best.old best.new) }
+    requires codes { AreCodeWords (length words.now) bits words.now }
+    ensures { OnOk result (IsBestWith table.now bits words.now best.old best.new) }
 {
     let cost = code_cost(alloc, table, words, bits)?;
     if is_less(cost, best) {
@@ -77,11 +77,11 @@ fn try_codes(
     requires bits { bits ≤ 3 }
     requires inside { All (IsInside (length words.old)) table.now }
     requires draft { IsDraft bits words.old s i }
-    requires kept { (F : KissFile) → IsTable F table.now → length F.states ≡ length words.old
-        → IsKept F bits (AreBefore words.old s i) best.old }
+    requires kept { (F : KissFile) → IsImageTable F table.now → length F.states ≡ length words.old
+        → IsBestSeen F bits (AreBefore words.old s i) best.old }
     ensures words { OnOk result (words.new ≡ words.old) }
-    ensures kept { OnOk result ((F : KissFile) → IsTable F table.now → length F.states ≡ length words.old
-        → IsKept F bits (AreSeen words.old s i) best.new) }
+    ensures kept { OnOk result ((F : KissFile) → IsImageTable F table.now → length F.states ≡ length words.old
+        → IsBestSeen F bits (AreSeen words.old s i) best.new) }
 {
     if s == words.len() {
         return judge(alloc, table, bits, words, best);

@@ -3,8 +3,8 @@
 ghost use Rattle.std.specs.Prelude.{◌≡◌, ◌<◌, ◌≤◌, All, IfOk, length};
 ghost use Rattle.kiss_file.specs.declared.file.KissFile.{KissFile};
 ghost use Rattle.least_codes.specs.Cost.{IsCost, IsLatchCost};
-ghost use Rattle.least_codes.specs.Inner.Table.{IsInside, IsTable};
-ghost use Rattle.least_codes.specs.LeastCode.{AreCodes};
+ghost use Rattle.least_codes.specs.Inner.Table.{IsInside, IsImageTable};
+ghost use Rattle.least_codes.specs.LeastCode.{AreCodeWords};
 
 use crate::choice::{Question, least_choice};
 use crate::table::{Images, apart_at};
@@ -22,8 +22,8 @@ fn latch_cost(
     requires bits { bits ≤ 3 }
     requires latch { i < bits }
     requires inside { All (IsInside (length words.now)) table.now }
-    requires codes { AreCodes (length words.now) bits words.now }
-    ensures cost { IfOk result (λ cost. (F : KissFile) → IsTable F table.now → length F.states ≡ length words.now
+    requires codes { AreCodeWords (length words.now) bits words.now }
+    ensures cost { IfOk result (λ cost. (F : KissFile) → IsImageTable F table.now → length F.states ≡ length words.now
         → IsLatchCost F words.now bits i cost) }
     ensures few { IfOk result (λ cost. cost ≤ 3) }
 {
@@ -46,8 +46,8 @@ pub(crate) fn code_cost(
 ) -> Result<u32, AllocError>
     requires bits { bits ≤ 3 }
     requires inside { All (IsInside (length words.now)) table.now }
-    requires codes { AreCodes (length words.now) bits words.now }
-    ensures { IfOk result (λ cost. (F : KissFile) → IsTable F table.now → length F.states ≡ length words.now
+    requires codes { AreCodeWords (length words.now) bits words.now }
+    ensures { IfOk result (λ cost. (F : KissFile) → IsImageTable F table.now → length F.states ≡ length words.now
         → IsCost F words.now bits cost) }
 {
     let mut cost = 0;

@@ -2,7 +2,7 @@
 
 ghost use Rattle.std.specs.Prelude.{◌≡◌, ◌↔◌, ◌<◌, All, IfOk, IsTrue, length};
 ghost use Rattle.machine_table.specs.Pairs.{HaveOneBit};
-ghost use Rattle.least_codes.specs.Inner.Table.{AreApartIn, IsInside, IsTable, KeepsBit};
+ghost use Rattle.least_codes.specs.Inner.Table.{AreApartIn, IsInside, IsImageTable, KeepsBit};
 
 use crate::two_states::{TwoStates, all_pairs};
 use machine_table::Machine;
@@ -17,7 +17,7 @@ pub(crate) struct Images {
 
 /// The images of all pairs of states of a machine.
 pub(crate) fn image_table(alloc: Global, m: &Machine) -> Result<Vec<Images>, AllocError>
-    ensures { IfOk result (λ table. IsTable m.now table.items) }
+    ensures { IfOk result (λ table. IsImageTable m.now table.items) }
 {
     m.keeps_its_states();
     let pairs = all_pairs(alloc, m.states())?;

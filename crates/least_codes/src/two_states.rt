@@ -2,7 +2,7 @@
 
 ghost use Rattle.std.specs.Prelude.{◌≡◌, ◌↔◌, ◌+◌, ◌<◌, ℕ, All, Contains, IfOk, IsTrue, OnOk, length};
 ghost use Rattle.dependence.specs.Bit.{IsBit, value_of};
-ghost use Rattle.least_codes.specs.Inner.Apart.{AreApart, ArePairs, IsPair};
+ghost use Rattle.least_codes.specs.Inner.Apart.{AreToldApart, ArePairs, IsPair};
 
 use dependence::Bit;
 use machine_table::Machine;
@@ -46,7 +46,7 @@ pub(crate) fn states_apart(
 ) -> Result<Vec<TwoStates>, AllocError>
     requires words { length words.now ≡ length m.now.states }
     requires bit { IsBit m.now bit }
-    ensures { IfOk result (λ apart. AreApart m.now (value_of m.now words.now bit) apart.items) }
+    ensures { IfOk result (λ apart. AreToldApart m.now (value_of m.now words.now bit) apart.items) }
 {
     let pairs = all_pairs(alloc, m.states())?;
     let mut apart = Vec::new(alloc);

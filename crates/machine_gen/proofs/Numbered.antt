@@ -6,13 +6,13 @@ use Rattle.std.proofs.lemmas.Nat.{div-mul-add, div_below, mod-mul-add, mod_below
 use Rattle.std.proofs.lemmas.Bool.{cases_lt}
 use Rattle.kiss_file.specs.declared.file.KissRow.{KissRow}
 use Rattle.machine_gen.specs.declared.rows.Place.{Place}
-use Rattle.machine_gen.specs.Inner.Drawing.{IsRowAt, next_of, place_of}
+use Rattle.machine_gen.specs.Inner.Drawing.{IsRowOfPlace, next_of, place_of}
 use Rattle.machine_gen.specs.MachineOf.{AreRows, AreSizes, next_first, next_second}
 
 -- a row stands at a number
 abbrev pub StandsAt : (ℕ → ℕ) → ℕ → ℕ → ℕ → List KissRow → ℕ → Type 0
 StandsAt word a b k rows n =
-    (row : KissRow) × (slice_get rows n ≡ Some row) × IsRowAt b k (place_of b k n) (next_of word a b k (place_of b k n)) row
+    (row : KissRow) × (slice_get rows n ≡ Some row) × IsRowOfPlace b k (place_of b k n) (next_of word a b k (place_of b k n)) row
 
 -- so do all below a number, and no others
 pub record AreRowsBelow (word : ℕ → ℕ) (a b k number : ℕ) (rows : List KissRow) : Type 0 where
@@ -49,7 +49,7 @@ module _ (word : ℕ → ℕ) (a b k : ℕ) where
   stands_still rows more n within (row, there, is) = (row, get_left rows more n within ∙ there, is)
 
   pub rows-more : (number : ℕ) (rows new : List KissRow) (row : KissRow) → AreRowsBelow word a b k number rows → new ≡ rows ++ row ∷ []
-      → IsRowAt b k (place_of b k number) (next_of word a b k (place_of b k number)) row → AreRowsBelow word a b k (number + 1) new
+      → IsRowOfPlace b k (place_of b k number) (next_of word a b k (place_of b k number)) row → AreRowsBelow word a b k (number + 1) new
   rows-more number rows new row before added is = subst (AreRowsBelow word a b k (number + 1)) (sym added) (record { count = counted; each = each }) where
     counted : length (rows ++ row ∷ []) ≡ number + 1
     counted = length-append rows (row ∷ []) ∙ ap (λ n. n + 1) before.count
@@ -80,7 +80,7 @@ rows_whole word a b k rows all = record {
       let number = (i * b + j) * 2 ^ k + x in
       let within : number < a * b * 2 ^ k = two_digits (i * b + j) x (a * b) (2 ^ k) (two_digits i j a b first second) symbol in
       let there = all.each number within in
-      let Is : Place → Type 0 = λ place. IsRowAt b k place (next_of word a b k place) there.0 in
+      let Is : Place → Type 0 = λ place. IsRowOfPlace b k place (next_of word a b k place) there.0 in
       (there.0, there.1, subst Is (place_back b k i j x second symbol) there.2);
 }
 

@@ -1,7 +1,7 @@
 //! The rows.
 
 ghost use Rattle.std.specs.Prelude.{◌≡◌, ◌+◌, ◌-◌, ◌*◌, ◌^◌, ◌<◌, ◌≤◌, IfOk, length, slice_index_or};
-ghost use Rattle.machine_gen.specs.Inner.Drawing.{IsRowAt, place_of};
+ghost use Rattle.machine_gen.specs.Inner.Drawing.{IsRowOfPlace, place_of};
 ghost use Rattle.machine_gen.specs.MachineOf.{AreRows, AreSizes};
 ghost use Rattle.machine_gen.specs.Words.{word};
 
@@ -56,7 +56,7 @@ fn row(b: u16, k: u8, place: Place, state: u16) -> KissRow
     requires inputs { k ≤ 8 }
     requires symbol { place.symbol < 2 ^ k }
     requires from { place.first * b + place.second < 65536 }
-    ensures { IsRowAt b k place state result }
+    ensures { IsRowOfPlace b k place state result }
 {
     KissRow {
         cube: Cube {

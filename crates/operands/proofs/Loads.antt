@@ -4,7 +4,7 @@ use Rattle.std.proofs.lemmas.List.{length-replicate}
 use Rattle.answers.specs.declared.refusals.Refusal.{Refusal}
 use Rattle.hs_io.specs.declared.shelf.LoadFail.{LoadFail}
 use Rattle.hs_io.specs.declared.shelf.LoadFail.TheVariants as fails
-use Rattle.operands.specs.Inner.Failing.{IsRefusalOf}
+use Rattle.operands.specs.Inner.Failing.{IsLoadRefusal}
 use Rattle.operands.specs.Load.{IsStopAt}
 use Rattle.operands.specs.Loading.{Lengthy, MayBe, most_bytes}
 
@@ -18,7 +18,7 @@ long_bytes (Some told) long = (told, refl, long)
 long_bytes None long = let (bytes, count) = some_of 4194305 in (bytes, tt, omega (arith, count))
 
 -- an operand that was not loaded is refused with its cause
-pub stop_of_fail : (held : Option (List ℕ)) (Faulted : Type 0) (name : List ℕ) (fail : LoadFail) (refusal : Refusal) → IsRefusalOf name fail refusal → (fail ≡ fails.Failed → Faulted)
+pub stop_of_fail : (held : Option (List ℕ)) (Faulted : Type 0) (name : List ℕ) (fail : LoadFail) (refusal : Refusal) → IsLoadRefusal name fail refusal → (fail ≡ fails.Failed → Faulted)
     → (fail ≡ fails.TooLong → IfSome held (λ told. most_bytes < length told)) → IsStopAt held Faulted name (Lengthy name) refusal
 stop_of_fail held Faulted name fail refusal (inl none) failed long = inl none
 stop_of_fail held Faulted name fail refusal (inr (inl (is, unreadable))) failed long = inr (inl (unreadable, failed is))

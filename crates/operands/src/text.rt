@@ -2,7 +2,7 @@
 
 ghost use Rattle.std.specs.Prelude.{◌≡◌, ◌≤◌, ◌↔◌, ℕ, List};
 ghost use Rattle.hs_io.specs.Counts.{Rose};
-ghost use Rattle.operands.specs.Inner.Failing.{IsRefusalOf};
+ghost use Rattle.operands.specs.Inner.Failing.{IsLoadRefusal};
 ghost use Rattle.operands.specs.Load.{IsLoaded};
 
 use answers::{Bytes, Refusal};
@@ -30,7 +30,7 @@ pub fn load_operand<F: Shelf>(alloc: Global, name: &[u8], shelf: &mut F) -> Resu
 
 /// The refusal of an operand that was not loaded.
 fn refusal_of(alloc: Global, name: &[u8], fail: LoadFail) -> Refusal
-    ensures { IsRefusalOf name.now fail result }
+    ensures { IsLoadRefusal name.now fail result }
 {
     let Ok(name) = Name::new(alloc, name) else {
         return Refusal::NoMemory;

@@ -36,7 +36,7 @@ use Rattle.shift_real.specs.Inner.ContentDemands.{AreClassDemands, IsClassDemand
 use Rattle.shift_real.specs.declared.reading.OutputReading.{OutputReading}
 use Rattle.shift_real.specs.Inner.OutputReading.{IsOutputReading}
 use Rattle.shift_real.specs.Inner.Reading.{FlipMatters, MattersAmong}
-use Rattle.shift_real.specs.Inner.Tables.{AreFirsts, IsTable, content_of, word_of}
+use Rattle.shift_real.specs.Inner.Tables.{AreFirsts, IsStateTable, content_of, word_of}
 use Rattle.shift_real.specs.Register.{latch_values}
 use Rattle.shift_real.specs.Words.{IsWord}
 use Rattle.shift_real.proofs.ContentWords.{bits_are_word, content_is_word, content_values, latch_values_of, numbered, values_length, word_of_latches}
@@ -86,7 +86,7 @@ module _ (F : KissFile) (k b : ℕ) (set : ReadSet) (reads : IsReadAfter F k b s
       false≢true (sym none.gives ∙ (sym inputs ∙ (sym latches ∙ one.gives)))
 
 -- ---- the gate
-module _ (F : KissFile) (k b : ℕ) (table firsts classes : List ℕ) (mask inputs : ℕ) (set : ReadSet) (is : IsTable F k table) (are : AreFirsts F b (length F.states) firsts) (mapped : classes ≡ map (slice_index firsts) table) (short : k * F.inputs ≤ 12) (few : F.inputs ≤ 32) (of_output : b < F.outputs) (latch_bits : (l : ℕ) → InWord mask l ↔ (l < k * F.inputs × FlipMatters classes l)) (input_bits : (a : ℕ) → InWord inputs a ↔ MattersAmong F b table (length F.states) a) (listed_latches : AreListed set.latches mask 64) (listed_inputs : AreListed set.inputs inputs 64) where
+module _ (F : KissFile) (k b : ℕ) (table firsts classes : List ℕ) (mask inputs : ℕ) (set : ReadSet) (is : IsStateTable F k table) (are : AreFirsts F b (length F.states) firsts) (mapped : classes ≡ map (slice_index firsts) table) (short : k * F.inputs ≤ 12) (few : F.inputs ≤ 32) (of_output : b < F.outputs) (latch_bits : (l : ℕ) → InWord mask l ↔ (l < k * F.inputs × FlipMatters classes l)) (input_bits : (a : ℕ) → InWord inputs a ↔ MattersAmong F b table (length F.states) a) (listed_latches : AreListed set.latches mask 64) (listed_inputs : AreListed set.inputs inputs 64) where
   latch_listed : (l : ℕ) → Contains set.latches l → (l < k * F.inputs) × LatchMatters F k b l
   latch_listed l among =
       let there = (latch_bits l).0 ((listed_latches.each l).0 among).1 in
@@ -233,7 +233,7 @@ module _ (F : KissFile) (k b : ℕ) (table firsts classes : List ℕ) (mask inpu
     }
 
 -- ---- with the values of a call
-module _ (F : KissFile) (k b : ℕ) (table : List ℕ) (reading : OutputReading) (is : IsTable F k table) (basis : IsOutputReading F k b table reading) (short : k * F.inputs ≤ 12) (few : F.inputs ≤ 32) (of_output : b < F.outputs) where
+module _ (F : KissFile) (k b : ℕ) (table : List ℕ) (reading : OutputReading) (is : IsStateTable F k table) (basis : IsOutputReading F k b table reading) (short : k * F.inputs ≤ 12) (few : F.inputs ≤ 32) (of_output : b < F.outputs) where
   pub reads_at : IsReadAfter F k b reading.set
   reads_at = reads F k b table basis.firsts reading.classes.items reading.mask basis.inputs reading.set is basis.are basis.mapped short few of_output basis.latch_bits basis.input_bits basis.listed_latches basis.listed_inputs
 
@@ -275,10 +275,10 @@ classes_within F b firsts table classes are within mapped =
     subst (All (λ class. class < length F.states)) (sym mapped)
     (All-map (λ class. class < length F.states) (slice_index firsts) table (λ i d lt. let first = are.each (get_or table i d) (within i d lt) in let low = within i d lt in omega (arith, first.within, low)))
 
-pub sizes_within : (F : KissFile) (k : ℕ) (firsts table classes : List ℕ) → IsTable F k table → classes ≡ map (slice_index firsts) table → length classes ≡ 2 ^ (k * F.inputs)
+pub sizes_within : (F : KissFile) (k : ℕ) (firsts table classes : List ℕ) → IsStateTable F k table → classes ≡ map (slice_index firsts) table → length classes ≡ 2 ^ (k * F.inputs)
 sizes_within F k firsts table classes is mapped = ap length mapped ∙ (length-map table (slice_index firsts) ∙ is.size)
 
-pub reading_is : (F : KissFile) (k b : ℕ) (table firsts lent shown : List ℕ) (bits inputs : ℕ) (reading : OutputReading) → IsTable F k table → AreFirsts F b (length F.states) firsts → lent ≡ firsts → reading.classes.items ≡ map (slice_index lent) table
+pub reading_is : (F : KissFile) (k b : ℕ) (table firsts lent shown : List ℕ) (bits inputs : ℕ) (reading : OutputReading) → IsStateTable F k table → AreFirsts F b (length F.states) firsts → lent ≡ firsts → reading.classes.items ≡ map (slice_index lent) table
     → shown ≡ reading.classes.items → bits ≡ k * F.inputs → ((l : ℕ) → InWord reading.mask l ↔ (l < bits × FlipMatters shown l)) → ((a : ℕ) → InWord inputs a ↔ MattersAmong F b table (length F.states) a)
     → AreListed reading.set.latches reading.mask 64 → AreListed reading.set.inputs inputs 64 → IsOutputReading F k b table reading
 reading_is F k b table firsts lent shown bits inputs reading is are is_lent mapped is_shown is_bits latch_bits input_bits listed_latches listed_inputs =

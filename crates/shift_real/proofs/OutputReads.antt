@@ -16,7 +16,7 @@ use Rattle.kiss_file.specs.declared.file.KissFile.{KissFile}
 use Rattle.kiss_file.specs.Machine.{output_bit}
 use Rattle.shift_real.specs.Gates.{InputMatters, LatchMatters}
 use Rattle.shift_real.specs.Inner.Reading.{FlipMatters, MattersAmong}
-use Rattle.shift_real.specs.Inner.Tables.{AreFirsts, IsFirstAlike, IsTable, content_of, state_at}
+use Rattle.shift_real.specs.Inner.Tables.{AreFirsts, IsFirstAlike, IsStateTable, content_of, state_at}
 use Rattle.shift_real.specs.Register.{latch_values}
 use Rattle.shift_real.proofs.Alike.{one_class, one_first}
 use Rattle.shift_real.proofs.ContentWords.{code_length, content_is_word, content_values, numbered, values_length}
@@ -39,7 +39,7 @@ differ_within count a x y long differ =
       | inr beyond ↦ absurd (differ.there (slice_get_past x a (omega (arith, beyond, long)) ∙ sym (slice_get_past y a (omega (arith, beyond, long, differ.lengths)))))
     ]
 
-module _ (F : KissFile) (k b : ℕ) (table firsts classes : List ℕ) (is : IsTable F k table) (are : AreFirsts F b (length F.states) firsts) (mapped : classes ≡ map (slice_index firsts) table) where
+module _ (F : KissFile) (k b : ℕ) (table firsts classes : List ℕ) (is : IsStateTable F k table) (are : AreFirsts F b (length F.states) firsts) (mapped : classes ≡ map (slice_index firsts) table) where
   pub class_count : length classes ≡ 2 ^ (k * F.inputs)
   class_count = ap length mapped ∙ (length-map table (slice_index firsts) ∙ is.size)
 

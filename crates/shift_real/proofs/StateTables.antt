@@ -7,7 +7,7 @@ use Rattle.cubes.specs.Symbol.{lowest_bits}
 use Rattle.kiss_file.specs.declared.file.KissFile.{KissFile}
 use Rattle.shift_real.specs.declared.contents.Content.{Content}
 use Rattle.shift_real.specs.Inner.Contents.{AreContents}
-use Rattle.shift_real.specs.Inner.Tables.{IsTable, content_of, state_at}
+use Rattle.shift_real.specs.Inner.Tables.{IsStateTable, content_of, state_at}
 use Rattle.shift_real.specs.Register.{state_after}
 use Rattle.shift_real.proofs.ContentWords.{content_is_word, content_values, one_number, one_word}
 
@@ -40,7 +40,7 @@ module _ (F : KissFile) (k : ℕ) (contents : List Content) (are : AreContents F
             ]
       ]
 
-  pub table_is : (table : List ℕ) (i : ℕ) → length table ≡ 2 ^ (k * F.inputs) → length contents ≤ i → AreWritten i table → IsTable F k table
+  pub table_is : (table : List ℕ) (i : ℕ) → length table ≡ 2 ^ (k * F.inputs) → length contents ≤ i → AreWritten i table → IsStateTable F k table
   table_is table i size all written = record {
     size = size;
     each = λ number low. (found number low).0;

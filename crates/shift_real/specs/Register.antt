@@ -37,7 +37,7 @@ shifted [] x = []
 shifted (oldest ∷ word) x = word ++ x ∷ []
 
 -- the least content after which the machine is in the reset state
-pub record IsStart (F : KissFile) (k : ℕ) (word : List (List Bool)) : Type 0 where
+pub record IsStartContent (F : KissFile) (k : ℕ) (word : List (List Bool)) : Type 0 where
   pub content : IsWord F k word
   pub reset : state_after F word ≡ F.reset
   pub least : (other : List (List Bool)) → IsWord F k other → state_after F other ≡ F.reset → word_number word ≤ word_number other

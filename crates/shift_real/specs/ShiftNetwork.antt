@@ -10,7 +10,7 @@ use Rattle.net_core.specs.declared.Network.{Network}
 use Rattle.net_core.specs.declared.SignalNames.{SignalNames}
 use Rattle.net_core.specs.Step.{AreStarts, NetAnswers, Step}
 use Rattle.shift_real.specs.Gates.{IsOutputGate, taking}
-use Rattle.shift_real.specs.Register.{IsStart, latch_values, shifted, state_after}
+use Rattle.shift_real.specs.Register.{IsStartContent, latch_values, shifted, state_after}
 use Rattle.shift_real.specs.Words.{IsWord}
 
 -- there are names for the inputs, for the outputs and, twice, for the bits of a register of k symbols, and no
@@ -31,7 +31,7 @@ pub record HasNames (names : SignalNames) (N : Network) : Type 0 where
 
 -- the latches start at the values of the start content
 abbrev pub StartsAtContent : KissFile → ℕ → Network → Type 0
-StartsAtContent F k N = (word : List (List Bool)) × IsStart F k word × AreStarts N.latches (latch_values word)
+StartsAtContent F k N = (word : List (List Bool)) × IsStartContent F k word × AreStarts N.latches (latch_values word)
 
 -- the gate of the latch with this number gives it the signal
 abbrev pub TakesAt : SignalNames → Network → ℕ → List ℕ → Type 0

@@ -8,7 +8,7 @@ ghost use Rattle.shift_real.specs.ShiftNetwork.{AreNamesFor};
 ghost use Rattle.shift_real.specs.Inner.DemandedGate.{IsGateOfDemands};
 ghost use Rattle.shift_real.specs.Inner.Latches.{AddsOutputGates};
 ghost use Rattle.shift_real.specs.Inner.Reading.{AreEffectsAfter};
-ghost use Rattle.shift_real.specs.Inner.Tables.{IsTable};
+ghost use Rattle.shift_real.specs.Inner.Tables.{IsStateTable};
 
 use crate::demands::content_demands;
 use crate::reading::{effects_after, output_reading};
@@ -30,7 +30,7 @@ pub(crate) fn add_output_gates(
 ) -> Result<(), AllocError>
     requires short { k * m.now.inputs ≤ 12 }
     requires names { AreNamesFor m.now k names.now }
-    requires table { IsTable m.now k table.now }
+    requires table { IsStateTable m.now k table.now }
     ensures { OnOk result (AddsOutputGates m.now k names.now m.now.outputs gates.old gates.new) }
 {
     let effects = effects_after(alloc, m, table)?;
@@ -52,7 +52,7 @@ fn output_gate(
 ) -> Result<Gate, AllocError>
     requires short { k * m.now.inputs ≤ 12 }
     requires names { AreNamesFor m.now k names.now }
-    requires table { IsTable m.now k table.now }
+    requires table { IsStateTable m.now k table.now }
     requires effects { AreEffectsAfter m.now table.now (length m.now.states) effects.now }
     requires output { b < m.now.outputs }
     ensures { IfOk result (λ gate. (set : ReadSet) × IsOutputGate m.now k names.now b set gate) }

@@ -4,7 +4,7 @@ ghost use Rattle.std.specs.Prelude.{◌≡◌, ℕ, ◌*◌, ◌^◌, ◌<◌, �
 ghost use Rattle.dependence.specs.Permits.{InWord};
 ghost use Rattle.shift_real.specs.Inner.Reading.{AreEffectsAfter, FlipMatters};
 ghost use Rattle.shift_real.specs.Inner.OutputReading.{IsOutputReading};
-ghost use Rattle.shift_real.specs.Inner.Tables.{IsTable};
+ghost use Rattle.shift_real.specs.Inner.Tables.{IsStateTable};
 
 use crate::tables::{classes_of, first_alike, is_among};
 use dependence::{Bit, Effect, ReadSet, add_effects, inputs_of, no_effects, numbers_of, with_bit};
@@ -31,7 +31,7 @@ pub(crate) fn output_reading(
     b: u8,
 ) -> Result<OutputReading, AllocError>
     requires short { k * m.now.inputs ≤ 12 }
-    requires table { IsTable m.now k table.now }
+    requires table { IsStateTable m.now k table.now }
     requires effects { AreEffectsAfter m.now table.now (length m.now.states) effects.now }
     requires output { b < m.now.outputs }
     ensures { IfOk result (IsOutputReading m.now k b table.now) }

@@ -2,7 +2,7 @@
 
 ghost use Rattle.std.specs.Prelude.{◌≡◌, ◌*◌, ◌<◌, ◌≤◌, All, IfOk, IsTrue, Contains, ◌↔◌, length, map, slice_index};
 ghost use Rattle.shift_real.specs.Inner.Contents.{AreContents};
-ghost use Rattle.shift_real.specs.Inner.Tables.{AreFirsts, IsFirstAlike, IsTable};
+ghost use Rattle.shift_real.specs.Inner.Tables.{AreFirsts, IsFirstAlike, IsStateTable};
 
 use crate::contents::Content;
 use machine_table::Machine;
@@ -17,7 +17,7 @@ pub(crate) fn state_table(
 ) -> Result<Vec<u16>, AllocError>
     requires short { k * m.now.inputs ≤ 12 }
     requires contents { AreContents m.now k contents.now }
-    ensures { IfOk result (λ table. IsTable m.now k table.items) }
+    ensures { IfOk result (λ table. IsStateTable m.now k table.items) }
 {
     let _states = m.states();
     let size = 1usize << (k * usize::from(m.inputs()));

@@ -12,7 +12,7 @@ use Rattle.state_reduce.specs.declared.judging.QuotientFail.TheVariants.{NotClos
 
 -- s < t are the first two states of a block for which P fails at some symbol, by s and then by t, and x is the
 -- least such symbol
-pub record IsFirstAgainst (P : KissFile → (s t x : ℕ) → Type 0) (F : KissFile) (p : List ℕ) (s t x : ℕ) : Type 0 where
+pub record IsFirstFailing (P : KissFile → (s t x : ℕ) → Type 0) (F : KissFile) (p : List ℕ) (s t x : ℕ) : Type 0 where
   pub order : s < t
   pub together : Together p s t
   pub symbol : IsFirstWithout F.inputs (P F s t) x
@@ -21,8 +21,8 @@ pub record IsFirstAgainst (P : KissFile → (s t x : ℕ) → Type 0) (F : KissF
 -- the refusal has its cause: the partition is not closed; or it is closed but not consistent; or it is both,
 -- and memory ran out
 abbrev pub Caused : KissFile → List ℕ → QuotientFail → Type 0
-Caused F p (NotClosed s t x) = IsFirstAgainst (GoInto (Together p)) F p s t x
-Caused F p (NotConsistent s t x) = Closed F p × IsFirstAgainst AgreeAt F p s t x
+Caused F p (NotClosed s t x) = IsFirstFailing (GoInto (Together p)) F p s t x
+Caused F p (NotConsistent s t x) = Closed F p × IsFirstFailing AgreeAt F p s t x
 Caused F p NoMemory = Closed F p × Consistent F p
 
 -- the partition of alike states is refused only if memory runs out

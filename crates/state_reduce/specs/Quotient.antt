@@ -50,8 +50,8 @@ AnswersAsMembers F p Q =
     (s : ℕ) (word : List (List Bool)) → s < length F.states → IsWord F.inputs word → answers Q (block_number F p s) word ≡ answers F s word
 
 -- the name of each block is at the block's number
-abbrev pub AreNamed : KissFile → List ℕ → KissFile → Type 0
-AreNamed F p Q = (s : ℕ) → s < length F.states → slice_get Q.states (block_number F p s) ≡ Some (block_name F p s)
+abbrev pub AreBlocksNamed : KissFile → List ℕ → KissFile → Type 0
+AreBlocksNamed F p Q = (s : ℕ) → s < length F.states → slice_get Q.states (block_number F p s) ≡ Some (block_name F p s)
 
 -- the state is the current state of a row
 abbrev pub HasRow : KissFile → ℕ → Type 0

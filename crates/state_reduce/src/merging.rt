@@ -11,7 +11,7 @@ ghost use Rattle.partition.specs.Inside.{least_of};
 ghost use Rattle.state_reduce.specs.Alike.{AreUnlike, IsEquivalence};
 ghost use Rattle.state_reduce.specs.Cause.{Caused};
 ghost use Rattle.state_reduce.specs.Inner.Named.{AreAllNamed, currents_of};
-ghost use Rattle.state_reduce.specs.Quotient.{AnswersAsMembers, AreBlocksInOrder, AreNamed, HaveRowsInOrder, IsQuotient, block_name, block_names, block_number, kept_rows, row_of_blocks};
+ghost use Rattle.state_reduce.specs.Quotient.{AnswersAsMembers, AreBlocksInOrder, AreBlocksNamed, HaveRowsInOrder, IsQuotient, block_name, block_names, block_number, kept_rows, row_of_blocks};
 
 use crate::judging::{Demand, QuotientFail, first_against};
 use kiss_file::{KissFile, KissRow, Rows, StateNames, copied_given};
@@ -30,7 +30,7 @@ pub fn quotient(
     requires numbered { AreNumbered file.now }
     requires states { length p.now ≡ length file.now.states }
     ensures quotient { IfOk result (IsQuotient file.now p.now) }
-    ensures named { IfOk result (AreNamed file.now p.now) }
+    ensures named { IfOk result (AreBlocksNamed file.now p.now) }
     ensures rows_in_order { IfOk result (λ _. HaveRowsInOrder file.now p.now) }
     ensures in_order { IsEquivalence file.now p.now → IfOk result (AreBlocksInOrder file.now p.now) }
     ensures closed { IfOk result (λ _. Closed file.now p.now) }

@@ -17,7 +17,7 @@ use Rattle.net_core.specs.declared.SignalNames.{SignalNames}
 use Rattle.net_core.specs.Step.{AreStarts}
 use Rattle.gate_rows.specs.Names.{name_at}
 use Rattle.shift_real.specs.Gates.{IsReadAfter, taking}
-use Rattle.shift_real.specs.Register.{IsStart, bits_of, latch_values, word_number}
+use Rattle.shift_real.specs.Register.{IsStartContent, bits_of, latch_values, word_number}
 use Rattle.shift_real.specs.ShiftNetwork.{IsRegister}
 use Rattle.shift_real.specs.Laws.StartContent.{order_once}
 use Rattle.shift_texts.specs.ShiftText.{IsShiftOf}
@@ -64,7 +64,7 @@ same_number : (p q : List Bool) → length p ≡ length q → number_of p ≡ nu
 same_number p q size same =
     sym (symbol_of-number_of p) ∙ ap (λ (n : ℕ). symbol_of n (number_of p)) size ∙ ap (symbol_of (length q)) same ∙ symbol_of-number_of q
 
-start_once : (W : KissFile) (k : ℕ) (word other : List (List Bool)) → IsStart W k word → IsStart W k other → word ≡ other
+start_once : (W : KissFile) (k : ℕ) (word other : List (List Bool)) → IsStartContent W k word → IsStartContent W k other → word ≡ other
 start_once W k word other one two =
     let low : word_number word ≤ word_number other = one.least other two.content two.reset in
     let high : word_number other ≤ word_number word = two.least word one.content one.reset in

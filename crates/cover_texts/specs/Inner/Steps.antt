@@ -8,7 +8,7 @@ use Rattle.cover_split.specs.declared.cover.CoverFail.TheVariants as fails
 use Rattle.cover_split.specs.Cover.{IsCover}
 use Rattle.cover_split.specs.Expansion.{AnswersAlike, IsClosedCover, IsExpansion, IsFirstLeaving, pairs_of}
 use Rattle.cover_split.specs.Parts.{IsClosedFront, IsSplitByBlock}
-use Rattle.cover_split.specs.Refusal.{CoverFault, IsTextOf}
+use Rattle.cover_split.specs.Refusal.{CoverFault, SpellsBlocks}
 use Rattle.cubes.specs.Symbol.{digit, symbol_of}
 use Rattle.kiss_file.specs.declared.file.KissFile.{KissFile}
 use Rattle.state_codes.specs.declared.Codes.{Codes}
@@ -19,19 +19,19 @@ use Rattle.state_codes.specs.Kinds.{PartsMeetInZero}
 use Rattle.state_codes.specs.Split.{IsPart}
 
 -- the refusal that says why a text is not a cover
-abbrev pub IsRefusalOf : KissFile → CoverFail → Refusal → Type 0
-IsRefusalOf F (fails.BadText block place) refusal = refusal ≡ BadCover (Place block place)
-IsRefusalOf F (fails.Contained a b) refusal = refusal ≡ BadCover (Within a b)
-IsRefusalOf F (fails.Missing state) refusal = (name : List ℕ) × (refusal ≡ BadCover (Lacks name)) × (slice_get F.states state ≡ Some name)
-IsRefusalOf F (fails.TooMany found) refusal = refusal ≡ BadCover (Places found)
-IsRefusalOf F fails.Trivial refusal = refusal ≡ BadCover Trivial
-IsRefusalOf F fails.NoMemory refusal = refusal ≡ NoMemory
+abbrev pub IsFailRefusal : KissFile → CoverFail → Refusal → Type 0
+IsFailRefusal F (fails.BadText block place) refusal = refusal ≡ BadCover (Place block place)
+IsFailRefusal F (fails.Contained a b) refusal = refusal ≡ BadCover (Within a b)
+IsFailRefusal F (fails.Missing state) refusal = (name : List ℕ) × (refusal ≡ BadCover (Lacks name)) × (slice_get F.states state ≡ Some name)
+IsFailRefusal F (fails.TooMany found) refusal = refusal ≡ BadCover (Places found)
+IsFailRefusal F fails.Trivial refusal = refusal ≡ BadCover Trivial
+IsFailRefusal F fails.NoMemory refusal = refusal ≡ NoMemory
 
 -- the blocks are the cover that the text gives, and the only one
 pub record IsRead (n : ℕ) (text : List ℕ) (blocks : List (List ℕ)) : Type 0 where
-  pub spelled : IsTextOf n text blocks
+  pub spelled : SpellsBlocks n text blocks
   pub cover : IsCover n blocks
-  pub alone : (others : List (List ℕ)) → IsTextOf n text others → IsCover n others → blocks ≡ others
+  pub alone : (others : List (List ℕ)) → SpellsBlocks n text others → IsCover n others → blocks ≡ others
   pub faultless : (fail : CoverFail) → CoverFault n text fail → ⊥
 
 -- E is the machine of the pairs of a closed cover
@@ -54,7 +54,7 @@ pub record AreParts (blocks : List (List ℕ)) (parts : List Part) : Type 0 wher
   pub lawful : All (IsPart (length (pairs_of blocks))) parts
 
 -- the codes are those that the parts give to the pairs
-pub record AreCodes (blocks : List (List ℕ)) (parts : List Part) (codes : Codes) : Type 0 where
+pub record AreCodesOfPairs (blocks : List (List ℕ)) (parts : List Part) (codes : Codes) : Type 0 where
   pub code : IsCode (length (pairs_of blocks)) parts codes
   pub distinct : AreDistinct (length (pairs_of blocks)) codes.words
   pub short : codes.bits ≤ 64

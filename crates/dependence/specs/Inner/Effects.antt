@@ -14,8 +14,8 @@ use Rattle.dependence.specs.Effects.{ActsBy, MattersAt}
 use Rattle.dependence.specs.Said.{row_value}
 
 -- both are given, and they differ
-abbrev pub AreApart : Option Bool → Option Bool → Type 0
-AreApart first second = (v w : Bool) × (first ≡ Some v) × (second ≡ Some w) × (v ≢ w)
+abbrev pub AreGivenApart : Option Bool → Option Bool → Type 0
+AreGivenApart first second = (v w : Bool) × (first ≡ Some v) × (second ≡ Some w) × (v ≢ w)
 
 -- the cubes have different bits at the place of input a, and at no other place
 pub record DifferAt (inputs : ℕ) (one other : KissRow) (a : ℕ) : Type 0 where
@@ -26,7 +26,7 @@ pub record DifferAt (inputs : ℕ) (one other : KissRow) (a : ℕ) : Type 0 wher
 -- two rows of one state show that input a matters for the gate
 pub record Show (inputs : ℕ) (words : List ℕ) (one other : KissRow) (a : ℕ) (gate : Bit) : Type 0 where
   pub differ : DifferAt inputs one other a
-  pub values : AreApart (row_value words gate one) (row_value words gate other)
+  pub values : AreGivenApart (row_value words gate one) (row_value words gate other)
 
 -- the row and one of the others show it
 pub record ShowBeside (inputs : ℕ) (words : List ℕ) (others : List KissRow) (row : KissRow) (a : ℕ) (gate : Bit) : Type 0 where

@@ -6,7 +6,7 @@ use Rattle.dependence.specs.Permits.{InWord, PermitsValue}
 use Rattle.dependence.specs.ReadRule.{Beside, Without}
 
 -- bit c was judged: it is left out where the set without it permits the value, and all other bits are unchanged
-pub record IsJudged (F : KissFile) (words : List ℕ) (value : ℕ → List Bool → Bool) (set c kept : ℕ) : Type 0 where
+pub record IsBitDecided (F : KissFile) (words : List ℕ) (value : ℕ → List Bool → Bool) (set c kept : ℕ) : Type 0 where
   pub others : (d : ℕ) → d ≢ c → InWord kept d ↔ InWord set d
   pub within : InWord kept c → InWord set c
   pub needed : InWord kept c → PermitsValue F words (Without (InWord set) c) value → ⊥

@@ -4,7 +4,7 @@ use Rattle.std.proofs.lemmas.Bool.{cases_eq, cases_order}
 use Rattle.kiss_file.specs.declared.file.KissFile.{KissFile}
 use Rattle.dependence.specs.Permits.{InWord, PermitsValue}
 use Rattle.dependence.specs.ReadRule.{Beside, IsReadRule, Without}
-use Rattle.dependence.specs.Inner.Judging.{AreJudgedFrom, IsJudged}
+use Rattle.dependence.specs.Inner.Judging.{AreJudgedFrom, IsBitDecided}
 use Rattle.dependence.specs.Laws.Words.{bit_within}
 
 -- a greater set permits what a smaller one permits
@@ -13,14 +13,14 @@ permits_more F words R S value more permits s t x in_s in_t agree size = permits
 
 module _ (F : KissFile) (words : List ℕ) (value : ℕ → List Bool → Bool) (candidates set c kept : ℕ) where
   -- bits above c are the same before and after
-  beside_kept : IsJudged F words value set c kept → (d : ℕ) → c < d → (e : ℕ) → Beside (InWord candidates) (InWord kept) d e → Beside (InWord candidates) (InWord set) d e
+  beside_kept : IsBitDecided F words value set c kept → (d : ℕ) → c < d → (e : ℕ) → Beside (InWord candidates) (InWord kept) d e → Beside (InWord candidates) (InWord set) d e
   beside_kept judged d above e is =
       elim is [
         | inl low ↦ inl low
         | inr high ↦ inr (high.0, (judged.others e (λ at. omega (arith, at, high.0))).0 high.1)
       ]
 
-  kept_beside : IsJudged F words value set c kept → (d : ℕ) → c < d → (e : ℕ) → Beside (InWord candidates) (InWord set) d e → Beside (InWord candidates) (InWord kept) d e
+  kept_beside : IsBitDecided F words value set c kept → (d : ℕ) → c < d → (e : ℕ) → Beside (InWord candidates) (InWord set) d e → Beside (InWord candidates) (InWord kept) d e
   kept_beside judged d above e is =
       elim is [
         | inl low ↦ inl low
@@ -28,7 +28,7 @@ module _ (F : KissFile) (words : List ℕ) (value : ℕ → List Bool → Bool) 
       ]
 
   -- what stands beside c is the set without it
-  without_beside : IsJudged F words value set c kept → ((d : ℕ) → InWord set d → InWord candidates d) → (e : ℕ) → Without (InWord set) c e → Beside (InWord candidates) (InWord kept) c e
+  without_beside : IsBitDecided F words value set c kept → ((d : ℕ) → InWord set d → InWord candidates d) → (e : ℕ) → Without (InWord set) c e → Beside (InWord candidates) (InWord kept) c e
   without_beside judged within e is =
       elim (cases_order e c) [
         | inl at ↦ absurd (is.1 at)
@@ -38,7 +38,7 @@ module _ (F : KissFile) (words : List ℕ) (value : ℕ → List Bool → Bool) 
         ]
       ]
 
-  beside_without : IsJudged F words value set c kept → ((d : ℕ) → d < c → InWord candidates d → InWord set d) → (e : ℕ) → Beside (InWord candidates) (InWord kept) c e → Without (InWord set) c e
+  beside_without : IsBitDecided F words value set c kept → ((d : ℕ) → d < c → InWord candidates d → InWord set d) → (e : ℕ) → Beside (InWord candidates) (InWord kept) c e → Without (InWord set) c e
   beside_without judged below e is =
       elim is [
         | inl low ↦ (below e low.0 low.1, (λ at. omega (arith, at, low.0)))
@@ -47,7 +47,7 @@ module _ (F : KissFile) (words : List ℕ) (value : ℕ → List Bool → Bool) 
             ((judged.others e other).0 high.1, other)
       ]
 
-  kept_within : IsJudged F words value set c kept → (d : ℕ) → InWord kept d → InWord set d
+  kept_within : IsBitDecided F words value set c kept → (d : ℕ) → InWord kept d → InWord set d
   kept_within judged d is =
       elim (cases_eq d c) [
         | inl at ↦ subst (InWord set) (sym at) (judged.within (subst (InWord kept) at is))
@@ -55,7 +55,7 @@ module _ (F : KissFile) (words : List ℕ) (value : ℕ → List Bool → Bool) 
       ]
 
   -- one more was judged
-  pub judged_more : AreJudgedFrom F words value candidates set (c + 1) → IsJudged F words value set c kept → AreJudgedFrom F words value candidates kept c
+  pub judged_more : AreJudgedFrom F words value candidates set (c + 1) → IsBitDecided F words value set c kept → AreJudgedFrom F words value candidates kept c
   judged_more before judged = record {
     below = λ d low is. (judged.others d (λ at. omega (arith, at, low))).1 (before.below d (omega (arith, low)) is);
     within = λ d is. before.within d (kept_within judged d is);

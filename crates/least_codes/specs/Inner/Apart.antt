@@ -19,7 +19,7 @@ abbrev pub Differ : KissFile → (ℕ → List Bool → Bool) → TwoStates → 
 Differ F value pair = GiveTheSame F value pair.s pair.t → ⊥
 
 -- all pairs of states whose values differ
-pub record AreApart (F : KissFile) (value : ℕ → List Bool → Bool) (apart : List TwoStates) : Type 0 where
+pub record AreToldApart (F : KissFile) (value : ℕ → List Bool → Bool) (apart : List TwoStates) : Type 0 where
   pub lawful : All (IsPair (length F.states)) apart
   pub differ : All (Differ F value) apart
   pub each : (s t : ℕ) → s < t → t < length F.states → Contains apart (record { s = s; t = t }) ⊎ GiveTheSame F value s t

@@ -4,8 +4,8 @@ use Rattle.std.specs.Int.{bit_at}
 use Rattle.kiss_file.specs.declared.file.KissFile.{KissFile}
 use Rattle.least_codes.specs.declared.code.Best.{Best}
 use Rattle.least_codes.specs.Cost.{IsCost}
-use Rattle.least_codes.specs.Inner.Table.{IsTable}
-use Rattle.least_codes.specs.LeastCode.{AreCodes, TextsBefore}
+use Rattle.least_codes.specs.Inner.Table.{IsImageTable}
+use Rattle.least_codes.specs.LeastCode.{AreCodeWords, TextsBefore}
 use Rattle.least_codes.specs.declared.table.Images.{Images}
 
 -- a state before s has the same code
@@ -38,16 +38,16 @@ AreSeen words s i others = AreBefore words s i others ⊎ BeginSame words s i ot
 
 -- of the codes that were seen these cost the least, and of those that cost the same they have the first texts
 pub record IsBest (F : KissFile) (bits : ℕ) (Seen : List ℕ → Type 0) (best : Best) : Type 0 where
-  pub codes : AreCodes (length F.states) bits best.words.items
+  pub codes : AreCodeWords (length F.states) bits best.words.items
   pub seen : Seen best.words.items
   pub cost : IsCost F best.words.items bits best.cost
-  pub least : (others : List ℕ) (other : ℕ) → AreCodes (length F.states) bits others → Seen others → IsCost F others bits other → best.cost ≤ other
-  pub first : (others : List ℕ) → AreCodes (length F.states) bits others → Seen others → IsCost F others bits best.cost → (others ≡ best.words.items) ⊎ TextsBefore best.words.items others
+  pub least : (others : List ℕ) (other : ℕ) → AreCodeWords (length F.states) bits others → Seen others → IsCost F others bits other → best.cost ≤ other
+  pub first : (others : List ℕ) → AreCodeWords (length F.states) bits others → Seen others → IsCost F others bits best.cost → (others ≡ best.words.items) ⊎ TextsBefore best.words.items others
 
 -- the best of the codes that were seen, or None if none were seen
-abbrev pub IsKept : KissFile → ℕ → (List ℕ → Type 0) → Option Best → Type 0
-IsKept F bits Seen None = (others : List ℕ) → AreCodes (length F.states) bits others → Seen others → ⊥
-IsKept F bits Seen (Some best) = IsBest F bits Seen best
+abbrev pub IsBestSeen : KissFile → ℕ → (List ℕ → Type 0) → Option Best → Type 0
+IsBestSeen F bits Seen None = (others : List ℕ) → AreCodeWords (length F.states) bits others → Seen others → ⊥
+IsBestSeen F bits Seen (Some best) = IsBest F bits Seen best
 
 -- the cost is below that of the best, if there is one
 abbrev pub IsLessThan : ℕ → Option Best → Type 0
@@ -67,6 +67,6 @@ pub record Stays (cost : ℕ) (old new : Option Best) : Type 0 where
   pub not_less : IsLessThan cost old → ⊥
   pub same : new ≡ old
 
-abbrev pub IsJudged : List Images → ℕ → List ℕ → Option Best → Option Best → Type 0
-IsJudged table bits words old new =
-    (cost : ℕ) × ((F : KissFile) → IsTable F table → length F.states ≡ length words → IsCost F words bits cost) × (Takes words cost old new ⊎ Stays cost old new)
+abbrev pub IsBestWith : List Images → ℕ → List ℕ → Option Best → Option Best → Type 0
+IsBestWith table bits words old new =
+    (cost : ℕ) × ((F : KissFile) → IsImageTable F table → length F.states ≡ length words → IsCost F words bits cost) × (Takes words cost old new ⊎ Stays cost old new)

@@ -29,7 +29,7 @@ pub record IsTableOf (F : KissFile) (pairs : List TwoStates) (table : List Image
   pub each : (pair : TwoStates) → Contains pairs pair → HasRow table pair
 
 -- the table has the rows of all pairs of states
-pub record IsTable (F : KissFile) (table : List Images) : Type 0 where
+pub record IsImageTable (F : KissFile) (table : List Images) : Type 0 where
   pub rows : All (IsRow F) table
   pub each : (s t : ℕ) → s < t → t < length F.states → HasRow table (record { s = s; t = t })
 

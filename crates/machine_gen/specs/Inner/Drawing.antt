@@ -19,8 +19,8 @@ abbrev pub place_of : ℕ → ℕ → ℕ → Place
 place_of b k number = record { first = number / 2 ^ k / b; second = number / 2 ^ k % b; symbol = number % 2 ^ k }
 
 -- the row of a place, which goes to the given state
-abbrev pub IsRowAt : ℕ → ℕ → Place → ℕ → KissRow → Type 0
-IsRowAt b k place state row = IsDrawnRow b k place.first place.second place.symbol state row
+abbrev pub IsRowOfPlace : ℕ → ℕ → Place → ℕ → KissRow → Type 0
+IsRowOfPlace b k place state row = IsDrawnRow b k place.first place.second place.symbol state row
 
 -- where the words lead from a place
 abbrev pub next_of : (ℕ → ℕ) → ℕ → ℕ → ℕ → Place → ℕ

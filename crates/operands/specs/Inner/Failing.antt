@@ -6,6 +6,6 @@ use Rattle.hs_io.specs.declared.shelf.LoadFail.{LoadFail}
 use Rattle.hs_io.specs.declared.shelf.LoadFail.TheVariants as fails
 
 -- memory ran out, or the refusal names what could not be read or is too long
-abbrev pub IsRefusalOf : List ℕ → LoadFail → Refusal → Type 0
-IsRefusalOf name fail refusal =
+abbrev pub IsLoadRefusal : List ℕ → LoadFail → Refusal → Type 0
+IsLoadRefusal name fail refusal =
     (refusal ≡ NoMemory) ⊎ ((fail ≡ fails.Failed) × (refusal ≡ Unreadable name)) ⊎ ((fail ≡ fails.TooLong) × (refusal ≡ TooLong name))

@@ -22,18 +22,18 @@ IsEntryRefusal F s x part refusal =
     (name : List ℕ) × (refusal ≡ Unspecified name (map digit (symbol_of F.inputs x)) part) × (slice_get F.states s ≡ Some name)
 
 -- the refusal that a file calls for, or that memory ran out
-abbrev pub IsRefusalOf : Fill → KissFile → Refusal → Type 0
-IsRefusalOf fill F refusal = (refusal ≡ NoMemory) ⊎ Conflicts F refusal ⊎ LeavesOpen fill F refusal
+abbrev pub IsMachineRefusal : Fill → KissFile → Refusal → Type 0
+IsMachineRefusal fill F refusal = (refusal ≡ NoMemory) ⊎ Conflicts F refusal ⊎ LeavesOpen fill F refusal
 
 -- the machine of a file, or the refusal that the file calls for
 abbrev pub IsMachineOf : Fill → KissFile → Result KissFile Refusal → Type 0
 IsMachineOf fill F (Ok machine) = (machine ≡ F) × Accepted F fill
-IsMachineOf fill F (Err refusal) = IsRefusalOf fill F refusal
+IsMachineOf fill F (Err refusal) = IsMachineRefusal fill F refusal
 
 -- the same with the record of the file
 abbrev pub IsBuiltOf : Fill → KissFile → Result OpenedMachine Refusal → Type 0
 IsBuiltOf fill F (Ok opened) = (opened.file ≡ F) × (opened.machine ≡ F) × Accepted F fill
-IsBuiltOf fill F (Err refusal) = IsRefusalOf fill F refusal
+IsBuiltOf fill F (Err refusal) = IsMachineRefusal fill F refusal
 
 -- the machine that bytes denote, or the refusal that they call for
 abbrev pub IsReadOf : Fill → List ℕ → Result OpenedMachine Refusal → Type 0

@@ -18,7 +18,7 @@ abbrev pub state_at : KissFile → ℕ → ℕ → ℕ
 state_at F k number = state_after F (content_of F k number)
 
 -- the states after all contents
-pub record IsTable (F : KissFile) (k : ℕ) (table : List ℕ) : Type 0 where
+pub record IsStateTable (F : KissFile) (k : ℕ) (table : List ℕ) : Type 0 where
   pub size : length table ≡ 2 ^ (k * F.inputs)
   pub each : (number : ℕ) → number < 2 ^ (k * F.inputs) → slice_index table number ≡ state_at F k number
   pub within : All (λ s. s < length F.states) table

@@ -4,7 +4,7 @@ use Rattle.std.specs.Prelude.{◌<◌, ℕ, List}
 use Rattle.kiss_file.specs.declared.file.KissFile.{KissFile}
 use Rattle.machine_table.specs.Pairs.{AgreeAt, AtEachSymbol, GoInto, IsFirstWithout}
 use Rattle.partition.specs.Partition.{Together}
-use Rattle.state_reduce.specs.Cause.{IsFirstAgainst}
+use Rattle.state_reduce.specs.Cause.{IsFirstFailing}
 use Rattle.state_reduce.specs.declared.judging.Demand.{Demand}
 use Rattle.state_reduce.specs.declared.judging.Demand.TheVariants.{NextStates, Outputs}
 
@@ -31,5 +31,5 @@ pub record IsFirstBehind (demand : Demand) (F : KissFile) (p : List ℕ) (s t x 
 
 -- s < t are the first two states that do not meet the demand, and x is the first such symbol
 abbrev pub IsFirstUnmet : Demand → KissFile → List ℕ → (s t x : ℕ) → Type 0
-IsFirstUnmet NextStates F p s t x = IsFirstAgainst (GoInto (Together p)) F p s t x
-IsFirstUnmet Outputs F p s t x = IsFirstAgainst AgreeAt F p s t x
+IsFirstUnmet NextStates F p s t x = IsFirstFailing (GoInto (Together p)) F p s t x
+IsFirstUnmet Outputs F p s t x = IsFirstFailing AgreeAt F p s t x

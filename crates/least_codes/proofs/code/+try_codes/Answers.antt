@@ -2,8 +2,8 @@ use Rattle.std.proofs.Common.{◌≡◌, ◌∙◌, ℕ, ◌+◌, ◌*◌, ◌%�
 use Rattle.std.proofs.lemmas.Bool.{true≢false}
 use Rattle.std.proofs.lemmas.List.{set-get_or, set-set}
 use Rattle.kiss_file.specs.declared.file.KissFile.{KissFile}
-use Rattle.least_codes.specs.Inner.Lists.{AreBefore, AreSeen, IsDraft, IsJudged, IsKept}
-use Rattle.least_codes.specs.Inner.Table.{IsInside, IsTable}
+use Rattle.least_codes.specs.Inner.Lists.{AreBefore, AreSeen, IsDraft, IsBestWith, IsBestSeen}
+use Rattle.least_codes.specs.Inner.Table.{IsInside, IsImageTable}
 use Rattle.least_codes.proofs.Trying.{draft_next, draft_one, draft_whole, draft_zero, is_with_one, judged_kept, kept_back, kept_both, kept_next, kept_one, kept_zero, used_kept, whole_before, whole_seen, with_one, with_one_length}
 use Rattle.least_codes.proofs.code.+try_codes.Goals as goal
 
@@ -14,8 +14,8 @@ on_ok (Err e) P Q more is = tt
 -- the codes are whole
 pub returns-then-s-words-clause-kept : goal.returns-then-s-words-clause-kept
 returns-then-s-words-clause-kept t c =
-    on_ok c.judge.result (IsJudged c.args.table.now c.args.bits c.args.words.now c.args.best.now c.judge.new.best)
-    ((F : KissFile) → IsTable F c.args.table.now → length F.states ≡ length c.args.words.now → IsKept F c.args.bits (AreSeen c.args.words.now c.args.s c.args.i) c.judge.new.best)
+    on_ok c.judge.result (IsBestWith c.args.table.now c.args.bits c.args.words.now c.args.best.now c.judge.new.best)
+    ((F : KissFile) → IsImageTable F c.args.table.now → length F.states ≡ length c.args.words.now → IsBestSeen F c.args.bits (AreSeen c.args.words.now c.args.s c.args.i) c.judge.new.best)
     (λ judged F of size.
     whole_seen F c.args.bits c.args.words.now size c.args.s c.args.i c.if-s-words.true c.judge.new.best
     (judged_kept F c.args.bits c.args.words.now size (draft_whole F c.args.bits c.args.words.now size c.args.s c.args.i c.if-s-words.true c.requires.draft) judged.0 c.args.best.now c.judge.new.best
@@ -26,10 +26,10 @@ returns-then-s-words-clause-kept t c =
 -- the code of state s is whole
 pub returns-then-is_used-clause-kept : goal.returns-then-is_used-clause-kept
 returns-then-is_used-clause-kept t c F of size =
-    subst (λ (k : ℕ). IsKept F c.args.bits (AreSeen c.args.words.now c.args.s k) c.args.best.now) (sym c.if-i-bits.true)
+    subst (λ (k : ℕ). IsBestSeen F c.args.bits (AreSeen c.args.words.now c.args.s k) c.args.best.now) (sym c.if-i-bits.true)
     (used_kept F c.args.bits c.args.words.now size c.args.s (omega (arith, c.requires.draft.state, c.if-s-words.false))
     (subst (λ (k : ℕ). IsDraft c.args.bits c.args.words.now c.args.s k) c.if-i-bits.true c.requires.draft) (c.is_used.ensures.0 c.if-is_used.true) c.args.best.now
-    (subst (λ (k : ℕ). IsKept F c.args.bits (AreBefore c.args.words.now c.args.s k) c.args.best.now) c.if-i-bits.true (c.requires.kept F of size)))
+    (subst (λ (k : ℕ). IsBestSeen F c.args.bits (AreBefore c.args.words.now c.args.s k) c.args.best.now) c.if-i-bits.true (c.requires.kept F of size)))
 
 pub try_codes-requires : goal.try_codes-requires
 try_codes-requires t c =
@@ -43,7 +43,7 @@ try_codes-requires t c =
           (
             draft_next c.args.bits c.args.words.now c.args.s within whole (λ used. true≢false (sym (c.is_used.ensures.1 used) ∙ c.if-is_used.false)),
             (λ F of size. kept_next F c.args.bits c.args.words.now size c.args.s within whole c.args.best.now
-                (subst (λ (k : ℕ). IsKept F c.args.bits (AreBefore c.args.words.now c.args.s k) c.args.best.now) c.if-i-bits.true (c.requires.kept F of size))),
+                (subst (λ (k : ℕ). IsBestSeen F c.args.bits (AreBefore c.args.words.now c.args.s k) c.args.best.now) c.if-i-bits.true (c.requires.kept F of size))),
           ),
         ),
       ),
@@ -54,9 +54,9 @@ returns-then-i-bits-clause-kept t c =
     let within : c.args.s < length c.args.words.now = omega (arith, c.requires.draft.state, c.if-s-words.false) in
     let whole : IsDraft c.args.bits c.args.words.now c.args.s c.args.bits = subst (λ (k : ℕ). IsDraft c.args.bits c.args.words.now c.args.s k) c.if-i-bits.true c.requires.draft in
     on_ok c.try_codes.result
-    ((F : KissFile) → IsTable F c.args.table.now → length F.states ≡ length c.args.words.now → IsKept F c.args.bits (AreSeen c.args.words.now (c.args.s + 1) 0) c.try_codes.new.best)
-    ((F : KissFile) → IsTable F c.args.table.now → length F.states ≡ length c.args.words.now → IsKept F c.args.bits (AreSeen c.args.words.now c.args.s c.args.i) c.try_codes.new.best)
-    (λ kept F of size. subst (λ (k : ℕ). IsKept F c.args.bits (AreSeen c.args.words.now c.args.s k) c.try_codes.new.best) (sym c.if-i-bits.true)
+    ((F : KissFile) → IsImageTable F c.args.table.now → length F.states ≡ length c.args.words.now → IsBestSeen F c.args.bits (AreSeen c.args.words.now (c.args.s + 1) 0) c.try_codes.new.best)
+    ((F : KissFile) → IsImageTable F c.args.table.now → length F.states ≡ length c.args.words.now → IsBestSeen F c.args.bits (AreSeen c.args.words.now c.args.s c.args.i) c.try_codes.new.best)
+    (λ kept F of size. subst (λ (k : ℕ). IsBestSeen F c.args.bits (AreSeen c.args.words.now c.args.s k) c.try_codes.new.best) (sym c.if-i-bits.true)
     (kept_back F c.args.bits c.args.words.now size c.args.s within whole c.try_codes.new.best (kept F of size)))
     c.try_codes.ensures.kept
 
@@ -96,7 +96,7 @@ try_codes-requires-3 t c =
           subst (λ (n : ℕ). All (IsInside n) c.args.table.now) (sym size_same) c.requires.inside,
           (
             subst (λ (list : List ℕ). IsDraft c.args.bits list c.args.s (c.args.i + 1)) (sym same) (draft_one words c.args.s c.args.i within small c.args.bits below c.requires.draft),
-            (λ F of size. subst (λ (list : List ℕ). IsKept F c.args.bits (AreBefore list c.args.s (c.args.i + 1)) c.try_codes-2.new.best) (sym same)
+            (λ F of size. subst (λ (list : List ℕ). IsBestSeen F c.args.bits (AreBefore list c.args.s (c.args.i + 1)) c.try_codes-2.new.best) (sym same)
                 (kept_one words c.args.s c.args.i within small F c.args.bits c.requires.draft c.try_codes-2.new.best (c.in_ok-try_codes.ensures.kept F of (size ∙ size_same)))),
           ),
         ),
@@ -118,4 +118,4 @@ returns-clause-kept t c F of size =
     let same : set c.try_codes-2.new.words c.args.s (bit_or (get_or c.try_codes-2.new.words c.args.s 0) (1 * 2 ^ c.args.i % 2 ^ 64)) ≡ with_one words c.args.s c.args.i = one_next words c.try_codes-2.new.words c.args.s c.args.i c.in_ok-try_codes.ensures.words in
     let size_same : length (set c.try_codes-2.new.words c.args.s (bit_or (get_or c.try_codes-2.new.words c.args.s 0) (1 * 2 ^ c.args.i % 2 ^ 64))) ≡ length words = ap (λ (list : List ℕ). length list) same ∙ with_one_length words c.args.s c.args.i within small in
     kept_both words c.args.s c.args.i within small F c.args.bits c.requires.draft c.try_codes-3.new.best
-    (subst (λ (list : List ℕ). IsKept F c.args.bits (AreSeen list c.args.s (c.args.i + 1)) c.try_codes-3.new.best) same (c.in_ok-try_codes-2.ensures.kept F of (size ∙ sym size_same)))
+    (subst (λ (list : List ℕ). IsBestSeen F c.args.bits (AreSeen list c.args.s (c.args.i + 1)) c.try_codes-3.new.best) same (c.in_ok-try_codes-2.ensures.kept F of (size ∙ sym size_same)))

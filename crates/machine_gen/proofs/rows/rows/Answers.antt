@@ -1,6 +1,6 @@
 use Rattle.std.proofs.Common.{◌≡◌, ℕ, ◌+◌, ◌*◌, ◌^◌, ◌<◌, ap, subst, ◌∙◌, arith}
 use Rattle.machine_gen.specs.declared.rows.Place.{Place}
-use Rattle.machine_gen.specs.Inner.Drawing.{IsRowAt, next_of}
+use Rattle.machine_gen.specs.Inner.Drawing.{IsRowOfPlace, next_of}
 use Rattle.machine_gen.specs.Words.{word}
 use Rattle.machine_gen.proofs.Numbered.{AreRowsBelow, rows-more, rows_whole}
 use Rattle.machine_gen.proofs.Stepping.{first_there, from_fits, next_fits, next_is, second_there}
@@ -45,9 +45,9 @@ loop-number-preserved c =
     next_is words a b k c.loop-number.number _ _ _ _ _ c.requires c.symbols-symbols.ensures (c.from.ensures ∙ c.max.ensures)
     c.from-2.ensures c.in_ok-draws.ensures c.place_at-place.ensures c.loop-number-test.true _ _ _ _ c.as_slice.ensures.value c.as_slice-in-loop-number.ensures.value
     c.drawn-first.ensures c.drawn-second.ensures in
-    let here : IsRowAt b k place (next_of words a b k place) c.row.result = subst (λ n. IsRowAt b k place n c.row.result) state c.row.ensures in
+    let here : IsRowOfPlace b k place (next_of words a b k place) c.row.result = subst (λ n. IsRowOfPlace b k place n c.row.result) state c.row.ensures in
     rows-more words a b k c.loop-number.number c.loop-number.rows c.push.new.self c.row.result c.loop-number.invariant c.in_ok-push.ensures.ok
-    (subst (λ (p : Place). IsRowAt b k p (next_of words a b k p) c.row.result) c.place_at-place.ensures here)
+    (subst (λ (p : Place). IsRowOfPlace b k p (next_of words a b k p) c.row.result) c.place_at-place.ensures here)
 
 pub returns : goal.returns
 returns c =

@@ -1,5 +1,5 @@
 use Rattle.std.proofs.Common.{ℕ, ◌*◌, ap, ◌∙◌, List, sym, subst, arith}
-use Rattle.shift_real.specs.Inner.Tables.{IsTable}
+use Rattle.shift_real.specs.Inner.Tables.{IsStateTable}
 use Rattle.shift_real.specs.Inner.Contents.{AreContents}
 use Rattle.shift_real.specs.declared.contents.Content.{Content}
 use Rattle.shift_real.proofs.ShiftNetworks.{gates_built}
@@ -35,4 +35,4 @@ pub add_output_gates-requires-clause-names : goal.add_output_gates-requires-clau
 add_output_gates-requires-clause-names c = c.requires.names
 
 pub add_output_gates-requires-clause-table : goal.add_output_gates-requires-clause-table
-add_output_gates-requires-clause-table c = subst (IsTable c.args.m.now c.args.held.now.order) (sym c.deref-2.ensures.value) c.in_ok-table.ensures
+add_output_gates-requires-clause-table c = subst (IsStateTable c.args.m.now c.args.held.now.order) (sym c.deref-2.ensures.value) c.in_ok-table.ensures

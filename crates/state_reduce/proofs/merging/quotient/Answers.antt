@@ -10,7 +10,7 @@ use Rattle.pair_operators.specs.Consistent.{Consistent}
 use Rattle.pair_operators.specs.Pair.{Closed}
 use Rattle.machine_table.specs.Staying.{NeverLeaves}
 use Rattle.partition.specs.Partition.{IsPartition}
-use Rattle.state_reduce.specs.Cause.{IsFirstAgainst}
+use Rattle.state_reduce.specs.Cause.{IsFirstFailing}
 use Rattle.state_reduce.specs.declared.judging.Demand.TheVariants.{NextStates, Outputs}
 use Rattle.state_reduce.specs.Inner.Demanded.{IsMetByAll}
 use Rattle.state_reduce.specs.Inner.Named.{AreAllNamed}
@@ -42,7 +42,7 @@ returns-in-Some-first_against-clause-caused c =
     let F = c.args.file.now in
     let p = c.args.p.now in (
       closed_by F c.args.m.now p c.requires.built c.requires.states c.keeps_its_states.ensures.next c.in_default.ensures.none,
-      subst (λ (G : KissFile). IsFirstAgainst AgreeAt G p c.in-Some-first_against.s c.in-Some-first_against.t c.in-Some-first_against.x) c.requires.built c.in-Some-first_against.ensures.some,
+      subst (λ (G : KissFile). IsFirstFailing AgreeAt G p c.in-Some-first_against.s c.in-Some-first_against.t c.in-Some-first_against.x) c.requires.built c.in-Some-first_against.ensures.some,
     )
 
 pub file_of_blocks-requires-clause-each : goal.file_of_blocks-requires-clause-each
