@@ -21,7 +21,6 @@ use Rattle.hsdec_core.specs.Inner.Made.{IsPlain}
 use Rattle.hsdec_core.specs.Judgement.{file_cause, list_cause, own_cause, work_cause}
 use Rattle.io_pairs.specs.Inputs.{IsInMmPair}
 use Rattle.io_pairs.specs.Outputs.{IsOutMmPair}
-use Rattle.io_pairs.specs.Sides as rights
 use Rattle.job_words.specs.declared.jobs.Job.{Job}
 use Rattle.kiss_file.specs.declared.file.KissFile.{KissFile}
 use Rattle.machine_reports.specs.Laws.Causes.{definite_has_one_answer, input_pairs_have_one_answer, list_has_one_answer, more_than_is_of, not_definite_is_of, output_pairs_have_one_answer, too_many_inputs_is_of, too_many_outputs_is_of}
@@ -101,11 +100,11 @@ list_plain Closed limit F refusal h few = absurd (few (more_than_is_of Before (I
 list_plain Output limit F refusal h few = absurd (few (more_than_is_of Before (IsClosedAndConsistent F) limit refusal h))
 list_plain Pairs limit F refusal h few = absurd (few (more_than_is_of RightBefore (IsMmPair F) limit refusal h))
 list_plain InputPairs limit F refusal (inl h) few = subst IsPlain (sym (too_many_inputs_is_of F refusal h)) tt
-list_plain InputPairs limit F refusal (inr (_, inl h)) few = absurd (few (more_than_is_of rights.RightBefore (IsInMmPair F) limit refusal h))
+list_plain InputPairs limit F refusal (inr (_, inl h)) few = absurd (few (more_than_is_of RightBefore (IsInMmPair F) limit refusal h))
 list_plain InputPairs limit F refusal (inr (_, inr h)) few = absurd h.1
 list_plain OutputPairs limit F refusal (inl h) few = subst IsPlain (sym (too_many_inputs_is_of F refusal h)) tt
 list_plain OutputPairs limit F refusal (inr (_, inl h)) few = subst IsPlain (sym (too_many_outputs_is_of F refusal h)) tt
-list_plain OutputPairs limit F refusal (inr (_, inr (_, inl h))) few = absurd (few (more_than_is_of rights.RightBefore (IsOutMmPair F) limit refusal h))
+list_plain OutputPairs limit F refusal (inr (_, inr (_, inl h))) few = absurd (few (more_than_is_of RightBefore (IsOutMmPair F) limit refusal h))
 list_plain OutputPairs limit F refusal (inr (_, inr (_, inr h))) few = absurd h.1
 
 file_plain : (task : FileTask) (job : Job) (F : KissFile) (refusal : Refusal) → file_cause task job F refusal → IsPlain (answer_of refusal)

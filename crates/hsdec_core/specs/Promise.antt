@@ -19,7 +19,6 @@ use Rattle.operands.specs.Loading.{IsText}
 use Rattle.operands.specs.Opened.{HoldsMachine, HoldsNetwork}
 use Rattle.hsdec_core.specs.Task.{task_of}
 use Rattle.io_pairs.specs.Inputs.{IsInMmPair}
-use Rattle.io_pairs.specs.Sides as rights
 use Rattle.job_words.specs.declared.jobs.Job.{Job}
 use Rattle.kiss_file.specs.declared.file.KissFile.{KissFile}
 use Rattle.kiss2.specs.Written.{kiss_text}
@@ -46,7 +45,7 @@ abbrev pub IsListing : ListTask → ℕ → KissFile → List ℕ → Type 0
 IsListing Closed limit F text = IsListText partition_line Before (IsClosedPartition F) limit text
 IsListing Output limit F text = IsListText partition_line Before (IsClosedAndConsistent F) limit text
 IsListing Pairs limit F text = IsListText pair_line RightBefore (IsMmPair F) limit text
-IsListing InputPairs limit F text = IsListText pair_line rights.RightBefore (IsInMmPair F) limit text
+IsListing InputPairs limit F text = IsListText pair_line RightBefore (IsInMmPair F) limit text
 IsListing OutputPairs limit F text = IsOutputText F limit text
 
 -- the text is evidence that the list has more than the limit
@@ -54,7 +53,7 @@ abbrev pub IsListEvidence : ListTask → ℕ → KissFile → List ℕ → Type 
 IsListEvidence Closed limit F text = IsEvidenceText partition_line Before (IsClosedPartition F) limit text
 IsListEvidence Output limit F text = IsEvidenceText partition_line Before (IsClosedAndConsistent F) limit text
 IsListEvidence Pairs limit F text = IsEvidenceText pair_line RightBefore (IsMmPair F) limit text
-IsListEvidence InputPairs limit F text = IsEvidenceText pair_line rights.RightBefore (IsInMmPair F) limit text
+IsListEvidence InputPairs limit F text = IsEvidenceText pair_line RightBefore (IsInMmPair F) limit text
 IsListEvidence OutputPairs limit F text = IsOutputEvidence F limit text
 
 -- the text is the one on the machine of FILE itself
