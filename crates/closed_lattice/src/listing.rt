@@ -17,7 +17,7 @@ use machine_table::Machine;
 use partition::{BitPart, BitWorld, Partition};
 use std::alloc::{AllocError, Global};
 
-/// The same partitions as rows of bits.
+/// The partitions, each as rows of bits.
 fn in_rows(alloc: Global, list: &[Partition]) -> Result<Vec<BitPart>, AllocError>
     ensures { IfOk result (λ rows. rows.items ≡ list.now) }
 {

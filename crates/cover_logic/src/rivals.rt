@@ -85,7 +85,7 @@ fn needed_rows(
     Ok(kept)
 }
 
-/// The same, with bundles of the rows and of on.
+/// The rows that are left when each row goes whose values of on the others hold, found by bundles of the rows and of on.
 pub fn needed_by_bundles(
     alloc: Global,
     rows: &[Term],

@@ -45,7 +45,7 @@ fn find_gap(alloc: Global, part: Term, terms: &[Term]) -> Result<Option<u128>, A
     find_near_gap(alloc, part, &near)
 }
 
-/// The same, where each of the terms shares a value with the part.
+/// A value of the part that no term holds, where each of the terms shares a value with the part.
 #[cycle(find_gap)]
 fn find_near_gap(alloc: Global, part: Term, near: &[Term]) -> Result<Option<u128>, AllocError>
     requires { All (λ t. agree part t ≡ true) near.now }

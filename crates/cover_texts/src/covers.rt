@@ -34,7 +34,7 @@ pub fn cover(
     cover_by(alloc, file, machine, &blocks)
 }
 
-/// The same by the cover that a text gives.
+/// The network of a file's machine, split by a cover that was read from a text, with the comments before it.
 fn cover_by(
     alloc: Global,
     file: &KissFile,

@@ -4,7 +4,6 @@ use Rattle.blif_out.specs.declared.header.Header.{Header}
 use Rattle.blif_out.specs.declared.header.LatchNote.{LatchNote}
 use Rattle.blif_out.specs.declared.networks.HeadedNetwork.{HeadedNetwork}
 use Rattle.blif_out.specs.HeadLaw.{IsLawfulHeader}
-use Rattle.blif_out.specs.NetworkText.{IsHeadedText}
 use Rattle.dependence.specs.declared.sets.Reads.{Reads}
 use Rattle.dependence.specs.Reads.{AreReads}
 use Rattle.kiss_file.specs.declared.file.KissFile.{KissFile}
@@ -72,9 +71,3 @@ unfoldable pub IsDecomposed : Bool → KissFile → KissFile → Kind → List P
 IsDecomposed reduce F W kind parts made =
     (class : ℕ → ℕ) × (codes : Codes)
     × IsWorkMachine reduce F W class × (made.header.kind ≡ kind) × (made.header.parts ≡ parts) × IsDecomposition reduce F W class codes made.network made.header
-
--- The text is that of such a network after its header. It consists of the header and the network, denotes the
--- network, also after further comments, and the network is sound and starts at known values.
-abbrev pub IsDecomposedText : Bool → KissFile → KissFile → Kind → List Part → List ℕ → Type 0
-IsDecomposedText reduce F W kind parts text =
-    (made : HeadedNetwork) × IsDecomposed reduce F W kind parts made × IsHeadedText made.header made.network text

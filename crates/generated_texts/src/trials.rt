@@ -43,7 +43,8 @@ pub fn trial(alloc: Global, seed: u64, a: u16, b: u16, k: u8) -> Result<Commente
     trial_of(alloc, Numbers { seed, a, b, k }, &file)
 }
 
-/// The same for the file of the machine of the numbers.
+/// The network of the parallel decomposition of the machine of the numbers, which this file is, with a summary and the
+/// header as comments.
 fn trial_of(alloc: Global, numbers: Numbers, file: &KissFile) -> Result<CommentedNetwork, Refusal>
     requires sizes { AreSizes numbers.a numbers.b numbers.k }
     requires made { IsGenerated numbers.seed numbers.a numbers.b numbers.k file.now }
@@ -55,7 +56,8 @@ fn trial_of(alloc: Global, numbers: Numbers, file: &KissFile) -> Result<Commente
     trial_on(alloc, numbers, file, &work)
 }
 
-/// The same for the machine of that file.
+/// The network of the parallel decomposition of a machine that `work_machine` gives for that file, with a summary and
+/// the header as comments.
 fn trial_on(
     alloc: Global,
     numbers: Numbers,

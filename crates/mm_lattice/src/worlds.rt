@@ -41,7 +41,7 @@ pub(crate) fn with_right(alloc: Global, m: &Machine, right: Partition) -> Result
     with_right_beside(alloc, m, &mut AskedSymbols::new(alloc), right)
 }
 
-/// The same, asking first the symbols that told states apart for earlier pairs.
+/// The Mm pair of a right side, which asks first the symbols that told states apart for earlier pairs.
 pub(crate) fn with_right_beside(
     alloc: Global,
     m: &Machine,

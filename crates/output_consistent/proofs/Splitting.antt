@@ -4,7 +4,7 @@ use Rattle.cubes.specs.Symbol.{symbol_of}
 use Rattle.cubes.specs.Laws.Numbers.{length-symbol_of}
 use Rattle.kiss_file.specs.declared.file.KissFile.{KissFile}
 use Rattle.kiss_file.specs.Machine.{output_bit}
-use Rattle.partition.specs.Inner.Splitting.{IsSplitBy}
+use Rattle.partition.specs.Splitting.{IsSplitBy}
 use Rattle.output_consistent.specs.Outputs.{IsOutputPartition}
 use Rattle.output_consistent.specs.Inner.Agreeing.{AgreeInEach}
 use Rattle.output_consistent.proofs.Agreeing.{at_symbol}

@@ -2,7 +2,7 @@
 use Rattle.std.proofs.Common.{◌≡◌, ℕ, List, length, subst, inl, inr, arith}
 use Rattle.kiss_file.specs.declared.file.KissFile.{KissFile}
 use Rattle.machine_table.specs.Staying.{NeverLeaves}
-use Rattle.partition.specs.Inner.Splitting.{IsSplitBy}
+use Rattle.partition.specs.Splitting.{IsSplitBy}
 use Rattle.pair_operators.specs.Extremes.{IsHigh}
 use Rattle.pair_operators.specs.Going.{Goes}
 use Rattle.pair_operators.specs.Laws.Going.{goes_each, goes_in_pair, goes_itself}

@@ -3,7 +3,7 @@ ghost use Rattle.std.specs.Prelude.{ℕ, ◌≡◌, ◌<◌, ◌↔◌, IfNone, 
 ghost use Rattle.pair_operators.specs.Asked.{AreAsked};
 ghost use Rattle.pair_operators.specs.Extremes.{IsHigh};
 ghost use Rattle.partition.specs.Partition.{IsPartition};
-ghost use Rattle.partition.specs.Inner.Splitting.{AreRelated};
+ghost use Rattle.partition.specs.Splitting.{AreRelated};
 ghost use Rattle.pair_operators.specs.Going.{Goes};
 ghost use Rattle.pair_operators.specs.Inner.Keys.{AreKeys};
 

@@ -2,5 +2,4 @@
 pub mod Rows
 pub mod Ties
 pub mod Relabelled
-pub mod Splitting
 pub mod Gathering

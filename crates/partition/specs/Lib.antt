@@ -8,6 +8,7 @@ pub mod Text
 pub mod Inside
 pub mod Bits
 pub mod Sides
+pub mod Splitting
 pub mod Partners
 pub mod Inner
 pub mod Laws

@@ -38,7 +38,8 @@ pub fn shift(
     shift_of(alloc, file, &work)
 }
 
-/// The same for a machine that is worked on.
+/// The network of the shift register of a machine that `work_machine` gives for the file, with comments that give its
+/// order.
 fn shift_of(alloc: Global, file: &KissFile, work: &WorkMachine) -> Result<CommentedNetwork, Refusal>
     requires lawful { IsLawful file.now }
     requires no_conflict { Conflicting file.now → ⊥ }

@@ -42,7 +42,7 @@ pub fn decompose(
     decompose_work(alloc, kind, text, file, &work)
 }
 
-/// The same for the machine that is split.
+/// The network of the decomposition of a kind, with its header, of a machine that `work_machine` gives for the file.
 fn decompose_work(
     alloc: Global,
     kind: Kind,

@@ -10,7 +10,7 @@ use Rattle.state_reduce.specs.Alike.{IsEquivalence, IsWord}
 use Rattle.machine_table.specs.Staying.{NeverLeaves}
 use Rattle.state_reduce.specs.Laws.Alike.{alike_agree, alike_next, at_symbol}
 use Rattle.state_reduce.specs.Inner.Refining.{AgreeAlways, IsRound, StayTogether}
-use Rattle.partition.specs.Inner.Splitting.{IsSplitBy}
+use Rattle.partition.specs.Splitting.{IsSplitBy}
 
 -- both relations are symmetric and transitive
 pub agree_turned : (F : KissFile) (s t : ℕ) → AgreeAlways F s t → AgreeAlways F t s

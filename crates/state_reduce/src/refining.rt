@@ -1,6 +1,6 @@
 //! The partition of alike states, by rounds that separate states.
 ghost use Rattle.std.specs.Prelude.{◌≡◌, ◌<◌, ◌↔◌, ℕ, IfNone, IfOk, IfSome, IsTrue, length};
-ghost use Rattle.partition.specs.Inner.Splitting.{AreRelated, IsSplitBy};
+ghost use Rattle.partition.specs.Splitting.{AreRelated, IsSplitBy};
 ghost use Rattle.partition.specs.Partition.{IsPartition};
 ghost use Rattle.state_reduce.specs.Alike.{IsEquivalence};
 ghost use Rattle.state_reduce.specs.Inner.Refining.{AgreeAlways, IsRound, StayTogether};

@@ -40,7 +40,7 @@ fn answer(alloc: Global, case: Case<'_>) -> Result<Counts, Error> {
     answer_of_text(alloc, case, text.as_slice())
 }
 
-/// The same, where the text is given.
+/// What the work on a case gives, where its text is given.
 fn answer_of_text(alloc: Global, case: Case<'_>, text: &[u8]) -> Result<Counts, Error> {
     if text.len() >= 1 << 32 {
         bail!("the text is too long");

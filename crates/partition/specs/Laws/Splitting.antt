@@ -3,7 +3,7 @@ use Rattle.std.proofs.Common.{◌≡◌, ℕ, ◌+◌, ◌<◌, ◌≤◌, ◌�
 use Rattle.std.proofs.lemmas.Bool.{cases_eq}
 use Rattle.partition.specs.Partition.{blocks_of, IsPartition, IsZero, Together}
 use Rattle.partition.specs.Merging.{IsMerged}
-use Rattle.partition.specs.Inner.Splitting.{AreRelated, IsSearched, IsSplitBy, IsSplitUpTo}
+use Rattle.partition.specs.Splitting.{AreRelated, IsSearched, IsSplitBy, IsSplitUpTo}
 use Rattle.partition.specs.Laws.Labels.{IsPartition-of, block_stands, blocks_of-take-more}
 use Rattle.partition.specs.Laws.Chains.{together_turned}
 use Rattle.partition.specs.Laws.Merging.{merged_above, merged_held}

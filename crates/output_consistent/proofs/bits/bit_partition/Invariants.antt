@@ -1,5 +1,5 @@
 use Rattle.std.proofs.Common.{length}
-use Rattle.partition.specs.Inner.Splitting.{IsSplitUpTo}
+use Rattle.partition.specs.Splitting.{IsSplitUpTo}
 use Rattle.output_consistent.specs.Inner.Agreeing.{AgreeInEach}
 use Rattle.output_consistent.proofs.bits.bit_partition.Given as goal
 

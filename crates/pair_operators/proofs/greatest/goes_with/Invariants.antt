@@ -1,4 +1,4 @@
-use Rattle.partition.specs.Inner.Splitting.{IsSearched}
+use Rattle.partition.specs.Splitting.{IsSearched}
 use Rattle.pair_operators.specs.Going.{Goes}
 use Rattle.pair_operators.proofs.greatest.goes_with.Given as goal
 

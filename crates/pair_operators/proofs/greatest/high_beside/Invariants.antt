@@ -1,5 +1,5 @@
 use Rattle.std.proofs.Common.{length}
-use Rattle.partition.specs.Inner.Splitting.{IsSplitUpTo}
+use Rattle.partition.specs.Splitting.{IsSplitUpTo}
 use Rattle.pair_operators.specs.Asked.{AreAsked}
 use Rattle.pair_operators.specs.Going.{Goes}
 use Rattle.pair_operators.specs.Inner.Keys.{AreKeys}

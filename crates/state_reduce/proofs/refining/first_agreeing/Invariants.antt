@@ -1,4 +1,4 @@
-use Rattle.partition.specs.Inner.Splitting.{IsSearched}
+use Rattle.partition.specs.Splitting.{IsSearched}
 use Rattle.state_reduce.specs.Inner.Refining.{AgreeAlways}
 use Rattle.state_reduce.proofs.refining.first_agreeing.Given as goal
 

@@ -1,7 +1,7 @@
 use Rattle.std.proofs.Common.{◌+◌, ℕ, List, length, sym, subst, ◌∙◌, arith}
 use Rattle.std.proofs.lemmas.Bool.{true≢false}
 use Rattle.kiss_file.specs.declared.file.KissFile.{KissFile}
-use Rattle.partition.specs.Inner.Splitting.{IsSearched}
+use Rattle.partition.specs.Splitting.{IsSearched}
 use Rattle.partition.specs.Laws.Splitting.{searched_first, searched_later}
 use Rattle.state_reduce.specs.Inner.Refining.{StayTogether}
 use Rattle.state_reduce.proofs.Rounds.{stay_on}

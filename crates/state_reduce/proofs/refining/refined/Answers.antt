@@ -1,6 +1,6 @@
 use Rattle.std.proofs.Common.{◌<◌, ◌+◌, ℕ, List, length, sym, subst, arith}
 use Rattle.kiss_file.specs.declared.file.KissFile.{KissFile}
-use Rattle.partition.specs.Inner.Splitting.{IsSplitUpTo}
+use Rattle.partition.specs.Splitting.{IsSplitUpTo}
 use Rattle.partition.specs.Laws.Labels.{IsPartition-of}
 use Rattle.partition.specs.Laws.Splitting.{split_none, split_joined, split_alone, split_all}
 use Rattle.state_reduce.specs.Inner.Refining.{StayTogether}

@@ -1,5 +1,5 @@
 use Rattle.std.proofs.Common.{length}
-use Rattle.partition.specs.Inner.Splitting.{IsSplitUpTo}
+use Rattle.partition.specs.Splitting.{IsSplitUpTo}
 use Rattle.state_reduce.specs.Inner.Refining.{StayTogether}
 use Rattle.state_reduce.proofs.refining.refined.Given as goal
 

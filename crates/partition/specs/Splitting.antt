@@ -1,4 +1,4 @@
--- For private functions and proofs only: how a relation of states splits them into blocks, one state after another.
+-- How a relation of states splits them into blocks, one state after another.
 use Rattle.std.specs.Prelude.{◌≡◌, ◌<◌, ◌⊎◌, ℕ, List, take}
 use Rattle.partition.specs.Partition.{IsPartition, Together, blocks_of}
 
