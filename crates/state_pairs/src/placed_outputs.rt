@@ -65,7 +65,7 @@ impl Question for OutputValues {
 impl RowsByState {
     /// A symbol at which some output differs, if there is one; the least one, if `least` is set. It is told only of
     /// states with the same cubes whose rows at each place give the same outputs. No clause says when it is told: a
-    /// caller that is told nothing asks the outputs one by one.
+    /// caller that is told nothing has to ask in another way.
     pub fn first_placed_apart(&self, s: usize, t: usize, least: bool) -> Option<Option<u32>>
         requires s { s < length self.now.states }
         requires t { t < length self.now.states }
