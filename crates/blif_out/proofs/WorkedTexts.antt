@@ -4,9 +4,9 @@ use Rattle.std.specs.Fmt.{digits}
 use Rattle.std.specs.List.{flat_map}
 use Rattle.hs_io.specs.Spelling.{ended, spelled}
 use Rattle.blif_out.specs.Comments.{AreComments}
-use Rattle.blif_out.specs.Head.{comment_text, net_text_of, part_fields}
+use Rattle.blif_out.specs.Head.{comment_text, net_text_of, note_fields, part_fields}
 use Rattle.blif_out.specs.NetText.{gate_fields}
-use Rattle.blif_out.specs.Worked.{carried_part, gate, reduced_header, reduced_lines, reduced_network, serial_header, serial_lines, serial_network, text}
+use Rattle.blif_out.specs.Worked.{carried_part, gate, reduced_header, reduced_lines, reduced_network, serial_header, serial_lines, serial_network, text, unlike_note}
 
 pub serial : net_text_of serial_header serial_network ≡ text serial_lines
 unfolding digits
@@ -19,6 +19,10 @@ reduced = refl
 pub part : comment_text (part_fields (1, carried_part)) ≡ codes "# part 1 0,1,2,3,0 carrier 0,0,0,1,0 reads 0,12"
 unfolding digits
 part = refl
+
+pub note : comment_text (note_fields (2, unlike_note)) ≡ codes "# latch 2 part 1 from 0,1,0 to 0,0,1"
+unfolding digits
+note = refl
 
 -- what are comments begins with their mark
 same_head : (b c : ℕ) (bs cs : List ℕ) → ◌≡◌ {A = List ℕ} (b ∷ bs) (c ∷ cs) → b ≡ c

@@ -19,12 +19,12 @@ pub record CanBeWritten (N : Network) : Type 0 where
   pub rows : HasRowsInOrder N
   pub sound : Sound N
 
--- a network that is ready, with comments before it
+-- a network that can be written, with comments before it
 pub record CanBeText (made : CommentedNetwork) : Type 0 where
   pub comments : AreComments made.comments
   pub network : CanBeWritten made.network
 
--- a network that is ready, with a header that can be printed
+-- a network that can be written, with a header that can be printed
 pub record CanBeHeaded (made : HeadedNetwork) : Type 0 where
   pub header : IsPrintable made.header
   pub network : CanBeWritten made.network
@@ -48,7 +48,7 @@ pub record IsHeadedText (H : Header) (N : Network) (text : List ℕ) : Type 0 wh
 abbrev pub IsTextWith : (CommentedNetwork → Type 0) → List ℕ → Type 0
 IsTextWith P text = (made : CommentedNetwork) × P made × IsNetworkText made.comments made.network text
 
--- a network that is ready has such a text after all comments
+-- a network that can be written has such a text after all comments
 abbrev pub NetworkHasText : Type 0
 NetworkHasText = (comments : List ℕ) (N : Network) → AreComments comments → CanBeWritten N → IsNetworkText comments N (comments ++ net_text N)
 

@@ -123,3 +123,7 @@ reduced_lines =
 -- ---- a part whose carrier has fewer blocks, and which reads two parts
 abbrev pub carried_part : Part
 carried_part = record { partition = 0 ∷ 1 ∷ 2 ∷ 3 ∷ 0 ∷ []; carrier = 0 ∷ 0 ∷ 0 ∷ 1 ∷ 0 ∷ []; reads = 0 ∷ 12 ∷ [] }
+
+-- ---- the note of a latch whose number is not that of its part
+abbrev pub unlike_note : LatchNote
+unlike_note = record { part = 1; from = 0 ∷ 1 ∷ 0 ∷ []; to = 0 ∷ 0 ∷ 1 ∷ [] }

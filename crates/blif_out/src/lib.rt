@@ -61,7 +61,7 @@ pub fn comments_join()
     ensures { CommentsJoin }
 {}
 
-/// A network that is ready has a text after all comments.
+/// A network that can be written has a text after all comments.
 pub fn network_has_text()
     ensures { NetworkHasText }
 {}

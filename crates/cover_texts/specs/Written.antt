@@ -1,5 +1,5 @@
--- What holds of a network, its comments and their text, that are made for a cover of a file's machine (source: Hartmanis and Stearns, state
--- splitting).
+-- What holds of a network, its comments and their text, that are made for a cover of a file's machine (source:
+-- Hartmanis and Stearns, state splitting).
 use Rattle.std.specs.Prelude.{◌≡◌, ℕ, ◌+◌, Bool, List, Some, length, slice_get, slice_index}
 use Rattle.blif_out.specs.declared.header.LatchNote.{LatchNote}
 use Rattle.blif_out.specs.declared.networks.CommentedNetwork.{CommentedNetwork}

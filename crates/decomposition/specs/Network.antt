@@ -17,8 +17,8 @@ use Rattle.decomposition.specs.Notes.{AreNotes}
 use Rattle.decomposition.specs.OwnPairs.{OwnPairs}
 use Rattle.decomposition.specs.Within.{IsWithinParts}
 
--- The gates have read sets by the rule, which are enough for what the gates give, with no bit to spare. The network has a latch for each
--- bit. It is sound, starts at the code of the reset state, and goes from code to code as the machine goes from
+-- The gates have read sets by the rule, which are enough for what the gates give, with no bit to spare. The network
+-- has a latch for each bit. It is sound, starts at the code of the reset state, and goes from code to code as the machine goes from
 -- state to state. Each gate of a latch reads only what the latch's own pair and its part permit.
 pub record IsNetworkOf (W : KissFile) (parts : List Part) (codes : Codes) (names : SignalNames) (N : Network) (notes : List LatchNote) : Type 0 where
   pub sets : Reads

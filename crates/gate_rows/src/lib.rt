@@ -7,8 +7,8 @@
 //!
 //! [`listed_names`] gives the names that a gate lists, and [`latches`] the latches that start at the bits of a word.
 //!
-//! The definitions are in `specs/`: `Columns` has what a gate reads, `Demands` what is asked of it, and `Covers` the one definition of a good cover over texts of rows. `Names` and `Latches`
-//! have the names and the latches.
+//! The definitions are in `specs/`: `Columns` has what a gate reads, `Demands` what is asked of it, and `Covers` the one
+//! definition of a good cover over texts of rows. `Names` and `Latches` have the names and the latches.
 #![tactic(auto)]
 
 mod columns;

@@ -151,9 +151,9 @@ fn joins_of<W: JoinWorld>(
 ///
 /// The limit is on the number of values. If there are more, the listing is [`Listing::More`] with limit + 1 of
 /// them, also in ascending order; which ones is left open. More different generators than the limit are such values
-/// themselves, so a caller may stop finding generators once there are more. Equal generators count once, and a generator that is
-/// a join of earlier ones is joined with nothing. So the number of joins is at most the number of values times
-/// the number of the other generators. The memory taken is that of the values and of the different generators,
+/// themselves, so a caller may stop finding generators once there are more. Equal generators count once, and a
+/// generator that is a join of earlier ones is joined with nothing. So the number of joins is at most the number of
+/// values times the number of the other generators. The memory taken is that of the values and of the different generators,
 /// of three numbers for each of them, and of what vectors keep in reserve.
 pub fn join_closure<W: JoinWorld>(
     alloc: Global,

@@ -1,9 +1,9 @@
 //! The program's calls over any shelf and any sinks: words in, bytes out, an answer.
 //!
 //! [`run`] judges the words, loads the operands, has the command make its text or its network in memory, writes the
-//! network as a text (`pages`), and only then puts the text. The crate `operands` says what FILE, NET and SYMBOLS may hold. The crate of a command's family says what
-//! the command does and why it may refuse: `machine_reports`, `split_texts`, `cover_texts`, `shift_texts`,
-//! `symbol_runs` or `generated_texts`. This crate says:
+//! network as a text (`pages`), and only then puts the text. The crate `operands` says what FILE, NET and SYMBOLS may
+//! hold. The crate of a command's family says what the command does and why it may refuse: `machine_reports`,
+//! `split_texts`, `cover_texts`, `shift_texts`, `symbol_runs` or `generated_texts`. This crate says:
 //!
 //! - what each command works on (`specs/Task`, `specs/Operands`);
 //! - in which order the causes of refusals are judged (`specs/Judgement`);

@@ -1,5 +1,5 @@
--- The headline: what holds of a network, its comments and their text, that are the shift register of a file's machine (source: Perles,
--- Rabin and Shamir, the theory of definite automata).
+-- The headline: what holds of a network, its comments and their text, that are the shift register of a file's
+-- machine (source: Perles, Rabin and Shamir, the theory of definite automata).
 use Rattle.std.specs.Prelude.{◌≡◌, ◌*◌, ℕ, Bool, List, [], ◌∷◌, codes, map}
 use Rattle.std.specs.Fmt.{decimal}
 use Rattle.std.specs.List.{flat_map}

@@ -21,8 +21,8 @@ use state_codes::Kind;
 use state_reduce::{WorkMachine, work_machine};
 use std::alloc::Global;
 
-/// The network of the decomposition of a kind, with its header. `text` is the operand PARTS, which only the kind `Assign` reads.
-/// With `reduce` the machine that is split is the machine of the classes of alike states.
+/// The network of the decomposition of a kind, with its header. `text` is the operand PARTS, which only the kind
+/// `Assign` reads. With `reduce` the machine that is split is the machine of the classes of alike states.
 pub fn decompose(
     alloc: Global,
     kind: Kind,

@@ -23,6 +23,9 @@
 //!
 //! What is left open is which good cover the rows of a gate are (`gate_rows`).
 //!
+//! [`shift_rows_alone_differ`] says the same of two texts of one shift register: the file determines its order, its
+//! comments, its names and what each gate reads.
+//!
 //! [`one_text`] says that the network of such a text and the machine of its file give one text for one file of
 //! symbols.
 #![tactic(auto)]
