@@ -1,49 +1,19 @@
 #!/usr/bin/env bash
-# What each decomposition of the controllers in examples/ costs, as rows of the table in docs/RESULTS.md: latches,
-# literals of the gates' rows, and AND nodes after one script of Berkeley ABC. Beside them the binary and the one-hot
-# coding of the same table that Yosys makes. ABC proves each network equal to that of `code`. Given files of KISS2 as
-# words, it makes the rows of these machines instead.
+# What each decomposition of the controllers in examples/ costs, as rows of the table in docs/RESULTS.md: latches and
+# literals as `hsdec compare` counts them, and AND nodes after one script of Berkeley ABC. Beside them the binary and the
+# one-hot coding of the same table that Yosys makes. ABC proves each network equal to that of `code`. Given files of KISS2
+# as words, it makes the rows of these machines instead. `--program PATH` names a program that is built already.
 #
 # Needs the packages berkeley-abc and yosys. It takes about five minutes, most of them for the 60 states.
 set -eu
-for tool in berkeley-abc yosys awk; do
-    command -v "$tool" >/dev/null || { echo "results.sh: $tool is missing" >&2; exit 2; }
-done
-files=()
-for file in "$@"; do
-    [ -f "$file" ] && [ -r "$file" ] || { echo "results.sh: no such file: $file" >&2; exit 2; }
-    files+=("$(realpath "$file")")
-done
-set --
-. "$(dirname "$0")/timing.sh"
-use_program hsdec --version
-make_room
+. "$(dirname "$0")/networks.sh"
+need_tools berkeley-abc yosys awk
+use_hsdec
 if [ ${#files[@]} -eq 0 ]; then
     for machine in traffic uart jtag detector shift3 decade elevator arbiter vending counter8 seconds; do
-        files+=("$PWD/../../examples/$machine.kiss")
+        files+=("$root/examples/$machine.kiss")
     done
 fi
-
-resyn='balance; rewrite; refactor; balance; rewrite; rewrite -z; balance; refactor -z; rewrite -z; balance'
-
-# the AND nodes of a BLIF text after the script, twice
-nodes() {
-    berkeley-abc -c "read_blif $1; strash; $resyn; $resyn; print_stats" 2>&1 |
-        sed -n 's/.*and = *\([0-9]*\).*/\1/p' | tail -n 1
-}
-
-# latches, literals and AND nodes of a network
-figures() {
-    awk -v ands="$(nodes "$1")" '
-        /^\.latch/ { latches++ }
-        /^[01-]+ 1$/ { literals += gsub(/[01]/, "", $1) }
-        END { printf "%d / %d / %s", latches, literals, ands }' "$1"
-}
-
-# equal or not to the network of `code`
-proved_equal() {
-    berkeley-abc -c "dsec $1 $2" 2>&1 | grep -q 'Networks are equivalent'
-}
 
 # the table of a machine as a Verilog module, for the coding tool
 verilog() {
@@ -87,26 +57,31 @@ coded() {
     echo "$(awk '/^\.outputs/ { for (i = 2; i <= NF; i++) if ($i ~ /\.d\[?|\.d$/) latches++ } END { printf "%d", latches }' "$room/$coding.blif") / $(nodes "$room/$coding.blif")"
 }
 
-# the network of a command, or why there is none
-network() {
-    local file=$1 command=$2 out=$room/$2.blif status=0
-    "$program" "$command" "$file" --fill hold >"$out" 2>"$room/err" || status=$?
-    case $status in
-        0) proved_equal "$room/code.blif" "$out" && figures "$out" || echo "not shown equal" ;;
-        1) echo "none" ;;
-        *) echo "status $status" ;;
+# what a row says of a kind: latches, literals and AND nodes, or the reason why there is no network
+entry() {
+    local file=$1 kind=$2 out=$room/$2.blif said
+    read -r -a said <<<"$(grep "^$kind " "$room/compared")"
+    case ${said[1]} in
+    parts | order) ;;
+    *)
+        echo "${said[*]:1}"
+        return
+        ;;
     esac
+    "$program" "$kind" "$file" --fill hold >"$out"
+    proved_equal "$room/code.blif" "$out" || { echo "not shown equal"; return; }
+    echo "${said[4]} / ${said[12]} / $(nodes "$out")"
 }
 
-echo "machine | states | code | parallel | serial | cascade | feedback | binary | one-hot"
+kinds="code parallel serial cascade feedback least shift"
+echo "machine | states | ${kinds// / | } | binary | one-hot"
 for file in "${files[@]}"; do
     machine=$(basename "$file" .kiss)
     echo "results.sh: $machine" >&2
-    states=$("$program" check "$file" --fill hold | sed -n 's/^states //p')
-    [ -n "$states" ] || { echo "results.sh: $file is no machine" >&2; continue; }
-    line="$machine | $states"
-    for command in code parallel serial cascade feedback; do
-        line="$line | $(network "$file" "$command")"
+    "$program" compare "$file" --fill hold >"$room/compared" || { echo "results.sh: $file is no machine" >&2; continue; }
+    line="$machine | $("$program" check "$file" --fill hold | sed -n 's/^states //p')"
+    for kind in $kinds; do
+        line="$line | $(entry "$file" "$kind")"
     done
     echo "$line | $(coded "$file" binary) | $(coded "$file" one-hot)"
 done

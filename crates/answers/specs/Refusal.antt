@@ -6,11 +6,11 @@ use Rattle.answers.specs.declared.numbers.Answer.TheVariants as answers
 use Rattle.answers.specs.declared.refusals.CoverFlaw.{CoverFlaw}
 use Rattle.answers.specs.declared.refusals.CoverFlaw.TheVariants as flaws
 use Rattle.answers.specs.declared.refusals.Refusal.{Refusal}
-use Rattle.answers.specs.declared.refusals.Refusal.TheVariants.{Usage, Unreadable, TooLong, NoMachine, Conflict, Unspecified, More, PartLabel, PartLength, NotApart, NoSplit, CodeTooLong, NoNetwork, BadStart, UnknownStart, BadSymbol, StateCount, BadCover, NotDefinite, NotReached, TooManyInputs, TooManyOutputs, Unwritable, NoMemory}
+use Rattle.answers.specs.declared.refusals.Refusal.TheVariants.{Usage, Unreadable, TooLong, NoMachine, Conflict, Unspecified, More, PartLabel, PartLength, NotApart, NoSplit, CodeTooLong, NoNetwork, BadStart, UnknownStart, BadSymbol, StateCount, BadCover, NotDefinite, NotReached, TooManyInputs, TooManyOutputs, ClockIsSignal, Unwritable, NoMemory}
 use Rattle.answers.specs.KissTexts.{kind_text}
 use Rattle.answers.specs.NetTexts.{fault_line}
 use Rattle.blif_out.specs.Head.{kind_word}
-use Rattle.hs_texts.specs.ErrLines.{bad_start_line, cannot_read_line, cannot_write_line, code_bits_line, conflict_line, cover_lacks_line, cover_leaves_line, cover_place_line, cover_places_line, cover_trivial_line, cover_within_line, inputs_line, kiss_line, more_line, no_memory_line, no_split_line, not_apart_line, not_definite_line, not_reached_line, outputs_line, part_length_line, part_place_line, start_unknown_line, state_count_line, symbol_line, too_long_line, unspecified_line, usage_line}
+use Rattle.hs_texts.specs.ErrLines.{bad_start_line, cannot_read_line, cannot_write_line, clock_line, code_bits_line, conflict_line, cover_lacks_line, cover_leaves_line, cover_place_line, cover_places_line, cover_trivial_line, cover_within_line, inputs_line, kiss_line, more_line, no_memory_line, no_split_line, not_apart_line, not_definite_line, not_reached_line, outputs_line, part_length_line, part_place_line, start_unknown_line, state_count_line, symbol_line, too_long_line, unspecified_line, usage_line}
 use Rattle.machine_table.specs.declared.missing.Missing.{Missing}
 use Rattle.machine_table.specs.declared.missing.Missing.TheVariants.{Next, Output}
 
@@ -38,6 +38,7 @@ answer_of (NotDefinite state other) = answers.NotDefinite
 answer_of (NotReached reset) = answers.NotReached
 answer_of (TooManyInputs inputs) = answers.TooManyInputs
 answer_of TooManyOutputs = answers.TooManyOutputs
+answer_of (ClockIsSignal clock) = answers.ClockIsSignal
 answer_of Unwritable = answers.WriteFault
 answer_of NoMemory = answers.NoMemory
 
@@ -79,5 +80,6 @@ line_of (NotDefinite state other) = not_definite_line state other
 line_of (NotReached reset) = not_reached_line reset
 line_of (TooManyInputs inputs) = inputs_line inputs
 line_of TooManyOutputs = outputs_line
+line_of (ClockIsSignal clock) = clock_line clock
 line_of Unwritable = cannot_write_line
 line_of NoMemory = no_memory_line

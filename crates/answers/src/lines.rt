@@ -41,6 +41,7 @@ impl Refusal {
             Refusal::NotReached { .. } => Answer::NotReached,
             Refusal::TooManyInputs { .. } => Answer::TooManyInputs,
             Refusal::TooManyOutputs => Answer::TooManyOutputs,
+            Refusal::ClockIsSignal { .. } => Answer::ClockIsSignal,
             Refusal::Unwritable => Answer::WriteFault,
             Refusal::NoMemory => Answer::NoMemory,
         }
@@ -85,6 +86,7 @@ impl Refusal {
             Refusal::NotReached { reset } => err_lines::not_reached(alloc, reset.bytes()),
             Refusal::TooManyInputs { inputs } => err_lines::inputs(alloc, *inputs),
             Refusal::TooManyOutputs => err_lines::outputs(alloc),
+            Refusal::ClockIsSignal { clock } => err_lines::clock(alloc, clock.bytes()),
             Refusal::Unwritable => Vec::from_slice(alloc, CANNOT_WRITE),
             Refusal::NoMemory => Vec::from_slice(alloc, NO_MEMORY),
         }

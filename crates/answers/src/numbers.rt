@@ -48,6 +48,8 @@ pub enum Answer {
     TooManyInputs,
     /// Too many outputs occur.
     TooManyOutputs,
+    /// The clock that is asked for is a signal of the network.
+    ClockIsSignal,
 }
 
 impl Answer {
@@ -77,6 +79,7 @@ impl Answer {
             Answer::NotReached => 20,
             Answer::TooManyInputs => 21,
             Answer::TooManyOutputs => 22,
+            Answer::ClockIsSignal => 24,
         }
     }
 }

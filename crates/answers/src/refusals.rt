@@ -98,6 +98,10 @@ pub enum Refusal {
     },
     /// More than 256 outputs occur.
     TooManyOutputs,
+    /// The clock that is asked for is a signal of the network.
+    ClockIsSignal {
+        clock: Name,
+    },
     /// The text could not be put whole.
     Unwritable,
     /// Memory ran out.

@@ -8,4 +8,5 @@ pub mod Visible
 pub mod Cutting
 pub mod Once
 pub mod NetworkTexts
+pub mod Designs
 pub mod WorkedTexts

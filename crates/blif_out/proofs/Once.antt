@@ -11,8 +11,7 @@ use Rattle.std.proofs.lemmas.List.FromFn.{get_or-map-range_with_len}
 use Rattle.std.proofs.lemmas.Nat.Bits.{same_from_bits_below}
 use Rattle.std.proofs.lemmas.Str.Parse.{digit_at}
 use Rattle.list_facts.specs.Laws.Everywhere.{images_once}
-use Rattle.hs_io.specs.Spelling.{IsComment}
-use Rattle.net_core.specs.Words.{model_word}
+use Rattle.hs_io.specs.Spelling.{IsComment, ended, line_text}
 use Rattle.partition.specs.Text.{labels_text, pieces_of}
 use Rattle.partition.specs.Laws.Texts.{AreSmall, partition_once, text_once}
 use Rattle.partition.specs.Laws.Numerals.{own}
@@ -20,10 +19,12 @@ use Rattle.partition.specs.Laws.Pieces.{pieces_of-labels_text}
 use Rattle.state_codes.specs.declared.split.Kind.{Kind}
 use Rattle.state_codes.specs.declared.split.Kind.TheVariants.{Code, Assign, Parallel, Serial, Cascade, Feedback, Least}
 use Rattle.state_codes.specs.declared.split.Part.{Part}
+use Rattle.blif_out.specs.declared.design.Design.{Design}
 use Rattle.blif_out.specs.declared.header.Header.{Header}
 use Rattle.blif_out.specs.declared.header.LatchNote.{LatchNote}
 use Rattle.blif_out.specs.Head.{kind_word, classes_fields, numbers_text, part_fields, bits_of, bit_text, state_fields, note_fields, head_fields, head_lines, comment_text}
 use Rattle.blif_out.specs.HeadLaw.{IsLawfulPartition, IsLawfulPart, IsLawfulNote, IsLawfulHeader, HeadOnce}
+use Rattle.blif_out.specs.NetText.{model_fields}
 use Rattle.blif_out.proofs.Cutting.{rest_of, pieces_once, fields_once}
 use Rattle.blif_out.proofs.Denoting.{comment_inside}
 use Rattle.blif_out.proofs.Visible.{AreVisible, head_visible, head_comments}
@@ -264,17 +265,21 @@ lines_once xs ys p q e =
     same [] = refl
     same (fields ∷ lines) = ap (λ (t : List (List (List ℕ))). fields ∷ t) (same lines)
 
+-- the line of the model
+abbrev model_line : Design → List ℕ
+model_line design = ended (line_text (model_fields design))
+
 -- a network's first line is no comment
-no_comment : (rest p after : List ℕ) → IsComment p → p ++ 10 ∷ after ≢ model_word ++ rest
-no_comment rest [] after c e = c
-no_comment rest (b ∷ bs) after (mark, more) e =
+no_comment : (design : Design) (rest p after : List ℕ) → IsComment p → p ++ 10 ∷ after ≢ model_line design ++ rest
+no_comment design rest [] after c e = c
+no_comment design rest (b ∷ bs) after (mark, more) e =
     let first : b ≡ 46 = ap (λ (t : List ℕ). get_or t 0 0) e in
     absurd (omega (arith, mark, first))
 
 pub head_once : HeadOnce
-head_once bytes H H' p q (rest, e) (rest', e') =
+head_once design design' bytes H H' p q (rest, e) (rest', e') =
     let comments = head_comments H p.states in
     let comments' = head_comments H' q.states in
     let lines : head_lines H ≡ head_lines H' =
-    pieces_once 10 IsComment comment_inside (model_word ++ rest) (model_word ++ rest') (no_comment rest) (no_comment rest') (head_lines H) (head_lines H') comments comments' (sym e ∙ e') in
+    pieces_once 10 IsComment comment_inside (model_line design ++ rest) (model_line design' ++ rest') (no_comment design rest) (no_comment design' rest') (head_lines H) (head_lines H') comments comments' (sym e ∙ e') in
     header_once H H' p q (lines_once (head_fields H) (head_fields H') (head_visible H p.states) (head_visible H' q.states) lines)

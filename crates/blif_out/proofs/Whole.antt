@@ -9,9 +9,11 @@ use Rattle.net_core.specs.declared.Gate.{Gate}
 use Rattle.net_core.specs.declared.Network.{Network}
 use Rattle.net_core.specs.Denotes.{Denotes}
 use Rattle.net_core.specs.Words.{inputs_word, outputs_word, names_word, end_word}
+use Rattle.blif_out.specs.declared.design.Design.{Design}
 use Rattle.blif_out.specs.declared.header.Header.{Header}
+use Rattle.blif_out.specs.Design.{IsDesignOf}
 use Rattle.blif_out.specs.Head.{Head, net_text_of, head_lines, head_fields, comment_text, kind_fields, classes_fields, part_fields, state_fields, note_fields}
-use Rattle.blif_out.specs.NetText.{net_text, gate_fields, latch_fields, row_fields}
+use Rattle.blif_out.specs.NetText.{net_text, gate_fields, latch_fields, model_fields, row_fields}
 use Rattle.blif_out.specs.Writable.{IsWritable}
 use Rattle.blif_out.specs.Inner.Pieces.{row_line, latch_line, gate_lines, part_line, state_line, note_line}
 use Rattle.blif_out.proofs.Denoting.{net_denotes}
@@ -39,19 +41,20 @@ in_a_row : (m i o l g e : List ℕ) → (((m ++ (i ++ o)) ++ l) ++ g) ++ e ≡ m
 in_a_row m i o l g e = simp append_assoc
 
 -- the parts of the text of a network
-pub net_text-is : (N : Network) → (((codes ".model hsdec\n" ++ (line (inputs_word ∷ N.inputs) ++ line (outputs_word ∷ N.outputs))) ++ flat_map latch_line N.latches) ++ flat_map gate_lines N.gates) ++ codes ".end\n" ≡ net_text N
-net_text-is N =
-    let latches : List (List (List ℕ)) = map latch_fields N.latches in
+pub net_text-is : (design : Design) (N : Network) → (((line (model_fields design) ++ (line (inputs_word ∷ N.inputs) ++ line (outputs_word ∷ N.outputs))) ++ flat_map (latch_line design) N.latches) ++ flat_map gate_lines N.gates) ++ codes ".end\n" ≡ net_text design N
+net_text-is design N =
+    let model : List ℕ = line (model_fields design) in
+    let latches : List (List (List ℕ)) = map (latch_fields design) N.latches in
     let gates : List (List (List ℕ)) = flat_map gate_fields N.gates in
     let last : List (List (List ℕ)) = (end_word ∷ []) ∷ [] in
-    let parts : flat_map line ((latches ++ gates) ++ last) ≡ flat_map latch_line N.latches ++ (flat_map gate_lines N.gates ++ codes ".end\n") =
+    let parts : flat_map line ((latches ++ gates) ++ last) ≡ flat_map (latch_line design) N.latches ++ (flat_map gate_lines N.gates ++ codes ".end\n") =
     flat_map-append line (latches ++ gates) last
     ∙ ap (λ (t : List ℕ). t ++ codes ".end\n") (flat_map-append line latches gates)
     ∙ append_assoc (flat_map line latches) (flat_map line gates) (codes ".end\n")
-    ∙ ap (λ (t : List ℕ). t ++ (flat_map line gates ++ codes ".end\n")) (flat_map-map line latch_fields N.latches)
-    ∙ ap (λ (t : List ℕ). flat_map latch_line N.latches ++ (t ++ codes ".end\n")) (gates-are N.gates) in
-    in_a_row (codes ".model hsdec\n") (line (inputs_word ∷ N.inputs)) (line (outputs_word ∷ N.outputs)) (flat_map latch_line N.latches) (flat_map gate_lines N.gates) (codes ".end\n")
-    ∙ ap (λ (t : List ℕ). codes ".model hsdec\n" ++ (line (inputs_word ∷ N.inputs) ++ (line (outputs_word ∷ N.outputs) ++ t))) (sym parts)
+    ∙ ap (λ (t : List ℕ). t ++ (flat_map line gates ++ codes ".end\n")) (flat_map-map line (latch_fields design) N.latches)
+    ∙ ap (λ (t : List ℕ). flat_map (latch_line design) N.latches ++ (t ++ codes ".end\n")) (gates-are N.gates) in
+    in_a_row model (line (inputs_word ∷ N.inputs)) (line (outputs_word ∷ N.outputs)) (flat_map (latch_line design) N.latches) (flat_map gate_lines N.gates) (codes ".end\n")
+    ∙ ap (λ (t : List ℕ). model ++ (line (inputs_word ∷ N.inputs) ++ (line (outputs_word ∷ N.outputs) ++ t))) (sym parts)
 
 in_order : (k c p s l : List ℕ) → (((k ++ c) ++ p) ++ s) ++ l ≡ k ++ (((c ++ p) ++ s) ++ l)
 in_order k c p s l = simp append_assoc
@@ -79,15 +82,16 @@ head_text-is H =
     ∙ sym (flat_map-map ended comment_text (head_fields H))
 
 -- the text begins with its header
-pub head_begins : (H : Header) (N : Network) → Head (net_text_of H N) H
-head_begins H N =
-    let statements : List (List (List ℕ)) = (inputs_word ∷ N.inputs) ∷ (outputs_word ∷ N.outputs) ∷ (map latch_fields N.latches ++ flat_map gate_fields N.gates) in
-    (codes " hsdec\n" ++ flat_map line (statements ++ (end_word ∷ []) ∷ []), refl)
+pub head_begins : (design : Design) (H : Header) (N : Network) → Head design (net_text_of design H N) H
+head_begins design H N =
+    let statements : List (List (List ℕ)) = (inputs_word ∷ N.inputs) ∷ (outputs_word ∷ N.outputs) ∷ (map (latch_fields design) N.latches ++ flat_map gate_fields N.gates) in
+    (flat_map line (statements ++ (end_word ∷ []) ∷ []), refl)
 
 -- the whole text denotes the network, also behind comments
-pub whole_denotes : (N : Network) (H : Header) (comments : List (List ℕ)) → IsWritable N → ArePlainFields H.states → AllByRecursion IsComment comments → Denotes (flat_map ended comments ++ net_text_of H N) N
-whole_denotes N H comments writable plain are =
+pub whole_denotes : (design : Design) (N : Network) (H : Header) (comments : List (List ℕ)) → IsWritable N → IsDesignOf N design → ArePlainFields H.states → AllByRecursion IsComment comments
+    → Denotes (flat_map ended comments ++ net_text_of design H N) N
+whole_denotes design N H comments writable is plain are =
     let lines : List (List ℕ) = head_lines H in
-    let same : flat_map ended comments ++ net_text_of H N ≡ flat_map ended (comments ++ lines) ++ net_text N =
-    sym (append_assoc (flat_map ended comments) (flat_map ended lines) (net_text N)) ∙ ap (λ (t : List ℕ). t ++ net_text N) (sym (flat_map-append ended comments lines)) in
-    subst (λ (bytes : List ℕ). Denotes bytes N) (sym same) (net_denotes N (comments ++ lines) writable (each_append IsComment comments lines are (head_comments H plain)))
+    let same : flat_map ended comments ++ net_text_of design H N ≡ flat_map ended (comments ++ lines) ++ net_text design N =
+    sym (append_assoc (flat_map ended comments) (flat_map ended lines) (net_text design N)) ∙ ap (λ (t : List ℕ). t ++ net_text design N) (sym (flat_map-append ended comments lines)) in
+    subst (λ (bytes : List ℕ). Denotes bytes N) (sym same) (net_denotes design N (comments ++ lines) writable is (each_append IsComment comments lines are (head_comments H plain)))

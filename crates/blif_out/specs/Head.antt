@@ -6,14 +6,14 @@ use Rattle.std.specs.Fmt.{decimal}
 use Rattle.std.specs.Int.{bit_at}
 use Rattle.hs_io.specs.Spelling.{ended, line_text}
 use Rattle.net_core.specs.declared.Network.{Network}
-use Rattle.net_core.specs.Words.{model_word}
 use Rattle.partition.specs.Text.{labels_text}
 use Rattle.state_codes.specs.declared.split.Kind.{Kind}
 use Rattle.state_codes.specs.declared.split.Kind.TheVariants.{Code, Assign, Parallel, Serial, Cascade, Feedback, Least}
 use Rattle.state_codes.specs.declared.split.Part.{Part}
+use Rattle.blif_out.specs.declared.design.Design.{Design}
 use Rattle.blif_out.specs.declared.header.Header.{Header}
 use Rattle.blif_out.specs.declared.header.LatchNote.{LatchNote}
-use Rattle.blif_out.specs.NetText.{net_text}
+use Rattle.blif_out.specs.NetText.{model_fields, net_text}
 
 abbrev pub kind_word : Kind → List ℕ
 kind_word Code = codes "code"
@@ -82,10 +82,10 @@ head_lines H = map comment_text (head_fields H)
 abbrev pub header_text : Header → List ℕ
 header_text H = flat_map ended (head_lines H)
 
--- the bytes begin with the lines of the header, and the network follows
-abbrev pub Head : List ℕ → Header → Type 0
-Head bytes H = (rest : List ℕ) × (bytes ≡ header_text H ++ (model_word ++ rest))
+-- the bytes begin with the lines of the header, and the model of the design follows
+abbrev pub Head : Design → List ℕ → Header → Type 0
+Head design bytes H = (rest : List ℕ) × (bytes ≡ header_text H ++ (ended (line_text (model_fields design)) ++ rest))
 
 -- the whole text of a network after its header
-abbrev pub net_text_of : Header → Network → List ℕ
-net_text_of H N = header_text H ++ net_text N
+abbrev pub net_text_of : Design → Header → Network → List ℕ
+net_text_of design H N = header_text H ++ net_text design N

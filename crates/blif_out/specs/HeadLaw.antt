@@ -4,6 +4,7 @@ use Rattle.std.specs.List.{AllByRecursion}
 use Rattle.hs_io.specs.Spelling.{ArePlainFields, IsComment}
 use Rattle.partition.specs.Partition.{IsPartition}
 use Rattle.state_codes.specs.declared.split.Part.{Part}
+use Rattle.blif_out.specs.declared.design.Design.{Design}
 use Rattle.blif_out.specs.declared.header.Header.{Header}
 use Rattle.blif_out.specs.declared.header.LatchNote.{LatchNote}
 use Rattle.blif_out.specs.Head.{Head, head_lines}
@@ -31,10 +32,10 @@ pub record IsLawfulHeader (H : Header) : Type 0 where
   pub words : AllByRecursion (λ word. word < 2 ^ length H.latches) H.words
   pub latches : AllByRecursion IsLawfulNote H.latches
 
--- the bytes begin with only one lawful header
+-- the bytes begin with only one lawful header, in whatever design
 abbrev pub HeadOnce : Type 0
 HeadOnce =
-    (bytes : List ℕ) (H H' : Header) → IsLawfulHeader H → IsLawfulHeader H' → Head bytes H → Head bytes H' → H ≡ H'
+    (design design' : Design) (bytes : List ℕ) (H H' : Header) → IsLawfulHeader H → IsLawfulHeader H' → Head design bytes H → Head design' bytes H' → H ≡ H'
 
 -- each line of a header is a comment
 abbrev pub HeadIsComments : Type 0

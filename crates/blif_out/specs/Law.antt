@@ -4,10 +4,13 @@ use Rattle.std.specs.List.{flat_map, AllByRecursion}
 use Rattle.hs_io.specs.Spelling.{ended, IsComment}
 use Rattle.net_core.specs.declared.Network.{Network}
 use Rattle.net_core.specs.Denotes.{Denotes}
+use Rattle.blif_out.specs.declared.design.Design.{Design}
+use Rattle.blif_out.specs.Design.{IsDesignOf}
 use Rattle.blif_out.specs.NetText.{net_text}
 use Rattle.blif_out.specs.Writable.{IsWritable}
 
--- the text of a network, after lines that are comments, denotes it
+-- the text of a network in a lawful design, after lines that are comments, denotes it
 abbrev pub NetTextDenotes : Type 0
 NetTextDenotes =
-    (N : Network) (comments : List (List ℕ)) → IsWritable N → AllByRecursion IsComment comments → Denotes (flat_map ended comments ++ net_text N) N
+    (design : Design) (N : Network) (comments : List (List ℕ)) → IsWritable N → IsDesignOf N design → AllByRecursion IsComment comments
+    → Denotes (flat_map ended comments ++ net_text design N) N

@@ -1,5 +1,6 @@
-pub mod NetText
 pub mod Writable
+pub mod Design
+pub mod NetText
 pub mod Law
 pub mod Head
 pub mod Order

@@ -1,6 +1,6 @@
 -- The BLIF text of a network, from `.model` on (source: the SIS manual). Each line ends with a line feed, and no
 -- line is continued.
-use Rattle.std.specs.Prelude.{ℕ, List, [], ◌∷◌, ◌++◌, map, codes}
+use Rattle.std.specs.Prelude.{ℕ, List, [], ◌∷◌, ◌++◌, map}
 use Rattle.std.specs.List.{flat_map}
 use Rattle.hs_io.specs.Spelling.{spelled}
 use Rattle.net_core.specs.declared.Gate.{Gate}
@@ -8,6 +8,8 @@ use Rattle.net_core.specs.declared.Latch.{Latch}
 use Rattle.net_core.specs.declared.Network.{Network}
 use Rattle.net_core.specs.Start.{start_digit}
 use Rattle.net_core.specs.Words.{model_word, inputs_word, outputs_word, latch_word, names_word, end_word}
+use Rattle.blif_out.specs.declared.design.Design.{Design}
+use Rattle.blif_out.specs.Design.{control_fields}
 
 -- the output bit of each row that is written
 abbrev pub one_digit : List ℕ
@@ -22,13 +24,18 @@ row_fields (c ∷ cs) = (c ∷ cs) ∷ one_digit ∷ []
 abbrev pub gate_fields : Gate → List (List (List ℕ))
 gate_fields gate = (names_word ∷ (gate.inputs ++ gate.output ∷ [])) ∷ map row_fields gate.rows
 
-abbrev pub latch_fields : Latch → List (List ℕ)
-latch_fields latch = latch_word ∷ latch.input ∷ latch.output ∷ (start_digit latch.start ∷ []) ∷ []
+-- a latch: its input and its output, the control of the design, and the start
+abbrev pub latch_fields : Design → Latch → List (List ℕ)
+latch_fields design latch = latch_word ∷ latch.input ∷ latch.output ∷ (control_fields design.clock ++ (start_digit latch.start ∷ []) ∷ [])
+
+-- the name of the model
+abbrev pub model_fields : Design → List (List ℕ)
+model_fields design = model_word ∷ design.model ∷ []
 
 -- the statements of a network
-abbrev pub net_fields : Network → List (List (List ℕ))
-net_fields N =
-    (model_word ∷ codes "hsdec" ∷ []) ∷ (inputs_word ∷ N.inputs) ∷ (outputs_word ∷ N.outputs) ∷ (map latch_fields N.latches ++ flat_map gate_fields N.gates)
+abbrev pub net_fields : Design → Network → List (List (List ℕ))
+net_fields design N =
+    model_fields design ∷ (inputs_word ∷ N.inputs) ∷ (outputs_word ∷ N.outputs) ∷ (map (latch_fields design) N.latches ++ flat_map gate_fields N.gates)
 
-abbrev pub net_text : Network → List ℕ
-net_text N = spelled (net_fields N ++ (end_word ∷ []) ∷ [])
+abbrev pub net_text : Design → Network → List ℕ
+net_text design N = spelled (net_fields design N ++ (end_word ∷ []) ∷ [])

@@ -3,10 +3,12 @@ use Rattle.std.specs.Prelude.{◌≡◌, ℕ, ◌++◌, List}
 use Rattle.net_core.specs.declared.Network.{Network}
 use Rattle.net_core.specs.Denotes.{Denotes}
 use Rattle.net_core.specs.Sound.{Sound}
+use Rattle.blif_out.specs.declared.design.Design.{Design}
 use Rattle.blif_out.specs.declared.header.Header.{Header}
 use Rattle.blif_out.specs.declared.networks.CommentedNetwork.{CommentedNetwork}
 use Rattle.blif_out.specs.declared.networks.HeadedNetwork.{HeadedNetwork}
 use Rattle.blif_out.specs.Comments.{AreComments, IsPrintable}
+use Rattle.blif_out.specs.Design.{IsDesignOf}
 use Rattle.blif_out.specs.Head.{Head, header_text}
 use Rattle.blif_out.specs.NetText.{net_text}
 use Rattle.blif_out.specs.Order.{HasKnownStarts, HasRowsInOrder}
@@ -29,10 +31,10 @@ pub record CanBeHeaded (made : HeadedNetwork) : Type 0 where
   pub header : IsPrintable made.header
   pub network : CanBeWritten made.network
 
--- The text consists of comments and the text of the network after them. It denotes the network, also after further
+-- The text consists of comments and the text of the network, in this design, after them. It denotes the network, also after further
 -- comments. The network is sound and starts at known values.
-pub record IsNetworkText (comments : List ℕ) (N : Network) (text : List ℕ) : Type 0 where
-  pub whole : text ≡ comments ++ net_text N
+pub record IsNetworkText (design : Design) (comments : List ℕ) (N : Network) (text : List ℕ) : Type 0 where
+  pub whole : text ≡ comments ++ net_text design N
   pub comments_alone : AreComments comments
   pub denotes : Denotes text N
   pub after_comments : (others : List ℕ) → AreComments others → Denotes (others ++ text) N
@@ -40,18 +42,21 @@ pub record IsNetworkText (comments : List ℕ) (N : Network) (text : List ℕ) :
   pub starts : HasKnownStarts N
 
 -- the comments are those of the header, with which the text begins
-pub record IsHeadedText (H : Header) (N : Network) (text : List ℕ) : Type 0 where
-  pub of_network : IsNetworkText (header_text H) N text
-  pub head : Head text H
+pub record IsHeadedText (design : Design) (H : Header) (N : Network) (text : List ℕ) : Type 0 where
+  pub of_network : IsNetworkText design (header_text H) N text
+  pub head : Head design text H
 
 -- the text of a network with comments that has a property
-abbrev pub IsTextWith : (CommentedNetwork → Type 0) → List ℕ → Type 0
-IsTextWith P text = (made : CommentedNetwork) × P made × IsNetworkText made.comments made.network text
+abbrev pub IsTextWith : Design → (CommentedNetwork → Type 0) → List ℕ → Type 0
+IsTextWith design P text = (made : CommentedNetwork) × P made × IsNetworkText design made.comments made.network text
 
--- a network that can be written has such a text after all comments
+-- a network that can be written has such a text after all comments, in each of its designs
 abbrev pub NetworkHasText : Type 0
-NetworkHasText = (comments : List ℕ) (N : Network) → AreComments comments → CanBeWritten N → IsNetworkText comments N (comments ++ net_text N)
+NetworkHasText =
+    (design : Design) (comments : List ℕ) (N : Network) → AreComments comments → CanBeWritten N → IsDesignOf N design
+    → IsNetworkText design comments N (comments ++ net_text design N)
 
 -- a text whose comments are those of a header begins with this header
 abbrev pub TextHasHead : Type 0
-TextHasHead = (H : Header) (N : Network) (text : List ℕ) → IsNetworkText (header_text H) N text → IsHeadedText H N text
+TextHasHead =
+    (design : Design) (H : Header) (N : Network) (text : List ℕ) → IsNetworkText design (header_text H) N text → IsHeadedText design H N text

@@ -1,13 +1,14 @@
--- Worked texts of networks after their headers.
+-- Worked texts of networks, after their headers and alone.
 use Rattle.std.specs.Prelude.{ℕ, true, List, [], ◌∷◌, None, Some, codes}
 use Rattle.std.specs.List.{flat_map}
 use Rattle.hs_io.specs.Spelling.{ended}
 use Rattle.net_core.specs.declared.Gate.{Gate}
 use Rattle.net_core.specs.declared.Latch.{Latch}
 use Rattle.net_core.specs.declared.Network.{Network}
-use Rattle.net_core.specs.declared.Start.TheVariants.{Zero}
+use Rattle.net_core.specs.declared.Start.TheVariants.{One, Zero}
 use Rattle.state_codes.specs.declared.split.Kind.TheVariants.{Code, Serial}
 use Rattle.state_codes.specs.declared.split.Part.{Part}
+use Rattle.blif_out.specs.declared.design.Design.{Design}
 use Rattle.blif_out.specs.declared.header.Header.{Header}
 use Rattle.blif_out.specs.declared.header.LatchNote.{LatchNote}
 
@@ -22,6 +23,10 @@ gate inputs output rows = record { inputs = inputs; output = output; rows = rows
 -- a latch that starts at 0
 abbrev pub latch : List ℕ → List ℕ → Latch
 latch input output = record { input = input; output = output; start = Zero }
+
+-- a latch that starts at 1
+abbrev pub set_latch : List ℕ → List ℕ → Latch
+set_latch input output = record { input = input; output = output; start = One }
 
 -- ---- a serial decomposition of the counter modulo 4
 abbrev pub serial_header : Header
@@ -117,6 +122,61 @@ reduced_lines =
     ∷ codes "1 1"
     ∷ codes ".names q0 z0"
     ∷ codes "1 1"
+    ∷ codes ".end"
+    ∷ []
+
+-- ---- a network whose first latch starts at 1, with a clock and without one
+abbrev pub started_network : Network
+started_network = record {
+  inputs = codes "up" ∷ codes "hold" ∷ [];
+  outputs = codes "last" ∷ [];
+  latches = set_latch (codes "d0") (codes "q0") ∷ latch (codes "d1") (codes "q1") ∷ [];
+  gates =
+      gate (codes "hold" ∷ codes "q1" ∷ []) (codes "d0") (codes "0-" ∷ codes "11" ∷ [])
+      ∷ gate (codes "up" ∷ codes "q0" ∷ []) (codes "d1") (codes "10" ∷ [])
+      ∷ gate (codes "q1" ∷ []) (codes "last") (codes "0" ∷ [])
+      ∷ [];
+}
+
+-- a model with a clock
+abbrev pub clocked_design : Design
+clocked_design = record { model = codes "counter"; clock = Some (codes "clk") }
+
+abbrev pub clocked_lines : List (List ℕ)
+clocked_lines =
+    codes ".model counter"
+    ∷ codes ".inputs up hold"
+    ∷ codes ".outputs last"
+    ∷ codes ".latch d0 q0 re clk 1"
+    ∷ codes ".latch d1 q1 re clk 0"
+    ∷ codes ".names hold q1 d0"
+    ∷ codes "0- 1"
+    ∷ codes "11 1"
+    ∷ codes ".names up q0 d1"
+    ∷ codes "10 1"
+    ∷ codes ".names q1 last"
+    ∷ codes "0 1"
+    ∷ codes ".end"
+    ∷ []
+
+-- another model, without a clock
+abbrev pub named_design : Design
+named_design = record { model = codes ".m-2"; clock = None }
+
+abbrev pub named_lines : List (List ℕ)
+named_lines =
+    codes ".model .m-2"
+    ∷ codes ".inputs up hold"
+    ∷ codes ".outputs last"
+    ∷ codes ".latch d0 q0 1"
+    ∷ codes ".latch d1 q1 0"
+    ∷ codes ".names hold q1 d0"
+    ∷ codes "0- 1"
+    ∷ codes "11 1"
+    ∷ codes ".names up q0 d1"
+    ∷ codes "10 1"
+    ∷ codes ".names q1 last"
+    ∷ codes "0 1"
     ∷ codes ".end"
     ∷ []
 

@@ -2,25 +2,37 @@
 
 ghost use Rattle.std.specs.Prelude.{◌≡◌, [], ◌∷◌, ◌++◌, OnOk};
 ghost use Rattle.std.specs.List.{flat_map};
-ghost use Rattle.hs_io.specs.Spelling.{ended, line_text};
-ghost use Rattle.net_core.specs.Words.{inputs_word, names_word, outputs_word};
+ghost use Rattle.hs_io.specs.Spelling.{ended, line_text, spaced};
+ghost use Rattle.net_core.specs.Words.{inputs_word, model_word, names_word, outputs_word};
+ghost use Rattle.blif_out.specs.Design.{control_fields};
 ghost use Rattle.blif_out.specs.NetText.{net_text};
 ghost use Rattle.blif_out.specs.Inner.Pieces.{row_line, latch_line, gate_lines};
 
+use crate::Design;
 use crate::fields::{append_field, append_names};
 use hs_io::Name;
 use net_core::{Gate, Latch, Network};
 use std::alloc::AllocError;
 
 /// Appends the text of a network from `.model` on.
-pub fn append_network(text: &mut Vec<u8>, net: &Network) -> Result<(), AllocError>
-    ensures { OnOk result (text.new.items ≡ text.old.items ++ net_text net.now) }
+pub fn append_network(text: &mut Vec<u8>, design: &Design, net: &Network) -> Result<(), AllocError>
+    ensures { OnOk result (text.new.items ≡ text.old.items ++ net_text design.now net.now) }
 {
-    text.extend_from_slice(b".model hsdec\n")?;
+    append_model(text, design.model.bytes())?;
     append_signals(text, net)?;
-    append_latches(text, net.latches.as_slice())?;
+    append_latches(text, design, net.latches.as_slice())?;
     append_gates(text, net.gates.as_slice())?;
     text.extend_from_slice(b".end\n")?;
+    Ok(())
+}
+
+/// Appends the line of the model's name.
+fn append_model(text: &mut Vec<u8>, name: &[u8]) -> Result<(), AllocError>
+    ensures { OnOk result (text.new.items ≡ text.old.items ++ ended (line_text (model_word ∷ name.now ∷ []))) }
+{
+    text.extend_from_slice(b".model")?;
+    append_field(text, name)?;
+    text.push(b'\n')?;
     Ok(())
 }
 
@@ -37,24 +49,37 @@ fn append_signals(text: &mut Vec<u8>, net: &Network) -> Result<(), AllocError>
 }
 
 /// Appends the lines of latches.
-fn append_latches(text: &mut Vec<u8>, latches: &[Latch]) -> Result<(), AllocError>
-    ensures { OnOk result (text.new.items ≡ text.old.items ++ flat_map latch_line latches.now) }
+fn append_latches(text: &mut Vec<u8>, design: &Design, latches: &[Latch]) -> Result<(), AllocError>
+    ensures { OnOk result (text.new.items ≡ text.old.items ++ flat_map (latch_line design.now) latches.now) }
 {
     for latch in latches {
-        append_latch(text, latch)?;
+        append_latch(text, design, latch)?;
     }
     Ok(())
 }
 
 /// Appends the line of a latch.
-fn append_latch(text: &mut Vec<u8>, latch: &Latch) -> Result<(), AllocError>
-    ensures { OnOk result (text.new.items ≡ text.old.items ++ latch_line latch.now) }
+fn append_latch(text: &mut Vec<u8>, design: &Design, latch: &Latch) -> Result<(), AllocError>
+    ensures { OnOk result (text.new.items ≡ text.old.items ++ latch_line design.now latch.now) }
 {
     text.extend_from_slice(b".latch")?;
     append_field(text, latch.input.bytes())?;
     append_field(text, latch.output.bytes())?;
+    append_control(text, &design.clock)?;
     append_field(text, &[latch.start.digit()])?;
     text.push(b'\n')?;
+    Ok(())
+}
+
+/// Appends the type of a latch and its clock, if there is a clock.
+fn append_control(text: &mut Vec<u8>, clock: &Option<Name>) -> Result<(), AllocError>
+    ensures { OnOk result (text.new.items ≡ text.old.items ++ flat_map spaced (control_fields clock.now)) }
+{
+    let Some(clock) = clock else {
+        return Ok(());
+    };
+    append_field(text, b"re")?;
+    append_field(text, clock.bytes())?;
     Ok(())
 }
 

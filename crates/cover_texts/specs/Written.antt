@@ -1,6 +1,7 @@
 -- What holds of a network, its comments and their text, that are made for a cover of a file's machine (source:
 -- Hartmanis and Stearns, state splitting).
 use Rattle.std.specs.Prelude.{◌≡◌, ℕ, ◌+◌, Bool, List, Some, length, slice_get, slice_index}
+use Rattle.blif_out.specs.declared.design.Design.{Design}
 use Rattle.blif_out.specs.declared.header.LatchNote.{LatchNote}
 use Rattle.blif_out.specs.declared.networks.CommentedNetwork.{CommentedNetwork}
 use Rattle.blif_out.specs.NetworkText.{IsTextWith}
@@ -93,7 +94,7 @@ IsCoverNetwork F text made =
     (blocks : List (List ℕ)) × (E : KissFile) × (parts : List Part) × (codes : Codes) × (notes : List LatchNote)
     × IsNetworkOfPairs F text blocks E parts codes notes made.comments made.network
 
--- The text is that of such a network after its comments. It denotes the network, also after further comments, and
--- the network is sound and starts at known values.
-abbrev pub IsCoverText : KissFile → List ℕ → List ℕ → Type 0
-IsCoverText F text written = IsTextWith (IsCoverNetwork F text) written
+-- The text is that of such a network, in the design, after its comments. It denotes the network, also after further
+-- comments, and the network is sound and starts at known values.
+abbrev pub IsCoverText : Design → KissFile → List ℕ → List ℕ → Type 0
+IsCoverText design F text written = IsTextWith design (IsCoverNetwork F text) written

@@ -7,3 +7,4 @@ pub mod Shared
 pub mod Showing
 pub mod Gathered
 pub mod FilledRows
+pub mod Differing

@@ -4,3 +4,4 @@ pub mod Judging
 pub mod Effects
 pub mod Filled
 pub mod Sets
+pub mod Differences

@@ -1,14 +1,17 @@
 //! Whether a set of state bits is enough for a gate.
 
-ghost use Rattle.std.specs.Prelude.{◌≡◌, ◌↔◌, ◌<◌, ◌≤◌, ◌+◌, ◌%◌, IsTrue, length};
+ghost use Rattle.std.specs.Prelude.{◌≡◌, ◌↔◌, ◌<◌, ◌≤◌, ◌+◌, ◌%◌, IfOk, IsTrue, OnOk, length};
 ghost use Rattle.dependence.specs.Permits as permitted;
 ghost use Rattle.dependence.specs.Permits.{InWord, PermitsValue};
 ghost use Rattle.dependence.specs.Inner.Asking.{AreFirsts, IsFirstLike};
 ghost use Rattle.dependence.specs.Bit.{IsBit, value_of};
+ghost use Rattle.dependence.specs.Inner.Differences.{AreFound};
 
 use crate::bit::Bit;
+use crate::differences::Differences;
 use machine_table::Machine;
 use state_codes::Codes;
+use std::alloc::{AllocError, Global};
 
 /// The number of places in a table of states: a prime by which the powers of 2 below 2^64 have different
 /// remainders.
@@ -49,6 +52,31 @@ pub(crate) fn permits_gate(m: &Machine, words: &[u64], set: u64, gate: Bit) -> b
         }
     }
     true
+}
+
+/// The same answer as `permits_gate` gives, from what is known of two states.
+pub(crate) fn permits_beside(
+    alloc: Global,
+    m: &Machine,
+    words: &[u64],
+    differences: &mut Differences,
+    set: u64,
+    gate: Bit,
+) -> Result<bool, AllocError>
+    requires words { length words.now ≡ length m.now.states }
+    requires gate { IsBit m.now gate }
+    requires found { AreFound m.now words.now differences.old.found.items }
+    ensures permits { IfOk result (λ permits. IsTrue permits ↔ PermitsValue m.now words.now (InWord set) (value_of m.now words.now gate)) }
+    ensures found { OnOk result (AreFound m.now words.now differences.new.found.items) }
+{
+    let mut firsts = [None; PLACES];
+    for s in 0..m.states() {
+        let first = first_like(&mut firsts, words, set, s);
+        if first < s && !differences.gives_the_same(alloc, m, words, gate, first, s)? {
+            return Ok(false);
+        }
+    }
+    Ok(true)
 }
 
 /// The first state whose word has the same bits of the set as the word of s.

@@ -6,10 +6,10 @@
 //! [`permits_output`] decide it. A [`Bit`] is a latch or an output, and stands for its gate.
 //!
 //! [`reads`] gives each gate a [`ReadSet`]. A candidate is read exactly where the candidates below it and the
-//! read ones above it do not permit, so that none can be left out. An input is read where some state and two
-//! symbols that differ in it alone give different values. [`add_effects`] gathers this state by state, and
-//! [`inputs_of`] gives the inputs that matter for a gate. What a state does is said by its [`filled_rows`], from
-//! which covers of gates are made too.
+//! read ones above it do not permit, so that none can be left out. Two states are compared once for all latches,
+//! by their pairs of next states. An input is read where some state and two symbols that differ in it alone give
+//! different values. [`add_effects`] gathers this state by state, and [`inputs_of`] gives the inputs that matter
+//! for a gate. What a state does is said by its [`filled_rows`], from which covers of gates are made too.
 //!
 //! The definitions are in `specs/`: `Permits` has what a set permits, `Bit` what the gate of a bit gives,
 //! `Candidates` which bits a gate may read, `ReadRule` which of them it reads and that it can spare none, and
@@ -19,6 +19,7 @@
 
 mod asking;
 mod bit;
+mod differences;
 mod effects;
 mod filled;
 mod judging;

@@ -1,10 +1,11 @@
 //! What each gate reads.
 
-ghost use Rattle.std.specs.Prelude.{ℕ, ◌≡◌, ◌↔◌, ◌<◌, ◌≤◌, All, IfOk, IsTrue, length, slice_index};
+ghost use Rattle.std.specs.Prelude.{ℕ, ◌≡◌, ◌↔◌, ◌<◌, ◌≤◌, All, IfOk, IsTrue, OnOk, length, slice_index};
 ghost use Rattle.state_codes.specs.Code.{IsCode};
 ghost use Rattle.state_codes.specs.Split.{IsPart};
 ghost use Rattle.dependence.specs.Bit.{IsBit, value_of};
 ghost use Rattle.dependence.specs.Candidates.{IsBitOfCode, IsCandidate, IsOpenTo, MayReadPart};
+ghost use Rattle.dependence.specs.Inner.Differences.{AreFound};
 ghost use Rattle.dependence.specs.Inner.Effects.{AreEffects};
 ghost use Rattle.dependence.specs.Effects.{HasPlace};
 ghost use Rattle.dependence.specs.Inner.Sets.{AreLatchSets, AreOutputSets};
@@ -12,6 +13,7 @@ ghost use Rattle.dependence.specs.Permits.{InWord};
 ghost use Rattle.dependence.specs.Reads.{AreReads, IsReadSet};
 
 use crate::bit::Bit;
+use crate::differences::Differences;
 use crate::effects::{Effect, effects_of, inputs_of};
 use crate::judging::read_bits;
 use crate::words::{bits_below, numbers_of, with_bit};
@@ -32,8 +34,9 @@ pub fn reads(alloc: Global, m: &Machine, split: &Split, codes: &Codes) -> Result
     ensures { IfOk result (AreReads m.now split.now.parts codes.now) }
 {
     let effects = effects_of(alloc, m, codes.words.as_slice())?;
-    let latches = latch_sets(alloc, m, split, codes, effects.as_slice())?;
-    let outputs = output_sets(alloc, m, codes, effects.as_slice())?;
+    let mut differences = Differences::new(alloc, m.states())?;
+    let latches = latch_sets(alloc, m, split, codes, effects.as_slice(), &mut differences)?;
+    let outputs = output_sets(alloc, m, codes, effects.as_slice(), &mut differences)?;
     Ok(Reads { latches, outputs })
 }
 
@@ -44,18 +47,29 @@ fn latch_sets(
     split: &Split,
     codes: &Codes,
     effects: &[Effect],
+    differences: &mut Differences,
 ) -> Result<ReadSets, AllocError>
     requires words { length codes.now.words ≡ length m.now.states }
     requires owner { length codes.now.owner ≡ codes.now.bits }
     requires carried { length codes.now.carried ≡ codes.now.bits }
     requires short { codes.now.bits ≤ 64 }
     requires effects { AreEffects m.now codes.now.words effects.now (length m.now.states) }
-    ensures { IfOk result (λ sets. AreLatchSets m.now split.now.parts codes.now sets codes.now.bits) }
+    requires found { AreFound m.now codes.now.words differences.old.found.items }
+    ensures sets { IfOk result (λ sets. AreLatchSets m.now split.now.parts codes.now sets codes.now.bits) }
+    ensures found { OnOk result (AreFound m.now codes.now.words differences.new.found.items) }
 {
     let mut sets = ReadSets::new(alloc);
     for i in 0..codes.bits {
         let candidates = candidates_of(split, codes, i);
-        sets.push(read_set(alloc, m, codes, effects, candidates, Bit::Latch(i))?)?;
+        sets.push(read_set(
+            alloc,
+            m,
+            codes,
+            effects,
+            differences,
+            candidates,
+            Bit::Latch(i),
+        )?)?;
     }
     Ok(sets)
 }
@@ -66,16 +80,26 @@ fn output_sets(
     m: &Machine,
     codes: &Codes,
     effects: &[Effect],
+    differences: &mut Differences,
 ) -> Result<ReadSets, AllocError>
     requires words { length codes.now.words ≡ length m.now.states }
     requires short { codes.now.bits ≤ 64 }
     requires effects { AreEffects m.now codes.now.words effects.now (length m.now.states) }
+    requires found { AreFound m.now codes.now.words differences.old.found.items }
     ensures { IfOk result (λ sets. AreOutputSets m.now codes.now sets m.now.outputs) }
 {
     let mut sets = ReadSets::new(alloc);
     let candidates = bits_below(codes.bits);
     for b in 0..m.outputs() {
-        sets.push(read_set(alloc, m, codes, effects, candidates, Bit::Output(b))?)?;
+        sets.push(read_set(
+            alloc,
+            m,
+            codes,
+            effects,
+            differences,
+            candidates,
+            Bit::Output(b),
+        )?)?;
     }
     Ok(sets)
 }
@@ -86,6 +110,7 @@ fn read_set(
     m: &Machine,
     codes: &Codes,
     effects: &[Effect],
+    differences: &mut Differences,
     candidates: u64,
     gate: Bit,
 ) -> Result<ReadSet, AllocError>
@@ -93,9 +118,12 @@ fn read_set(
     requires gate { IsBit m.now gate }
     requires place { HasPlace gate }
     requires effects { AreEffects m.now codes.now.words effects.now (length m.now.states) }
-    ensures { IfOk result (IsReadSet m.now codes.now.words (InWord candidates) (value_of m.now codes.now.words gate)) }
+    requires found { AreFound m.now codes.now.words differences.old.found.items }
+    ensures set { IfOk result (IsReadSet m.now codes.now.words (InWord candidates) (value_of m.now codes.now.words gate)) }
+    ensures found { OnOk result (AreFound m.now codes.now.words differences.new.found.items) }
 {
-    let bits = read_bits(m, codes.words.as_slice(), candidates, gate);
+    let words = codes.words.as_slice();
+    let bits = read_bits(alloc, m, words, differences, candidates, gate)?;
     Ok(ReadSet {
         inputs: numbers_of(alloc, inputs_of(effects, gate))?,
         latches: numbers_of(alloc, bits)?,

@@ -3,6 +3,7 @@ use Rattle.std.specs.Prelude.{◌≡◌, ℕ, ◌++◌, false, List, []}
 use Rattle.answers.specs.Cause.{Cause}
 use Rattle.blif_out.specs.declared.networks.CommentedNetwork.{CommentedNetwork}
 use Rattle.blif_out.specs.declared.networks.HeadedNetwork.{HeadedNetwork}
+use Rattle.blif_out.specs.Design.{plain_design}
 use Rattle.blif_out.specs.Head.{header_text}
 use Rattle.blif_out.specs.NetworkText.{IsHeadedText, IsNetworkText}
 use Rattle.decomposition.specs.Decomposition.{IsDecomposed}
@@ -25,8 +26,8 @@ IsTrialNetwork seed a b k F made =
     × (made.network ≡ headed.network) × (made.comments ≡ trial_text figures ++ header_text headed.header)
 
 -- The text is a summary and, after it, the text of the parallel decomposition of the machine, right for its kind,
--- as `parallel` writes it. The whole text denotes the network of the decomposition, since the summary consists of
--- comments.
+-- as `parallel` writes it in the plain design. The whole text denotes the network of the decomposition, since the
+-- summary consists of comments.
 pub record IsTrialText (seed a b k : ℕ) (F : KissFile) (text : List ℕ) : Type 0 where
   pub parts : List Part
   pub figures : TrialFigures
@@ -35,9 +36,9 @@ pub record IsTrialText (seed a b k : ℕ) (F : KissFile) (text : List ℕ) : Typ
   pub right : AreFigures seed a b k F parts figures
   pub split : IsSplitOf Parallel [] F parts
   pub decomposed : IsDecomposed false F F Parallel parts headed
-  pub of_parallel : IsHeadedText headed.header headed.network rest
+  pub of_parallel : IsHeadedText plain_design headed.header headed.network rest
   pub whole : text ≡ trial_text figures ++ rest
-  pub of_network : IsNetworkText (trial_text figures ++ header_text headed.header) headed.network text
+  pub of_network : IsNetworkText plain_design (trial_text figures ++ header_text headed.header) headed.network text
 
 -- the codes of the parallel decomposition of the machine of the numbers have more than 64 bits
 abbrev pub LongCodeRow : ℕ → ℕ → ℕ → ℕ → Cause

@@ -1,9 +1,10 @@
 -- Pieces one after another, as a list of them gives them and as a sum gives them.
 use Rattle.std.proofs.Common.{◌≡◌, ℕ, List, [], ◌∷◌, ◌++◌, refl, sym, ap, ◌∙◌, append_assoc, append-nil}
+use Rattle.std.proofs.lemmas.Grind.{flat_map-append}
 use Rattle.std.proofs.lemmas.List.{flat_map_more}
 use Rattle.std.specs.Fmt.{decimal}
 use Rattle.std.specs.List.{flat_map}
-use Rattle.hs_io.specs.Spelling.{ended, spaced}
+use Rattle.hs_io.specs.Spelling.{ended, line_text, spaced}
 use Rattle.hs_texts.specs.Reports.{spaced_numbers}
 
 -- words and a text after a text
@@ -40,3 +41,19 @@ spaced-is (number ∷ numbers) = ap (λ (t : List ℕ). spaced (decimal number) 
 pub line_more : (text new : List ℕ) (lines : List (List ℕ)) (line : List ℕ) → text ≡ flat_map ended lines → new ≡ text ++ ended line → new ≡ flat_map ended (lines ++ line ∷ [])
 line_more text new lines line before pushed =
     pushed ∙ ap (λ (t : List ℕ). t ++ ended line) before ∙ flat_map_more ended [] lines line
+
+-- ---- a line of fields
+-- a label and a number after a line
+pub figure_is : (line label number : List ℕ) → ((line ++ spaced label) ++ 32 ∷ []) ++ number ≡ line ++ flat_map spaced (label ∷ number ∷ [])
+figure_is line label number =
+    append_assoc (line ++ spaced label) (32 ∷ []) number
+    ∙ append_assoc line (spaced label) (spaced number)
+    ∙ ap (λ (t : List ℕ). line ++ (spaced label ++ spaced t)) (sym (append-nil number))
+
+-- a line of fields, with a label and a number more
+pub figure_more : (word text new label number : List ℕ) (fields : List (List ℕ)) → text ≡ line_text (word ∷ fields) → new ≡ text ++ flat_map spaced (label ∷ number ∷ []) → new ≡ line_text (word ∷ (fields ++ label ∷ number ∷ []))
+figure_more word text new label number fields before pushed =
+    pushed
+    ∙ ap (λ (t : List ℕ). t ++ flat_map spaced (label ∷ number ∷ [])) before
+    ∙ append_assoc word (flat_map spaced fields) (flat_map spaced (label ∷ number ∷ []))
+    ∙ ap (λ (t : List ℕ). word ++ t) (sym (flat_map-append spaced fields (label ∷ number ∷ [])))

@@ -134,6 +134,11 @@ cover_trivial_line = as_line (codes "hsdec: cover is trivial")
 abbrev pub cover_leaves_line : ℕ → List ℕ → List ℕ
 cover_leaves_line block symbol = as_line (codes "hsdec: cover block " ++ decimal block ++ codes " leaves at symbol " ++ symbol)
 
+-- ---- networks
+-- the line of a clock that is a signal of the network
+abbrev pub clock_line : List ℕ → List ℕ
+clock_line name = as_line (codes "hsdec: clock " ++ name ++ codes " is a signal")
+
 -- the line of a text that could not be put whole
 abbrev pub cannot_write_line : List ℕ
 cannot_write_line = as_line (codes "hsdec: cannot write")

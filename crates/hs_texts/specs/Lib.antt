@@ -1,2 +1,3 @@
 pub mod ErrLines
 pub mod Reports
+pub mod Comparisons

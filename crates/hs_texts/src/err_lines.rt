@@ -4,7 +4,7 @@ ghost use Rattle.std.specs.Prelude.{◌≡◌, ◌++◌, IfOk, OnOk, codes};
 ghost use Rattle.std.specs.Fmt.{decimal};
 ghost use Rattle.std.specs.List.{flat_map};
 ghost use Rattle.hs_io.specs.Spelling.{spaced};
-ghost use Rattle.hs_texts.specs.ErrLines.{as_line, usage_line, cannot_read_line, too_long_line, kiss_line, net_line, two_drivers_line, undriven_line, cycle_line, bad_start_line, start_unknown_line, symbol_line, conflict_line, more_line, unspecified_line, part_length_line, part_place_line, not_apart_line, code_bits_line, no_split_line, not_definite_line, not_reached_line, state_count_line, inputs_line, outputs_line, cover_place_line, cover_within_line, cover_lacks_line, cover_places_line, cover_trivial_line, cover_leaves_line};
+ghost use Rattle.hs_texts.specs.ErrLines.{as_line, usage_line, cannot_read_line, too_long_line, kiss_line, net_line, two_drivers_line, undriven_line, cycle_line, bad_start_line, start_unknown_line, symbol_line, conflict_line, more_line, unspecified_line, part_length_line, part_place_line, not_apart_line, code_bits_line, no_split_line, not_definite_line, not_reached_line, state_count_line, inputs_line, outputs_line, cover_place_line, cover_within_line, cover_lacks_line, cover_places_line, cover_trivial_line, cover_leaves_line, clock_line};
 
 use hs_io::Name;
 use std::alloc::{AllocError, Global};
@@ -307,6 +307,13 @@ pub fn cover_leaves(alloc: Global, block: usize, symbol: &[u8]) -> Result<Vec<u8
     )
 }
 
+/// The line of a clock that is a signal of the network.
+pub fn clock(alloc: Global, clock: &[u8]) -> Result<Vec<u8>, AllocError>
+    ensures { IfOk result (λ line. line.items ≡ clock_line clock.now) }
+{
+    line_of(alloc, &[b"hsdec: clock ", clock, b" is a signal"])
+}
+
 /// A line of words, the number of a line, and what is wrong there.
 fn fault_line(alloc: Global, words: &[u8], number: u32, fault: &[u8]) -> Result<Vec<u8>, AllocError>
     ensures { IfOk result (λ line. line.items ≡ as_line (words.now ++ decimal number ++ codes ": " ++ fault.now)) }
@@ -326,7 +333,7 @@ fn append_names(text: &mut Vec<u8>, names: &[Name]) -> Result<(), AllocError>
 }
 
 /// Appends a name after a space.
-fn append_name(text: &mut Vec<u8>, name: &[u8]) -> Result<(), AllocError>
+pub(crate) fn append_name(text: &mut Vec<u8>, name: &[u8]) -> Result<(), AllocError>
     ensures { OnOk result (text.new.items ≡ text.old.items ++ spaced name.now) }
 {
     text.push(b' ')?;

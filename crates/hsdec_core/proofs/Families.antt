@@ -1,12 +1,13 @@
 -- The answers of a command's own causes.
-use Rattle.std.proofs.Common.{◌≢◌, ℕ, Bool, List, inl, inr, length, sym, subst}
+use Rattle.std.proofs.Common.{◌≢◌, ℕ, Bool, List, [], ◌∷◌, inl, inr, length, sym, subst}
 use Rattle.answers.specs.declared.numbers.Answer.{Answer}
 use Rattle.answers.specs.declared.numbers.Answer.TheVariants as answers
 use Rattle.answers.specs.declared.refusals.Refusal.{Refusal}
-use Rattle.answers.specs.Cause.{Cause}
-use Rattle.answers.specs.Laws.Causes.{HasOneAnswer, IsOf, one_of}
+use Rattle.answers.specs.Cause.{Cause, FirstOf}
+use Rattle.answers.specs.Laws.Causes.{HasOneAnswer, IsOf, first_has_one, one_of}
 use Rattle.answers.specs.Refusal.{answer_of}
 use Rattle.closed_lattice.specs.Closed.{IsClosedPartition}
+use Rattle.cover_texts.specs.Flaws.{BadCoverRow}
 use Rattle.cover_texts.specs.Laws.Causes.{bad_cover_is_of, bad_cover_one}
 use Rattle.hsdec_core.specs.declared.tasks.FileTask.{FileTask}
 use Rattle.hsdec_core.specs.declared.tasks.FileTask.TheVariants.{Check, Cover, High, Low, Reduce}
@@ -15,10 +16,12 @@ use Rattle.hsdec_core.specs.declared.tasks.ListTask.TheVariants.{Closed, InputPa
 use Rattle.hsdec_core.specs.declared.tasks.MachineTask.{MachineTask}
 use Rattle.hsdec_core.specs.declared.tasks.MachineTask.TheVariants.{Listing, OfFile, OfWork}
 use Rattle.hsdec_core.specs.declared.tasks.WorkTask.{WorkTask}
-use Rattle.hsdec_core.specs.declared.tasks.WorkTask.TheVariants.{Decompose, Definite, Shift}
+use Rattle.hsdec_core.specs.declared.tasks.WorkTask.TheVariants.{Compare, Decompose, Definite, Shift}
 use Rattle.operands.specs.Laws.Causes.{never_has_one}
+use Rattle.hsdec_core.specs.Clocks.{HasCoverLatches, HasRegisterLatches, HasSplitLatches, TakesClock}
 use Rattle.hsdec_core.specs.Inner.Made.{IsPlain}
 use Rattle.hsdec_core.specs.Judgement.{file_cause, list_cause, own_cause, work_cause}
+use Rattle.hsdec_core.proofs.Clocks.{takes_clock_is_of}
 use Rattle.io_pairs.specs.Inputs.{IsInMmPair}
 use Rattle.io_pairs.specs.Outputs.{IsOutMmPair}
 use Rattle.job_words.specs.declared.jobs.Job.{Job}
@@ -47,17 +50,24 @@ list_have_one Pairs limit F = list_has_one_answer RightBefore (IsMmPair F) limit
 list_have_one InputPairs limit F = input_pairs_have_one_answer F limit
 list_have_one OutputPairs limit F = output_pairs_have_one_answer F limit
 
+-- a cause of one answer, and after it the clock
+with_clock_one : (job : Job) (HasLatches : KissFile → ℕ → Type 0) (F : KissFile) (cause : Cause) → HasOneAnswer cause → HasOneAnswer (FirstOf (cause ∷ TakesClock job HasLatches F ∷ []))
+with_clock_one job HasLatches F cause one =
+    first_has_one (cause ∷ TakesClock job HasLatches F ∷ []) (one, (one_of answers.ClockIsSignal (TakesClock job HasLatches F) (takes_clock_is_of job HasLatches F), tt))
+
 file_have_one : (task : FileTask) (job : Job) (F : KissFile) → HasOneAnswer (file_cause task job F)
 file_have_one Check job F = never_has_one
 file_have_one Reduce job F = never_has_one
 file_have_one Low job F = one_of answers.PartRefused (BadPart (length F.states) job.second) (bad_part_is_of (length F.states) job.second)
 file_have_one High job F = one_of answers.PartRefused (BadPart (length F.states) job.second) (bad_part_is_of (length F.states) job.second)
-file_have_one Cover job F = bad_cover_one F job.second
+file_have_one Cover job F = with_clock_one job (HasCoverLatches job.second) F (BadCoverRow F job.second) (bad_cover_one F job.second)
 
 work_have_one : (task : WorkTask) (job : Job) (F : KissFile) → HasOneAnswer (work_cause task job F)
 work_have_one Definite job F = definite_has_one_answer job.reduce F
-work_have_one Shift job F = shift_has_one_answer job.reduce F
-work_have_one (Decompose kind) job F = not_written_one kind job.second job.reduce F
+work_have_one Compare job F = never_has_one
+work_have_one Shift job F = with_clock_one job (HasRegisterLatches job.reduce) F (RefusesShift job.reduce F) (shift_has_one_answer job.reduce F)
+work_have_one (Decompose kind) job F =
+    with_clock_one job (HasSplitLatches kind job.second job.reduce) F (IsNotWritten kind job.second job.reduce F) (not_written_one kind job.second job.reduce F)
 
 -- each command's own cause has one answer
 pub own_have_one : (task : MachineTask) (job : Job) (F : KissFile) → HasOneAnswer (own_cause task job F)
@@ -107,17 +117,26 @@ list_plain OutputPairs limit F refusal (inr (_, inl h)) few = subst IsPlain (sym
 list_plain OutputPairs limit F refusal (inr (_, inr (_, inl h))) few = absurd (few (more_than_is_of RightBefore (IsOutMmPair F) limit refusal h))
 list_plain OutputPairs limit F refusal (inr (_, inr (_, inr h))) few = absurd h.1
 
+-- a clock is refused without a text, and so is what comes before it
+with_clock_plain : (job : Job) (HasLatches : KissFile → ℕ → Type 0) (F : KissFile) (cause : Cause) (refusal : Refusal) → (cause refusal → IsPlain (answer_of refusal)) → FirstOf (cause ∷ TakesClock job HasLatches F ∷ []) refusal → IsPlain (answer_of refusal)
+with_clock_plain job HasLatches F cause refusal plain (inl h) = plain h
+with_clock_plain job HasLatches F cause refusal plain (inr (_, inl h)) = subst IsPlain (sym (takes_clock_is_of job HasLatches F refusal h)) tt
+with_clock_plain job HasLatches F cause refusal plain (inr (_, inr h)) = absurd h.1
+
 file_plain : (task : FileTask) (job : Job) (F : KissFile) (refusal : Refusal) → file_cause task job F refusal → IsPlain (answer_of refusal)
 file_plain Check job F refusal h = absurd h
 file_plain Reduce job F refusal h = absurd h
 file_plain Low job F refusal h = subst IsPlain (sym (bad_part_is_of (length F.states) job.second refusal h)) tt
 file_plain High job F refusal h = subst IsPlain (sym (bad_part_is_of (length F.states) job.second refusal h)) tt
-file_plain Cover job F refusal h = subst IsPlain (sym (bad_cover_is_of F job.second refusal h)) tt
+file_plain Cover job F refusal h =
+    with_clock_plain job (HasCoverLatches job.second) F (BadCoverRow F job.second) refusal (λ bad. subst IsPlain (sym (bad_cover_is_of F job.second refusal bad)) tt) h
 
 work_plain : (task : WorkTask) (job : Job) (F : KissFile) (refusal : Refusal) → work_cause task job F refusal → IsPlain (answer_of refusal)
 work_plain Definite job F refusal h = subst IsPlain (sym (not_definite_is_of job.reduce F refusal h)) tt
-work_plain Shift job F refusal h = shift_plain job.reduce F refusal h
-work_plain (Decompose kind) job F refusal h = not_written_plain kind job.second job.reduce F refusal h
+work_plain Compare job F refusal h = absurd h
+work_plain Shift job F refusal h = with_clock_plain job (HasRegisterLatches job.reduce) F (RefusesShift job.reduce F) refusal (shift_plain job.reduce F refusal) h
+work_plain (Decompose kind) job F refusal h =
+    with_clock_plain job (HasSplitLatches kind job.second job.reduce) F (IsNotWritten kind job.second job.reduce F) refusal (not_written_plain kind job.second job.reduce F refusal) h
 
 pub own_plain : (task : MachineTask) (job : Job) (F : KissFile) (refusal : Refusal) → own_cause task job F refusal → answer_of refusal ≢ answers.More → IsPlain (answer_of refusal)
 own_plain (Listing listed) job F refusal h few = list_plain listed job.limit F refusal h few

@@ -14,6 +14,7 @@ use Rattle.answers.specs.Laws.Causes.{none_first}
 use Rattle.answers.specs.Refusal.{answer_of}
 use Rattle.blif_out.specs.declared.networks.CommentedNetwork.{CommentedNetwork}
 use Rattle.blif_out.specs.NetworkText.{CanBeText}
+use Rattle.blif_out.proofs.Designs.{plain_design_is_lawful}
 use Rattle.generated_texts.specs.Generated.{OfGenerated}
 use Rattle.generated_texts.specs.Trial.{IsTrialNetwork, LongCodeRow}
 use Rattle.generated_texts.specs.Laws.Trials.{long_code_is_of}
@@ -141,9 +142,9 @@ module _ (job : Job) (holds : List ℕ → Option (List ℕ)) (Faulted : Type 0)
         )
     made_of_machine (Ok (Evidence text limit)) (h, shown) =
         ((bytes, F, held, subst (λ (t : Task). IsShownBy t job F text) (sym is) shown), (bytes, may_file, first_here (OnMachine task) is bytes (More limit) (own_called (More limit) h)))
-    made_of_machine (Ok (reports.Network made)) (none, (ready, drawn)) =
+    made_of_machine (Ok (reports.Network design made)) (none, (ready, lawful, drawn)) =
         let (symbols, may_symbols) = some_symbols in (
-          (ready, λ text told. asked_here (OnMachine task) is text (bytes, F, held, drawn text told)),
+          (ready, lawful, λ text told. asked_here (OnMachine task) is text (bytes, F, held, drawn text told)),
           (bytes, symbols, may_file, may_symbols, passes (OnMachine task) is bytes symbols (machine_none none) (λ refusal h. h)),
         )
     made_of_machine (Err refusal) (inl wanting, few) = inl wanting
@@ -274,7 +275,7 @@ module _ (job : Job) (holds : List ℕ → Option (List ℕ)) (Faulted : Type 0)
       → IsJudged (LongCodeRow job.seed job.a job.b job.k) (λ made. CanBeText made × OfGenerated job.seed job.a job.b job.k (λ F. IsTrialNetwork job.seed job.a job.b job.k F made)) result → IsMadeOfNetwork job holds Faulted result
   made_of_trial (Ok made) is (none, (ready, (F, of_numbers, right))) =
       let (symbols, may_symbols) = some_symbols in (
-        (ready, λ text told. asked_here Trial is text (F, of_numbers, trial_has_text job.seed job.a job.b job.k F made text ready right told)),
+        (ready, plain_design_is_lawful made.network, λ text told. asked_here Trial is text (F, of_numbers, trial_has_text job.seed job.a job.b job.k F made text ready right told)),
         ([], symbols, no_file Trial is refl, may_symbols, passes Trial is [] symbols none (λ refusal h. h)),
       )
   made_of_trial (Err refusal) is (inl wanting) = inl wanting
@@ -285,5 +286,5 @@ module _ (job : Job) (holds : List ℕ → Option (List ℕ)) (Faulted : Type 0)
   pub made_of_page : (report : Report) (page : Page) → IsMadeOf job holds Faulted (Ok report) → IsPageOf report page → IsMadeOf job holds Faulted (report_of (Ok page))
   made_of_page (Whole text) page made is = subst (λ (p : Page). IsMadeOf job holds Faulted (report_of (Ok p))) (sym is) made
   made_of_page (Evidence text limit) page made is = subst (λ (p : Page). IsMadeOf job holds Faulted (report_of (Ok p))) (sym is) made
-  made_of_page (reports.Network network) page (drawn, passed) (text, is, told) =
-      subst (λ (p : Page). IsMadeOf job holds Faulted (report_of (Ok p))) (sym is) (drawn.1 text told, passed)
+  made_of_page (reports.Network design network) page (drawn, passed) (text, is, told) =
+      subst (λ (p : Page). IsMadeOf job holds Faulted (report_of (Ok p))) (sym is) (drawn.2 text told, passed)

@@ -30,7 +30,7 @@ rose_after old between new first (inr last) = inr last
 with_fault : (job : Job) (holds : List ℕ → Option (List ℕ)) (Faulted More : Type 0) (made : Result Report Refusal) → (Faulted → More) → IsMadeOf job holds Faulted made → IsMadeOf job holds More made
 with_fault job holds Faulted More (Ok (Whole text)) more is = is
 with_fault job holds Faulted More (Ok (Evidence text limit)) more is = is
-with_fault job holds Faulted More (Ok (Network made)) more is = is
+with_fault job holds Faulted More (Ok (Network design made)) more is = is
 with_fault job holds Faulted More (Err refusal) more (inl wanting) = inl wanting
 with_fault job holds Faulted More (Err refusal) more (inr (inl failed)) = inr (inl (more failed.0, failed.1))
 with_fault job holds Faulted More (Err refusal) more (inr (inr called)) = inr (inr called)

@@ -1,5 +1,5 @@
 -- What a job calls for by what it loads, in the order of judgement. The causes that come before a command's own are
--- in `Causes`; a command's own causes are in the crate of its family.
+-- in `Causes`; a command's own causes are in the crate of its family, and a clock that is refused, in `Clocks`.
 use Rattle.std.specs.Prelude.{ℕ, List, [], ◌∷◌, length}
 use Rattle.answers.specs.Cause.{Cause, FirstOf}
 use Rattle.closed_lattice.specs.Closed.{IsClosedPartition}
@@ -14,7 +14,8 @@ use Rattle.hsdec_core.specs.declared.tasks.MachineTask.TheVariants.{Listing, OfF
 use Rattle.hsdec_core.specs.declared.tasks.Task.{Task}
 use Rattle.hsdec_core.specs.declared.tasks.Task.TheVariants.{Gen, OnMachine, Sim, Trial, Walk}
 use Rattle.hsdec_core.specs.declared.tasks.WorkTask.{WorkTask}
-use Rattle.hsdec_core.specs.declared.tasks.WorkTask.TheVariants.{Decompose, Definite, Shift}
+use Rattle.hsdec_core.specs.declared.tasks.WorkTask.TheVariants.{Compare, Decompose, Definite, Shift}
+use Rattle.hsdec_core.specs.Clocks.{HasCoverLatches, HasRegisterLatches, HasSplitLatches, TakesClock}
 use Rattle.operands.specs.Causes.{Never, NoMachineOf, NoNetworkOf, OfMachine, OfNetwork}
 use Rattle.operands.specs.Fill.{fill_of}
 use Rattle.operands.specs.Loading.{Lengthy}
@@ -45,13 +46,15 @@ file_cause Check job F = Never
 file_cause Reduce job F = Never
 file_cause Low job F = BadPart (length F.states) job.second
 file_cause High job F = BadPart (length F.states) job.second
-file_cause Cover job F = BadCoverRow F job.second
+file_cause Cover job F = FirstOf (BadCoverRow F job.second ∷ TakesClock job (HasCoverLatches job.second) F ∷ [])
 
 -- the causes of a text on the machine that the job works on
 abbrev pub work_cause : WorkTask → Job → KissFile → Cause
 work_cause Definite job F = NotDefiniteRow job.reduce F
-work_cause Shift job F = RefusesShift job.reduce F
-work_cause (Decompose kind) job F = IsNotWritten kind job.second job.reduce F
+work_cause Compare job F = Never
+work_cause Shift job F = FirstOf (RefusesShift job.reduce F ∷ TakesClock job (HasRegisterLatches job.reduce) F ∷ [])
+work_cause (Decompose kind) job F =
+    FirstOf (IsNotWritten kind job.second job.reduce F ∷ TakesClock job (HasSplitLatches kind job.second job.reduce) F ∷ [])
 
 -- a command's own causes, by what it does with the machine of FILE
 abbrev pub own_cause : MachineTask → Job → KissFile → Cause

@@ -1,3 +1,4 @@
+pub mod Clocks
 pub mod Inner
 pub mod Judgement
 pub mod Operands

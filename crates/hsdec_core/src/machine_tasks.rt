@@ -4,33 +4,36 @@ ghost use Rattle.std.specs.Prelude.{◌≡◌, ◌≤◌, ◌↔◌, ℕ, Err, I
 ghost use Rattle.hs_io.specs.Counts.{Rose};
 ghost use Rattle.answers.specs.declared.refusals.Refusal.TheVariants.{NoMemory};
 ghost use Rattle.answers.specs.declared.reports.Report.TheVariants.{Network, Whole};
-ghost use Rattle.answers.specs.Judged.{IsReported};
+ghost use Rattle.answers.specs.Judged.{IsJudged, IsReported};
 ghost use Rattle.blif_out.specs.NetworkText.{CanBeHeaded};
 ghost use Rattle.hsdec_core.specs.declared.tasks.MachineTask.TheVariants.{OfWork};
 ghost use Rattle.hsdec_core.specs.declared.tasks.Task.TheVariants.{OnMachine};
 ghost use Rattle.hsdec_core.specs.declared.tasks.WorkTask.TheVariants as works;
 ghost use Rattle.operands.specs.Fill.{fill_of};
-ghost use Rattle.hsdec_core.specs.Inner.Headed.{IsReportOf};
+ghost use Rattle.hsdec_core.specs.Clocks.{design_of};
+ghost use Rattle.hsdec_core.specs.Inner.Headed.{IsReportOf, NamesSignal};
 ghost use Rattle.hsdec_core.specs.Inner.Made.{IsMadeOf};
 ghost use Rattle.hsdec_core.specs.Judgement.{file_cause, list_cause, own_cause, work_cause};
 ghost use Rattle.hsdec_core.specs.Operands.{AreGranted};
-ghost use Rattle.hsdec_core.specs.Promise.{IsFileText, IsListEvidence, IsListing, IsReport, IsShown, IsWorkText};
+ghost use Rattle.hsdec_core.specs.Promise.{IsFileText, IsListEvidence, IsListing, IsReport, IsShown, IsWorkText, shown_of};
 ghost use Rattle.hsdec_core.specs.Task.{task_of};
 ghost use Rattle.job_words.specs.declared.command.Command.TheVariants as commands;
-ghost use Rattle.job_words.specs.Job.{HasFewSlashes, IsLimit};
+ghost use Rattle.job_words.specs.Job.{HasFewSlashes, HasGivenNames, IsLimit};
 ghost use Rattle.kiss_file.specs.Lawful.{IsLawful};
 ghost use Rattle.kiss_file.specs.Machine.{Accepted};
 ghost use Rattle.state_codes.specs.declared.split.Kind.TheVariants as kinds;
 
+use crate::designs::designed;
 use crate::tasks::{FileTask, ListTask, MachineTask, WorkTask};
 use answers::{Bytes, Refusal, Report};
 use blif_out::{CommentedNetwork, HeadedNetwork, header_comments};
+use comparisons::compare;
 use cover_texts::cover;
 use hs_io::Shelf;
 use job_words::Job;
 use kiss_file::KissFile;
 use machine_reports::{
-    check, closed, definite, high, ispairs, low, output, pairs, reduce, sopairs,
+    Shown, check, closed, definite, high, ispairs, low, output, pairs, reduce, sopairs,
 };
 use machine_table::Machine;
 use operands::{OpenedMachine, fill, open_machine};
@@ -48,6 +51,7 @@ pub fn on_machine<F: Shelf>(
     requires task { task_of job.now.command ≡ OnMachine task }
     requires few { job.now.command ≡ commands.Assign → HasFewSlashes job.now.second }
     requires limited { IsLimit job.now.limit }
+    requires named { HasGivenNames job.now }
     requires granted { AreGranted (F.grants shelf.old) job.now }
     ensures made { IsMadeOf
         job.now (F.holds shelf.old) (Rose (F.faults shelf.old) (F.faults shelf.new)) result }
@@ -69,13 +73,21 @@ fn report(
 ) -> Result<Report, Refusal>
     requires few { task ≡ OfWork (works.Decompose kinds.Assign) → HasFewSlashes job.now.second }
     requires limited { IsLimit job.now.limit }
+    requires named { HasGivenNames job.now }
     requires lawful { IsLawful file.now }
     requires accepted { Accepted file.now (fill_of job.now) }
     requires machine { machine ≡ file.now }
     ensures { IsReported (own_cause task job.now file.now) (IsReport task job.now file.now) (IsShown task job.now file.now) result }
 {
     match task {
-        MachineTask::Listing(listed) => listing(alloc, listed, &machine, job.limit),
+        MachineTask::Listing(listed) => listing(
+            alloc,
+            listed,
+            file,
+            &machine,
+            job.limit,
+            shown(job),
+        ),
         MachineTask::OfFile(task) => on_file(alloc, job, task, file, &machine),
         MachineTask::OfWork(task) => on_work(alloc, job, task, file, machine),
     }
@@ -89,6 +101,7 @@ fn on_file(
     file: &KissFile,
     machine: &Machine,
 ) -> Result<Report, Refusal>
+    requires named { HasGivenNames job.now }
     requires lawful { IsLawful file.now }
     requires accepted { Accepted file.now (fill_of job.now) }
     requires machine { machine.now ≡ file.now }
@@ -97,9 +110,9 @@ fn on_file(
     match task {
         FileTask::Check => whole(check(alloc, file)),
         FileTask::Reduce => whole(reduce(alloc, file, machine, fill(job))),
-        FileTask::Low => judged(low(alloc, machine, job.second.bytes())),
-        FileTask::High => judged(high(alloc, machine, job.second.bytes())),
-        FileTask::Cover => drawn(cover(alloc, file, machine, job.second.bytes())),
+        FileTask::Low => judged(low(alloc, file, machine, job.second.bytes(), shown(job))),
+        FileTask::High => judged(high(alloc, file, machine, job.second.bytes(), shown(job))),
+        FileTask::Cover => drawn(alloc, job, cover(alloc, file, machine, job.second.bytes())),
     }
 }
 
@@ -112,14 +125,22 @@ fn on_work(
     machine: Machine,
 ) -> Result<Report, Refusal>
     requires few { task ≡ works.Decompose kinds.Assign → HasFewSlashes job.now.second }
+    requires named { HasGivenNames job.now }
     requires lawful { IsLawful file.now }
     requires accepted { Accepted file.now (fill_of job.now) }
     requires machine { machine ≡ file.now }
     ensures { IsReported (work_cause task job.now file.now) (IsWorkText task job.now file.now) (λ _. ⊥) result }
 {
     match task {
-        WorkTask::Definite => judged(definite(alloc, file, machine, fill(job), job.reduce)),
-        WorkTask::Shift => drawn(shift(alloc, file, machine, fill(job), job.reduce)),
+        WorkTask::Definite => {
+            let made = definite(alloc, file, machine, fill(job), job.reduce, shown(job));
+            judged(made)
+        }
+        WorkTask::Compare => whole(compare(alloc, file, machine, fill(job), job.reduce)),
+        WorkTask::Shift => {
+            let made = shift(alloc, file, machine, fill(job), job.reduce);
+            drawn(alloc, job, made)
+        }
         WorkTask::Decompose(kind) => {
             let made = decompose(
                 alloc,
@@ -130,7 +151,7 @@ fn on_work(
                 fill(job),
                 job.reduce,
             );
-            headed(alloc, made)
+            headed(alloc, job, made)
         }
     }
 }
@@ -139,16 +160,19 @@ fn on_work(
 fn listing(
     alloc: Global,
     listed: ListTask,
+    file: &KissFile,
     machine: &Machine,
     limit: usize,
+    shown: Shown,
 ) -> Result<Report, Refusal>
-    requires { IsLimit limit }
-    ensures { IsReported (list_cause listed limit machine.now) (IsListing listed limit machine.now) (IsListEvidence listed limit machine.now) result }
+    requires limited { IsLimit limit }
+    requires machine { machine.now ≡ file.now }
+    ensures { IsReported (list_cause listed limit machine.now) (IsListing listed shown limit machine.now) (IsListEvidence listed shown limit machine.now) result }
 {
     match listed {
-        ListTask::Closed => closed(alloc, machine, limit),
-        ListTask::Output => output(alloc, machine, limit),
-        ListTask::Pairs => pairs(alloc, machine, limit),
+        ListTask::Closed => closed(alloc, file, machine, limit, shown),
+        ListTask::Output => output(alloc, file, machine, limit, shown),
+        ListTask::Pairs => pairs(alloc, file, machine, limit, shown),
         ListTask::InputPairs => ispairs(alloc, machine, limit),
         ListTask::OutputPairs => sopairs(alloc, machine, limit),
     }
@@ -171,19 +195,38 @@ fn judged(text: Result<Vec<u8>, Refusal>) -> Result<Report, Refusal>
 }
 
 /// The report of a network with its comments, or its refusal.
-fn drawn(made: Result<CommentedNetwork, Refusal>) -> Result<Report, Refusal>
-    ensures { MatchResult made (λ network. result ≡ Ok (Network network)) (λ refusal. result ≡ Err refusal) }
+fn drawn(
+    alloc: Global,
+    job: &Job,
+    made: Result<CommentedNetwork, Refusal>,
+) -> Result<Report, Refusal>
+    ensures { MatchResult made
+        (λ network. IsJudged (NamesSignal job.now.clock network.network) (λ report. report ≡ Network (design_of job.now) network) result)
+        (λ refusal. result ≡ Err refusal) }
 {
     let made = made?;
-    Ok(Report::Network(made))
+    designed(alloc, job, made)
 }
 
 /// The report of a network with its header, or its refusal.
-fn headed(alloc: Global, made: Result<HeadedNetwork, Refusal>) -> Result<Report, Refusal>
+fn headed(alloc: Global, job: &Job, made: Result<HeadedNetwork, Refusal>) -> Result<Report, Refusal>
     requires { IfOk made CanBeHeaded }
-    ensures { MatchResult made (IsReportOf result) (λ refusal. result ≡ Err refusal) }
+    ensures { MatchResult made
+        (λ headed. IsJudged (NamesSignal job.now.clock headed.network) (IsReportOf (design_of job.now) headed) result)
+        (λ refusal. result ≡ Err refusal) }
 {
     let HeadedNetwork { header, network } = made?;
     let comments = Bytes::from(header_comments(alloc, &header)?);
-    Ok(Report::Network(CommentedNetwork { comments, network }))
+    designed(alloc, job, CommentedNetwork { comments, network })
+}
+
+/// How a job has partitions of states printed.
+fn shown(job: &Job) -> Shown
+    ensures { result ≡ shown_of job.now }
+{
+    if job.names {
+        Shown::Names
+    } else {
+        Shown::Labels
+    }
 }

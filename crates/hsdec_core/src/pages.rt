@@ -15,8 +15,8 @@ pub fn page_of(alloc: Global, report: Report) -> Result<Page, AllocError>
     match report {
         Report::Whole(text) => Ok(Page::Whole(text)),
         Report::Evidence { text, limit } => Ok(Page::Evidence { text, limit }),
-        Report::Network(made) => {
-            let text = text_of_network(alloc, &made)?;
+        Report::Network { design, made } => {
+            let text = text_of_network(alloc, &design, &made)?;
             Ok(Page::Whole(Bytes::from(text)))
         }
     }

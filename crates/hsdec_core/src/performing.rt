@@ -6,13 +6,14 @@ ghost use Rattle.hsdec_core.specs.Inner.Made.{IsMadeFor, IsMadeOf};
 ghost use Rattle.hsdec_core.specs.Operands.{AreGranted, takes_file};
 ghost use Rattle.hsdec_core.specs.Task.{task_of};
 ghost use Rattle.job_words.specs.declared.command.Command.TheVariants as commands;
-ghost use Rattle.job_words.specs.Job.{HasFewSlashes, HasSizes, IsLimit, JobOf};
+ghost use Rattle.job_words.specs.Job.{HasFewSlashes, HasGivenNames, HasSizes, IsLimit, JobOf};
 
 use crate::machine_tasks::on_machine;
 use crate::pages::page_of;
 use crate::symbol_tasks::{sim, walk};
 use crate::tasks::{Task, task_of_command};
 use answers::{Bytes, Page, Refusal, Report};
+use blif_out::Design;
 use generated_texts::{generate, trial};
 use hs_io::Shelf;
 use job_words::{Job, JobFail, Words, job};
@@ -45,6 +46,7 @@ pub fn perform<F: Shelf>(alloc: Global, words: &Words, shelf: &mut F) -> Result<
 fn perform_job<F: Shelf>(alloc: Global, job: &Job, shelf: &mut F) -> Result<Report, Refusal>
     requires few { job.now.command ≡ commands.Assign → HasFewSlashes job.now.second }
     requires limited { IsLimit job.now.limit }
+    requires named { HasGivenNames job.now }
     requires sizes { (job.now.command ≡ commands.Gen) ⊎ (job.now.command ≡ commands.Trial) → HasSizes job.now }
     requires granted { AreGranted (F.grants shelf.old) job.now }
     ensures made { IsMadeOf
@@ -64,7 +66,8 @@ fn perform_job<F: Shelf>(alloc: Global, job: &Job, shelf: &mut F) -> Result<Repo
         }
         Task::Trial => {
             let made = trial(alloc, job.seed, job.a, job.b, job.k)?;
-            Ok(Report::Network(made))
+            let design = Design::plain(alloc)?;
+            Ok(Report::Network { design, made })
         }
     }
 }

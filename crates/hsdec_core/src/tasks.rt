@@ -62,6 +62,8 @@ pub enum FileTask {
 #[derive(Clone, Copy)]
 pub enum WorkTask {
     Definite,
+    /// The counts of the networks of all kinds.
+    Compare,
     /// The shift register of a definite machine.
     Shift,
     /// A decomposition of that kind.
@@ -96,6 +98,7 @@ pub fn task_of_command(command: Command) -> Task
         Command::Shift => MachineTask::OfWork(WorkTask::Shift),
         Command::Ispairs => MachineTask::Listing(ListTask::InputPairs),
         Command::Sopairs => MachineTask::Listing(ListTask::OutputPairs),
+        Command::Compare => MachineTask::OfWork(WorkTask::Compare),
     };
     Task::OnMachine(on_machine)
 }

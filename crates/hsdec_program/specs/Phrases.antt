@@ -3,7 +3,7 @@ use Rattle.std.specs.Prelude.{ℕ, List, Option, Some, None, codes}
 use Rattle.job_words.specs.declared.command.Command.{Command}
 use Rattle.job_words.specs.declared.command.Command.TheVariants as commands
 use Rattle.job_words.specs.declared.table.CommandOption.{CommandOption}
-use Rattle.job_words.specs.declared.table.CommandOption.TheVariants.{Limit, Reduce, Start, Fill}
+use Rattle.job_words.specs.declared.table.CommandOption.TheVariants.{Limit, Reduce, Start, Fill, Names, Clock, Model}
 use Rattle.job_words.specs.declared.table.OperandKind.{OperandKind}
 use Rattle.job_words.specs.declared.table.OperandKind.TheVariants.{File, Net, Part, Parts, Symbols, Cover, Seed, A, B, K}
 
@@ -32,6 +32,7 @@ phrase_of commands.Definite = codes "shows how the states of a definite machine 
 phrase_of commands.Shift = codes "writes a definite machine as a shift register"
 phrase_of commands.Ispairs = codes "lists the Mm pairs of inputs and states"
 phrase_of commands.Sopairs = codes "lists the Mm pairs of states and outputs"
+phrase_of commands.Compare = codes "counts the network of each kind, or says why there is none"
 
 -- the words of an example of each command
 abbrev pub example_of : Command → List ℕ
@@ -58,6 +59,7 @@ example_of commands.Definite = codes "definite three_ones.kiss"
 example_of commands.Shift = codes "shift shift3.kiss"
 example_of commands.Ispairs = codes "ispairs modulo4.kiss --limit 100"
 example_of commands.Sopairs = codes "sopairs modulo4.kiss --limit 100"
+example_of commands.Compare = codes "compare modulo4.kiss"
 
 -- the words that make the file of an example before it; the files of the other examples are in the folder examples
 abbrev pub making_of : Command → Option (List ℕ)
@@ -96,6 +98,9 @@ option_words Limit = codes "[--limit N]"
 option_words Reduce = codes "[--reduce]"
 option_words Start = codes "[--start BITS]"
 option_words Fill = codes "[--fill hold]"
+option_words Names = codes "[--names]"
+option_words Clock = codes "[--clock NAME]"
+option_words Model = codes "[--model NAME]"
 
 -- what an option is for
 abbrev pub option_note : CommandOption → List ℕ
@@ -103,3 +108,6 @@ option_note Limit = codes "  --limit N    lists up to N, from 1 to 10,000; witho
 option_note Reduce = codes "  --reduce     works on the classes of states that no word tells apart"
 option_note Start = codes "  --start BITS the first values of the latches in order, a 0 or 1 for each"
 option_note Fill = codes "  --fill hold  fills what is open: the machine stays in its state and puts out 0"
+option_note Names = codes "  --names      prints each block by the names of its states, in braces"
+option_note Clock = codes "  --clock NAME the clock of the latches, which is no signal of the network"
+option_note Model = codes "  --model NAME the name of the network's model; without it hsdec"

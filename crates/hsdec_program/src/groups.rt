@@ -34,7 +34,11 @@ pub fn command_group(command: Command) -> Group
         | Command::Definite
         | Command::Ispairs
         | Command::Sopairs => Group::Look,
-        Command::Parallel | Command::Serial | Command::Cascade | Command::Feedback => Group::Split,
+        Command::Parallel
+        | Command::Serial
+        | Command::Cascade
+        | Command::Feedback
+        | Command::Compare => Group::Split,
         Command::Code | Command::Assign | Command::Least | Command::Cover | Command::Shift =>
             Group::Code,
         Command::Walk | Command::Sim => Group::Run,

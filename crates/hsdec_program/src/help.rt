@@ -56,6 +56,9 @@ const OPTIONS: &[CommandOption] = &[
     CommandOption::Reduce,
     CommandOption::Start,
     CommandOption::Fill,
+    CommandOption::Names,
+    CommandOption::Clock,
+    CommandOption::Model,
 ];
 
 /// The answers by their numbers, with what to do.
@@ -85,7 +88,8 @@ Exit status, and what to do:
       can help
   21  the machine has more than 8 inputs
   22  more than 256 outputs occur
-  6 and 16 are not used
+  24  the clock is the name of a signal of the network: another name will do
+  6, 16 and 23 are not used
 ";
 
 /// The page that the words ask for: `--help` or `--version` alone, or `--help` with a command.

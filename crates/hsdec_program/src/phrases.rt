@@ -38,6 +38,7 @@ pub fn phrase(command: Command) -> &'static [u8]
         Command::Shift => b"writes a definite machine as a shift register",
         Command::Ispairs => b"lists the Mm pairs of inputs and states",
         Command::Sopairs => b"lists the Mm pairs of states and outputs",
+        Command::Compare => b"counts the network of each kind, or says why there is none",
     }
 }
 
@@ -69,6 +70,7 @@ pub fn example(command: Command) -> &'static [u8]
         Command::Shift => b"shift shift3.kiss",
         Command::Ispairs => b"ispairs modulo4.kiss --limit 100",
         Command::Sopairs => b"sopairs modulo4.kiss --limit 100",
+        Command::Compare => b"compare modulo4.kiss",
     }
 }
 
@@ -132,6 +134,9 @@ pub fn option_name(option: CommandOption) -> &'static [u8]
         CommandOption::Reduce => b"[--reduce]",
         CommandOption::Start => b"[--start BITS]",
         CommandOption::Fill => b"[--fill hold]",
+        CommandOption::Names => b"[--names]",
+        CommandOption::Clock => b"[--clock NAME]",
+        CommandOption::Model => b"[--model NAME]",
     }
 }
 
@@ -148,5 +153,10 @@ pub fn option_text(option: CommandOption) -> &'static [u8]
             b"  --start BITS the first values of the latches in order, a 0 or 1 for each",
         CommandOption::Fill =>
             b"  --fill hold  fills what is open: the machine stays in its state and puts out 0",
+        CommandOption::Names =>
+            b"  --names      prints each block by the names of its states, in braces",
+        CommandOption::Clock =>
+            b"  --clock NAME the clock of the latches, which is no signal of the network",
+        CommandOption::Model => b"  --model NAME the name of the network's model; without it hsdec",
     }
 }

@@ -7,7 +7,7 @@ use Rattle.job_words.specs.declared.command.Command.{Command}
 use Rattle.job_words.specs.declared.jobs.Job.{Job}
 use Rattle.job_words.specs.declared.jobs.JobFail.{JobFail}
 use Rattle.job_words.specs.declared.table.CommandOption.{CommandOption}
-use Rattle.job_words.specs.declared.table.CommandOption.TheVariants.{Limit, Reduce, Start, Fill}
+use Rattle.job_words.specs.declared.table.CommandOption.TheVariants.{Limit, Reduce, Start, Fill, Names, Clock, Model}
 use Rattle.job_words.specs.declared.table.OperandKind.{OperandKind}
 use Rattle.job_words.specs.declared.table.OperandKind.TheVariants.{File, Net, Part, Parts, Symbols, Cover, Seed, A, B, K}
 use Rattle.std.specs.Str.{bytes_eq}
@@ -17,26 +17,28 @@ use Rattle.job_words.specs.Job.{job_of, judged, judged_as, judgement, row_named,
 use Rattle.job_words.specs.Table.{IsBuilt, Row, built, commands_of}
 use Rattle.job_words.proofs.Judged.{judged-keeps}
 
--- an operand leaves the command, the limit, and what is filled
+-- an operand leaves the command, the limit, what is filled, and the given names
 pub record Keeps (job more : Job) : Type 0 where
   pub command : more.command ≡ job.command
   pub limit : more.limit ≡ job.limit
   pub hold : more.hold ≡ job.hold
+  pub clock : more.clock ≡ job.clock
+  pub model : more.model ≡ job.model
 
 with_operand-keeps : (kind : OperandKind) (word : List ℕ) (job : Job) → Keeps job (with_operand kind word job)
-with_operand-keeps File word job = record { command = refl; limit = refl; hold = refl }
-with_operand-keeps Net word job = record { command = refl; limit = refl; hold = refl }
-with_operand-keeps Part word job = record { command = refl; limit = refl; hold = refl }
-with_operand-keeps Parts word job = record { command = refl; limit = refl; hold = refl }
-with_operand-keeps Symbols word job = record { command = refl; limit = refl; hold = refl }
-with_operand-keeps Cover word job = record { command = refl; limit = refl; hold = refl }
-with_operand-keeps Seed word job = record { command = refl; limit = refl; hold = refl }
-with_operand-keeps A word job = record { command = refl; limit = refl; hold = refl }
-with_operand-keeps B word job = record { command = refl; limit = refl; hold = refl }
-with_operand-keeps K word job = record { command = refl; limit = refl; hold = refl }
+with_operand-keeps File word job = record { command = refl; limit = refl; hold = refl; clock = refl; model = refl }
+with_operand-keeps Net word job = record { command = refl; limit = refl; hold = refl; clock = refl; model = refl }
+with_operand-keeps Part word job = record { command = refl; limit = refl; hold = refl; clock = refl; model = refl }
+with_operand-keeps Parts word job = record { command = refl; limit = refl; hold = refl; clock = refl; model = refl }
+with_operand-keeps Symbols word job = record { command = refl; limit = refl; hold = refl; clock = refl; model = refl }
+with_operand-keeps Cover word job = record { command = refl; limit = refl; hold = refl; clock = refl; model = refl }
+with_operand-keeps Seed word job = record { command = refl; limit = refl; hold = refl; clock = refl; model = refl }
+with_operand-keeps A word job = record { command = refl; limit = refl; hold = refl; clock = refl; model = refl }
+with_operand-keeps B word job = record { command = refl; limit = refl; hold = refl; clock = refl; model = refl }
+with_operand-keeps K word job = record { command = refl; limit = refl; hold = refl; clock = refl; model = refl }
 
 pub with_kind-keeps : (kind : Option OperandKind) (word : List ℕ) (job : Job) → Keeps job (with_kind kind word job)
-with_kind-keeps None word job = record { command = refl; limit = refl; hold = refl }
+with_kind-keeps None word job = record { command = refl; limit = refl; hold = refl; clock = refl; model = refl }
 with_kind-keeps (Some kind) word job = with_operand-keeps kind word job
 
 -- an option leaves the command
@@ -45,6 +47,9 @@ with_option-command Limit word job = refl
 with_option-command Reduce word job = refl
 with_option-command Start word job = refl
 with_option-command Fill word job = refl
+with_option-command Names word job = refl
+with_option-command Clock word job = refl
+with_option-command Model word job = refl
 
 job_of-command : (row : Row) (before : List Item) → (job_of row before).command ≡ row.command
 job_of-command row [] = refl

@@ -5,5 +5,6 @@ pub mod Digits
 pub mod ItemsAt
 pub mod Reading
 pub mod Limits
+pub mod GivenNames
 pub mod Slashes
 pub mod Sizes

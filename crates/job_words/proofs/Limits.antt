@@ -2,7 +2,7 @@
 use Rattle.std.proofs.Common.{◌≡◌, ℕ, true, List, [], ◌∷◌, Option, Some, None, Ok, sym, subst, arith}
 use Rattle.job_words.specs.declared.jobs.Job.{Job}
 use Rattle.job_words.specs.declared.table.CommandOption.{CommandOption}
-use Rattle.job_words.specs.declared.table.CommandOption.TheVariants.{Limit, Reduce, Start, Fill}
+use Rattle.job_words.specs.declared.table.CommandOption.TheVariants.{Limit, Reduce, Start, Fill, Names, Clock, Model}
 use Rattle.job_words.specs.Item.{Item, Operand, Chosen, Lacking, Unknown, items_of}
 use Rattle.job_words.specs.Job.{IsLimit, LimitsAreLimits, fits_option, job_of, judged_as, refusal, row_named, with_option}
 use Rattle.job_words.specs.Table.{Row, built}
@@ -15,6 +15,9 @@ with_option-limit Limit word job fits is = in_range 1 10000 word fits
 with_option-limit Reduce word job fits is = is
 with_option-limit Start word job fits is = is
 with_option-limit Fill word job fits is = is
+with_option-limit Names word job fits is = is
+with_option-limit Clock word job fits is = is
+with_option-limit Model word job fits is = is
 
 -- an item that is not refused leaves a limit
 keeps_limit : (row : Row) (before : List Item) (item : Item) → IsLimit (job_of row before).limit → refusal row before item ≡ None → IsLimit (job_of row (item ∷ before)).limit

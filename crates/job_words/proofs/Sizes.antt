@@ -7,7 +7,7 @@ use Rattle.job_words.specs.declared.command.Command.{Command}
 use Rattle.job_words.specs.declared.command.Command.TheVariants as commands
 use Rattle.job_words.specs.declared.jobs.Job.{Job}
 use Rattle.job_words.specs.declared.table.CommandOption.{CommandOption}
-use Rattle.job_words.specs.declared.table.CommandOption.TheVariants.{Limit, Reduce, Start, Fill}
+use Rattle.job_words.specs.declared.table.CommandOption.TheVariants.{Limit, Reduce, Start, Fill, Names, Clock, Model}
 use Rattle.job_words.specs.declared.table.OperandKind.{OperandKind}
 use Rattle.job_words.specs.declared.table.OperandKind.TheVariants.{Seed, A, B, K}
 use Rattle.job_words.specs.Item.{Item, Operand, Chosen, Lacking, Unknown, items_of}
@@ -53,6 +53,9 @@ option_sized Limit word count job is = is
 option_sized Reduce word count job is = is
 option_sized Start word count job is = is
 option_sized Fill word count job is = is
+option_sized Names word count job is = is
+option_sized Clock word count job is = is
+option_sized Model word count job is = is
 
 -- an item that is not refused
 keeps_sized : (row : Row) (before : List Item) (item : Item) → row.operands ≡ numbers → AreSized (operands_in before) (job_of row before) → refusal row before item ≡ None
@@ -83,7 +86,7 @@ TakesNumbers row = MakesMachine row.command → row.operands ≡ numbers
 
 built_numbers : AllByRecursion TakesNumbers built
 built_numbers =
-    (λ e. absurd e, (λ e. absurd e, (λ e. absurd e, (λ e. absurd e, (λ e. absurd e, (λ e. absurd e, (λ e. absurd e, (λ e. absurd e, (λ e. absurd e, (λ e. absurd e, (λ e. absurd e, (λ e. absurd e, (λ e. absurd e, (λ e. absurd e, (λ e. absurd e, (λ e. refl, (λ e. refl, (λ e. absurd e, (λ e. absurd e, (λ e. absurd e, (λ e. absurd e, (λ e. absurd e, (λ e. absurd e, tt)))))))))))))))))))))))
+    (λ e. absurd e, (λ e. absurd e, (λ e. absurd e, (λ e. absurd e, (λ e. absurd e, (λ e. absurd e, (λ e. absurd e, (λ e. absurd e, (λ e. absurd e, (λ e. absurd e, (λ e. absurd e, (λ e. absurd e, (λ e. absurd e, (λ e. absurd e, (λ e. absurd e, (λ e. refl, (λ e. refl, (λ e. absurd e, (λ e. absurd e, (λ e. absurd e, (λ e. absurd e, (λ e. absurd e, (λ e. absurd e, (λ e. absurd e, tt))))))))))))))))))))))))
 
 -- the sizes of each job of `gen` and `trial`
 pub sizes_are_sizes : SizesAreSizes

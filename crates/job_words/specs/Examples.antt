@@ -101,3 +101,37 @@ pub record TakesSizes : Type 0 where
   pub states_above : job_of_line "gen 1 16 17 1" ≡ Err 4
   pub inputs_above : job_of_line "trial 1 2 2 9" ≡ Err 5
   pub option : job_of_line "trial 1 2 2 1 --reduce" ≡ Err 6
+
+-- a text of this number of commas
+abbrev pub commas : ℕ → List ℕ
+commas count = replicate count 44
+
+-- a network has a model and may have a clock; partitions may be printed by names
+pub record TakesNames : Type 0 where
+  pub both : job_of_line "code f --clock clk --model counter"
+      ≡ Ok (record (empty_job commands.Code) { file = codes "f"; clock = Some (codes "clk"); model = Some (codes "counter") })
+  pub with_others : job_of_line "shift --model m --reduce --clock c f --fill hold"
+      ≡ Ok (record (empty_job commands.Shift) { file = codes "f"; reduce = true; hold = true; clock = Some (codes "c"); model = Some (codes "m") })
+  pub as_option : job_of_line "cover f 0 --clock --model"
+      ≡ Ok (record (empty_job commands.Cover) { file = codes "f"; second = codes "0"; clock = Some (codes "--model") })
+  pub model_nil : job_of_line "least f --model NIL" ≡ Ok (record (empty_job commands.Least) { file = codes "f"; model = Some (codes "NIL") })
+  pub clock_nil : job_of_line "least f --clock NIL" ≡ Err 4
+  pub clock_nils : job_of_line "least f --clock NILS" ≡ Ok (record (empty_job commands.Least) { file = codes "f"; clock = Some (codes "NILS") })
+  pub empty_clock : job_of_line "code f --clock " ≡ Err 4
+  pub empty_model : job_of_line "code f --model " ≡ Err 4
+  pub longest : JobOf (codes "code" ∷ codes "f" ∷ codes "--clock" ∷ commas 64 ∷ [])
+      ≡ Ok (record (empty_job commands.Code) { file = codes "f"; clock = Some (commas 64) })
+  pub longer_clock : JobOf (codes "code" ∷ codes "f" ∷ codes "--clock" ∷ commas 65 ∷ []) ≡ Err 4
+  pub longer_model : JobOf (codes "code" ∷ codes "f" ∷ codes "--model" ∷ commas 65 ∷ []) ≡ Err 4
+  pub comment : job_of_line "code f --clock c#k" ≡ Err 4
+  pub backslash : job_of_line "code f --model m\\" ≡ Err 4
+  pub ends : job_of_line "code f --model !~" ≡ Ok (record (empty_job commands.Code) { file = codes "f"; model = Some (codes "!~") })
+  pub delete : JobOf (codes "code" ∷ codes "f" ∷ codes "--model" ∷ (109 ∷ 127 ∷ []) ∷ []) ≡ Err 4
+  pub twice : job_of_line "code f --clock c --clock d" ≡ Err 5
+  pub lacking : job_of_line "code f --clock" ≡ Err 4
+  pub of_another : job_of_line "walk f s --clock c" ≡ Err 4
+  pub of_another_nil : job_of_line "compare f --clock NIL" ≡ Err 3
+  pub names : job_of_line "low --names f 0,1" ≡ Ok (record (empty_job commands.Low) { file = codes "f"; second = codes "0,1"; names = true })
+  pub names_twice : job_of_line "closed f --names --names" ≡ Err 4
+  pub no_names : job_of_line "ispairs f --names" ≡ Err 3
+  pub compare : job_of_line "compare f --reduce" ≡ Ok (record (empty_job commands.Compare) { file = codes "f"; reduce = true })

@@ -3,7 +3,7 @@ use Rattle.std.specs.Prelude.{ℕ, Bool, true, false, if◌then◌else◌, nat_e
 use Rattle.std.specs.List.{starts_with}
 use Rattle.std.specs.Str.{bytes_eq}
 use Rattle.job_words.specs.declared.table.CommandOption.{CommandOption}
-use Rattle.job_words.specs.declared.table.CommandOption.TheVariants.{Limit, Reduce, Start, Fill}
+use Rattle.job_words.specs.declared.table.CommandOption.TheVariants.{Limit, Reduce, Start, Fill, Names, Clock, Model}
 
 -- an operand; an option with the word that it takes (empty if it takes none); an option whose word is missing; or a
 -- word that begins as an option and is not one
@@ -22,7 +22,10 @@ option_named word =
     if bytes_eq word (codes "--limit") then Some Limit
     else (if bytes_eq word (codes "--reduce") then Some Reduce
     else (if bytes_eq word (codes "--start") then Some Start
-    else (if bytes_eq word (codes "--fill") then Some Fill else None)))
+    else (if bytes_eq word (codes "--fill") then Some Fill
+    else (if bytes_eq word (codes "--names") then Some Names
+    else (if bytes_eq word (codes "--clock") then Some Clock
+    else (if bytes_eq word (codes "--model") then Some Model else None))))))
 
 -- whether an option takes the next word, whatever that is
 abbrev pub takes_word : CommandOption → Bool
@@ -30,6 +33,9 @@ takes_word Limit = true
 takes_word Reduce = false
 takes_word Start = true
 takes_word Fill = true
+takes_word Names = false
+takes_word Clock = true
+takes_word Model = true
 
 abbrev pub option_takes : Option CommandOption → Bool
 option_takes None = false

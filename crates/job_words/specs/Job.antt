@@ -1,23 +1,25 @@
 -- The job of a list of words, or the number of the refused word, by a table of commands.
-use Rattle.std.specs.Prelude.{◌≡◌, ◌⊎◌, ◌≤◌, ℕ, ◌+◌, ◌*◌, ◌==◌, Bool, true, false, not, ◌&&◌, ◌||◌, nat_le, nat_lt, if◌then◌else◌, List, [], ◌∷◌, length, count_by, slice_get, Option, Some, None, Result, Ok, Err, codes}
-use Rattle.std.specs.List.{find, list_any}
+use Rattle.std.specs.Prelude.{◌≡◌, ◌≢◌, ◌⊎◌, ◌≤◌, ℕ, ◌+◌, ◌*◌, ◌==◌, Bool, true, false, not, ◌&&◌, ◌||◌, nat_le, nat_lt, if◌then◌else◌, List, [], ◌∷◌, length, count_by, slice_get, Option, Some, None, IfSome, Result, Ok, Err, codes}
+use Rattle.std.specs.List.{AllByRecursion, find, list_any}
 use Rattle.std.specs.Str.{bytes_eq}
+use Rattle.hs_io.specs.Spelling.{IsPlainField}
 use Rattle.job_words.specs.declared.command.Command.{Command}
 use Rattle.job_words.specs.declared.command.Command.TheVariants as commands
 use Rattle.job_words.specs.declared.jobs.Job.{Job}
 use Rattle.job_words.specs.declared.table.CommandOption.{CommandOption}
-use Rattle.job_words.specs.declared.table.CommandOption.TheVariants.{Limit, Reduce, Start, Fill}
+use Rattle.job_words.specs.declared.table.CommandOption.TheVariants.{Limit, Reduce, Start, Fill, Names, Clock, Model}
 use Rattle.job_words.specs.declared.table.OperandKind.{OperandKind}
 use Rattle.job_words.specs.declared.table.OperandKind.TheVariants.{File, Net, Part, Parts, Symbols, Cover, Seed, A, B, K}
 use Rattle.job_words.specs.Command.{command_word}
 use Rattle.job_words.specs.Item.{Item, Operand, Chosen, Lacking, Unknown, items_of, width_of}
+use Rattle.job_words.specs.Name.{is_clock_name, is_given_name}
 use Rattle.job_words.specs.Number.{is_number, is_within, value_of}
 use Rattle.job_words.specs.Table.{Row, built}
 
 -- a job of a command before any operand or option
 abbrev pub empty_job : Command → Job
 empty_job command =
-    record { command = command; file = []; second = []; limit = 1000; reduce = false; start = None; seed = 0; a = 0; b = 0; k = 0; hold = false }
+    record { command = command; file = []; second = []; limit = 1000; reduce = false; start = None; seed = 0; a = 0; b = 0; k = 0; hold = false; names = false; clock = None; model = None }
 
 -- a word is allowed as an operand of a kind, in a job that has the operands before it
 abbrev pub fits_kind : OperandKind → Job → List ℕ → Bool
@@ -51,6 +53,9 @@ fits_option Limit word = is_within 1 10000 word
 fits_option Reduce word = true
 fits_option Start word = true
 fits_option Fill word = bytes_eq word (codes "hold")
+fits_option Names word = true
+fits_option Clock word = is_clock_name word
+fits_option Model word = is_given_name word
 
 -- a job with one more option
 abbrev pub with_option : CommandOption → List ℕ → Job → Job
@@ -58,12 +63,18 @@ with_option Limit word job = record job { limit = value_of word }
 with_option Reduce word job = record job { reduce = true }
 with_option Start word job = record job { start = Some word }
 with_option Fill word job = record job { hold = true }
+with_option Names word job = record job { names = true }
+with_option Clock word job = record job { clock = Some word }
+with_option Model word job = record job { model = Some word }
 
 abbrev pub same_option : CommandOption → CommandOption → Bool
 same_option Limit Limit = true
 same_option Reduce Reduce = true
 same_option Start Start = true
 same_option Fill Fill = true
+same_option Names Names = true
+same_option Clock Clock = true
+same_option Model Model = true
 same_option option other = false
 
 -- In what follows `before` are the items before an item, the last one first.
@@ -173,3 +184,23 @@ pub record HasSizes (job : Job) : Type 0 where
 -- each job of `gen` and of `trial` has such numbers
 abbrev pub SizesAreSizes : Type 0
 SizesAreSizes = (words : List (List ℕ)) (job : Job) → JobOf words ≡ Ok job → (job.command ≡ commands.Gen) ⊎ (job.command ≡ commands.Trial) → HasSizes job
+
+-- a name that can be a field of a network's text and does not join its lines
+pub record IsGivenName (name : List ℕ) : Type 0 where
+  pub field : IsPlainField name
+  pub no_backslash : AllByRecursion (λ b. b ≢ 92) name
+  pub short : length name ≤ 64
+
+-- such a name that a latch line does not read as no clock
+pub record IsClockName (name : List ℕ) : Type 0 where
+  pub given : IsGivenName name
+  pub no_nil : name ≢ codes "NIL"
+
+-- the names that the options of a job give
+pub record HasGivenNames (job : Job) : Type 0 where
+  pub clock : IfSome job.clock IsClockName
+  pub model : IfSome job.model IsGivenName
+
+-- each job has such names
+abbrev pub NamesAreNames : Type 0
+NamesAreNames = (words : List (List ℕ)) (job : Job) → JobOf words ≡ Ok job → HasGivenNames job

@@ -6,7 +6,7 @@ use Rattle.job_words.specs.declared.table.CommandOption.{CommandOption}
 use Rattle.job_words.specs.declared.table.Form.{Form}
 use Rattle.job_words.specs.declared.table.OperandKind.{OperandKind}
 use Rattle.job_words.specs.declared.table.OperandKind.TheVariants.{Cover, File, Net, Part, Parts, Symbols, Seed, A, B, K}
-use Rattle.job_words.specs.declared.table.CommandOption.TheVariants.{Fill, Limit, Reduce, Start}
+use Rattle.job_words.specs.declared.table.CommandOption.TheVariants.{Clock, Fill, Limit, Model, Names, Reduce, Start}
 
 pub record Row : Type 0 where
   pub command : Command
@@ -25,27 +25,28 @@ abbrev pub built : List Row
 built =
     row commands.Check (File ∷ []) (Fill ∷ [])
     ∷ row commands.Reduce (File ∷ []) (Fill ∷ [])
-    ∷ row commands.Closed (File ∷ []) (Limit ∷ Fill ∷ [])
-    ∷ row commands.Output (File ∷ []) (Limit ∷ Fill ∷ [])
-    ∷ row commands.Pairs (File ∷ []) (Limit ∷ Fill ∷ [])
-    ∷ row commands.Low (File ∷ Part ∷ []) (Fill ∷ [])
-    ∷ row commands.High (File ∷ Part ∷ []) (Fill ∷ [])
-    ∷ row commands.Code (File ∷ []) (Reduce ∷ Fill ∷ [])
-    ∷ row commands.Assign (File ∷ Parts ∷ []) (Reduce ∷ Fill ∷ [])
-    ∷ row commands.Parallel (File ∷ []) (Reduce ∷ Fill ∷ [])
-    ∷ row commands.Serial (File ∷ []) (Reduce ∷ Fill ∷ [])
-    ∷ row commands.Cascade (File ∷ []) (Reduce ∷ Fill ∷ [])
-    ∷ row commands.Feedback (File ∷ []) (Reduce ∷ Fill ∷ [])
+    ∷ row commands.Closed (File ∷ []) (Limit ∷ Fill ∷ Names ∷ [])
+    ∷ row commands.Output (File ∷ []) (Limit ∷ Fill ∷ Names ∷ [])
+    ∷ row commands.Pairs (File ∷ []) (Limit ∷ Fill ∷ Names ∷ [])
+    ∷ row commands.Low (File ∷ Part ∷ []) (Fill ∷ Names ∷ [])
+    ∷ row commands.High (File ∷ Part ∷ []) (Fill ∷ Names ∷ [])
+    ∷ row commands.Code (File ∷ []) (Reduce ∷ Fill ∷ Clock ∷ Model ∷ [])
+    ∷ row commands.Assign (File ∷ Parts ∷ []) (Reduce ∷ Fill ∷ Clock ∷ Model ∷ [])
+    ∷ row commands.Parallel (File ∷ []) (Reduce ∷ Fill ∷ Clock ∷ Model ∷ [])
+    ∷ row commands.Serial (File ∷ []) (Reduce ∷ Fill ∷ Clock ∷ Model ∷ [])
+    ∷ row commands.Cascade (File ∷ []) (Reduce ∷ Fill ∷ Clock ∷ Model ∷ [])
+    ∷ row commands.Feedback (File ∷ []) (Reduce ∷ Fill ∷ Clock ∷ Model ∷ [])
     ∷ row commands.Walk (File ∷ Symbols ∷ []) (Fill ∷ [])
     ∷ row commands.Sim (Net ∷ Symbols ∷ []) (Start ∷ [])
     ∷ row commands.Gen (Seed ∷ A ∷ B ∷ K ∷ []) []
     ∷ row commands.Trial (Seed ∷ A ∷ B ∷ K ∷ []) []
-    ∷ row commands.Least (File ∷ []) (Reduce ∷ Fill ∷ [])
-    ∷ row commands.Cover (File ∷ Cover ∷ []) (Fill ∷ [])
-    ∷ row commands.Definite (File ∷ []) (Reduce ∷ Fill ∷ [])
-    ∷ row commands.Shift (File ∷ []) (Reduce ∷ Fill ∷ [])
+    ∷ row commands.Least (File ∷ []) (Reduce ∷ Fill ∷ Clock ∷ Model ∷ [])
+    ∷ row commands.Cover (File ∷ Cover ∷ []) (Fill ∷ Clock ∷ Model ∷ [])
+    ∷ row commands.Definite (File ∷ []) (Reduce ∷ Fill ∷ Names ∷ [])
+    ∷ row commands.Shift (File ∷ []) (Reduce ∷ Fill ∷ Clock ∷ Model ∷ [])
     ∷ row commands.Ispairs (File ∷ []) (Limit ∷ Fill ∷ [])
     ∷ row commands.Sopairs (File ∷ []) (Limit ∷ Fill ∷ [])
+    ∷ row commands.Compare (File ∷ []) (Reduce ∷ Fill ∷ [])
     ∷ []
 
 -- the commands of rows

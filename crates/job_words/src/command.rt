@@ -52,6 +52,8 @@ pub enum Command {
     Ispairs,
     /// Lists the state-output Mm pairs.
     Sopairs,
+    /// Prints for each kind of network its counts, or why there is none.
+    Compare,
 }
 
 impl Command {
@@ -83,6 +85,7 @@ impl Command {
             Command::Shift => b"shift",
             Command::Ispairs => b"ispairs",
             Command::Sopairs => b"sopairs",
+            Command::Compare => b"compare",
         }
     }
 }

@@ -40,6 +40,9 @@ pub struct Stood {
     pub reduce: bool,
     pub start: bool,
     pub fill: bool,
+    pub names: bool,
+    pub clock: bool,
+    pub model: bool,
 }
 
 impl Stood {
@@ -52,6 +55,9 @@ impl Stood {
             CommandOption::Reduce => self.reduce,
             CommandOption::Start => self.start,
             CommandOption::Fill => self.fill,
+            CommandOption::Names => self.names,
+            CommandOption::Clock => self.clock,
+            CommandOption::Model => self.model,
         }
     }
 
@@ -64,6 +70,9 @@ impl Stood {
             CommandOption::Reduce => self.reduce = true,
             CommandOption::Start => self.start = true,
             CommandOption::Fill => self.fill = true,
+            CommandOption::Names => self.names = true,
+            CommandOption::Clock => self.clock = true,
+            CommandOption::Model => self.model = true,
         }
     }
 }
@@ -80,7 +89,7 @@ impl Draft {
     /// No items.
     pub fn new(alloc: Global, command: Command) -> Result<Draft, AllocError>
         ensures { IfOk result (λ draft. (draft.operands ≡ 0) × (draft.job ≡ empty_job command)
-            × (draft.stood ≡ record { limit = false; reduce = false; start = false; fill = false })) }
+            × ((option : CommandOption) → stood draft.stood option ≡ false)) }
     {
         Ok(Draft {
             operands: 0,
@@ -89,6 +98,9 @@ impl Draft {
                 reduce: false,
                 start: false,
                 fill: false,
+                names: false,
+                clock: false,
+                model: false,
             },
             job: Job {
                 command,
@@ -102,6 +114,9 @@ impl Draft {
                 b: 0,
                 k: 0,
                 hold: false,
+                names: false,
+                clock: None,
+                model: None,
             },
         })
     }

@@ -5,6 +5,7 @@ ghost use Rattle.job_words.specs.Inner.Put.{IsPut};
 ghost use Rattle.job_words.specs.Job.{fits_kind, fits_option, with_operand, with_option};
 
 use crate::draft::Refusal;
+use crate::names::{is_clock_name, is_given_name};
 use crate::numbers::{number, number_within};
 use crate::{CommandOption, Job, OperandKind};
 use hs_io::Name;
@@ -104,6 +105,11 @@ pub fn put_option(
         CommandOption::Start => job.start = Some(Name::new(alloc, word)?),
         CommandOption::Fill if word != b"hold".as_slice() => return Err(Refusal::Taken),
         CommandOption::Fill => job.hold = true,
+        CommandOption::Names => job.names = true,
+        CommandOption::Clock if !is_clock_name(word) => return Err(Refusal::Taken),
+        CommandOption::Clock => job.clock = Some(Name::new(alloc, word)?),
+        CommandOption::Model if !is_given_name(word) => return Err(Refusal::Taken),
+        CommandOption::Model => job.model = Some(Name::new(alloc, word)?),
     }
     Ok(())
 }

@@ -60,6 +60,12 @@ fn named_option(word: &[u8]) -> Option<CommandOption>
         Some(CommandOption::Start)
     } else if word == b"--fill".as_slice() {
         Some(CommandOption::Fill)
+    } else if word == b"--names".as_slice() {
+        Some(CommandOption::Names)
+    } else if word == b"--clock".as_slice() {
+        Some(CommandOption::Clock)
+    } else if word == b"--model".as_slice() {
+        Some(CommandOption::Model)
     } else {
         None
     }
@@ -70,7 +76,11 @@ fn takes_word(option: CommandOption) -> bool
     ensures { result ≡ takes_word option }
 {
     match option {
-        CommandOption::Limit | CommandOption::Start | CommandOption::Fill => true,
-        CommandOption::Reduce => false,
+        CommandOption::Limit
+        | CommandOption::Start
+        | CommandOption::Fill
+        | CommandOption::Clock
+        | CommandOption::Model => true,
+        CommandOption::Reduce | CommandOption::Names => false,
     }
 }

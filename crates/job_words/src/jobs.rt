@@ -33,6 +33,12 @@ pub struct Job {
     pub k: u8,
     /// Whether open entries are filled, by `--fill hold`.
     pub hold: bool,
+    /// Whether partitions are printed by the names of their states.
+    pub names: bool,
+    /// The clock of the latches.
+    pub clock: Option<Name>,
+    /// The name of the network's model.
+    pub model: Option<Name>,
 }
 
 /// Why words give no job.

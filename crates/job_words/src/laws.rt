@@ -1,7 +1,7 @@
 //! Worked examples of the definitions, and laws of jobs. Each is the contract of a function that does nothing.
 
-ghost use Rattle.job_words.specs.Examples.{ReadsNumbers, ReadsSymbols, RefusesWords, TakesOptions, TakesSizes};
-ghost use Rattle.job_words.specs.Job.{LimitsAreLimits, PartsAreFew, SizesAreSizes};
+ghost use Rattle.job_words.specs.Examples.{ReadsNumbers, ReadsSymbols, RefusesWords, TakesNames, TakesOptions, TakesSizes};
+ghost use Rattle.job_words.specs.Job.{LimitsAreLimits, NamesAreNames, PartsAreFew, SizesAreSizes};
 
 /// The results of some lines by a table, and by the commands that are built.
 pub fn judged_lines()
@@ -10,6 +10,7 @@ pub fn judged_lines()
     ensures numbers { ReadsNumbers }
     ensures symbols { ReadsSymbols }
     ensures sizes { TakesSizes }
+    ensures names { TakesNames }
 {}
 
 /// The operand PARTS of `assign` has at most 255 slashes.
@@ -25,4 +26,9 @@ pub fn limits_are_limits()
 /// The numbers A, B and K of a job of `gen` or `trial` are in their ranges, and A times B is at most 256.
 pub fn sizes_are_sizes()
     ensures { SizesAreSizes }
+{}
+
+/// The clock and the model of a job are names.
+pub fn names_are_names()
+    ensures { NamesAreNames }
 {}

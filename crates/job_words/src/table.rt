@@ -41,6 +41,12 @@ pub enum CommandOption {
     Start,
     /// `--fill hold`, to stay in the state where no next state is given.
     Fill,
+    /// `--names`, to print a partition by the names of its states.
+    Names,
+    /// `--clock NAME`, the clock of the latches.
+    Clock,
+    /// `--model NAME`, the name of the network's model.
+    Model,
 }
 
 /// A row of the table: a command with its operands in order and its options.
@@ -59,8 +65,16 @@ const NUMBERS: &[OperandKind] = &[
     OperandKind::K,
 ];
 
+/// The options of a command that writes a network of a machine or of its quotient.
+const OF_NETWORKS: &[CommandOption] = &[
+    CommandOption::Reduce,
+    CommandOption::Fill,
+    CommandOption::Clock,
+    CommandOption::Model,
+];
+
 /// The commands that are built.
-const BUILT: [Form; 23] = [
+const BUILT: [Form; 24] = [
     Form {
         command: Command::Check,
         operands: &[OperandKind::File],
@@ -74,57 +88,69 @@ const BUILT: [Form; 23] = [
     Form {
         command: Command::Closed,
         operands: &[OperandKind::File],
-        options: &[CommandOption::Limit, CommandOption::Fill],
+        options: &[
+            CommandOption::Limit,
+            CommandOption::Fill,
+            CommandOption::Names,
+        ],
     },
     Form {
         command: Command::Output,
         operands: &[OperandKind::File],
-        options: &[CommandOption::Limit, CommandOption::Fill],
+        options: &[
+            CommandOption::Limit,
+            CommandOption::Fill,
+            CommandOption::Names,
+        ],
     },
     Form {
         command: Command::Pairs,
         operands: &[OperandKind::File],
-        options: &[CommandOption::Limit, CommandOption::Fill],
+        options: &[
+            CommandOption::Limit,
+            CommandOption::Fill,
+            CommandOption::Names,
+        ],
     },
     Form {
         command: Command::Low,
         operands: &[OperandKind::File, OperandKind::Part],
-        options: &[CommandOption::Fill],
+        options: &[CommandOption::Fill, CommandOption::Names],
     },
     Form {
         command: Command::High,
         operands: &[OperandKind::File, OperandKind::Part],
-        options: &[CommandOption::Fill],
+        options: &[CommandOption::Fill, CommandOption::Names],
     },
     Form {
         command: Command::Code,
         operands: &[OperandKind::File],
-        options: &[CommandOption::Reduce, CommandOption::Fill],
+        options: OF_NETWORKS,
     },
     Form {
         command: Command::Assign,
         operands: &[OperandKind::File, OperandKind::Parts],
-        options: &[CommandOption::Reduce, CommandOption::Fill],
+        options: OF_NETWORKS,
     },
     Form {
         command: Command::Parallel,
         operands: &[OperandKind::File],
-        options: &[CommandOption::Reduce, CommandOption::Fill],
+        options: OF_NETWORKS,
     },
     Form {
         command: Command::Serial,
         operands: &[OperandKind::File],
-        options: &[CommandOption::Reduce, CommandOption::Fill],
+        options: OF_NETWORKS,
     },
     Form {
         command: Command::Cascade,
         operands: &[OperandKind::File],
-        options: &[CommandOption::Reduce, CommandOption::Fill],
+        options: OF_NETWORKS,
     },
     Form {
         command: Command::Feedback,
         operands: &[OperandKind::File],
-        options: &[CommandOption::Reduce, CommandOption::Fill],
+        options: OF_NETWORKS,
     },
     Form {
         command: Command::Walk,
@@ -149,22 +175,30 @@ const BUILT: [Form; 23] = [
     Form {
         command: Command::Least,
         operands: &[OperandKind::File],
-        options: &[CommandOption::Reduce, CommandOption::Fill],
+        options: OF_NETWORKS,
     },
     Form {
         command: Command::Cover,
         operands: &[OperandKind::File, OperandKind::Cover],
-        options: &[CommandOption::Fill],
+        options: &[
+            CommandOption::Fill,
+            CommandOption::Clock,
+            CommandOption::Model,
+        ],
     },
     Form {
         command: Command::Definite,
         operands: &[OperandKind::File],
-        options: &[CommandOption::Reduce, CommandOption::Fill],
+        options: &[
+            CommandOption::Reduce,
+            CommandOption::Fill,
+            CommandOption::Names,
+        ],
     },
     Form {
         command: Command::Shift,
         operands: &[OperandKind::File],
-        options: &[CommandOption::Reduce, CommandOption::Fill],
+        options: OF_NETWORKS,
     },
     Form {
         command: Command::Ispairs,
@@ -175,6 +209,11 @@ const BUILT: [Form; 23] = [
         command: Command::Sopairs,
         operands: &[OperandKind::File],
         options: &[CommandOption::Limit, CommandOption::Fill],
+    },
+    Form {
+        command: Command::Compare,
+        operands: &[OperandKind::File],
+        options: &[CommandOption::Reduce, CommandOption::Fill],
     },
 ];
 

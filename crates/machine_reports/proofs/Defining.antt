@@ -15,7 +15,9 @@ use Rattle.shift_real.specs.Definite.{AreFirstApart, Definite, IsOrder}
 use Rattle.shift_real.proofs.Telling.{kept_apart}
 use Rattle.machine_reports.specs.Causes.{KeepsApart, NotDefiniteRow}
 use Rattle.machine_reports.specs.DefiniteText.{IsChainText, IsWholeChain}
-use Rattle.machine_reports.specs.ListTexts.{lines_of, partition_line}
+use Rattle.machine_reports.specs.ListTexts.{lines_of}
+use Rattle.machine_reports.specs.StateTexts.{state_line}
+use Rattle.machine_reports.specs.declared.state_texts.Shown.{Shown}
 
 -- the last member of the chain of a definite machine is one, since words of every length keep apart what it holds apart
 last_is_one : (W : KissFile) (members : List (List ℕ)) (k : ℕ) → NeverLeaves W → (chain : IsChain W members) → AreTogetherAfter W members → Definite W k → IsOne chain.last.0
@@ -59,14 +61,24 @@ module _ (reduce : Bool) (F : KissFile) (work : WorkMachine) (is_work : IsWork r
   stop_of_order refusal (inr calls) = inr (work.machine, work_of, calls)
 
   -- and its chain is whole
-  pub right_chain : (k : ℕ) (members lent : List (List ℕ)) (text : List ℕ) → NeverLeaves work.machine → IsOrder work.machine k → IsChain work.machine members → AreTogetherAfter work.machine members → lent ≡ members → text ≡ lines_of partition_line lent
-      → CallsForNone (NotDefiniteRow reduce F) × IsChainText reduce F text
-  right_chain k members lent text stays order chain together same lines =
+  pub right_chain : (shown : Shown) (k : ℕ) (members lent names : List (List ℕ)) (text : List ℕ) → NeverLeaves work.machine → IsOrder work.machine k → IsChain work.machine members → AreTogetherAfter work.machine members → lent ≡ members → names ≡ work.machine.states → text ≡ lines_of (state_line shown names) lent
+      → CallsForNone (NotDefiniteRow reduce F) × IsChainText shown reduce F text
+  right_chain shown k members lent names text stays order chain together same named lines =
       let is_whole : IsWholeChain work.machine members = record {
         chain = chain;
         together = together;
         last = (chain.last.0, chain.last.1, last_is_one work.machine members k stays chain together order.definite);
       } in (
         not_called k order.definite,
-        (work.machine, work_of, (members, is_whole, lines ∙ ap (λ (list : List (List ℕ)). lines_of partition_line list) same)),
+        (
+          work.machine,
+          work_of,
+          (
+            members,
+            is_whole,
+            lines
+                ∙ ap (λ (list : List (List ℕ)). lines_of (state_line shown names) list) same
+                ∙ ap (λ (list : List (List ℕ)). lines_of (state_line shown list) members) named,
+          ),
+        ),
       )

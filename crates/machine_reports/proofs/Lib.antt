@@ -2,3 +2,4 @@ pub mod Defining
 mod Digits
 mod Reducing
 mod Listing
+mod StateNames

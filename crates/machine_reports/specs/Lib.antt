@@ -1,8 +1,10 @@
 pub mod Causes
 pub mod CheckText
 pub mod DefiniteText
+pub mod Inner
 pub mod Laws
 pub mod ListTexts
 pub mod OutputTexts
 pub mod PartnerTexts
 pub mod ReducedText
+pub mod StateTexts

@@ -10,6 +10,7 @@ ghost use Rattle.machine_reports.specs.DefiniteText.{IsChainText};
 
 use crate::lines::lines_of_parts;
 use crate::orders::order_of;
+use crate::state_texts::{Shown, work_names};
 use answers::Refusal;
 use kiss_file::{Fill, KissFile};
 use machine_table::Machine;
@@ -26,23 +27,31 @@ pub fn definite(
     machine: Machine,
     fill: Fill,
     reduce: bool,
+    shown: Shown,
 ) -> Result<Vec<u8>, Refusal>
     requires lawful { IsLawful file.now }
     requires accepted { Accepted file.now fill }
     requires machine { machine ≡ file.now }
-    ensures { IsJudged (NotDefiniteRow reduce file.now) (λ text. IsChainText reduce file.now text.items) result }
+    ensures { IsJudged (NotDefiniteRow reduce file.now) (λ text. IsChainText shown reduce file.now text.items) result }
 {
     let work = work_machine(alloc, file, machine, fill, reduce)?;
-    chain_text(alloc, file, &work)
+    chain_text(alloc, file, &work, shown)
 }
 
 /// How the states of a machine that is worked on come together; or the same refusal.
-fn chain_text(alloc: Global, file: &KissFile, work: &WorkMachine) -> Result<Vec<u8>, Refusal>
+fn chain_text(
+    alloc: Global,
+    file: &KissFile,
+    work: &WorkMachine,
+    shown: Shown,
+) -> Result<Vec<u8>, Refusal>
     requires { (reduce : Bool) × IsWork reduce file.now work.now }
-    ensures { (reduce : Bool) → IsWork reduce file.now work.now → IsJudged (NotDefiniteRow reduce file.now) (λ text. IsChainText reduce file.now text.items) result }
+    ensures { (reduce : Bool) → IsWork reduce file.now work.now
+        → IsJudged (NotDefiniteRow reduce file.now) (λ text. IsChainText shown reduce file.now text.items) result }
 {
     work.machine.keeps_its_states();
     order_of(alloc, file, work)?;
     let members = chain(alloc, &work.machine)?;
-    Ok(lines_of_parts(alloc, members.as_slice())?)
+    let names = work_names(file, work);
+    Ok(lines_of_parts(alloc, shown, names, members.as_slice())?)
 }

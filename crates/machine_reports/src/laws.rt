@@ -18,6 +18,7 @@ ghost use Rattle.shift_real.specs.Definite.{Definite};
 ghost use Rattle.machine_reports.specs.Causes.{KeepsApart, MoreThan, NotDefiniteRow, RefusesInputPairs, RefusesOutputPairs};
 ghost use Rattle.machine_reports.specs.DefiniteText.{IsWholeChain};
 ghost use Rattle.machine_reports.specs.OutputTexts.{output_digits};
+ghost use Rattle.machine_reports.specs.StateTexts.{ShowsStates};
 
 /// All refusals that a command calls for have one answer.
 pub fn commands_have_one_answer()
@@ -34,6 +35,11 @@ pub fn commands_have_one_answer()
 pub fn chains_tell_definite_machines()
     ensures whole { (W : KissFile) (members : List (List ℕ)) → IsWholeChain W members → Definite W (length members - 1) }
     ensures apart { (W : KissFile) (refusal : Refusal) (k : ℕ) → KeepsApart W refusal → Definite W k → ⊥ }
+{}
+
+/// Texts of partitions of four states, by their labels and by the names of the states.
+pub fn texts_show_states()
+    ensures { ShowsStates }
 {}
 
 /// The digits of the number of an output are the digits of its bits, output 0 first.

@@ -11,6 +11,9 @@
 //! - [`definite`] shows how the states of a machine come together symbol by symbol, and [`order_of`] gives the
 //!   number of symbols that this takes.
 //!
+//! Where the partitions are of states, [`Shown`] says whether their labels or the names of the states are
+//! printed, as `specs/StateTexts` tells.
+//!
 //! `specs/` says what each text is, one file for each kind of report. The laws of `specs/Laws` say that all
 //! refusals that a command calls for have one answer.
 #![tactic(auto)]
@@ -27,13 +30,17 @@ mod orders;
 mod output_lines;
 mod output_lists;
 mod partners;
+mod state_texts;
 
 pub use chains::definite;
 pub use classes::reduce;
 pub use counts::check;
 pub use input_lists::ispairs;
-pub use laws::{chains_tell_definite_machines, commands_have_one_answer, lines_show_outputs};
+pub use laws::{
+    chains_tell_definite_machines, commands_have_one_answer, lines_show_outputs, texts_show_states,
+};
 pub use listings::{closed, output, pairs};
 pub use orders::order_of;
 pub use output_lists::sopairs;
 pub use partners::{high, low};
+pub use state_texts::Shown;

@@ -2,28 +2,41 @@
 
 ghost use Rattle.std.specs.Prelude.{◌≡◌, ◌++◌, IfOk, OnOk, map};
 ghost use Rattle.io_pairs.specs.Sides.{sides_of};
-ghost use Rattle.machine_reports.specs.ListTexts.{lines_of, pair_line, partition_line};
+ghost use Rattle.machine_reports.specs.ListTexts.{lines_of, pair_line};
+ghost use Rattle.machine_reports.specs.StateTexts.{state_line};
 
+use crate::state_texts::{Shown, append_state_line};
 use io_pairs::IoPair;
+use kiss_file::StateNames;
 use partition::Partition;
 use std::alloc::{AllocError, Global};
 
-/// The line of a partition.
-pub fn line_of(alloc: Global, part: &Partition) -> Result<Vec<u8>, AllocError>
-    ensures { IfOk result (λ text. text.items ≡ partition_line part.now) }
+/// The line of a partition of states.
+pub fn line_of(
+    alloc: Global,
+    shown: Shown,
+    names: &StateNames,
+    part: &Partition,
+) -> Result<Vec<u8>, AllocError>
+    ensures { IfOk result (λ text. text.items ≡ state_line shown names.now part.now) }
 {
     let mut text = Vec::new(alloc);
-    append_line(alloc, part, &mut text)?;
+    append_state_line(alloc, shown, names, part, &mut text)?;
     Ok(text)
 }
 
-/// The lines of partitions.
-pub fn lines_of_parts(alloc: Global, parts: &[Partition]) -> Result<Vec<u8>, AllocError>
-    ensures { IfOk result (λ text. text.items ≡ lines_of partition_line parts.now) }
+/// The lines of partitions of states.
+pub fn lines_of_parts(
+    alloc: Global,
+    shown: Shown,
+    names: &StateNames,
+    parts: &[Partition],
+) -> Result<Vec<u8>, AllocError>
+    ensures { IfOk result (λ text. text.items ≡ lines_of (state_line shown names.now) parts.now) }
 {
     let mut text = Vec::new(alloc);
     for part in parts {
-        append_line(alloc, part, &mut text)?;
+        append_state_line(alloc, shown, names, part, &mut text)?;
     }
     Ok(text)
 }
@@ -37,13 +50,13 @@ pub fn append_io_pairs(
     ensures { OnOk result (text.new.items ≡ text.old.items ++ lines_of pair_line (map sides_of pairs.now)) }
 {
     for pair in pairs {
-        append_pair(alloc, &pair.left, &pair.right, text)?;
+        append_io_pair(alloc, &pair.left, &pair.right, text)?;
     }
     Ok(())
 }
 
-/// Appends the line of a pair of partitions.
-pub fn append_pair(
+/// Appends the line of a pair on the inputs or on the outputs.
+fn append_io_pair(
     alloc: Global,
     left: &Partition,
     right: &Partition,
@@ -53,14 +66,7 @@ pub fn append_pair(
 {
     left.show(alloc, text)?;
     text.push(b' ')?;
-    append_line(alloc, right, text)
-}
-
-/// Appends the line of a partition.
-pub fn append_line(alloc: Global, part: &Partition, text: &mut Vec<u8>) -> Result<(), AllocError>
-    ensures { OnOk result (text.new.items ≡ text.old.items ++ partition_line part.now) }
-{
-    part.show(alloc, text)?;
+    right.show(alloc, text)?;
     text.push(b'\n')?;
     Ok(())
 }

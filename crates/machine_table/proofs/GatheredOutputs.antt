@@ -11,13 +11,8 @@ use Rattle.kiss_file.specs.Lawful.{IsLawfulRow}
 use Rattle.kiss_file.specs.Machine.{Conflicting, IsRowAt, given_bit, out, output_bit}
 use Rattle.kiss_file.specs.Laws.Machine.{output_bit_said}
 use Rattle.machine_table.specs.Laws.OutputWords.{same_map}
+use Rattle.machine_table.specs.Inner.Gathered.{IsGathered}
 use Rattle.machine_table.proofs.RowPieces.{below_from_bits}
-
--- some outputs are known and stand in the word, which has 0 at the others
-pub record IsGathered (F : KissFile) (s x known word : ℕ) : Type 0 where
-  pub given : (b : ℕ) → bit known b ≡ true → bit word b ≡ output_bit F s (symbol_of F.inputs x) b
-  pub rest : (b : ℕ) → bit known b ≡ false → bit word b ≡ false
-  pub within : (b : ℕ) → bit known b ≡ true → b < F.outputs
 
 or_same : (o : Bool) → (o || o) ≡ o
 or_same true = refl

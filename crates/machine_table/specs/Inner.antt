@@ -2,3 +2,4 @@
 pub mod OpenSymbol
 pub mod Settled
 pub mod Step
+pub mod Gathered

@@ -23,6 +23,7 @@ mod machine;
 mod missing;
 mod open_entry;
 mod pairs;
+mod part_trees;
 mod row_tree;
 mod walking;
 

@@ -1,19 +1,21 @@
 //! The outputs along a word.
 //!
 //! Steps are remembered in a list, each until another takes its place there. So a step that is taken often is mostly
-//! looked up.
+//! looked up. In a long word other steps are gathered from rows that search trees find, one for each list of parts that
+//! the rows of the state give together.
 ghost use Rattle.std.specs.Prelude.{◌≡◌, ◌<◌, ◌^◌, All, IfOk, IfSome, length, map};
 ghost use Rattle.cubes.specs.Symbol.{symbol_of, lowest_bits};
-ghost use Rattle.kiss_file.specs.Machine.{answers, out};
+ghost use Rattle.kiss_file.specs.Lawful.{IsLawfulRow};
+ghost use Rattle.kiss_file.specs.Machine.{IsRowAt, answers, out};
+ghost use Rattle.machine_table.specs.Inner.Gathered.{ArePartsOf};
 ghost use Rattle.machine_table.specs.Inner.Step.{IsStep, IsRightStep};
 
 use crate::Machine;
 use crate::open_entry::all_outputs;
+use crate::part_trees::{PartTree, Parts, trees_of_parts};
 use crate::row_tree::RowTree;
+use kiss_file::KissRow;
 use std::alloc::{AllocError, Global};
-
-/// The number of symbols per state from which trees of rows pay off.
-const MANY_VISITS: usize = 256;
 
 /// The most steps that are remembered.
 const MOST_MET: usize = 65536;
@@ -23,6 +25,25 @@ const MOST_MET: usize = 65536;
 struct Step {
     next: usize,
     outputs: u64,
+}
+
+/// What rows of a state that hold a symbol give there: the next state, and the outputs that have a 1 in `given`.
+#[derive(Clone, Copy)]
+struct Gathered {
+    next: Option<usize>,
+    given: u64,
+    word: u64,
+}
+
+impl Gathered {
+    /// Whether each of the parts is given.
+    fn has(&self, parts: &Parts) -> bool {
+        let known = Parts {
+            next: self.next.is_some(),
+            outputs: self.given,
+        };
+        parts.without(&known).is_empty()
+    }
 }
 
 /// A step that was taken, from a state at a symbol.
@@ -53,22 +74,30 @@ impl Machine {
         Ok(words)
     }
 
-    /// A tree of the rows of each state, if the word is long enough for trees to pay off.
-    fn trees_for(&self, alloc: Global, symbols: usize) -> Result<Vec<RowTree>, AllocError> {
-        let mut trees = Vec::new(alloc);
-        if symbols / MANY_VISITS < self.states() {
-            return Ok(trees);
-        }
+    /// For each state the trees of its rows. A state has none if the word is too short for them to pay off.
+    fn trees_for(&self, alloc: Global, symbols: usize) -> Result<Vec<Vec<PartTree>>, AllocError> {
+        let all = Parts {
+            next: true,
+            outputs: all_outputs(self.outputs()),
+        };
+        let states = self.states();
         let rows = self.rows.all_rows();
-        for s in 0..self.states() {
-            let tree = RowTree::of_rows(alloc, rows, self.numbers_of(s), u32::MAX, 32)?;
-            trees.push(tree)?;
+        let mut trees = Vec::with_capacity(alloc, states)?;
+        for s in 0..states {
+            let numbers = self.numbers_of(s);
+            trees.push(trees_of_parts(alloc, rows, numbers, all, states, symbols)?)?;
         }
         Ok(trees)
     }
 
     /// The step from a state at a symbol. One that was taken before is looked up in the list, if it is still there.
-    fn step_met(&self, trees: &[RowTree], met: &mut Vec<Option<MetStep>>, s: usize, x: u32) -> Step
+    fn step_met(
+        &self,
+        trees: &[Vec<PartTree>],
+        met: &mut Vec<Option<MetStep>>,
+        s: usize,
+        x: u32,
+    ) -> Step
         requires s { s < length self.now.states }
         requires x { x < 2 ^ self.now.inputs }
         requires right { All (IsRightStep self.now) met.old.items }
@@ -94,14 +123,14 @@ impl Machine {
         step
     }
 
-    /// The step from a state at a symbol. The list of trees may be empty.
-    fn step(&self, trees: &[RowTree], s: usize, x: u32) -> Step
+    /// The step from a state at a symbol. A state may have no trees.
+    fn step(&self, trees: &[Vec<PartTree>], s: usize, x: u32) -> Step
         requires s { s < length self.now.states }
         requires x { x < 2 ^ self.now.inputs }
         ensures { IsStep self.now s x result.next result.outputs }
     {
-        if let Some(tree) = trees.get(s)
-            && let Some(step) = self.step_in(tree, s, x)
+        if let Some(own) = trees.get(s)
+            && let Some(step) = self.step_in(own, s, x)
         {
             return step;
         }
@@ -111,13 +140,68 @@ impl Machine {
         }
     }
 
-    /// The step that a row in the tree gives, if one does.
-    fn step_in(&self, tree: &RowTree, s: usize, x: u32) -> Option<Step>
+    /// The step that rows in the trees give, if they give each part of it.
+    fn step_in(&self, trees: &[PartTree], s: usize, x: u32) -> Option<Step>
         requires x { x < 2 ^ self.now.inputs }
         ensures { IfSome result (λ step. IsStep self.now s x step.next step.outputs) }
     {
+        let found = self.gathered_in(trees, s, x);
+        if found.given != all_outputs(self.outputs()) {
+            return None;
+        }
+        Some(Step {
+            next: found.next?,
+            outputs: found.word,
+        })
+    }
+
+    /// What rows in the trees give at the symbol.
+    fn gathered_in(&self, trees: &[PartTree], s: usize, x: u32) -> Gathered
+        requires x { x < 2 ^ self.now.inputs }
+        ensures { ArePartsOf self.now s x result }
+    {
+        let mut found = Gathered {
+            next: None,
+            given: 0,
+            word: 0,
+        };
+        for tree in trees {
+            if !found.has(&tree.parts)
+                && let Some(row) = self.row_in(&tree.rows, s, x)
+            {
+                found = self.gathered_with(found, row, s, x);
+            }
+        }
+        found
+    }
+
+    /// What the row gives beside what is gathered.
+    fn gathered_with(&self, found: Gathered, row: &KissRow, s: usize, x: u32) -> Gathered
+        requires found { ArePartsOf self.now s x found }
+        requires row { IsRowAt self.now s (symbol_of self.now.inputs x) row.now }
+        requires lawful { IsLawfulRow self.now.inputs self.now.outputs (length self.now.states) row.now }
+        ensures { ArePartsOf self.now s x result }
+    {
+        self.keeps_its_states();
+        let next = match row.to {
+            Some(t) => Some(usize::from(t)),
+            None => found.next,
+        };
+        Gathered {
+            next,
+            given: found.given | row.care,
+            word: found.word | row.value,
+        }
+    }
+
+    /// A row in the tree that is one of the state and holds the symbol.
+    fn row_in(&self, tree: &RowTree, s: usize, x: u32) -> Option<&KissRow>
+        requires x { x < 2 ^ self.now.inputs }
+        ensures row { IfSome result (λ row. IsRowAt self.now s (symbol_of self.now.inputs x) row.now) }
+        ensures lawful { IfSome result (λ row. IsLawfulRow self.now.inputs self.now.outputs (length self.now.states) row.now) }
+    {
         match tree {
-            RowTree::Leaf(numbers) => self.step_among(numbers.as_slice(), s, x),
+            RowTree::Leaf(numbers) => self.row_among(numbers.as_slice(), s, x),
             RowTree::Fork {
                 at,
                 zero,
@@ -125,47 +209,42 @@ impl Machine {
                 dash,
             } => {
                 let side = if x & *at == 0 { zero } else { one };
-                match self.step_in(side, s, x) {
-                    Some(step) => Some(step),
-                    None => self.step_in(dash, s, x),
+                match self.row_in(side, s, x) {
+                    Some(row) => Some(row),
+                    None => self.row_in(dash, s, x),
                 }
             }
         }
     }
 
-    /// The step that a row with one of these numbers gives, if one does.
-    fn step_among(&self, numbers: &[usize], s: usize, x: u32) -> Option<Step>
+    /// The first of the rows with these numbers that is one of the state and holds the symbol.
+    fn row_among(&self, numbers: &[usize], s: usize, x: u32) -> Option<&KissRow>
         requires x { x < 2 ^ self.now.inputs }
-        ensures { IfSome result (λ step. IsStep self.now s x step.next step.outputs) }
+        ensures row { IfSome result (λ row. IsRowAt self.now s (symbol_of self.now.inputs x) row.now) }
+        ensures lawful { IfSome result (λ row. IsLawfulRow self.now.inputs self.now.outputs (length self.now.states) row.now) }
     {
         for number in numbers {
-            if let Some(step) = self.step_of_row(*number, s, x) {
-                return Some(step);
+            if let Some(row) = self.row_at(*number, s, x) {
+                return Some(row);
             }
         }
         None
     }
 
-    /// The step that the row with that number gives, if it is a row of the state that holds the symbol, names a
-    /// next state and gives every output.
-    fn step_of_row(&self, number: usize, s: usize, x: u32) -> Option<Step>
+    /// The row with that number, if it is one of the state and holds the symbol.
+    fn row_at(&self, number: usize, s: usize, x: u32) -> Option<&KissRow>
         requires x { x < 2 ^ self.now.inputs }
-        ensures { IfSome result (λ step. IsStep self.now s x step.next step.outputs) }
+        ensures row { IfSome result (λ row. IsRowAt self.now s (symbol_of self.now.inputs x) row.now) }
+        ensures lawful { IfSome result (λ row. IsLawfulRow self.now.inputs self.now.outputs (length self.now.states) row.now) }
     {
         if number >= self.rows.all_rows().len() {
             return None;
         }
         let row = self.row(number);
-        if usize::from(row.from) != s || row.care != all_outputs(self.outputs()) {
+        if usize::from(row.from) != s || !row.cube.holds(x) {
             return None;
         }
-        match row.to {
-            Some(t) if row.cube.holds(x) => Some(Step {
-                next: usize::from(t),
-                outputs: row.value,
-            }),
-            _ => None,
-        }
+        Some(row)
     }
 
     /// The outputs at a state and a symbol, with output b at 2^b.

@@ -52,7 +52,7 @@ going_pair F x is = record {
 }
 
 -- m of the partition that holds two states together and nothing else is the least in which they go together
-going_right : (F : KissFile) (s t : ℕ) (q : List ℕ) → IsRightOf F s t q → IsLeastWith (length F.states) (λ r. GoTogether F r s t) q
+pub going_right : (F : KissFile) (s t : ℕ) (q : List ℕ) → IsRightOf F s t q → IsLeastWith (length F.states) (λ r. GoTogether F r s t) q
 going_right F s t q right = record {
   lawful = right.low.lawful;
   has = λ x width. right.low.pair s t x right.holds.held width;

@@ -10,7 +10,7 @@ use Rattle.hs_lattice.specs.Laws.Outcomes.{evidence_as}
 use Rattle.kiss_file.specs.declared.file.KissFile.{KissFile}
 use Rattle.partition.specs.Before.{Before}
 use Rattle.partition.specs.MeetAndJoin.{IsJoin}
-use Rattle.partition.specs.Partition.{IsStateCount, zero_of}
+use Rattle.partition.specs.Partition.{IsPartition, IsStateCount, zero_of}
 use Rattle.pair_operators.specs.Extremes.{IsHigh}
 use Rattle.mm_lattice.specs.declared.worlds.MmPair.{MmPair}
 use Rattle.mm_lattice.specs.Inner.Collected.{AreRights, HaveLefts, HaveRights, IsReached, ListsRights}
@@ -28,6 +28,10 @@ IsMadeOf n generators q = IsGenerated (λ r. r ≡ zero_of n) IsJoin (map (λ r.
 
 abbrev pub HaveJoinsOf : ℕ → List (List ℕ) → Type 0
 HaveJoinsOf n generators = HaveJoins (λ r. r ≡ zero_of n) IsJoin (map (λ r. r) generators)
+
+-- each right side of two states is a partition of the states
+pub rights_fit : (F : KissFile) (found : List (List ℕ)) → AreRights F found → All (IsPartition (length F.states)) found
+rights_fit F found rights k d within = (rights k d within).2.low.lawful
 
 -- each right side of two states is reached
 pub are_reached : (F : KissFile) (found : List (List ℕ)) → AreRights F found → All (IsReached F) found

@@ -1,2 +1,3 @@
 -- Definitions that only private functions and proofs need.
 pub mod Collected
+pub mod PlacedPairs

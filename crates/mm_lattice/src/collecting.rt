@@ -15,7 +15,12 @@ use std::alloc::{AllocError, Global};
 /// m of the partition that holds the two states together and nothing else: their right side.
 ///
 /// It holds together what the two states go to, and nothing else.
-fn right_of(alloc: Global, m: &Machine, s: usize, t: usize) -> Result<Partition, AllocError>
+pub(crate) fn right_of(
+    alloc: Global,
+    m: &Machine,
+    s: usize,
+    t: usize,
+) -> Result<Partition, AllocError>
     requires s { s < t }
     requires t { t < length m.now.states }
     ensures { IfOk result (IsRightOf m.now s t) }

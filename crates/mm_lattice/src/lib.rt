@@ -21,6 +21,7 @@
 mod collecting;
 mod laws;
 mod listing;
+mod placed_pairs;
 mod top;
 mod worlds;
 

@@ -7,6 +7,7 @@
 //! and needs no proof.
 #![tactic(auto)]
 
+mod designs;
 mod letters;
 mod net_texts;
 mod networks;
@@ -40,6 +41,7 @@ fn put_answer(alloc: Global, call: &str, words: &str, answer: &mut Answer) {
         "blif" | "blif_repeated" | "blif_text" => {
             net_texts::put_answer(alloc, call, words, answer);
         }
+        "blif_design" | "is_signal" => designs::put_answer(alloc, call, words, answer),
         "digit" | "check" | "counts" => networks::put_answer(alloc, call, words, answer),
         _ => runs::put_answer(alloc, call, words, answer),
     }

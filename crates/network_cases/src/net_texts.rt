@@ -44,8 +44,17 @@ fn repeat(piece: &[u8], times: usize, text: &mut Vec<u8>) -> Result<(), AllocErr
 /// Puts the network that a text says, or its first fault.
 fn put_text(alloc: Global, text: Option<Vec<u8>>, answer: &mut Answer) {
     match text {
-        Some(text) if text.len() <= 4_194_304 => put_read(alloc, text.as_slice(), answer),
-        _ => answer.fail(),
+        Some(text) => put_bytes(alloc, text.as_slice(), answer),
+        None => answer.fail(),
+    }
+}
+
+/// Puts the network that bytes say, or their first fault, if they are no more than a file can have.
+pub(crate) fn put_bytes(alloc: Global, bytes: &[u8], answer: &mut Answer) {
+    if bytes.len() <= 4_194_304 {
+        put_read(alloc, bytes, answer);
+    } else {
+        answer.fail();
     }
 }
 

@@ -1,7 +1,7 @@
 -- The register of the work machine, its names, and what it answers.
-use Rattle.std.proofs.Common.{◌≡◌, ◌*◌, ℕ, All, Bool, List, length, sym, ap, ◌∙◌, subst, arith}
+use Rattle.std.proofs.Common.{◌≡◌, ◌*◌, ℕ, All, Bool, List, length, refl, sym, ap, ◌∙◌, subst, arith}
 use Rattle.answers.specs.Cause.{CallsForNone}
-use Rattle.blif_out.specs.Comments.{AreComments}
+use Rattle.blif_out.specs.declared.networks.CommentedNetwork.{CommentedNetwork}
 use Rattle.blif_out.specs.NetworkText.{CanBeWritten, CanBeText}
 use Rattle.state_reduce.specs.declared.work.WorkMachine.{WorkMachine}
 use Rattle.state_reduce.specs.Work.{IsWork}
@@ -23,7 +23,8 @@ use Rattle.shift_real.specs.Laws.StartContent.{order_once}
 use Rattle.state_reduce.proofs.Working.{classes_answer_alike}
 use Rattle.shift_texts.specs.Causes.{HasNoShortOrder, NeverInReset, RefusesShift}
 use Rattle.shift_texts.specs.Inner.Registers.{IsRegisterOf}
-use Rattle.shift_texts.specs.ShiftText.{IsShiftNetwork, shift_comments}
+use Rattle.shift_texts.specs.declared.registers.OrderedRegister.{OrderedRegister}
+use Rattle.shift_texts.specs.ShiftText.{IsOrderedRegister, IsShiftNetwork, with_comments}
 use Rattle.shift_texts.proofs.Commenting.{are_comments}
 use Rattle.shift_texts.proofs.Judging.{none_called, work_of}
 use Rattle.shift_texts.proofs.Writing as writing
@@ -87,20 +88,21 @@ module _ (reduce : Bool) (F : KissFile) (work : WorkMachine) (is_work : IsWork r
       sound = is.sound;
     }
 
-    pub network_is : (comments : List ℕ) → CallsForNone (HasNoShortOrder W) → CallsForNone (NeverInReset W) → comments ≡ shift_comments k
-        → CallsForNone (RefusesShift reduce F) × (CanBeText (record { comments = comments; network = N }) × IsShiftNetwork reduce F (record { comments = comments; network = N }))
-    network_is comments none reached told = (
+    abbrev made : OrderedRegister
+    made = record { order = k; network = N }
+
+    pub register_is : CallsForNone (HasNoShortOrder W) → CallsForNone (NeverInReset W) → CallsForNone (RefusesShift reduce F) × (CanBeText (with_comments made) × IsOrderedRegister reduce F made)
+    register_is none reached = (
       none_called reduce F work is_work none reached,
       (
-        record { comments = subst AreComments (sym told) (are_comments k); network = ready },
+        record { comments = are_comments k; network = ready },
         (
           W,
-          k,
           is.names,
           record {
             work = work_of reduce F work is_work;
             order = short.order;
-            told = told;
+            told = refl;
             answers = answers_file N is.answers;
             own = is.own;
             register = is.register;
@@ -109,3 +111,9 @@ module _ (reduce : Bool) (F : KissFile) (work : WorkMachine) (is_work : IsWork r
         ),
       ),
     )
+
+-- a register with its comments is the network of a register
+pub commented_is : (reduce : Bool) (F : KissFile) (register : OrderedRegister) (made : CommentedNetwork) → made ≡ with_comments register → CanBeText (with_comments register) × IsOrderedRegister reduce F register
+    → CanBeText made × IsShiftNetwork reduce F made
+commented_is reduce F register made same (ready, (W, names, is)) =
+    subst (λ (other : CommentedNetwork). CanBeText other × IsShiftNetwork reduce F other) (sym same) (ready, (W, register.order, names, is))

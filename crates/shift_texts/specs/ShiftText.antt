@@ -3,6 +3,7 @@
 use Rattle.std.specs.Prelude.{◌≡◌, ◌*◌, ℕ, Bool, List, [], ◌∷◌, codes, map}
 use Rattle.std.specs.Fmt.{decimal}
 use Rattle.std.specs.List.{flat_map}
+use Rattle.blif_out.specs.declared.design.Design.{Design}
 use Rattle.blif_out.specs.declared.networks.CommentedNetwork.{CommentedNetwork}
 use Rattle.blif_out.specs.Head.{comment_text}
 use Rattle.blif_out.specs.NetworkText.{IsTextWith}
@@ -14,6 +15,7 @@ use Rattle.net_core.specs.declared.SignalNames.{SignalNames}
 use Rattle.realise.specs.Names.{AreNames}
 use Rattle.shift_real.specs.Definite.{IsOrder}
 use Rattle.shift_real.specs.ShiftNetwork.{AnswersAs, IsRegister, StepsAlong}
+use Rattle.shift_texts.specs.declared.registers.OrderedRegister.{OrderedRegister}
 
 -- the fields of the two comments: what the text is, and the order
 abbrev pub shift_fields : ℕ → List (List (List ℕ))
@@ -40,7 +42,16 @@ pub record IsShiftOf (reduce : Bool) (F W : KissFile) (k : ℕ) (names : SignalN
 abbrev pub IsShiftNetwork : Bool → KissFile → CommentedNetwork → Type 0
 IsShiftNetwork reduce F made = (W : KissFile) × (k : ℕ) × (names : SignalNames) × IsShiftOf reduce F W k names made.comments made.network
 
--- The text is that of such a network after its comments. It denotes the network, also after further comments, and
--- the network is sound and starts at known values.
-abbrev pub IsShiftText : Bool → KissFile → List ℕ → Type 0
-IsShiftText reduce F text = IsTextWith (IsShiftNetwork reduce F) text
+-- a register, with the comments of its order
+abbrev pub with_comments : OrderedRegister → CommentedNetwork
+with_comments made = record { comments = shift_comments made.order; network = made.network }
+
+-- the order is that of the work machine, and the network is its register for as many symbols
+abbrev pub IsOrderedRegister : Bool → KissFile → OrderedRegister → Type 0
+IsOrderedRegister reduce F made =
+    (W : KissFile) × (names : SignalNames) × IsShiftOf reduce F W made.order names (shift_comments made.order) made.network
+
+-- The text is that of such a network, in the design, after its comments. It denotes the network, also after further
+-- comments, and the network is sound and starts at known values.
+abbrev pub IsShiftText : Design → Bool → KissFile → List ℕ → Type 0
+IsShiftText design reduce F text = IsTextWith design (IsShiftNetwork reduce F) text

@@ -7,6 +7,7 @@
 //! - no word of as many symbols as the order ends in the reset state.
 //!
 //! Otherwise it gives the network of the register with two comments, the second of which gives the order.
+//! [`register_of_work`] gives the order and the network, on a machine that is there already.
 //!
 //! `specs/Causes` says which refusals a machine calls for, in their order, and `specs/ShiftText` what holds of
 //! the network and its text. The laws of `specs/Laws` say that all refusals that `shift` calls for have one
@@ -20,4 +21,4 @@ mod orders;
 mod registers;
 
 pub use laws::shift_has_one_answer;
-pub use registers::shift;
+pub use registers::{OrderedRegister, register_of_work, shift};

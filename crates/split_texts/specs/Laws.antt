@@ -5,4 +5,5 @@ pub mod Least
 pub mod Kinds
 pub mod Plans
 pub mod Codes
+pub mod Names
 pub mod Causes

@@ -1,5 +1,6 @@
 -- The headline: what holds of a network, its header and their text, that are a decomposition of a file's machine.
 use Rattle.std.specs.Prelude.{◌≡◌, ◌≤◌, ℕ, Bool, List}
+use Rattle.blif_out.specs.declared.design.Design.{Design}
 use Rattle.blif_out.specs.declared.header.Header.{Header}
 use Rattle.blif_out.specs.declared.networks.HeadedNetwork.{HeadedNetwork}
 use Rattle.blif_out.specs.NetworkText.{IsHeadedText}
@@ -31,10 +32,10 @@ abbrev pub IsOfKind : Kind → List ℕ → Bool → KissFile → HeadedNetwork 
 IsOfKind kind text reduce F made =
     (W : KissFile) × (parts : List Part) × IsSplitOf kind text W parts × IsDecomposed reduce F W kind parts made × KeepsPromises kind reduce F W parts
 
--- the text is that of such a network after its header
-abbrev pub IsWritten : Kind → List ℕ → Bool → KissFile → List ℕ → Type 0
-IsWritten kind text reduce F written =
-    (made : HeadedNetwork) × IsOfKind kind text reduce F made × IsHeadedText made.header made.network written
+-- the text is that of such a network after its header, in the design
+abbrev pub IsWritten : Design → Kind → List ℕ → Bool → KissFile → List ℕ → Type 0
+IsWritten design kind text reduce F written =
+    (made : HeadedNetwork) × IsOfKind kind text reduce F made × IsHeadedText design made.header made.network written
 
 -- the codes that the parts give to n states, which the parts all distinguish
 pub record AreCodes (n : ℕ) (parts : List Part) (codes : Codes) : Type 0 where

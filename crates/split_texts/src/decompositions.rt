@@ -43,7 +43,8 @@ pub fn decompose(
 }
 
 /// The network of the decomposition of a kind, with its header, of a machine that `work_machine` gives for the file.
-fn decompose_work(
+/// The machine can serve for further kinds.
+pub fn decompose_work(
     alloc: Global,
     kind: Kind,
     text: &[u8],

@@ -12,7 +12,7 @@
 //! does not know yet whether its parts distinguish all states: given parts may not. The codes show it.
 //!
 //! [`decompose`] makes the machine that a command works on, plans its split, and gives its network with the header
-//! that explains it. [`codes_of`] gives the codes of a split, or the refusal that says why it has none, and
+//! that explains it; [`decompose_work`] does so on a machine that is there already. [`codes_of`] gives the codes of a split, or the refusal that says why it has none, and
 //! [`network_of_codes`] gives its network. `specs/Causes` says which refusals a machine without a decomposition calls
 //! for, in their order. `specs/Written` says what holds of the network, its header and their text; it is the
 //! headline. `specs/LeastNetwork` has the promises of the least code.
@@ -22,6 +22,6 @@ mod decompositions;
 mod plans;
 mod writing;
 
-pub use decompositions::decompose;
+pub use decompositions::{decompose, decompose_work};
 pub use plans::plan;
 pub use writing::{codes_of, network_of_codes, network_of_plan};

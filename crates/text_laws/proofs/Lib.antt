@@ -4,4 +4,4 @@ pub mod Nets
 pub mod Headers
 pub mod Texts
 mod OneText
-mod Registers
+pub mod Registers

@@ -1,5 +1,5 @@
 -- The networks of one machine with one code are equal but for the rows of their gates.
-use Rattle.std.proofs.Common.{◌≡◌, ◌∙◌, ℕ, ◌+◌, ◌-◌, ◌≤◌, Bool, true, false, List, [], ◌∷◌, Some, length, map, slice_get, unwrap_or, inl, inr, refl, sym, ap, subst, arith}
+use Rattle.std.proofs.Common.{◌≡◌, ◌∙◌, ℕ, ◌+◌, ◌-◌, Bool, true, false, List, [], ◌∷◌, Some, length, map, slice_get, inl, inr, refl, sym, ap, subst, arith}
 use Rattle.std.proofs.lemmas.Bool.{cases_lt}
 use Rattle.std.proofs.lemmas.Option.{same_Some, slice_get_within}
 use Rattle.list_facts.specs.Laws.Places.{item_at}
@@ -15,7 +15,6 @@ use Rattle.net_core.specs.declared.Start.{Start}
 use Rattle.net_core.specs.declared.Start.TheVariants.{Zero, One, Free, Unknown}
 use Rattle.net_core.specs.Step.{AreStarts, bit_of_start}
 use Rattle.realise.specs.Codes.{code_of}
-use Rattle.realise.specs.Names.{AreNames, input_letter, output_letter, next_letter, state_letter, own_names}
 use Rattle.realise.specs.Realised.{HasGate, IsRealised, name_at}
 use Rattle.text_laws.specs.Rows.{EqualButForRows, HasSameSignals}
 use Rattle.text_laws.proofs.Lists.{zip_at}
@@ -62,22 +61,6 @@ same_latches (x ∷ xs) (y ∷ ys) (bit ∷ bits) inputs outputs starts also =
     cons_latch x y xs ys
     (same_latch x.input y.input x.output y.output x.start y.start ins.0 outs.0 (same_start x.start y.start bit here.0 there.0))
     (same_latches xs ys bits ins.1 outs.1 here.1 there.1)
-
-same_names : (a b c d e f g h : List (List ℕ)) → a ≡ b → c ≡ d → e ≡ f → g ≡ h
-    → ◌≡◌ {A = SignalNames} (record { inputs = a; outputs = c; latch_inputs = e; latch_outputs = g }) (record { inputs = b; outputs = d; latch_inputs = f; latch_outputs = h })
-same_names a b c d e f g h p q r s = cc
-
--- the file and the number of latches determine the names
-pub names_once : (F : KissFile) (latches : ℕ) (names more : SignalNames) → AreNames F latches names → AreNames F latches more → names ≡ more
-names_once F latches names more one other =
-    let low : one.count ≤ other.count = one.apart.least other.count other.apart.free in
-    let high : other.count ≤ one.count = other.apart.least one.count one.apart.free in
-    let same : one.count ≡ other.count = omega (arith, low, high) in
-    same_names names.inputs more.inputs names.outputs more.outputs names.latch_inputs more.latch_inputs names.latch_outputs more.latch_outputs
-    (one.inputs ∙ ap (λ (count : ℕ). unwrap_or F.input_names (own_names count input_letter F.inputs)) same ∙ sym other.inputs)
-    (one.outputs ∙ ap (λ (count : ℕ). unwrap_or F.output_names (own_names count output_letter F.outputs)) same ∙ sym other.outputs)
-    (one.latch_inputs ∙ ap (λ (count : ℕ). own_names count next_letter latches) same ∙ sym other.latch_inputs)
-    (one.latch_outputs ∙ ap (λ (count : ℕ). own_names count state_letter latches) same ∙ sym other.latch_outputs)
 
 -- gates for one set, one value and one name
 same_signals : (F : KissFile) (words : List ℕ) (names : SignalNames) (N M : Network) (at : ℕ) (set : ReadSet) (value : ℕ → List Bool → Bool) (name : List ℕ) (gate other : Gate)

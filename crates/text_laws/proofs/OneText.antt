@@ -42,7 +42,7 @@ unfolding IsDecomposed
 answers_of reduce F W kind parts made (class, codes, work, of_kind, are, is) = (is.answers, is.carries.inputs)
 
 pub one_text : GiveOneText
-one_text kind operand reduce F N written symbols simulated walked (made, (W, parts, split, decomposed, kept), told) denotes ran walk =
+one_text design kind operand reduce F N written symbols simulated walked (made, (W, parts, split, decomposed, kept), told) denotes ran walk =
     let same : made.network ≡ N = denotes_one written made.network N told.of_network.denotes denotes in
     let both = answers_of reduce F W kind parts made decomposed in
     run_once N None symbols simulated walked ran

@@ -20,11 +20,12 @@ use Rattle.shift_real.specs.Gates.{IsReadAfter, taking}
 use Rattle.shift_real.specs.Register.{IsStartContent, bits_of, latch_values, word_number}
 use Rattle.shift_real.specs.ShiftNetwork.{IsRegister}
 use Rattle.shift_real.specs.Laws.StartContent.{order_once}
+use Rattle.split_texts.specs.Laws.Names.{names_once}
 use Rattle.shift_texts.specs.ShiftText.{IsShiftOf}
 use Rattle.state_reduce.specs.Laws.Works.{one_work}
-use Rattle.text_laws.specs.Rows.{DifferInRowsAlone, EqualButForRows, HasSameSignals, ShiftRowsAloneDiffer}
+use Rattle.text_laws.specs.Rows.{EqualButForRows, HasSameSignals, RegistersDifferInRows, ShiftRowsAloneDiffer}
 use Rattle.text_laws.proofs.Lists.{same_ascending, zip_at}
-use Rattle.text_laws.proofs.Nets.{names_once, same_latches}
+use Rattle.text_laws.proofs.Nets.{same_latches}
 
 -- ---- the start content
 same_front : (x y : Bool) (xs ys : List Bool) → ◌≡◌ {A = List Bool} (x ∷ xs) (y ∷ ys) → (x ≡ y) × (xs ≡ ys)
@@ -154,23 +155,32 @@ module _ (W : KissFile) (k : ℕ) (names : SignalNames) (N M : Network) (one : I
         gates = zip_at HasSameSignals N.gates M.gates (one.gate_count ∙ sym two.gate_count) each_gate;
       }
 
--- ---- the texts
+-- ---- the networks of one file
 module _ (reduce : Bool) (F W : KissFile) (k : ℕ) (names more : SignalNames) (comments others : List ℕ) (N M : Network) (one : IsShiftOf reduce F W k names comments N) (two : IsShiftOf reduce F W k more others M) where
   same_names : more ≡ names
   same_names = names_once F (k * W.inputs) more names two.own one.own
 
-  pub differ : (text other : List ℕ) → IsNetworkText comments N text → IsNetworkText others M other → DifferInRowsAlone comments text other
-  differ text other told told_too = record {
-    network = N;
-    other_network = M;
-    one = told;
-    two = subst (λ (list : List ℕ). IsNetworkText list M other) (two.told ∙ sym one.told) told_too;
-    equal = equal_registers W k names N M one.register (subst (λ (list : SignalNames). IsRegister W k list M) same_names two.register);
-  }
+  differ : (comments ≡ others) × EqualButForRows N M
+  differ = (one.told ∙ sym two.told, equal_registers W k names N M one.register (subst (λ (list : SignalNames). IsRegister W k list M) same_names two.register))
 
-pub shift_rows_alone_differ : ShiftRowsAloneDiffer
-shift_rows_alone_differ reduce F text other (made, (W, k, names, one), told) (also, (V, j, more, two), told_too) =
+-- there is one work machine, and it has one order
+pub registers_differ_in_rows : RegistersDifferInRows
+registers_differ_in_rows reduce F made also (W, k, names, one) (V, j, more, two) =
     let same : V ≡ W = one_work reduce F V W two.work one.work in
     let here : IsShiftOf reduce F W j more also.comments also.network = subst (λ (machine : KissFile). IsShiftOf reduce F machine j more also.comments also.network) same two in
     let order : j ≡ k = order_once W j k here.order one.order in
-    (made.comments, differ reduce F W k names more made.comments also.comments made.network also.network one (subst (λ (n : ℕ). IsShiftOf reduce F W n more also.comments also.network) order here) text other told told_too)
+    differ reduce F W k names more made.comments also.comments made.network also.network one (subst (λ (n : ℕ). IsShiftOf reduce F W n more also.comments also.network) order here)
+
+-- ---- the texts
+pub shift_rows_alone_differ : ShiftRowsAloneDiffer
+shift_rows_alone_differ design reduce F text other (made, is, told) (also, is_too, told_too) =
+    let both : (made.comments ≡ also.comments) × EqualButForRows made.network also.network = registers_differ_in_rows reduce F made also is is_too in (
+      made.comments,
+      record {
+        network = made.network;
+        other_network = also.network;
+        one = told;
+        two = subst (λ (list : List ℕ). IsNetworkText design list also.network other) (sym both.0) told_too;
+        equal = both.1;
+      },
+    )

@@ -1,10 +1,11 @@
--- Two texts of one job have one header, and networks that are equal but for the rows of their gates.
+-- Two networks of one job have one header and are equal but for the rows of their gates. So two texts of one job
+-- differ only there.
 use Rattle.std.proofs.Common.{◌≡◌, ◌∙◌, ℕ, Bool, List, length, sym, subst, arith}
 use Rattle.blif_out.specs.declared.header.Header.{Header}
 use Rattle.blif_out.specs.declared.networks.HeadedNetwork.{HeadedNetwork}
 use Rattle.blif_out.specs.Head.{header_text}
 use Rattle.blif_out.specs.HeadLaw.{IsLawfulHeader}
-use Rattle.blif_out.specs.NetworkText.{IsHeadedText, IsNetworkText}
+use Rattle.blif_out.specs.NetworkText.{IsNetworkText}
 use Rattle.decomposition.specs.Decomposition.{HasGates, IsDecomposed, IsDecomposition, PrintsCodes}
 use Rattle.decomposition.specs.OwnPairs.{OwnPairs}
 use Rattle.state_reduce.specs.Work.{IsWorkOf}
@@ -14,7 +15,9 @@ use Rattle.kiss_file.specs.declared.file.KissFile.{KissFile}
 use Rattle.net_core.specs.declared.Network.{Network}
 use Rattle.net_core.specs.declared.SignalNames.{SignalNames}
 use Rattle.realise.specs.Realised.{IsRealised}
+use Rattle.split_texts.specs.Laws.Names.{names_once}
 use Rattle.split_texts.specs.Splits.{AreParts}
+use Rattle.split_texts.specs.Written.{IsOfKind}
 use Rattle.split_texts.specs.Laws.Kinds.{parts_once}
 use Rattle.state_codes.specs.declared.Codes.{Codes}
 use Rattle.state_codes.specs.declared.split.Kind.{Kind}
@@ -22,10 +25,10 @@ use Rattle.state_codes.specs.declared.split.Part.{Part}
 use Rattle.state_codes.specs.Code.{IsCode}
 use Rattle.state_codes.specs.Laws.Codes.{codes_are_one}
 use Rattle.state_reduce.specs.WorkMachine.{IsWorkMachine}
-use Rattle.text_laws.specs.Rows.{DifferInRowsAlone, EqualButForRows, HasSameSignals, RowsAloneDiffer}
+use Rattle.text_laws.specs.Rows.{EqualButForRows, HasSameSignals, NetworksDifferInRows, RowsAloneDiffer}
 use Rattle.text_laws.proofs.Headers.{class_once, classes_once, notes_once, same_header, words_once}
 use Rattle.text_laws.proofs.Lists.{zip_each}
-use Rattle.text_laws.proofs.Nets.{equal_nets, names_once}
+use Rattle.text_laws.proofs.Nets.{equal_nets}
 use Rattle.text_laws.proofs.ReadOnce.{reads_once}
 
 -- the gates of one code
@@ -78,36 +81,44 @@ module _ (reduce : Bool) (F W : KissFile) (class more_class : ℕ → ℕ) (code
       (omega (arith, one.gates.realised.gate_count))
       one.printed second.printed one.pairs second.pairs)
 
-  pub differ : (text other : List ℕ) → IsHeadedText H N text → IsHeadedText K M other → (header : Header) × IsLawfulHeader header × DifferInRowsAlone (header_text header) text other
-  differ text other told told_too = (
-    H,
-    one.lawful,
-    record {
-      network = N;
-      other_network = M;
-      one = told.of_network;
-      two = subst (λ (header : Header). IsNetworkText (header_text header) M other) (sym headers) told_too.of_network;
-      equal = nets;
-    },
-  )
+  pub differ : (H ≡ K) × EqualButForRows N M
+  differ = (headers, nets)
 
 -- networks of one machine
-of_one_machine : (reduce : Bool) (F W : KissFile) (kind : Kind) (parts : List Part) (made more : HeadedNetwork) (text other : List ℕ) → IsDecomposed reduce F W kind parts made → IsDecomposed reduce F W kind parts more
-    → IsHeadedText made.header made.network text → IsHeadedText more.header more.network other → (header : Header) × IsLawfulHeader header × DifferInRowsAlone (header_text header) text other
+of_one_machine : (reduce : Bool) (F W : KissFile) (kind : Kind) (parts : List Part) (made more : HeadedNetwork) → IsDecomposed reduce F W kind parts made → IsDecomposed reduce F W kind parts more
+    → (made.header ≡ more.header) × EqualButForRows made.network more.network
 unfolding IsDecomposed
-of_one_machine reduce F W kind parts made more text other (class, codes, work, is_kind, are_parts, one) (more_class, more_codes, more_work, more_kind, more_parts, two) =
-    differ reduce F W class more_class codes more_codes made.network more.network made.header more.header work more_work (is_kind ∙ sym more_kind) (are_parts ∙ sym more_parts) one two text other
+of_one_machine reduce F W kind parts made more (class, codes, work, is_kind, are_parts, one) (more_class, more_codes, more_work, more_kind, more_parts, two) =
+    differ reduce F W class more_class codes more_codes made.network more.network made.header more.header work more_work (is_kind ∙ sym more_kind) (are_parts ∙ sym more_parts) one two
 
--- the work machine of the file
-machine_of : (reduce : Bool) (F W : KissFile) (kind : Kind) (parts : List Part) (made : HeadedNetwork) → IsDecomposed reduce F W kind parts made → IsWorkOf reduce F W
+-- the work machine of the file, and a lawful header
+work_and_header : (reduce : Bool) (F W : KissFile) (kind : Kind) (parts : List Part) (made : HeadedNetwork) → IsDecomposed reduce F W kind parts made → IsWorkOf reduce F W × IsLawfulHeader made.header
 unfolding IsDecomposed
-machine_of reduce F W kind parts made (class, codes, work, is_kind, are_parts, is) = (class, work)
+work_and_header reduce F W kind parts made (class, codes, work, is_kind, are_parts, is) = ((class, work), is.lawful)
 
 -- there is one work machine, and one choice of parts
-pub rows_alone_differ : RowsAloneDiffer
-rows_alone_differ kind operand reduce F text other (made, (W, parts, split, one, kept), told) (more, (V, others, twin, two, kept_too), told_too) =
-    let same : V ≡ W = one_work reduce F V W (machine_of reduce F V kind others more two) (machine_of reduce F W kind parts made one) in
+pub networks_differ_in_rows : NetworksDifferInRows
+networks_differ_in_rows kind operand reduce F made more (W, parts, split, one, kept) (V, others, twin, two, kept_too) =
+    let same : V ≡ W = one_work reduce F V W (work_and_header reduce F V kind others more two).0 (work_and_header reduce F W kind parts made one).0 in
     let here : AreParts kind operand W others = subst (λ (machine : KissFile). AreParts kind operand machine others) same twin.made in
     let same_parts : others ≡ parts = parts_once kind operand W others parts here split.made in
-    of_one_machine reduce F W kind parts made more text other one
-    (subst (λ (list : List Part). IsDecomposed reduce F W kind list more) same_parts (subst (λ (machine : KissFile). IsDecomposed reduce F machine kind others more) same two)) told told_too
+    of_one_machine reduce F W kind parts made more one
+    (subst (λ (list : List Part). IsDecomposed reduce F W kind list more) same_parts (subst (λ (machine : KissFile). IsDecomposed reduce F machine kind others more) same two))
+
+-- ---- the texts
+lawful_header : (kind : Kind) (operand : List ℕ) (reduce : Bool) (F : KissFile) (made : HeadedNetwork) → IsOfKind kind operand reduce F made → IsLawfulHeader made.header
+lawful_header kind operand reduce F made (W, parts, split, is, kept) = (work_and_header reduce F W kind parts made is).1
+
+pub rows_alone_differ : RowsAloneDiffer
+rows_alone_differ design kind operand reduce F text other (made, of_kind, told) (more, also_of_kind, told_too) =
+    let both : (made.header ≡ more.header) × EqualButForRows made.network more.network = networks_differ_in_rows kind operand reduce F made more of_kind also_of_kind in (
+      made.header,
+      lawful_header kind operand reduce F made of_kind,
+      record {
+        network = made.network;
+        other_network = more.network;
+        one = told.of_network;
+        two = subst (λ (header : Header). IsNetworkText design (header_text header) more.network other) (sym both.0) told_too.of_network;
+        equal = both.1;
+      },
+    )

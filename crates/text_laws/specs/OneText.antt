@@ -1,5 +1,6 @@
 -- What `sim` prints of a network and what `walk` prints of the machine that the network was made from.
 use Rattle.std.specs.Prelude.{◌≡◌, ℕ, Bool, List, None}
+use Rattle.blif_out.specs.declared.design.Design.{Design}
 use Rattle.kiss_file.specs.declared.file.KissFile.{KissFile}
 use Rattle.net_core.specs.declared.Network.{Network}
 use Rattle.net_core.specs.Denotes.{Denotes}
@@ -12,5 +13,5 @@ use Rattle.split_texts.specs.Written.{IsWritten}
 -- machine of the file give one text
 abbrev pub GiveOneText : Type 0
 GiveOneText =
-    (kind : Kind) (parts : List ℕ) (reduce : Bool) (F : KissFile) (N : Network) (written symbols simulated walked : List ℕ) → IsWritten kind parts reduce F written → Denotes written N
+    (design : Design) (kind : Kind) (parts : List ℕ) (reduce : Bool) (F : KissFile) (N : Network) (written symbols simulated walked : List ℕ) → IsWritten design kind parts reduce F written → Denotes written N
     → IsRun N None symbols simulated → IsWalkText F symbols walked → simulated ≡ walked

@@ -23,15 +23,27 @@
 //!
 //! What is left open is which good cover the rows of a gate are (`gate_rows`).
 //!
-//! [`shift_rows_alone_differ`] says the same of two texts of one shift register: the file determines its order, its
-//! comments, its names and what each gate reads.
+//! [`networks_differ_in_rows`] says this of the networks and their headers, before they are written.
+//!
+//! [`registers_differ_in_rows`] and [`shift_rows_alone_differ`] say the same of two networks and two texts of one shift
+//! register: the file determines its order, its comments, its names and what each gate reads.
 //!
 //! [`one_text`] says that the network of such a text and the machine of its file give one text for one file of
 //! symbols.
 #![tactic(auto)]
 
 ghost use Rattle.text_laws.specs.OneText.{GiveOneText};
-ghost use Rattle.text_laws.specs.Rows.{RowsAloneDiffer, ShiftRowsAloneDiffer};
+ghost use Rattle.text_laws.specs.Rows.{NetworksDifferInRows, RegistersDifferInRows, RowsAloneDiffer, ShiftRowsAloneDiffer};
+
+/// Two networks of one decomposition have one header, and are equal but for the rows of their gates.
+pub fn networks_differ_in_rows()
+    ensures { NetworksDifferInRows }
+{}
+
+/// Two networks of one shift register have the same comments, and are equal but for the rows of their gates.
+pub fn registers_differ_in_rows()
+    ensures { RegistersDifferInRows }
+{}
 
 /// Two texts of one decomposition have one header, and networks that are equal but for the rows of their gates.
 pub fn rows_alone_differ()

@@ -2,6 +2,7 @@
 
 use crate::words::{pieces, truth};
 use case_lines::Answer;
+use hs_io::Name;
 use job_words::{Form, Job, JobFail, Words, built_forms, job, judge};
 use std::alloc::{AllocError, Global};
 
@@ -75,7 +76,7 @@ fn put_in_brackets(name: &[u8], answer: &mut Answer) {
     answer.add(b"]");
 }
 
-/// Puts the options.
+/// Puts the options. `--names`, the clock and the model are put where they are given.
 fn put_options(job: &Job, answer: &mut Answer) {
     answer.add(b" reduce ");
     answer.add(truth(job.reduce));
@@ -86,6 +87,19 @@ fn put_options(job: &Job, answer: &mut Answer) {
     }
     answer.add(b" hold ");
     answer.add(truth(job.hold));
+    if job.names {
+        answer.add(b" names");
+    }
+    put_given(b" clock ", &job.clock, answer);
+    put_given(b" model ", &job.model, answer);
+}
+
+/// Puts a name after what it is of, if it is given.
+fn put_given(of: &[u8], name: &Option<Name>, answer: &mut Answer) {
+    if let Some(name) = name {
+        answer.add(of);
+        answer.add(name.bytes());
+    }
 }
 
 /// Puts the operands and options of a command that is built.

@@ -63,13 +63,23 @@ fn is_taken(words: &Words, place: usize) -> bool {
 
 /// Whether a word is an option that takes the next word.
 fn takes_word(word: &[u8]) -> bool {
-    is_word(word, b"--limit") || is_word(word, b"--start") || is_word(word, b"--fill")
+    is_word(word, b"--limit")
+        || is_word(word, b"--start")
+        || is_word(word, b"--fill")
+        || is_word(word, b"--clock")
+        || is_word(word, b"--model")
 }
 
 /// Whether an option can take a word.
 fn can_be_taken(option: &[u8], word: &[u8]) -> bool {
     if is_word(option, b"--limit") {
         return is_between(1, 10_000, word);
+    }
+    if is_word(option, b"--clock") {
+        return is_name(word) && !is_word(word, b"NIL");
+    }
+    if is_word(option, b"--model") {
+        return is_name(word);
     }
     is_word(option, b"--start") || is_word(word, b"hold")
 }
@@ -82,6 +92,9 @@ fn has_option(form: &Form, word: &[u8]) -> bool {
             CommandOption::Reduce => b"--reduce",
             CommandOption::Start => b"--start",
             CommandOption::Fill => b"--fill",
+            CommandOption::Names => b"--names",
+            CommandOption::Clock => b"--clock",
+            CommandOption::Model => b"--model",
         };
         if name == word {
             return true;
@@ -137,6 +150,18 @@ fn product(a: &[u8], b: &[u8]) -> u64 {
 fn is_between(low: u64, high: u64, word: &[u8]) -> bool {
     let value = number(word);
     are_digits(word) && !word.is_empty() && word.len() < 10 && low <= value && value <= high
+}
+
+/// Whether a word can be a model, or a clock other than `NIL`.
+fn is_name(word: &[u8]) -> bool {
+    let mut length = 0usize;
+    for byte in word {
+        if *byte <= b' ' || *byte > b'~' || *byte == b'#' || *byte == b'\\' {
+            return false;
+        }
+        length = length.saturating_add(1);
+    }
+    length > 0 && length < 65
 }
 
 /// Whether each byte is a digit.

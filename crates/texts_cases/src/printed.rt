@@ -42,6 +42,7 @@ fn named(alloc: Global, call: &str, name: &[u8], rest: &[u8]) -> Result<Vec<u8>,
         "start_unknown" => err_lines::start_unknown(alloc, name),
         "not_apart" => err_lines::not_apart(alloc, name, rest),
         "no_split" => err_lines::no_split(alloc, name),
+        "clock" => err_lines::clock(alloc, name),
         _ => unspecified(alloc, name, rest),
     }
 }

@@ -40,6 +40,22 @@ const NUMBERS: [&[u8]; 9] = [
     b"--reduce",
 ];
 
+/// Words after a command that writes a network: options that take a name, and names at each limit and past it.
+const NAMES: [&[u8]; 12] = [
+    b"f",
+    b"",
+    b"--clock",
+    b"--model",
+    b"--reduce",
+    b"--names",
+    b"NIL",
+    b"c#",
+    b"m\\",
+    b"~\x7f",
+    b"abcdefghijklmnopqrstuvwxyzabcdefghijklmnopqrstuvwxyz0123456789!~",
+    b"abcdefghijklmnopqrstuvwxyzabcdefghijklmnopqrstuvwxyz0123456789!~_",
+];
+
 /// Whether all lists agree. Prints the number of lists if they do, and else each list that differs.
 pub(crate) fn agree(rt: &HostRuntime) -> io::Result<bool> {
     let mut all = true;
@@ -48,6 +64,8 @@ pub(crate) fn agree(rt: &HostRuntime) -> io::Result<bool> {
         all = all && agree;
     }
     let agree = agree_on(rt, Some(b"gen"), &NUMBERS, 4, 6561)?;
+    all = all && agree;
+    let agree = agree_on(rt, Some(b"code"), &NAMES, 4, 20_736)?;
     Ok(all && agree)
 }
 

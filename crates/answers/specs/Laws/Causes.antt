@@ -67,5 +67,6 @@ pub reported_within : (cause other : Cause) (P Q P' Q' : List ℕ → Type 0) (r
     → ((text : List ℕ) → P text → P' text) → ((text : List ℕ) → Q text → Q' text) → IsReported cause P Q result → IsReported other P' Q' result
 reported_within cause other P Q P' Q' (Ok (Whole text)) within none whole shown (none_here, h) = (none none_here, whole text h)
 reported_within cause other P Q P' Q' (Ok (Evidence text limit)) within none whole shown (h, is) = (within _ h, shown text is)
-reported_within cause other P Q P' Q' (Ok (Network made)) within none whole shown (none_here, (ready, drawn)) = (none none_here, (ready, λ text told. whole text (drawn text told)))
+reported_within cause other P Q P' Q' (Ok (Network design made)) within none whole shown (none_here, (ready, lawful, drawn)) =
+    (none none_here, (ready, lawful, λ text told. whole text (drawn text told)))
 reported_within cause other P Q P' Q' (Err refusal) within none whole shown (h, few) = (stop_within cause other refusal within h, few)

@@ -5,6 +5,7 @@ use Rattle.hs_io.specs.Spelling.{ended, line_text, spelled}
 use Rattle.net_core.specs.declared.Gate.{Gate}
 use Rattle.net_core.specs.declared.Latch.{Latch}
 use Rattle.state_codes.specs.declared.split.Part.{Part}
+use Rattle.blif_out.specs.declared.design.Design.{Design}
 use Rattle.blif_out.specs.declared.header.LatchNote.{LatchNote}
 use Rattle.blif_out.specs.Head.{comment_text, part_fields, state_fields, note_fields}
 use Rattle.blif_out.specs.NetText.{row_fields, gate_fields, latch_fields}
@@ -18,8 +19,8 @@ abbrev pub row_line : List ℕ → List ℕ
 row_line row = ended (line_text (row_fields row))
 
 -- the line of a latch
-abbrev pub latch_line : Latch → List ℕ
-latch_line latch = ended (line_text (latch_fields latch))
+abbrev pub latch_line : Design → Latch → List ℕ
+latch_line design latch = ended (line_text (latch_fields design latch))
 
 -- the lines of a gate
 abbrev pub gate_lines : Gate → List ℕ

@@ -11,6 +11,7 @@ use Rattle.answers.specs.Cause.{CallsForNone}
 use Rattle.answers.specs.Judged.{IsDrawn}
 use Rattle.answers.specs.Refusal.{answer_of}
 use Rattle.blif_out.specs.declared.networks.CommentedNetwork.{CommentedNetwork}
+use Rattle.blif_out.specs.Design.{plain_design}
 use Rattle.hsdec_core.specs.Inner.Pages.{report_of}
 use Rattle.hsdec_core.specs.Judgement.{all_causes, first_cause}
 use Rattle.operands.specs.Loading.{MayBe}
@@ -44,7 +45,7 @@ abbrev pub IsMadeOf : Job → (List ℕ → Option (List ℕ)) → Type 0 → Re
 IsMadeOf job holds Faulted (Ok (Whole text)) = IsAsked job holds text × IsPassed job holds
 IsMadeOf job holds Faulted (Ok (Evidence text limit)) =
     IsEvidence job holds text × ((bytes : List ℕ) × MayBe (file_held job holds) bytes × first_cause job bytes (More limit))
-IsMadeOf job holds Faulted (Ok (Network made)) = IsDrawn (IsAsked job holds) made × IsPassed job holds
+IsMadeOf job holds Faulted (Ok (Network design made)) = IsDrawn (IsAsked job holds) design made × IsPassed job holds
 IsMadeOf job holds Faulted (Err refusal) = IsUndone job holds Faulted refusal
 
 -- a text is made for a job, or the job is refused
@@ -52,9 +53,9 @@ abbrev pub IsMadeOfText : Job → (List ℕ → Option (List ℕ)) → Type 0 �
 IsMadeOfText job holds Faulted (Ok text) = IsMadeOf job holds Faulted (Ok (Whole text))
 IsMadeOfText job holds Faulted (Err refusal) = IsMadeOf job holds Faulted (Err refusal)
 
--- a network with its comments is made for a job, or the job is refused
+-- a network with its comments is made for a job that names no clock, or the job is refused
 abbrev pub IsMadeOfNetwork : Job → (List ℕ → Option (List ℕ)) → Type 0 → Result CommentedNetwork Refusal → Type 0
-IsMadeOfNetwork job holds Faulted (Ok made) = IsMadeOf job holds Faulted (Ok (Network made))
+IsMadeOfNetwork job holds Faulted (Ok made) = IsMadeOf job holds Faulted (Ok (Network plain_design made))
 IsMadeOfNetwork job holds Faulted (Err refusal) = IsMadeOf job holds Faulted (Err refusal)
 
 -- what is to be put for a job or for refused words

@@ -7,7 +7,7 @@ use Rattle.job_words.specs.declared.draft.Stood.{Stood}
 use Rattle.job_words.specs.declared.items.Entry.{Entry}
 use Rattle.job_words.specs.declared.items.Entry.TheVariants as entries
 use Rattle.job_words.specs.declared.table.CommandOption.{CommandOption}
-use Rattle.job_words.specs.declared.table.CommandOption.TheVariants.{Limit, Reduce, Start, Fill}
+use Rattle.job_words.specs.declared.table.CommandOption.TheVariants.{Limit, Reduce, Start, Fill, Names, Clock, Model}
 use Rattle.job_words.specs.Item.{Item, Operand, Chosen, Lacking, Unknown}
 use Rattle.job_words.specs.Job.{job_of, operands_in, stands}
 use Rattle.job_words.specs.Table.{Row}
@@ -25,12 +25,18 @@ stood options Limit = options.limit
 stood options Reduce = options.reduce
 stood options Start = options.start
 stood options Fill = options.fill
+stood options Names = options.names
+stood options Clock = options.clock
+stood options Model = options.model
 
 abbrev pub stood_with : CommandOption → Stood → Stood
 stood_with Limit options = record options { limit = true }
 stood_with Reduce options = record options { reduce = true }
 stood_with Start options = record options { start = true }
 stood_with Fill options = record options { fill = true }
+stood_with Names options = record options { names = true }
+stood_with Clock options = record options { clock = true }
+stood_with Model options = record options { model = true }
 
 -- a draft is what the items before give, the last one first
 pub record IsDraft (row : Row) (before : List Item) (draft : Draft) : Type 0 where

@@ -7,7 +7,7 @@ use Rattle.blif_out.specs.Inner.Pieces.{latch_line}
 use Rattle.blif_out.proofs.network_text.append_latches.Goals as goal
 
 pub loop-latch-preserved : goal.loop-latch-preserved
-loop-latch-preserved c = item_more latch_line c.args.text.now.items c.loop-latch.text.items c.append_latch.new.text.items c.args.latches.now c.loop-latch.latch-index c.latch-item.result c.loop-latch-test.true (sym c.latch-item.is) c.loop-latch.invariant c.in_ok-append_latch.ensures
+loop-latch-preserved c = item_more (latch_line c.args.design.now) c.args.text.now.items c.loop-latch.text.items c.append_latch.new.text.items c.args.latches.now c.loop-latch.latch-index c.latch-item.result c.loop-latch-test.true (sym c.latch-item.is) c.loop-latch.invariant c.in_ok-append_latch.ensures
 
 pub returns : goal.returns
-returns c = c.loop-latch.invariant ∙ ap (λ (latches : List Latch). c.args.text.now.items ++ flat_map latch_line latches) (take_all c.loop-latch.latch-index c.args.latches.now c.loop-latch-test.false)
+returns c = c.loop-latch.invariant ∙ ap (λ (latches : List Latch). c.args.text.now.items ++ flat_map (latch_line c.args.design.now) latches) (take_all c.loop-latch.latch-index c.args.latches.now c.loop-latch-test.false)

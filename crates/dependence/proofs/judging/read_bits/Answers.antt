@@ -5,16 +5,22 @@ use Rattle.dependence.specs.Laws.Judged.{judged_all, judged_more, judged_none}
 use Rattle.dependence.proofs.judging.read_bits.Goals as goal
 
 pub loop-c-init : goal.loop-c-init
-loop-c-init c = judged_none c.args.m.now c.args.words.now (value_of c.args.m.now c.args.words.now c.args.gate) c.args.candidates (omega arith)
+loop-c-init c = record {
+  judged = judged_none c.args.m.now c.args.words.now (value_of c.args.m.now c.args.words.now c.args.gate) c.args.candidates (omega arith);
+  found = c.requires.found;
+}
 
 pub loop-c-preserved : goal.loop-c-preserved
 loop-c-preserved c =
     let before : AreJudgedFrom c.args.m.now c.args.words.now (value_of c.args.m.now c.args.words.now c.args.gate) c.args.candidates c.loop-c.set (c.loop-c.c - 1 + 1) =
-    subst (AreJudgedFrom c.args.m.now c.args.words.now (value_of c.args.m.now c.args.words.now c.args.gate) c.args.candidates c.loop-c.set) (omega arith) c.loop-c.invariant in
-    judged_more c.args.m.now c.args.words.now (value_of c.args.m.now c.args.words.now c.args.gate) c.args.candidates c.loop-c.set (c.loop-c.c - 1) c.judged-set.result before c.judged-set.ensures
+    subst (AreJudgedFrom c.args.m.now c.args.words.now (value_of c.args.m.now c.args.words.now c.args.gate) c.args.candidates c.loop-c.set) (omega arith) c.loop-c.invariant.judged in
+    record {
+      judged = judged_more c.args.m.now c.args.words.now (value_of c.args.m.now c.args.words.now c.args.gate) c.args.candidates c.loop-c.set (c.loop-c.c - 1) c.in_ok-set.set before c.in_ok-set.ensures.judged;
+      found = c.in_ok-set.ensures.found;
+    }
 
-pub returns : goal.returns
-returns c =
+pub returns-clause-bits : goal.returns-clause-bits
+returns-clause-bits c =
     let done : c.loop-c.c ≡ 0 = omega arith in
     judged_all c.args.m.now c.args.words.now (value_of c.args.m.now c.args.words.now c.args.gate) c.args.candidates c.loop-c.set
-    (subst (AreJudgedFrom c.args.m.now c.args.words.now (value_of c.args.m.now c.args.words.now c.args.gate) c.args.candidates c.loop-c.set) done c.loop-c.invariant)
+    (subst (AreJudgedFrom c.args.m.now c.args.words.now (value_of c.args.m.now c.args.words.now c.args.gate) c.args.candidates c.loop-c.set) done c.loop-c.invariant.judged)

@@ -14,9 +14,12 @@ loop-i-preserved c =
     let F = c.args.m.now in
     let words : List ℕ = c.args.codes.now.words in
     let here : IsReadSet F words (IsCandidate c.args.split.now.parts c.args.codes.now c.loop-i.i) (next_value F words c.loop-i.i) set =
-    read_set_same F words (InWord c.candidates_of-candidates.result) (IsCandidate c.args.split.now.parts c.args.codes.now c.loop-i.i) (next_value F words c.loop-i.i) set c.candidates_of-candidates.ensures c.in_ok-read_set.ensures in
-    subst (λ (sets : List ReadSet). AreLatchSets F c.args.split.now.parts c.args.codes.now sets (c.loop-i.i + 1)) (sym c.in_ok-push.ensures.ok)
-    (record {
-      size = omega (arith, length_push c.loop-i.sets set, c.loop-i.invariant.size);
-      each = each_more (λ i it. IsReadSet F words (IsCandidate c.args.split.now.parts c.args.codes.now i) (next_value F words i) it) c.loop-i.sets c.loop-i.i set c.loop-i.invariant.size c.loop-i.invariant.each here;
-    })
+    read_set_same F words (InWord c.candidates_of-candidates.result) (IsCandidate c.args.split.now.parts c.args.codes.now c.loop-i.i) (next_value F words c.loop-i.i) set c.candidates_of-candidates.ensures c.in_ok-read_set.ensures.set in
+    record {
+      sets = subst (λ (sets : List ReadSet). AreLatchSets F c.args.split.now.parts c.args.codes.now sets (c.loop-i.i + 1)) (sym c.in_ok-push.ensures.ok)
+          (record {
+            size = omega (arith, length_push c.loop-i.sets set, c.loop-i.invariant.sets.size);
+            each = each_more (λ i it. IsReadSet F words (IsCandidate c.args.split.now.parts c.args.codes.now i) (next_value F words i) it) c.loop-i.sets c.loop-i.i set c.loop-i.invariant.sets.size c.loop-i.invariant.sets.each here;
+          });
+      found = c.in_ok-read_set.ensures.found;
+    }

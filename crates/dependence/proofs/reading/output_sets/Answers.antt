@@ -14,9 +14,12 @@ loop-b-preserved c =
     let F = c.args.m.now in
     let words : List ℕ = c.args.codes.now.words in
     let here : IsReadSet F words (IsBitOfCode c.args.codes.now) (output_value F c.loop-b.b) set =
-    read_set_same F words (InWord c.bits_below-candidates.result) (IsBitOfCode c.args.codes.now) (output_value F c.loop-b.b) set c.bits_below-candidates.ensures c.in_ok-read_set.ensures in
-    subst (λ (sets : List ReadSet). AreOutputSets F c.args.codes.now sets (c.loop-b.b + 1)) (sym c.in_ok-push.ensures.ok)
-    (record {
-      size = omega (arith, length_push c.loop-b.sets set, c.loop-b.invariant.size);
-      each = each_more (λ b it. IsReadSet F words (IsBitOfCode c.args.codes.now) (output_value F b) it) c.loop-b.sets c.loop-b.b set c.loop-b.invariant.size c.loop-b.invariant.each here;
-    })
+    read_set_same F words (InWord c.bits_below-candidates.result) (IsBitOfCode c.args.codes.now) (output_value F c.loop-b.b) set c.bits_below-candidates.ensures c.in_ok-read_set.ensures.set in
+    record {
+      sets = subst (λ (sets : List ReadSet). AreOutputSets F c.args.codes.now sets (c.loop-b.b + 1)) (sym c.in_ok-push.ensures.ok)
+          (record {
+            size = omega (arith, length_push c.loop-b.sets set, c.loop-b.invariant.sets.size);
+            each = each_more (λ b it. IsReadSet F words (IsBitOfCode c.args.codes.now) (output_value F b) it) c.loop-b.sets c.loop-b.b set c.loop-b.invariant.sets.size c.loop-b.invariant.sets.each here;
+          });
+      found = c.in_ok-read_set.ensures.found;
+    }

@@ -1,5 +1,9 @@
+use Rattle.dependence.specs.Inner.Differences.{AreFound}
 use Rattle.dependence.specs.Inner.Sets.{AreOutputSets}
 use Rattle.dependence.proofs.reading.output_sets.Given as goal
 
 abbrev pub invariant-loop-b : goal.invariant-loop-b
-invariant-loop-b l = AreOutputSets l.m l.codes l.sets l.b
+invariant-loop-b l = record {
+  sets : AreOutputSets l.m l.codes l.sets l.b;
+  found : AreFound l.m l.codes.words l.differences.found.items;
+}

@@ -21,8 +21,8 @@ output_sets-requires-clause-effects c =
 
 pub returns : goal.returns
 returns c = record {
-  latch_count = c.in_ok-latches.ensures.size;
-  latches = c.in_ok-latches.ensures.each;
+  latch_count = c.in_ok-latches.ensures.sets.size;
+  latches = c.in_ok-latches.ensures.sets.each;
   output_count = c.in_ok-outputs.ensures.size;
   outputs = c.in_ok-outputs.ensures.each;
 }

@@ -1,7 +1,8 @@
-use Rattle.std.proofs.Common.{refl, ap, ◌∙◌}
+use Rattle.std.proofs.Common.{refl, ap, ◌∙◌, subst}
+use Rattle.answers.specs.Judged.{IsReported}
 use Rattle.hsdec_core.specs.declared.tasks.MachineTask.TheVariants.{Listing, OfFile, OfWork}
-use Rattle.hsdec_core.specs.Judgement.{own_cause}
-use Rattle.hsdec_core.specs.Promise.{IsReport, IsShown}
+use Rattle.hsdec_core.specs.Judgement.{list_cause, own_cause}
+use Rattle.hsdec_core.specs.Promise.{IsListEvidence, IsListing, IsReport, IsShown}
 use Rattle.hsdec_core.proofs.Reports.{reported_as}
 use Rattle.hsdec_core.proofs.machine_tasks.report.Goals as goal
 
@@ -10,8 +11,12 @@ on_work-requires-clause-few c = λ assign. c.requires.few (c.in-OfWork.is ∙ ap
 
 pub returns-in-Listing : goal.returns-in-Listing
 returns-in-Listing c =
-    reported_as (λ task. own_cause task c.args.job.now) (λ task. IsReport task c.args.job.now) (λ task. IsShown task c.args.job.now)
-    _ (Listing c.in-Listing.listed) c.args.file.now c.args.machine c.listing.result c.in-Listing.is c.requires.machine c.listing.ensures
+    let listed = c.in-Listing.listed in
+    let M = c.args.machine in
+    let job = c.args.job.now in
+    reported_as (λ task. own_cause task job) (λ task. IsReport task job) (λ task. IsShown task job)
+    _ (Listing listed) c.args.file.now M c.listing.result c.in-Listing.is c.requires.machine
+    (subst (λ shown. IsReported (list_cause listed job.limit M) (IsListing listed shown job.limit M) (IsListEvidence listed shown job.limit M) c.listing.result) c.shown.ensures c.listing.ensures)
 
 pub returns-in-OfFile : goal.returns-in-OfFile
 returns-in-OfFile c =

@@ -4,6 +4,7 @@ use Rattle.hsdec_core.specs.Inner.Made.{IsMadeFor}
 use Rattle.hsdec_core.proofs.Making.{made_of_page}
 use Rattle.job_words.specs.declared.jobs.Job.{Job}
 use Rattle.hsdec_core.proofs.performing.perform.Goals as goal
+use Rattle.job_words.proofs.GivenNames.{names_are_names}
 use Rattle.job_words.proofs.Limits.{limits_are_limits}
 use Rattle.job_words.proofs.Sizes.{sizes_are_sizes}
 use Rattle.job_words.proofs.Slashes.{parts_are_few}
@@ -13,6 +14,9 @@ perform_job-requires-clause-few g c = parts_are_few c.args.words.now c.in-Ok.job
 
 pub perform_job-requires-clause-limited : goal.perform_job-requires-clause-limited
 perform_job-requires-clause-limited g c = limits_are_limits c.args.words.now c.in-Ok.job c.in-Ok.ensures.job
+
+pub perform_job-requires-clause-named : goal.perform_job-requires-clause-named
+perform_job-requires-clause-named g c = names_are_names c.args.words.now c.in-Ok.job c.in-Ok.ensures.job
 
 pub perform_job-requires-clause-sizes : goal.perform_job-requires-clause-sizes
 perform_job-requires-clause-sizes g c = sizes_are_sizes c.args.words.now c.in-Ok.job c.in-Ok.ensures.job

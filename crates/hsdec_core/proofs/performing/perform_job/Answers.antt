@@ -14,6 +14,7 @@ returns-in_err-made-in-Trial-clause-made g c =
     rw (p.1, p.2)
     (made_of_trial c.args.job.now (g.F.Shelf.holds c.args.shelf.now) (Rose (g.F.Shelf.faults c.args.shelf.now) (g.F.Shelf.faults c.args.shelf.now)) (Err c.in_err-made-in-Trial.field-0.0) (sym c.task_of_command.ensures ∙ c.in-Trial.is) c.in_err-made-in-Trial.ensures)
 
-pub returns-in_ok-made-in-Trial-clause-made : goal.returns-in_ok-made-in-Trial-clause-made
-returns-in_ok-made-in-Trial-clause-made g c =
-    made_of_trial c.args.job.now (g.F.Shelf.holds c.args.shelf.now) (Unit {0}) (Ok c.in_ok-made-in-Trial.made) (sym c.task_of_command.ensures ∙ c.in-Trial.is) c.in_ok-made-in-Trial.ensures
+pub returns-in_ok-design-in-Trial-clause-made : goal.returns-in_ok-design-in-Trial-clause-made
+returns-in_ok-design-in-Trial-clause-made g c =
+    rw c.in_ok-design-in-Trial.ensures
+    (made_of_trial c.args.job.now (g.F.Shelf.holds c.args.shelf.now) (Unit {0}) (Ok c.in_ok-made-in-Trial.made) (sym c.task_of_command.ensures ∙ c.in-Trial.is) c.in_ok-made-in-Trial.ensures)

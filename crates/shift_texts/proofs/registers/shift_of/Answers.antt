@@ -1,17 +1,13 @@
 use Rattle.std.proofs.lemmas.Result.{err_from_is_err_and}
-use Rattle.shift_texts.proofs.Judging.{stop_of_order, stop_of_register}
-use Rattle.shift_texts.proofs.Registering.{network_is}
+use Rattle.shift_texts.proofs.Registering.{commented_is}
 use Rattle.shift_texts.proofs.registers.shift_of.Goals as goal
 
-pub returns-in_err-order : goal.returns-in_err-order
-returns-in_err-order c = λ reduce is.
+pub returns-in_err-register : goal.returns-in_err-register
+returns-in_err-register c = λ reduce is.
     let p = err_from_is_err_and c.from_residual.result c.from_residual.ensures.1 in
-    rw (p.1, p.2) (stop_of_order reduce c.args.file.now c.args.work.now is _ c.in_err-order.ensures)
-
-pub returns-in_err-network : goal.returns-in_err-network
-returns-in_err-network c = λ reduce is.
-    let p = err_from_is_err_and c.from_residual-in_err-network.result c.from_residual-in_err-network.ensures.1 in
-    rw (p.1, p.2) (stop_of_register reduce c.args.file.now c.args.work.now is c.in_ok-order.ensures.0 _ c.in_err-network.ensures)
+    rw (p.1, p.2) (c.in_err-register.ensures reduce is)
 
 pub returns : goal.returns
-returns c = λ reduce is. network_is reduce c.args.file.now c.args.work.now is c.requires.lawful c.requires.no_conflict c.in_ok-order.order c.in_ok-order.ensures.1 c.in_ok-network.network c.in_ok-network.ensures.1 c.in_ok-comments.comments c.in_ok-order.ensures.0 c.in_ok-network.ensures.0 c.in_ok-comments.ensures
+returns c = λ reduce is.
+    let register = c.in_ok-register.ensures reduce is in
+    (register.0, commented_is reduce c.args.file.now c.in_ok-register.register _ c.in_ok-commented.ensures register.1)

@@ -7,7 +7,8 @@ use Rattle.kiss_file.specs.declared.file.KissRow.{KissRow}
 use Rattle.kiss_file.specs.Machine.{given_bit}
 use Rattle.kiss_file.specs.Laws.Machine.{output_bit_not_said}
 use Rattle.state_pairs.specs.Laws.Asking.{is_row_at, looked_at, of_each_row}
-use Rattle.machine_table.proofs.GatheredOutputs.{IsGathered, all_known, gathered_below, gathered_more, gathered_outputs, none_where, not_in_either}
+use Rattle.machine_table.specs.Inner.Gathered.{IsGathered}
+use Rattle.machine_table.proofs.GatheredOutputs.{all_known, gathered_below, gathered_more, gathered_outputs, none_where, not_in_either}
 use Rattle.machine_table.proofs.machine.Machine.output_word.Goals.{else-holds, then-holds+else-given-all}
 use Rattle.machine_table.proofs.machine.Machine.output_word.Goals as goal
 

@@ -3,7 +3,7 @@ use Rattle.cubes.specs.Cube.{HoldsNumber}
 use Rattle.cubes.specs.Symbol.{bit}
 use Rattle.kiss_file.specs.declared.file.KissRow.{KissRow}
 use Rattle.kiss_file.specs.Machine.{given_bit}
-use Rattle.machine_table.proofs.GatheredOutputs.{IsGathered}
+use Rattle.machine_table.specs.Inner.Gathered.{IsGathered}
 use Rattle.machine_table.proofs.machine.Machine.output_word.Given as goal
 
 abbrev pub invariant-loop-number : goal.invariant-loop-number

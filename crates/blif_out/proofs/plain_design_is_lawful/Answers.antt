@@ -1,0 +1,5 @@
+use Rattle.blif_out.proofs.Designs as designs
+use Rattle.blif_out.proofs.plain_design_is_lawful.Goals as goal
+
+pub returns : goal.returns
+returns c = designs.plain_design_is_lawful

@@ -1,0 +1,6 @@
+pub mod Sums
+pub mod Noted
+pub mod Alike
+pub mod Once
+pub mod Reasons
+pub mod Texts

@@ -1,0 +1,2 @@
+-- Definitions that only private functions and proofs need.
+pub mod Made
