@@ -1,7 +1,7 @@
 pub mod Answer
 pub mod Cause
 pub mod Delivery
-pub mod Judged
+pub mod Outcome
 pub mod KissTexts
 pub mod Laws
 pub mod LimitTexts

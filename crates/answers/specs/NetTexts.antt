@@ -6,8 +6,8 @@ use Rattle.blif_in.specs.declared.fault.BlifKind.TheVariants.{BadByte, BadFields
 use Rattle.blif_in.specs.declared.fault.NetLimit.{NetLimit}
 use Rattle.blif_in.specs.declared.fault.NetLimit.TheVariants.{GateInputs, Gates, Inputs, Latches, NameBytes, Outputs}
 use Rattle.hs_texts.specs.ErrLines.{cycle_line, net_line, two_drivers_line, undriven_line}
-use Rattle.net_core.specs.declared.failing.NetFail.{NetFail}
-use Rattle.net_core.specs.declared.failing.NetFail.TheVariants.{Cycle, NoMemory, TwoDrivers, Undriven}
+use Rattle.net_core.specs.declared.causes.NetFail.{NetFail}
+use Rattle.net_core.specs.declared.causes.NetFail.TheVariants.{Cycle, NoMemory, TwoDrivers, Undriven}
 use Rattle.answers.specs.LimitTexts.{over_limit_text}
 
 -- what there is too much of

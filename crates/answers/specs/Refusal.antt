@@ -11,8 +11,8 @@ use Rattle.answers.specs.KissTexts.{kind_text}
 use Rattle.answers.specs.NetTexts.{fault_line}
 use Rattle.blif_out.specs.Head.{kind_word}
 use Rattle.hs_texts.specs.ErrLines.{bad_start_line, cannot_read_line, cannot_write_line, clock_line, code_bits_line, conflict_line, cover_lacks_line, cover_leaves_line, cover_place_line, cover_places_line, cover_trivial_line, cover_within_line, inputs_line, kiss_line, more_line, no_memory_line, no_split_line, not_apart_line, not_definite_line, not_reached_line, outputs_line, part_length_line, part_place_line, start_unknown_line, state_count_line, symbol_line, too_long_line, unspecified_line, usage_line}
-use Rattle.machine_table.specs.declared.missing.Missing.{Missing}
-use Rattle.machine_table.specs.declared.missing.Missing.TheVariants.{Next, Output}
+use Rattle.machine_table.specs.declared.open_part.Missing.{Missing}
+use Rattle.machine_table.specs.declared.open_part.Missing.TheVariants.{Next, Output}
 
 -- the answer of a refusal
 abbrev pub answer_of : Refusal → Answer

@@ -29,7 +29,8 @@ pub fn deliver<O: Sink, E: Sink>(
     ensures refused { result ≢ answers.Done → (refusal : refusals.Refusal) × (answer_of refusal ≡ result)
         × IsRefusedWith made (O.given out.old) (O.given out.new) (Rose (O.faults out.old) (O.faults out.new)) refusal
         × LinePut (line_of refusal) (E.given err.old) (E.given err.new) (E.faults err.old) (E.faults err.new) }
-    ensures untouched { result ≢ answers.Done → result ≢ answers.More → result ≢ answers.WriteFault → out.new ≡ out.old }
+    ensures untouched { result ≢ answers.Done → result ≢ answers.More → result ≢ answers.WriteFault
+        → out.new ≡ out.old }
     ensures silent { result ≡ answers.Done → err.new ≡ err.old }
     ensures out_never_falls { O.faults out.old ≤ O.faults out.new }
     ensures err_never_falls { E.faults err.old ≤ E.faults err.new }

@@ -11,7 +11,7 @@
 //! - `specs/Delivery` says what [`deliver`] puts.
 //!
 //! Commands are in crates above this one. The contract of each says which causes it judges, in their order, and
-//! what its text is (`specs/Judged`).
+//! what its text is (`specs/Outcome`).
 #![tactic(auto)]
 
 mod delivery;

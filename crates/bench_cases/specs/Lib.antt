@@ -1,2 +1,2 @@
-pub mod Drawing
+pub mod Numbers
 pub mod Lines

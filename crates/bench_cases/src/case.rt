@@ -20,8 +20,10 @@ pub struct Case<'a> {
 
 /// The case that a line says, and none only where the line says none.
 pub fn case_of(line: &str) -> Option<Case<'_>>
-    ensures some { IfSome result (λ case. Says line.now case.subject.now case.kind.now case.size case.work.now case.times) }
-    ensures none { IfNone result ((subject kind work : List ℕ) (size times : ℕ) → ¬ (Says line.now subject kind size work times)) }
+    ensures some { IfSome result
+        (λ case. Says line.now case.subject.now case.kind.now case.size case.work.now case.times) }
+    ensures none { IfNone result
+        ((subject kind work : List ℕ) (size times : ℕ) → ¬ (Says line.now subject kind size work times)) }
 {
     let (subject, kind, size, work, times) = first_words(line)?;
     Some(Case {
@@ -35,7 +37,8 @@ pub fn case_of(line: &str) -> Option<Case<'_>>
 
 /// The first five words of a line, if it has as many.
 fn first_words(line: &str) -> Option<(&str, &str, &str, &str, &str)>
-    ensures { MatchOption result (length (words_of line.now) < 5) (λ w. (more : List (List ℕ)) × (words_of line.now ≡ w.0.now ∷ w.1.now ∷ w.2.now ∷ w.3.now ∷ w.4.now ∷ more)) }
+    ensures { MatchOption result (length (words_of line.now) < 5)
+        (λ w. (more : List (List ℕ)) × (words_of line.now ≡ w.0.now ∷ w.1.now ∷ w.2.now ∷ w.3.now ∷ w.4.now ∷ more)) }
 {
     let mut words = line.split(' ');
     Some((

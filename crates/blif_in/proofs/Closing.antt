@@ -10,9 +10,9 @@ use Rattle.net_core.specs.declared.Network.{Network}
 use Rattle.net_core.specs.declared.Gate.{Gate}
 use Rattle.net_core.specs.declared.Latch.{Latch}
 use Rattle.net_core.specs.Statements.{Statement}
-use Rattle.net_core.specs.Sound.{driven_by}
+use Rattle.net_core.specs.SoundNetwork.{driven_by}
 use Rattle.blif_in.specs.declared.fault.BlifKind.TheVariants.{NoModel}
-use Rattle.blif_in.specs.Inner.Saying.{numbered, says}
+use Rattle.blif_in.specs.Inner.LineStatements.{numbered, says}
 use Rattle.blif_in.specs.Text.{clock_fault, closing_fault, driven_within, names_clock, network_of}
 
 -- a test of what is made of items

@@ -5,14 +5,14 @@ use Rattle.std.specs.Option.{option_or}
 use Rattle.hs_io.specs.declared.lines.Line.{Line}
 use Rattle.net_core.specs.declared.Network.{Network}
 use Rattle.net_core.specs.Blif.{Blif}
-use Rattle.net_core.specs.Sound.{Sound}
+use Rattle.net_core.specs.SoundNetwork.{Sound}
 use Rattle.net_core.specs.Statements.{said_in, statements_of}
 use Rattle.blif_in.specs.declared.fault.BlifFail.{BlifFail}
 use Rattle.blif_in.specs.declared.fault.BlifFail.TheVariants.{NoMemory, Refused}
 use Rattle.blif_in.specs.declared.fault.BlifFault.{BlifFault}
-use Rattle.blif_in.specs.declared.reading.OrderedNetwork.{OrderedNetwork}
-use Rattle.blif_in.specs.Inner.Joining.{lines_read}
-use Rattle.blif_in.specs.Inner.Saying.{numbered, says}
+use Rattle.blif_in.specs.declared.reader.OrderedNetwork.{OrderedNetwork}
+use Rattle.blif_in.specs.Inner.JoinedLines.{lines_read}
+use Rattle.blif_in.specs.Inner.LineStatements.{numbered, says}
 use Rattle.blif_in.specs.Text.{IsBlifFault, IsFaultOf, IsStructureFault, TellsOf, closing_fault, first_fault, network_of, text_fault}
 use Rattle.blif_in.proofs.Closing.{said_numbered}
 use Rattle.blif_in.proofs.Measured.{statements_are}

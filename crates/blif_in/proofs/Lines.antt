@@ -4,8 +4,8 @@ use Rattle.std.specs.Prelude.{IfNone, IfSome}
 use Rattle.std.proofs.lemmas.List.{take_all, take_more}
 use Rattle.hs_io.specs.declared.lines.Line.{Line}
 use Rattle.hs_io.specs.Lines.{fields_in}
-use Rattle.net_core.specs.Joined.{ends_in_backslash, in_front, is_continued, joined, part_of, without_backslash}
-use Rattle.blif_in.specs.Inner.Joining.{behind, lines_behind, merged}
+use Rattle.net_core.specs.JoinedLines.{ends_in_backslash, in_front, is_continued, joined, part_of, without_backslash}
+use Rattle.blif_in.specs.Inner.JoinedLines.{behind, lines_behind, merged}
 
 -- the last field decides whether a line goes on
 pub continued_last : (front : List (List ℕ)) (last : List ℕ) → is_continued (front ++ last ∷ []) ≡ ends_in_backslash last

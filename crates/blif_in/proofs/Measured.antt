@@ -9,11 +9,11 @@ use Rattle.std.proofs.lemmas.List.Sums.{take_while-cons}
 use Rattle.list_facts.specs.Laws.Everywhere.{each_weaker}
 use Rattle.hs_io.specs.declared.lines.Line.{Line}
 use Rattle.hs_io.specs.Lines.{begins_comment, content, ends_line, fields_of, is_blank, is_field, is_skipped, lines_from, lines_of, lines_of_pieces, physical_lines}
-use Rattle.net_core.specs.Joined.{ends_text, in_front, is_continued, joined, part_of, read_fields, without_backslash}
+use Rattle.net_core.specs.JoinedLines.{ends_text, in_front, is_continued, joined, part_of, read_fields, without_backslash}
 use Rattle.net_core.specs.Statements.{statements_of}
-use Rattle.blif_in.specs.Inner.Joining.{lines_read, statement_lines}
-use Rattle.blif_in.specs.Inner.Measuring.{AreMeasurable}
-use Rattle.blif_in.specs.Inner.Saying.{numbered}
+use Rattle.blif_in.specs.Inner.JoinedLines.{lines_read, statement_lines}
+use Rattle.blif_in.specs.Inner.ShortFields.{AreMeasurable}
+use Rattle.blif_in.specs.Inner.LineStatements.{numbered}
 
 abbrev Short : ℕ → List ℕ → Type 0
 Short most text = length text ≤ most

@@ -10,8 +10,8 @@ use Rattle.blif_in.specs.declared.fault.BlifKind.{BlifKind}
 use Rattle.blif_in.specs.declared.fault.BlifKind.TheVariants.{OverLimit}
 use Rattle.blif_in.specs.declared.fault.NetLimit.TheVariants as over
 use Rattle.blif_in.specs.Faults.{long_name}
-use Rattle.blif_in.specs.Inner.Judging.{IsClock}
-use Rattle.blif_in.specs.Inner.Measuring.{AreMeasurable}
+use Rattle.blif_in.specs.Inner.Standing.{IsClock}
+use Rattle.blif_in.specs.Inner.ShortFields.{AreMeasurable}
 
 -- among names of one clock another name is one that differs from it
 pub another_clock : (clock name : List ℕ) (names : List (List ℕ)) → IsClock (Some clock) names → names_another names (name ∷ []) ≡ not (bytes_eq name clock)

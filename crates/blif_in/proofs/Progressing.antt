@@ -9,21 +9,21 @@ use Rattle.std.specs.Str.{bytes_eq}
 use Rattle.hs_io.specs.declared.lines.Line.{Line}
 use Rattle.net_core.specs.declared.Network.{Network}
 use Rattle.net_core.specs.Statements.{Statement, clocks_in, numbered_of}
-use Rattle.blif_in.specs.declared.building.Draft.{Draft}
+use Rattle.blif_in.specs.declared.draft.Draft.{Draft}
 use Rattle.blif_in.specs.declared.fault.BlifFail.{BlifFail}
 use Rattle.blif_in.specs.declared.fault.BlifFail.TheVariants.{NoMemory, Refused}
 use Rattle.blif_in.specs.declared.fault.BlifFault.{BlifFault}
 use Rattle.blif_in.specs.declared.fault.BlifKind.{BlifKind}
 use Rattle.blif_in.specs.declared.fault.BlifKind.TheVariants.{Clocks, NoModel}
-use Rattle.blif_in.specs.declared.judging.Summary.{Summary}
+use Rattle.blif_in.specs.declared.standing.Summary.{Summary}
 use Rattle.blif_in.specs.declared.progress.FirstClock.{FirstClock}
 use Rattle.blif_in.specs.declared.progress.Progress.{Progress}
 use Rattle.blif_in.specs.Faults.{fault_in}
-use Rattle.blif_in.specs.Inner.Building.{Adds, network_by}
-use Rattle.blif_in.specs.Inner.Judging.{IsClock, IsSmall, Stands}
-use Rattle.blif_in.specs.Inner.Measuring.{AreMeasurable}
-use Rattle.blif_in.specs.Inner.Progressing.{IsFirstClock, IsReadTo, Tells, clock_at, clock_name, fault_of}
-use Rattle.blif_in.specs.Inner.Saying.{numbered, says}
+use Rattle.blif_in.specs.Inner.Draft.{Adds, network_by}
+use Rattle.blif_in.specs.Inner.Standing.{IsClock, IsSmall, Stands}
+use Rattle.blif_in.specs.Inner.ShortFields.{AreMeasurable}
+use Rattle.blif_in.specs.Inner.Progress.{IsFirstClock, IsReadTo, Tells, clock_at, clock_name, fault_of}
+use Rattle.blif_in.specs.Inner.LineStatements.{numbered, says}
 use Rattle.blif_in.specs.Text.{clock_fault, closing_fault, driven_within, first_fault, names_clock, network_of}
 use Rattle.blif_in.proofs.Closing.{some_lines}
 

@@ -6,10 +6,10 @@ use Rattle.std.proofs.lemmas.Bool.Decides.{nat_tests}
 use Rattle.std.proofs.lemmas.List.Elements.{Contains-append_cases, Contains-append_left, Contains-append_right}
 use Rattle.net_core.specs.declared.Network.{Network}
 use Rattle.net_core.specs.Blif.{IsWithinLimits}
-use Rattle.net_core.specs.Denotes.{Denotes}
+use Rattle.net_core.specs.Denotation.{Denotes}
 use Rattle.net_core.specs.Faults.{AreFaultless}
 use Rattle.net_core.specs.Limits.{KeepsLimit, StatementLimit}
-use Rattle.net_core.specs.Sound.{Sound, driven_by}
+use Rattle.net_core.specs.SoundNetwork.{Sound, driven_by}
 use Rattle.net_core.specs.Statements.{NumberedStatement, Statement, said_in, statements_of}
 use Rattle.net_core.proofs.Exclusive.{causes_alike, sound_none}
 use Rattle.net_core.proofs.Limits.{within_each}

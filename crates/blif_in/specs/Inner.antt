@@ -1,7 +1,7 @@
 -- Definitions that private functions and proofs need; no public contract cites them.
-pub mod Joining
-pub mod Saying
-pub mod Judging
-pub mod Measuring
-pub mod Building
-pub mod Progressing
+pub mod JoinedLines
+pub mod LineStatements
+pub mod Standing
+pub mod ShortFields
+pub mod Draft
+pub mod Progress

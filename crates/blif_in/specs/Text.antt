@@ -4,11 +4,11 @@ use Rattle.std.specs.Option.{option_map, option_or}
 use Rattle.std.specs.List.{filter_map, flat_map, list_any}
 use Rattle.std.specs.Str.{bytes_eq}
 use Rattle.net_core.specs.declared.Network.{Network}
-use Rattle.net_core.specs.declared.failing.NetFail.{NetFail}
+use Rattle.net_core.specs.declared.causes.NetFail.{NetFail}
 use Rattle.net_core.specs.Blif.{Blif, IsWithinLimits}
 use Rattle.net_core.specs.Causes.{AreAlike, IsCause, IsOfNetwork}
-use Rattle.net_core.specs.Denotes.{Denotes}
-use Rattle.net_core.specs.Sound.{driven_by}
+use Rattle.net_core.specs.Denotation.{Denotes}
+use Rattle.net_core.specs.SoundNetwork.{driven_by}
 use Rattle.net_core.specs.Statements.{Statement, NumberedStatement, statements_of, said_in, inputs_in, outputs_in, latch_in, clocks_in, gates_of}
 use Rattle.blif_in.specs.declared.fault.BlifFail.{BlifFail}
 use Rattle.blif_in.specs.declared.fault.BlifFail.TheVariants.{Refused, NoMemory}

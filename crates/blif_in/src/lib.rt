@@ -9,21 +9,21 @@
 //! `blif_laws` has worked texts. `specs/Inner` is for private functions only.
 //!
 //! The reader takes one line at a time, and keeps no line that it has read. It works in layers, each with a
-//! contract of its own. `joining` gives the joined lines that are statements, one after another. `judging` gives
+//! contract of its own. `joined_lines` gives the joined lines that are statements, one after another. `standing` gives
 //! the fault of a statement, after a summary of those before it, and `progress` keeps that summary and the clock.
-//! `building` adds the statement to the network. `reading` combines these, checks that the clock is not driven,
+//! `draft` adds the statement to the network. `reader` combines these, checks that the clock is not driven,
 //! and puts the gates of the network in order.
 #![tactic(auto)]
 
-mod building;
+mod draft;
 mod fault;
-mod joining;
-mod judging;
+mod joined_lines;
 mod laws;
 mod progress;
-mod reading;
+mod reader;
+mod standing;
 mod statement;
 
 pub use fault::{BlifFail, BlifFault, BlifKind, NetLimit};
 pub use laws::{faultless_denotes, one_fault};
-pub use reading::{OrderedNetwork, read, read_ordered};
+pub use reader::{OrderedNetwork, read, read_ordered};

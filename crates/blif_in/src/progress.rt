@@ -3,13 +3,13 @@ ghost use Rattle.std.specs.Prelude.{◌≡◌, ◌∷◌, [], IfOk, List, None, 
 ghost use Rattle.std.specs.Option.{option_copied, option_map, option_or};
 ghost use Rattle.hs_io.specs.declared.lines.Line.{Line};
 ghost use Rattle.blif_in.specs.Text as text;
-ghost use Rattle.blif_in.specs.Inner.Judging.{IsSmall};
-ghost use Rattle.blif_in.specs.Inner.Measuring.{AreMeasurable};
-ghost use Rattle.blif_in.specs.Inner.Progressing.{IsReadTo, Tells, clock_at, clock_name};
-ghost use Rattle.blif_in.specs.Inner.Saying.{numbered};
+ghost use Rattle.blif_in.specs.Inner.Standing.{IsSmall};
+ghost use Rattle.blif_in.specs.Inner.ShortFields.{AreMeasurable};
+ghost use Rattle.blif_in.specs.Inner.Progress.{IsReadTo, Tells, clock_at, clock_name};
+ghost use Rattle.blif_in.specs.Inner.LineStatements.{numbered};
 
 use crate::fault::{BlifFail, BlifFault, BlifKind};
-use crate::judging::{Standing, Summary};
+use crate::standing::{Standing, Summary};
 use hs_io::{Line, Name};
 use std::alloc::{AllocError, Global};
 
@@ -43,7 +43,8 @@ impl Progress {
     pub fn take(&mut self, alloc: Global, line: &Line) -> Result<(), BlifFail>
         requires measurable { AreMeasurable line.now.fields }
         requires small { IsSmall self.old.summary }
-        ensures read { (lines rest : List Line) → IsReadTo lines (line.now ∷ rest) self.old → Tells result (text.first_fault [] (numbered lines)) (λ _. IsReadTo lines rest self.new) }
+        ensures read { (lines rest : List Line) → IsReadTo lines (line.now ∷ rest) self.old
+            → Tells result (text.first_fault [] (numbered lines)) (λ _. IsReadTo lines rest self.new) }
         ensures small { OnOk result (IsSmall self.new.summary) }
     {
         let standing = Standing {

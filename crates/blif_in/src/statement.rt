@@ -2,8 +2,8 @@
 ghost use Rattle.std.specs.Prelude.{◌≡◌, ◌∷◌, None, Some};
 ghost use Rattle.std.specs.Option.{option_map, option_copied, option_to_list};
 ghost use Rattle.net_core.specs.Statements as said;
-ghost use Rattle.blif_in.specs.Inner.Measuring.{AreMeasurable};
-ghost use Rattle.blif_in.specs.Inner.Saying.{fields_said, parts_said, said_by};
+ghost use Rattle.blif_in.specs.Inner.ShortFields.{AreMeasurable};
+ghost use Rattle.blif_in.specs.Inner.LineStatements.{fields_said, parts_said, said_by};
 
 use hs_io::{Line, Name};
 use net_core::Start;
@@ -80,7 +80,8 @@ pub(crate) struct LatchParts<'a> {
 impl<'a> LatchParts<'a> {
     /// A latch's input and output alone.
     fn of(input: &'a Name, output: &'a Name) -> LatchParts<'a>
-        ensures { parts_said result ≡ record { input = input.now; output = output.now; kind = None; control = None; start = None } }
+        ensures { parts_said result
+            ≡ record { input = input.now; output = output.now; kind = None; control = None; start = None } }
     {
         LatchParts {
             input,
@@ -93,8 +94,10 @@ impl<'a> LatchParts<'a> {
 
     /// A latch's input and output with its other operands.
     fn with(self, others: &'a [Name]) -> Option<LatchParts<'a>>
-        requires { parts_said self ≡ record { input = self.input.now; output = self.output.now; kind = None; control = None; start = None } }
-        ensures { option_map parts_said result ≡ said.latch_parts (self.entry.input.now ∷ self.entry.output.now ∷ others.now) }
+        requires { parts_said self
+            ≡ record { input = self.input.now; output = self.output.now; kind = None; control = None; start = None } }
+        ensures { option_map parts_said result ≡ said.latch_parts
+            (self.entry.input.now ∷ self.entry.output.now ∷ others.now) }
     {
         match others {
             [] => Some(self),

@@ -7,7 +7,7 @@ use Rattle.net_core.specs.declared.Gate.{Gate}
 use Rattle.net_core.specs.declared.Latch.{Latch}
 use Rattle.net_core.specs.declared.Network.{Network}
 use Rattle.net_core.specs.Blif.{Blif}
-use Rattle.net_core.specs.Sound.{IsOrdered, Sound, driven_by, drivers_of}
+use Rattle.net_core.specs.SoundNetwork.{IsOrdered, Sound, driven_by, drivers_of}
 use Rattle.net_core.specs.Statements.{said_in, statements_of}
 use Rattle.blif_in.specs.Text.{network_of, text_fault}
 use Rattle.blif_in.proofs.Texts.{faultless_text}

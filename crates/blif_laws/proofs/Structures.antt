@@ -8,10 +8,10 @@ use Rattle.std.specs.Str.{bytes_eq}
 use Rattle.list_facts.specs.Laws.Members.{Contains-cons, Contains-here, Contains-none, Contains-there}
 use Rattle.net_core.specs.declared.Gate.{Gate}
 use Rattle.net_core.specs.declared.Network.{Network}
-use Rattle.net_core.specs.declared.failing.NetFail.{NetFail}
-use Rattle.net_core.specs.declared.failing.NetFail.TheVariants.{Cycle, NoMemory, TwoDrivers, Undriven}
+use Rattle.net_core.specs.declared.causes.NetFail.{NetFail}
+use Rattle.net_core.specs.declared.causes.NetFail.TheVariants.{Cycle, NoMemory, TwoDrivers, Undriven}
 use Rattle.net_core.specs.Causes.{AreOnce, IsCause, IsCycle, uses_of}
-use Rattle.net_core.specs.Sound.{driven_by, drivers_of}
+use Rattle.net_core.specs.SoundNetwork.{driven_by, drivers_of}
 use Rattle.net_core.specs.Worked.{gate, network}
 use Rattle.net_core.specs.Laws.Counted.{cond_of, counted-cons, counted_none}
 use Rattle.net_core.specs.Laws.Members.{is_same_name, same_name}

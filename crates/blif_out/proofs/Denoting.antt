@@ -12,9 +12,9 @@ use Rattle.hs_io.specs.Laws.Spelled.{IsLineByte, line_bytes, physical_lines-all}
 use Rattle.net_core.specs.declared.Gate.{Gate}
 use Rattle.net_core.specs.declared.Latch.{Latch}
 use Rattle.net_core.specs.declared.Network.{Network}
-use Rattle.net_core.specs.Joined.{joined, read_lines, ends_text}
-use Rattle.net_core.specs.Sound.{driven_by}
-use Rattle.net_core.specs.Denotes.{Denotes}
+use Rattle.net_core.specs.JoinedLines.{joined, read_lines, ends_text}
+use Rattle.net_core.specs.SoundNetwork.{driven_by}
+use Rattle.net_core.specs.Denotation.{Denotes}
 use Rattle.net_core.specs.Statements.{Statement, numbered_of, statements_of, said_in, inputs_in, outputs_in, clocks_in}
 use Rattle.net_core.specs.Words.{end_word}
 use Rattle.blif_out.specs.declared.design.Design.{Design}

@@ -9,8 +9,8 @@ use Rattle.list_facts.specs.Laws.Members.{Contains-from_map, Contains-map, fails
 use Rattle.net_core.specs.declared.Gate.{Gate}
 use Rattle.net_core.specs.declared.Latch.{Latch}
 use Rattle.net_core.specs.declared.Network.{Network}
-use Rattle.net_core.specs.Sound.{driven_by}
-use Rattle.blif_out.specs.Design.{PlainDesignIsLawful, drivers_of, signals_of}
+use Rattle.net_core.specs.SoundNetwork.{driven_by}
+use Rattle.blif_out.specs.Design.{PlainDesignIsLawful, driven_signals, signals_of}
 use Rattle.blif_out.specs.Inner.Signals.{is_of_gate, is_of_latch}
 use Rattle.blif_out.proofs.Words.{name_word}
 
@@ -39,21 +39,21 @@ module _ (N : Network) (name : List ℕ) where
   abbrev latch_outputs : List (List ℕ)
   latch_outputs = map (λ (latch : Latch). latch.output) N.latches
 
-  of_others : Contains (latch_inputs ++ drivers_of N) name → Contains (signals_of N) name
+  of_others : Contains (latch_inputs ++ driven_signals N) name → Contains (signals_of N) name
   of_others is =
-      Contains-append_right N.inputs (N.outputs ++ (latch_inputs ++ drivers_of N)) name
-      (Contains-append_right N.outputs (latch_inputs ++ drivers_of N) name is)
+      Contains-append_right N.inputs (N.outputs ++ (latch_inputs ++ driven_signals N)) name
+      (Contains-append_right N.outputs (latch_inputs ++ driven_signals N) name is)
 
-  of_drivers : Contains (drivers_of N) name → Contains (signals_of N) name
-  of_drivers is = of_others (Contains-append_right latch_inputs (drivers_of N) name is)
+  of_drivers : Contains (driven_signals N) name → Contains (signals_of N) name
+  of_drivers is = of_others (Contains-append_right latch_inputs (driven_signals N) name is)
 
   pub by_input : list_any (bytes_eq name) N.inputs ≡ true → Contains (signals_of N) name
-  by_input is = Contains-append_left N.inputs (N.outputs ++ (latch_inputs ++ drivers_of N)) name (among name N.inputs is)
+  by_input is = Contains-append_left N.inputs (N.outputs ++ (latch_inputs ++ driven_signals N)) name (among name N.inputs is)
 
   pub by_output : list_any (bytes_eq name) N.outputs ≡ true → Contains (signals_of N) name
   by_output is =
-      Contains-append_right N.inputs (N.outputs ++ (latch_inputs ++ drivers_of N)) name
-      (Contains-append_left N.outputs (latch_inputs ++ drivers_of N) name (among name N.outputs is))
+      Contains-append_right N.inputs (N.outputs ++ (latch_inputs ++ driven_signals N)) name
+      (Contains-append_left N.outputs (latch_inputs ++ driven_signals N) name (among name N.outputs is))
 
   pub by_latch : list_any (is_of_latch name) N.latches ≡ true → Contains (signals_of N) name
   by_latch is =
@@ -61,7 +61,7 @@ module _ (N : Network) (name : List ℕ) where
       elim (or_cases (bytes_eq name found.0.input) (bytes_eq name found.0.output) found.2) [
         | inl input ↦
             of_others
-            (Contains-append_left latch_inputs (drivers_of N) name
+            (Contains-append_left latch_inputs (driven_signals N) name
             (subst (Contains latch_inputs) (same name found.0.input input) (Contains-map (λ (latch : Latch). latch.input) N.latches found.0 found.1)))
         | inr output ↦
             of_drivers
@@ -95,19 +95,19 @@ module _ (N : Network) (name : List ℕ) where
       let found = Contains-from_map (λ (gate : Gate). gate.output) N.gates name is in
       itself name (subst (λ (other : List ℕ). bytes_eq name other ≡ false) found.2 (fails_from_none (is_of_gate name) N.gates none found.0 found.1))
 
-  no_driver : list_any (is_of_latch name) N.latches ≡ false → list_any (is_of_gate name) N.gates ≡ false → Contains (drivers_of N) name → ⊥
+  no_driver : list_any (is_of_latch name) N.latches ≡ false → list_any (is_of_gate name) N.gates ≡ false → Contains (driven_signals N) name → ⊥
   no_driver none no_gates is =
       elim (Contains-append_cases latch_outputs (driven_by N.gates) name is) [ inl output ↦ no_latch_output none output | inr gate ↦ no_gate no_gates gate ]
 
-  no_other : list_any (is_of_latch name) N.latches ≡ false → list_any (is_of_gate name) N.gates ≡ false → Contains (latch_inputs ++ drivers_of N) name → ⊥
+  no_other : list_any (is_of_latch name) N.latches ≡ false → list_any (is_of_gate name) N.gates ≡ false → Contains (latch_inputs ++ driven_signals N) name → ⊥
   no_other none no_gates is =
-      elim (Contains-append_cases latch_inputs (drivers_of N) name is) [ inl input ↦ no_latch_input none input | inr driver ↦ no_driver none no_gates driver ]
+      elim (Contains-append_cases latch_inputs (driven_signals N) name is) [ inl input ↦ no_latch_input none input | inr driver ↦ no_driver none no_gates driver ]
 
   none_at_all : list_any (bytes_eq name) N.inputs ≡ false → list_any (bytes_eq name) N.outputs ≡ false → list_any (is_of_latch name) N.latches ≡ false → list_any (is_of_gate name) N.gates ≡ false → Contains (signals_of N) name → ⊥
   none_at_all no_input no_output none no_gates is =
-      elim (Contains-append_cases N.inputs (N.outputs ++ (latch_inputs ++ drivers_of N)) name is) [
+      elim (Contains-append_cases N.inputs (N.outputs ++ (latch_inputs ++ driven_signals N)) name is) [
         | inl input ↦ outside name N.inputs no_input input
-        | inr later ↦ elim (Contains-append_cases N.outputs (latch_inputs ++ drivers_of N) name later) [
+        | inr later ↦ elim (Contains-append_cases N.outputs (latch_inputs ++ driven_signals N) name later) [
           | inl output ↦ outside name N.outputs no_output output
           | inr other ↦ no_other none no_gates other
         ]

@@ -8,7 +8,7 @@ use Rattle.hs_io.specs.declared.lines.Line.{Line}
 use Rattle.hs_io.specs.Lines.{is_skipped, lines_from}
 use Rattle.hs_io.specs.Spelling.{line_text, ArePlainFields, IsComment}
 use Rattle.hs_io.specs.Laws.Spelled.{line_of-fields, line_of-comment}
-use Rattle.net_core.specs.Joined.{is_backslash, ends_in_backslash, is_continued, part_of, in_front, joined, ends_text, word_of}
+use Rattle.net_core.specs.JoinedLines.{is_backslash, ends_in_backslash, is_continued, part_of, in_front, joined, ends_text, word_of}
 use Rattle.net_core.specs.Statements.{numbered_of, statement_of}
 use Rattle.net_core.specs.Words.{end_word}
 use Rattle.blif_out.proofs.Grammar.{on_lines}

@@ -7,7 +7,7 @@ use Rattle.list_facts.specs.Laws.Everywhere.{each_append}
 use Rattle.hs_io.specs.Spelling.{ended, line_text, ArePlainFields, IsComment}
 use Rattle.net_core.specs.declared.Gate.{Gate}
 use Rattle.net_core.specs.declared.Network.{Network}
-use Rattle.net_core.specs.Denotes.{Denotes}
+use Rattle.net_core.specs.Denotation.{Denotes}
 use Rattle.net_core.specs.Words.{inputs_word, outputs_word, names_word, end_word}
 use Rattle.blif_out.specs.declared.design.Design.{Design}
 use Rattle.blif_out.specs.declared.header.Header.{Header}

@@ -9,7 +9,7 @@ use Rattle.hs_io.specs.Spelling.{ended, spelled}
 use Rattle.net_core.specs.Words.{no_control}
 use Rattle.blif_out.specs.Comments.{AreComments}
 use Rattle.blif_out.specs.Head.{comment_text, net_text_of, note_fields, part_fields}
-use Rattle.blif_out.specs.Design.{IsClockOf, drivers_of, plain_design}
+use Rattle.blif_out.specs.Design.{IsClockOf, driven_signals, plain_design}
 use Rattle.blif_out.specs.NetText.{gate_fields, net_text}
 use Rattle.blif_out.specs.Worked.{carried_part, clocked_design, clocked_lines, gate, named_design, named_lines, reduced_header, reduced_lines, reduced_network, serial_header, serial_lines, serial_network, started_network, text, unlike_note}
 use Rattle.blif_out.proofs.Designs.{among, outside}
@@ -38,16 +38,16 @@ unfolding digits
 note = refl
 
 -- a name that nothing drives can be a clock, and one that something drives cannot
-pub can_be_clock : (name : List ℕ) → 0 < length name → list_all is_name_byte name ≡ true → bytes_eq name no_control ≡ false → list_any (bytes_eq name) (drivers_of started_network) ≡ false
+pub can_be_clock : (name : List ℕ) → 0 < length name → list_all is_name_byte name ≡ true → bytes_eq name no_control ≡ false → list_any (bytes_eq name) (driven_signals started_network) ≡ false
     → IsClockOf started_network name
 can_be_clock name some visible other free = record {
   signal = name_word name some visible;
   controls = λ same. true≢false (sym ((bytes_eq-Decides name no_control).1 same) ∙ other);
-  undriven = outside name (drivers_of started_network) free;
+  undriven = outside name (driven_signals started_network) free;
 }
 
-pub is_driven : (name : List ℕ) → list_any (bytes_eq name) (drivers_of started_network) ≡ true → IsClockOf started_network name → ⊥
-is_driven name driven is = is.undriven (among name (drivers_of started_network) driven)
+pub is_driven : (name : List ℕ) → list_any (bytes_eq name) (driven_signals started_network) ≡ true → IsClockOf started_network name → ⊥
+is_driven name driven is = is.undriven (among name (driven_signals started_network) driven)
 
 -- what are comments begins with their mark
 same_head : (b c : ℕ) (bs cs : List ℕ) → ◌≡◌ {A = List ℕ} (b ∷ bs) (c ∷ cs) → b ≡ c

@@ -3,7 +3,7 @@ use Rattle.std.specs.Prelude.{ℕ, List, ◌++◌}
 use Rattle.std.specs.List.{flat_map, AllByRecursion}
 use Rattle.hs_io.specs.Spelling.{ended, IsComment}
 use Rattle.net_core.specs.declared.Network.{Network}
-use Rattle.net_core.specs.Denotes.{Denotes}
+use Rattle.net_core.specs.Denotation.{Denotes}
 use Rattle.blif_out.specs.declared.design.Design.{Design}
 use Rattle.blif_out.specs.Design.{IsDesignOf}
 use Rattle.blif_out.specs.NetText.{net_text}

@@ -1,8 +1,8 @@
 -- The text of a network after comments, whatever they say.
 use Rattle.std.specs.Prelude.{◌≡◌, ℕ, ◌++◌, List}
 use Rattle.net_core.specs.declared.Network.{Network}
-use Rattle.net_core.specs.Denotes.{Denotes}
-use Rattle.net_core.specs.Sound.{Sound}
+use Rattle.net_core.specs.Denotation.{Denotes}
+use Rattle.net_core.specs.SoundNetwork.{Sound}
 use Rattle.blif_out.specs.declared.design.Design.{Design}
 use Rattle.blif_out.specs.declared.header.Header.{Header}
 use Rattle.blif_out.specs.declared.networks.CommentedNetwork.{CommentedNetwork}

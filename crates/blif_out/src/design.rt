@@ -43,7 +43,8 @@ fn is_end(net: &Network, name: &[u8]) -> bool
 
 /// Whether a signal of a latch or of a gate has this name.
 fn is_within(net: &Network, name: &[u8]) -> bool
-    ensures { result ≡ (list_any (is_of_latch name.now) net.now.latches || list_any (is_of_gate name.now) net.now.gates) }
+    ensures { result ≡
+        (list_any (is_of_latch name.now) net.now.latches || list_any (is_of_gate name.now) net.now.gates) }
 {
     is_latch_signal(net.latches.as_slice(), name) || is_gate_signal(net.gates.as_slice(), name)
 }

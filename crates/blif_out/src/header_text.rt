@@ -62,7 +62,9 @@ fn append_classes(
     text: &mut Vec<u8>,
     classes: &Option<Partition>,
 ) -> Result<(), AllocError>
-    ensures { OnOk result (text.new.items ≡ text.old.items ++ flat_map (λ fields. ended (comment_text fields)) (classes_fields classes.now)) }
+    ensures { OnOk result
+        (text.new.items ≡ text.old.items ++ flat_map (λ fields. ended (comment_text fields))
+        (classes_fields classes.now)) }
 {
     let Some(classes) = classes else {
         return Ok(());

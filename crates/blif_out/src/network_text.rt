@@ -38,7 +38,9 @@ fn append_model(text: &mut Vec<u8>, name: &[u8]) -> Result<(), AllocError>
 
 /// Appends the lines of the inputs and of the outputs.
 fn append_signals(text: &mut Vec<u8>, net: &Network) -> Result<(), AllocError>
-    ensures { OnOk result (text.new.items ≡ text.old.items ++ (ended (line_text (inputs_word ∷ net.now.inputs)) ++ ended (line_text (outputs_word ∷ net.now.outputs)))) }
+    ensures { OnOk result
+        (text.new.items ≡ text.old.items ++
+        (ended (line_text (inputs_word ∷ net.now.inputs)) ++ ended (line_text (outputs_word ∷ net.now.outputs)))) }
 {
     text.extend_from_slice(b".inputs")?;
     append_names(text, net.inputs.as_slice())?;
@@ -104,7 +106,9 @@ fn append_gate(text: &mut Vec<u8>, gate: &Gate) -> Result<(), AllocError>
 
 /// Appends the line of a gate's names.
 fn append_gate_names(text: &mut Vec<u8>, gate: &Gate) -> Result<(), AllocError>
-    ensures { OnOk result (text.new.items ≡ text.old.items ++ ended (line_text (names_word ∷ (gate.now.inputs ++ gate.now.output ∷ [])))) }
+    ensures { OnOk result
+        (text.new.items ≡ text.old.items ++ ended
+        (line_text (names_word ∷ (gate.now.inputs ++ gate.now.output ∷ [])))) }
 {
     text.extend_from_slice(b".names")?;
     append_names(text, gate.inputs.as_slice())?;

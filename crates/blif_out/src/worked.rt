@@ -5,7 +5,23 @@ ghost use Rattle.blif_out.specs.Comments.{AreComments};
 ghost use Rattle.blif_out.specs.Head.{comment_text, kind_word, net_text_of, note_fields, part_fields};
 ghost use Rattle.blif_out.specs.Design.{IsClockOf, plain_design, signals_of};
 ghost use Rattle.blif_out.specs.NetText.{gate_fields, net_text};
-ghost use Rattle.blif_out.specs.Worked.{carried_part, clocked_design, clocked_lines, gate, named_design, named_lines, reduced_header, reduced_lines, reduced_network, serial_header, serial_lines, serial_network, started_network, text, unlike_note};
+ghost use Rattle.blif_out.specs.Worked.{
+  carried_part,
+  clocked_design,
+  clocked_lines,
+  gate,
+  named_design,
+  named_lines,
+  reduced_header,
+  reduced_lines,
+  reduced_network,
+  serial_header,
+  serial_lines,
+  serial_network,
+  started_network,
+  text,
+  unlike_note,
+};
 ghost use Rattle.state_codes.specs.declared.split.Kind.TheVariants.{Assign, Cascade, Feedback, Least, Parallel};
 ghost use Rattle.hs_io.specs.Spelling.{spelled};
 
@@ -31,15 +47,18 @@ pub fn worked_clocks()
     ensures latch { IsClockOf started_network (codes "q1") → ⊥ }
     ensures gate { IsClockOf started_network (codes "last") → ⊥ }
     ensures none { IsClockOf started_network (codes "NIL") → ⊥ }
-    ensures signals { signals_of started_network ≡ codes "up" ∷ codes "hold" ∷ codes "last" ∷ codes "d0" ∷ codes "d1" ∷ codes "q0" ∷ codes "q1" ∷ codes "d0" ∷ codes "d1" ∷ codes "last" ∷ [] }
+    ensures signals { signals_of started_network ≡ codes "up" ∷ codes "hold" ∷ codes "last" ∷ codes "d0" ∷ codes "d1"
+        ∷ codes "q0" ∷ codes "q1" ∷ codes "d0" ∷ codes "d1" ∷ codes "last" ∷ [] }
 {}
 
 /// Lines by themselves: a part whose carrier is another partition, a latch of another part, the words of kinds, a gate
 /// that is always 1, and one that is always 0.
 pub fn worked_lines()
-    ensures part { comment_text (part_fields (1, carried_part)) ≡ codes "# part 1 0,1,2,3,0 carrier 0,0,0,1,0 reads 0,12" }
+    ensures part { comment_text (part_fields (1, carried_part))
+        ≡ codes "# part 1 0,1,2,3,0 carrier 0,0,0,1,0 reads 0,12" }
     ensures note { comment_text (note_fields (2, unlike_note)) ≡ codes "# latch 2 part 1 from 0,1,0 to 0,0,1" }
-    ensures kinds { map kind_word (Assign ∷ Parallel ∷ Cascade ∷ Feedback ∷ Least ∷ []) ≡ codes "assign" ∷ codes "parallel" ∷ codes "cascade" ∷ codes "feedback" ∷ codes "least" ∷ [] }
+    ensures kinds { map kind_word (Assign ∷ Parallel ∷ Cascade ∷ Feedback ∷ Least ∷ []) ≡ codes "assign"
+        ∷ codes "parallel" ∷ codes "cascade" ∷ codes "feedback" ∷ codes "least" ∷ [] }
     ensures one { spelled (gate_fields (gate [] (codes "z0") ([] ∷ []))) ≡ text (codes ".names z0" ∷ codes "1" ∷ []) }
     ensures zero { spelled (gate_fields (gate [] (codes "z1") [])) ≡ text (codes ".names z1" ∷ []) }
 {}

@@ -2,7 +2,7 @@
 
 ghost use Rattle.std.specs.Prelude.{◌≡◌, ◌≤◌, ◌++◌, IfOk, OnErr, OnOk, length};
 ghost use Rattle.hs_io.specs.Spelling.{ArePlainFields};
-ghost use Rattle.net_core.specs.Denotes.{Denotes};
+ghost use Rattle.net_core.specs.Denotation.{Denotes};
 ghost use Rattle.blif_out.specs.Comments.{IsPrintable};
 ghost use Rattle.blif_out.specs.Design.{IsDesignOf, plain_design};
 ghost use Rattle.blif_out.specs.Head.{Head, header_text, net_text_of};

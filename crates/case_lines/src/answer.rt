@@ -1,6 +1,19 @@
 //! Answers as texts that grow piece by piece.
 
-ghost use Rattle.std.specs.Prelude.{◌≡◌, List, ℕ, [], true, false, decimal, flat_map, string_bytes, IfOk, IfSome, IsErr};
+ghost use Rattle.std.specs.Prelude.{
+  ◌≡◌,
+  List,
+  ℕ,
+  [],
+  true,
+  false,
+  decimal,
+  flat_map,
+  string_bytes,
+  IfOk,
+  IfSome,
+  IsErr,
+};
 ghost use Rattle.case_lines.specs.Answers.{AnswerState, Adds};
 ghost use Rattle.case_lines.specs.Escapes.{escape_of};
 

@@ -5,7 +5,7 @@ ghost use Rattle.std.specs.Prelude.{◌≡◌, IfOk, IsTrue};
 use crate::Calls;
 use crate::differences::first_difference;
 use crate::files::CaseFiles;
-use crate::wanted::Wanted;
+use crate::wants::Wanted;
 use anyhow::{Context, ensure};
 use case_lines::number;
 use hs_io::{MemShelf, MemSink, Name};
@@ -144,7 +144,8 @@ impl Case {
         told: &[u8],
     ) -> anyhow::Result<bool>
         ensures status { IfOk result (λ agrees. IsTrue agrees → status ≡ self.now.wanted.status) }
-        ensures text { IfOk result (λ agrees. IsTrue agrees → IsTrue self.now.wanted.whole → text.now ≡ self.now.wanted.text.items) }
+        ensures text { IfOk result
+            (λ agrees. IsTrue agrees → IsTrue self.now.wanted.whole → text.now ≡ self.now.wanted.text.items) }
         ensures told { IfOk result (λ agrees. IsTrue agrees → told.now ≡ self.now.wanted.told.items) }
     {
         match first_difference(self.alloc, &self.wanted, files, status, text, told)? {

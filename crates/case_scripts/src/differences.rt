@@ -3,7 +3,7 @@
 ghost use Rattle.std.specs.Prelude.{◌≡◌, IfNone, IfOk, IsTrue};
 
 use crate::files::CaseFiles;
-use crate::wanted::Wanted;
+use crate::wants::Wanted;
 use std::alloc::{AllocError, Global};
 use std::{fmt, str};
 

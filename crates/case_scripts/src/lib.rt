@@ -53,7 +53,7 @@ mod files;
 mod script;
 mod tally;
 mod texts;
-mod wanted;
+mod wants;
 
 use anyhow::Context;
 use hs_io::{MemShelf, MemSink};

@@ -5,7 +5,7 @@ ghost use Rattle.std.specs.Prelude.{◌≤◌, IfOk};
 use crate::cases::Case;
 use crate::files::CaseFiles;
 use crate::texts::word_and_rest;
-use crate::wanted::copy;
+use crate::wants::copy;
 use crate::{Calls, Tally, texts};
 use anyhow::{Context, bail};
 use std::alloc::{AllocError, Global};

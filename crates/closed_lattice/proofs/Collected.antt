@@ -6,8 +6,8 @@ use Rattle.hs_lattice.specs.Laws.Members.{All-added, Contains-added, Contains-sa
 use Rattle.kiss_file.specs.declared.file.KissFile.{KissFile}
 use Rattle.partition.specs.Partition.{IsOne, IsPartition, Together}
 use Rattle.partition.specs.Laws.Labels.{IsPartition-of}
-use Rattle.partition.specs.Before.{Before}
-use Rattle.closed_lattice.specs.Closed.{HasPrincipal, IsClosedPartition, IsPrincipal, IsPrincipalWithin}
+use Rattle.partition.specs.Order.{Before}
+use Rattle.closed_lattice.specs.ClosedPartitions.{HasPrincipal, IsClosedPartition, IsPrincipal, IsPrincipalWithin}
 use Rattle.closed_lattice.specs.Inner.Generators.{AreGenerators, HavePrincipals}
 
 -- Those of the states before t with each other, and of t with the states before s.

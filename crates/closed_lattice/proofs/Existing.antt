@@ -7,18 +7,18 @@ use Rattle.std.proofs.lemmas.List.Elements.{Contains-append_cases, Contains-appe
 use Rattle.cubes.specs.Symbol.{symbol_of}
 use Rattle.kiss_file.specs.declared.file.KissFile.{KissFile}
 use Rattle.kiss_file.specs.Machine.{next}
-use Rattle.machine_table.specs.Covering.{IsImage}
-use Rattle.machine_table.specs.Staying.{NeverLeaves}
+use Rattle.machine_table.specs.Pieces.{IsImage}
+use Rattle.machine_table.specs.NextStates.{NeverLeaves}
 use Rattle.partition.specs.Partition.{blocks_of, IsPartition, IsStateCount, Together, Le, zero_of}
-use Rattle.partition.specs.Inside.{least_of}
+use Rattle.partition.specs.NestedBlocks.{least_of}
 use Rattle.partition.specs.MeetAndJoin.{Chain, IsJoin}
 use Rattle.partition.specs.Laws.Chains.{chain_keeps, chain_link, chain_on, chain_within, together_turned}
 use Rattle.partition.specs.Laws.Extremes.{zero_of_is_partition, zero_of_is_zero}
 use Rattle.partition.specs.Laws.Labels.{IsPartition-of, label-lt-blocks_of}
 use Rattle.partition.specs.Laws.Merging.{merged_above, merged_held}
 use Rattle.partition.specs.Laws.Least.{least_of-le, least_of-same, least_holds}
-use Rattle.closed_lattice.specs.Closed.{IsPrincipal}
-use Rattle.closed_lattice.specs.Inner.Waiting.{AreStates, AreTogether, TakesApart}
+use Rattle.closed_lattice.specs.ClosedPartitions.{IsPrincipal}
+use Rattle.closed_lattice.specs.Inner.WaitingPairs.{AreStates, AreTogether, TakesApart}
 use Rattle.partition.specs.Laws.Blocks.{fewer_blocks}
 use Rattle.closed_lattice.proofs.Growing.{IsGrowing, growing_begun, growing_ended, growing_merged}
 use Rattle.partition.specs.Laws.Holds.{merged_stands}

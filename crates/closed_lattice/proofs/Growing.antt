@@ -5,16 +5,16 @@ use Rattle.cubes.specs.Symbol.{number_of, symbol_of}
 use Rattle.cubes.specs.Laws.Numbers.{number_below, symbol_of-number_of, length-symbol_of}
 use Rattle.kiss_file.specs.declared.file.KissFile.{KissFile}
 use Rattle.kiss_file.specs.Machine.{next}
-use Rattle.machine_table.specs.Covering.{IsImage}
-use Rattle.machine_table.specs.Staying.{NeverLeaves}
+use Rattle.machine_table.specs.Pieces.{IsImage}
+use Rattle.machine_table.specs.NextStates.{NeverLeaves}
 use Rattle.partition.specs.Partition.{IsPartition, IsOne, IsZero, Together, Le}
-use Rattle.partition.specs.Merging.{IsMerged}
+use Rattle.partition.specs.MergedBlocks.{IsMerged}
 use Rattle.partition.specs.Laws.Merging.{merged_above, merged_held, merged_least}
 use Rattle.partition.specs.Laws.Chains.{together_itself, together_on, together_turned}
 use Rattle.pair_operators.specs.Pair.{Pair, Closed}
 use Rattle.pair_operators.specs.Laws.Pairs.{one_pairs, zero_pairs}
-use Rattle.closed_lattice.specs.Closed.{IsClosedPartition, IsPrincipal}
-use Rattle.closed_lattice.specs.Inner.Waiting.{AreStates, AreTogether, TakesApart, AddsImages}
+use Rattle.closed_lattice.specs.ClosedPartitions.{IsClosedPartition, IsPrincipal}
+use Rattle.closed_lattice.specs.Inner.WaitingPairs.{AreStates, AreTogether, TakesApart, AddsImages}
 
 -- Each closed partition that holds s and t together is above the partition so far and holds together each pair
 -- that waits; and each partition above it that does so makes a pair with it.

@@ -6,7 +6,7 @@ use Rattle.partition.specs.Partition.{Together, Le}
 use Rattle.partition.specs.Laws.Chains.{together_itself, together_turned}
 use Rattle.pair_operators.specs.Growth.{IsGrowth, pairs_of}
 use Rattle.pair_operators.specs.Laws.Growth.{grown_above, grown_keeps, grown_meets, growth_is_full}
-use Rattle.closed_lattice.specs.Closed.{IsClosedPartition, IsPrincipal}
+use Rattle.closed_lattice.specs.ClosedPartitions.{IsClosedPartition, IsPrincipal}
 use Rattle.closed_lattice.specs.Limits.{IsGreatestGrown}
 use Rattle.closed_lattice.specs.Laws.Generating.{join_closed}
 

@@ -7,11 +7,11 @@ use Rattle.partition.specs.MeetAndJoin.{IsJoin, IsLeastAbove}
 use Rattle.partition.specs.Laws.Chains.{join_is_least, together_turned}
 use Rattle.partition.specs.Laws.World.{join_fits, join_repeats}
 use Rattle.pair_operators.specs.Laws.Pairs.{joins_pair, pair_monotone}
-use Rattle.closed_lattice.specs.Closed.{IsPrincipal}
-use Rattle.closed_lattice.specs.declared.known.Item.{Item}
-use Rattle.closed_lattice.specs.Inner.Joined.{Joins}
-use Rattle.closed_lattice.specs.Kept.{IsPrincipalItem}
-use Rattle.closed_lattice.specs.Inner.Waiting.{AreStates, AreTogether}
+use Rattle.closed_lattice.specs.ClosedPartitions.{IsPrincipal}
+use Rattle.closed_lattice.specs.declared.known_principals.Item.{Item}
+use Rattle.closed_lattice.specs.Inner.Joins.{Joins}
+use Rattle.closed_lattice.specs.KnownPrincipals.{IsPrincipalItem}
+use Rattle.closed_lattice.specs.Inner.WaitingPairs.{AreStates, AreTogether}
 use Rattle.closed_lattice.proofs.Growing.{IsGrowing}
 
 -- the two states may change places

@@ -2,15 +2,15 @@
 use Rattle.std.proofs.Common.{◌≡◌, ℕ, ◌+◌, ◌<◌, ◌≤◌, ◌⊎◌, inl, inr, List, length, get_or, refl, sym, ◌∙◌, subst, arith}
 use Rattle.std.proofs.lemmas.Bool.{cases_eq}
 use Rattle.kiss_file.specs.declared.file.KissFile.{KissFile}
-use Rattle.machine_table.specs.Staying.{NeverLeaves}
+use Rattle.machine_table.specs.NextStates.{NeverLeaves}
 use Rattle.partition.specs.Partition.{IsPartition, Le, Lt, Together, blocks_of, zero_of}
 use Rattle.partition.specs.MeetAndJoin.{IsJoin, IsMeet}
 use Rattle.partition.specs.Laws.Chains.{chain_keeps, chain_link, chain_within, join_is_least, together_turned, together_on}
 use Rattle.partition.specs.Laws.Extremes.{zero_of_is_partition}
 use Rattle.partition.specs.Laws.Labels.{IsPartition-of}
 use Rattle.pair_operators.specs.Growth.{TakesPair}
-use Rattle.closed_lattice.specs.Closed.{IsPrincipal}
-use Rattle.closed_lattice.specs.Inner.Growing.{IsSettled, NeverHolds}
+use Rattle.closed_lattice.specs.ClosedPartitions.{IsPrincipal}
+use Rattle.closed_lattice.specs.Inner.Growth.{IsSettled, NeverHolds}
 use Rattle.closed_lattice.specs.Limits.{HoldsApart, MeetInZero}
 use Rattle.partition.specs.Laws.Blocks.{fewer_blocks, strictly_fewer, zero_blocks, zero_by_blocks}
 use Rattle.closed_lattice.proofs.Conditions.{never_below_zero, zero_strictly_below}

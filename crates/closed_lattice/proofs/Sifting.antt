@@ -7,9 +7,9 @@ use Rattle.std.proofs.lemmas.List.Quantifiers.{all_pairs_push}
 use Rattle.hs_lattice.specs.Listing.{Lists}
 use Rattle.kiss_file.specs.declared.file.KissFile.{KissFile}
 use Rattle.partition.specs.Partition.{blocks_of, IsPartition, Le}
-use Rattle.partition.specs.Before.{Before}
+use Rattle.partition.specs.Order.{Before}
 use Rattle.partition.specs.Laws.Labels.{same_labels}
-use Rattle.closed_lattice.specs.Closed.{HoldsSome, IsAtom, IsClosedPartition}
+use Rattle.closed_lattice.specs.ClosedPartitions.{HoldsSome, IsAtom, IsClosedPartition}
 use Rattle.closed_lattice.specs.Inner.Generators.{AreGenerators, IsLeastAmong}
 use Rattle.partition.specs.Laws.Blocks.{above_by_blocks}
 

@@ -2,9 +2,9 @@
 use Rattle.std.proofs.Common.{◌≡◌, ℕ, ◌<◌, inl, inr, List, [], ◌∷◌, ◌++◌, Contains, sym, ap, subst, arith}
 use Rattle.std.proofs.lemmas.List.Elements.{Contains-push, Contains-push_cases, Contains-append_left, Contains-append_right, Contains-append_cases}
 use Rattle.kiss_file.specs.declared.file.KissFile.{KissFile}
-use Rattle.machine_table.specs.Covering.{IsImage}
+use Rattle.machine_table.specs.Pieces.{IsImage}
 use Rattle.partition.specs.Partition.{Together}
-use Rattle.closed_lattice.specs.Inner.Waiting.{AreStates, AreTogether, LeavesOut, TakesApart, AddsImages}
+use Rattle.closed_lattice.specs.Inner.WaitingPairs.{AreStates, AreTogether, LeavesOut, TakesApart, AddsImages}
 
 pub leaves_all : (p : List ℕ) (pairs : List (ℕ × ℕ)) → LeavesOut p pairs pairs
 leaves_all p pairs = record { kept = λ u v among. among; taken = λ u v among. inl among }

@@ -1,5 +1,5 @@
 -- Definitions that only private functions and proofs need.
-pub mod Waiting
-pub mod Joined
-pub mod Growing
+pub mod WaitingPairs
+pub mod Joins
+pub mod Growth
 pub mod Generators

@@ -1,5 +1,5 @@
-pub mod Closed
+pub mod ClosedPartitions
 pub mod Limits
-pub mod Kept
+pub mod KnownPrincipals
 pub mod Inner
 pub mod Laws

@@ -2,7 +2,7 @@
 use Rattle.std.specs.Prelude.{◌≡◌, ℕ, List}
 use Rattle.kiss_file.specs.declared.file.KissFile.{KissFile}
 use Rattle.partition.specs.Partition.{Le, Together}
-use Rattle.closed_lattice.specs.Closed.{IsClosedPartition}
+use Rattle.closed_lattice.specs.ClosedPartitions.{IsClosedPartition}
 
 -- no two states are together in both
 abbrev pub MeetInZero : List ℕ → List ℕ → Type 0

@@ -6,17 +6,17 @@
 //! for either.
 
 ghost use Rattle.std.specs.Prelude.{ℕ, ◌≡◌, ◌+◌, ◌<◌, ◌↔◌, ◌⊎◌, IfOk, IsTrue, List, OnOk, length};
-ghost use Rattle.closed_lattice.specs.Closed.{IsClosedPartition, IsPrincipal};
-ghost use Rattle.closed_lattice.specs.Kept.{ArePrincipalsOf};
-ghost use Rattle.closed_lattice.specs.Inner.Growing.{IsSettled, NeverHolds};
-ghost use Rattle.machine_table.specs.Staying.{NeverLeaves};
+ghost use Rattle.closed_lattice.specs.ClosedPartitions.{IsClosedPartition, IsPrincipal};
+ghost use Rattle.closed_lattice.specs.KnownPrincipals.{ArePrincipalsOf};
+ghost use Rattle.closed_lattice.specs.Inner.Growth.{IsSettled, NeverHolds};
+ghost use Rattle.machine_table.specs.NextStates.{NeverLeaves};
 ghost use Rattle.pair_operators.specs.Growth.{GrowsOver, IsGrowth, TakesPair, pairs_from};
 ghost use Rattle.closed_lattice.specs.Limits.{HoldsApart, IsGreatestGrown, MeetInZero};
 ghost use Rattle.partition.specs.MeetAndJoin.{IsJoin};
 ghost use Rattle.partition.specs.Partition.{IsPartition, IsZero, Lt, Together, blocks_of, zero_of};
 
-use crate::closing::{joined, learn};
-use crate::known::Principals;
+use crate::closure::{joined, learn};
+use crate::known_principals::Principals;
 use machine_table::Machine;
 use partition::Partition;
 use std::alloc::{AllocError, Global};

@@ -4,10 +4,10 @@
 ghost use Rattle.std.specs.Prelude.{ℕ, ◌≡◌, ◌<◌, All, Contains, List, length};
 ghost use Rattle.hs_lattice.specs.JoinWorld.{HaveJoins, IsGenerated};
 ghost use Rattle.kiss_file.specs.declared.file.KissFile.{KissFile};
-ghost use Rattle.machine_table.specs.Staying.{NeverLeaves};
+ghost use Rattle.machine_table.specs.NextStates.{NeverLeaves};
 ghost use Rattle.partition.specs.MeetAndJoin.{IsJoin};
 ghost use Rattle.partition.specs.Partition.{IsStateCount, zero_of};
-ghost use Rattle.closed_lattice.specs.Closed.{IsClosedPartition, IsPrincipal};
+ghost use Rattle.closed_lattice.specs.ClosedPartitions.{IsClosedPartition, IsPrincipal};
 
 /// There is at most one least closed partition that holds two states together.
 pub fn one_is_principal()
@@ -17,7 +17,8 @@ pub fn one_is_principal()
 /// Joins of closed partitions are closed. Where the least closed partition of each two states is among
 /// the generators, and these have joins, each closed partition is a join of generators.
 pub fn closed_are_joins()
-    ensures closed { (F : KissFile) (generators : List (List ℕ)) (p : List ℕ) → NeverLeaves F → IsStateCount (length F.states)
+    ensures closed { (F : KissFile) (generators : List (List ℕ)) (p : List ℕ) → NeverLeaves F
+        → IsStateCount (length F.states)
         → All (IsClosedPartition F) generators
         → IsGenerated (λ q. q ≡ zero_of (length F.states)) IsJoin generators p → IsClosedPartition F p }
     ensures joins { (F : KissFile) (generators : List (List ℕ)) (p : List ℕ)

@@ -11,23 +11,23 @@
 //! That joins of closed partitions are closed, and that each closed partition is such a join, are the clauses
 //! of [`closed_are_joins`].
 //!
-//! `specs/Closed` says what a closed partition is and which one is the least that holds two states together,
+//! `specs/ClosedPartitions` says what a closed partition is and which one is the least that holds two states together,
 //! `specs/Limits` how far closed partitions grow and what a growth is for: no closed partition
-//! strictly above it meets the condition. `specs/Kept` says what is kept over growths. `specs/Inner` is only
+//! strictly above it meets the condition. `specs/KnownPrincipals` says what is kept over growths. `specs/Inner` is only
 //! for private functions.
 #![tactic(auto)]
 
-mod ahead;
-mod closing;
-mod collecting;
+mod closure;
 mod growth;
-mod known;
+mod known_principals;
 mod laws;
 mod listing;
+mod next_pairs;
+mod principal_list;
 
-pub use closing::principal;
-pub use collecting::principals_within;
+pub use closure::principal;
 pub use growth::{apart, below, separating};
-pub use known::Principals;
+pub use known_principals::Principals;
 pub use laws::{closed_are_joins, one_is_principal};
 pub use listing::{all, atoms};
+pub use principal_list::principals_within;

@@ -4,14 +4,30 @@
 //! partitions of its pairs of states. So the closed partitions are the joins of these least ones. Each closed
 //! partition other than zero is above one of them, so the least of these are the least of all.
 
-ghost use Rattle.std.specs.Prelude.{ℕ, ◌≡◌, ◌↔◌, ◌≤◌, ◌⊎◌, ◌++◌, ◌∷◌, [], All, AllPairs, IfOk, IsTrue, List, OnOk, length};
-ghost use Rattle.closed_lattice.specs.Closed.{IsAtom, IsClosedPartition};
+ghost use Rattle.std.specs.Prelude.{
+  ℕ,
+  ◌≡◌,
+  ◌↔◌,
+  ◌≤◌,
+  ◌⊎◌,
+  ◌++◌,
+  ◌∷◌,
+  [],
+  All,
+  AllPairs,
+  IfOk,
+  IsTrue,
+  List,
+  OnOk,
+  length,
+};
+ghost use Rattle.closed_lattice.specs.ClosedPartitions.{IsAtom, IsClosedPartition};
 ghost use Rattle.closed_lattice.specs.Inner.Generators.{AreGenerators, IsLeastAmong};
 ghost use Rattle.hs_lattice.specs.Listing.{Evidence, IfMore, IfWhole, Lists};
-ghost use Rattle.partition.specs.Before.{Before};
+ghost use Rattle.partition.specs.Order.{Before};
 ghost use Rattle.partition.specs.Partition.{IsPartition};
 
-use crate::collecting::principals_within;
+use crate::principal_list::principals_within;
 use hs_lattice::{Listing, join_closure};
 use machine_table::Machine;
 use partition::{BitPart, BitWorld, Partition};

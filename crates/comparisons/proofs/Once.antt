@@ -3,14 +3,14 @@ use Rattle.std.proofs.Common.{◌≡◌, ℕ, Bool, List, [], length, sym, ap, �
 use Rattle.blif_out.specs.declared.header.Header.{Header}
 use Rattle.blif_out.specs.declared.networks.HeadedNetwork.{HeadedNetwork}
 use Rattle.comparisons.proofs.Alike.{across_once, reads_once}
-use Rattle.comparisons.specs.Compared.{AreCountsOf}
+use Rattle.comparisons.specs.Comparison.{AreCountsOf}
 use Rattle.comparisons.specs.Counts.{AreCounts, reads_across}
-use Rattle.comparisons.specs.Determined.{CountsAreOne, HaveSameReads, NeverBoth, NeverBothOfRegister, RegisterCountsAreOne}
+use Rattle.comparisons.specs.CountLaws.{CountsAreOne, HaveSameReads, NeverBoth, NeverBothOfRegister, RegisterCountsAreOne}
 use Rattle.hs_texts.specs.declared.comparisons.NetworkCounts.{NetworkCounts}
 use Rattle.kiss_file.specs.declared.file.KissFile.{KissFile}
 use Rattle.net_core.specs.declared.Latch.{Latch}
 use Rattle.net_core.specs.declared.Network.{Network}
-use Rattle.shift_real.specs.Definite.{IsOrder}
+use Rattle.shift_real.specs.DefiniteMachine.{IsOrder}
 use Rattle.shift_real.specs.Laws.StartContent.{order_once}
 use Rattle.shift_texts.specs.declared.registers.OrderedRegister.{OrderedRegister}
 use Rattle.shift_texts.specs.ShiftText.{IsOrderedRegister, with_comments}

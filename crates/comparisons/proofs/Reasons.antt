@@ -4,14 +4,14 @@ use Rattle.std.proofs.lemmas.List.Elements.{All-head}
 use Rattle.answers.specs.declared.refusals.Refusal.{Refusal}
 use Rattle.answers.specs.declared.refusals.Refusal.TheVariants.{CodeTooLong, NoSplit, NotDefinite, NotReached, StateCount}
 use Rattle.blif_out.specs.Head.{kind_word}
-use Rattle.comparisons.specs.Determined.{RefusalsHaveReasons, RegisterRefusalsHaveReasons}
+use Rattle.comparisons.specs.CountLaws.{RefusalsHaveReasons, RegisterRefusalsHaveReasons}
 use Rattle.comparisons.specs.Lines.{register_word, short_line}
 use Rattle.kiss_file.specs.declared.file.KissFile.{KissFile}
 use Rattle.partition.specs.Partition.{Together, zero_of}
 use Rattle.partition.specs.Laws.Extremes.{zero_of_is_zero}
 use Rattle.shift_texts.specs.Causes.{HasNoRegister}
 use Rattle.split_texts.specs.Causes.{HasNoText}
-use Rattle.split_texts.specs.Given.{code_parts}
+use Rattle.split_texts.specs.GivenParts.{code_parts}
 use Rattle.split_texts.specs.Laws.Causes.{apart_leaves_none}
 use Rattle.split_texts.specs.Laws.Kinds.{apart_of_zero}
 use Rattle.split_texts.specs.Splits.{AreParts, Refuses}

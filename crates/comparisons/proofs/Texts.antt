@@ -7,7 +7,7 @@ use Rattle.std.proofs.lemmas.List.{append-nil, take_all, take_more}
 use Rattle.std.proofs.lemmas.Bool.{false≢true}
 use Rattle.std.proofs.lemmas.Option.{none-some}
 use Rattle.answers.specs.Cause.{CallsForNone, Cause}
-use Rattle.answers.specs.Judged.{IsStop}
+use Rattle.answers.specs.Outcome.{IsStop}
 use Rattle.answers.specs.declared.refusals.Refusal.{Refusal}
 use Rattle.answers.specs.declared.refusals.Refusal.TheVariants.{NoMemory}
 use Rattle.blif_out.specs.declared.networks.HeadedNetwork.{HeadedNetwork}
@@ -18,8 +18,8 @@ use Rattle.blif_out.specs.NetworkText.{CanBeHeaded, CanBeText, IsHeadedText}
 use Rattle.blif_out.proofs.Designs.{plain_design_is_lawful}
 use Rattle.blif_out.proofs.NetworkTexts.{header_is_comments, network_has_text, text_has_head}
 use Rattle.comparisons.proofs.Reasons.{refusals_have_reasons, register_refusals_have_reasons}
-use Rattle.comparisons.specs.Compared.{AreKindLines, HasReason, IsCompared, IsKindLine, IsRegisterLine, compared_kinds}
-use Rattle.comparisons.specs.Inner.Made.{HasKindLines, IsMadeLine, IsMadeRegisterLine}
+use Rattle.comparisons.specs.Comparison.{AreKindLines, HasReason, IsCompared, IsKindLine, IsRegisterLine, compared_kinds}
+use Rattle.comparisons.specs.Inner.KindLines.{HasKindLines, IsMadeLine, IsMadeRegisterLine}
 use Rattle.comparisons.specs.Lines.{reason_of, register_word, short_line}
 use Rattle.decomposition.specs.Decomposition.{IsDecomposed}
 use Rattle.hs_io.specs.Spelling.{ended, line_text}
@@ -30,7 +30,7 @@ use Rattle.shift_texts.specs.declared.registers.OrderedRegister.{OrderedRegister
 use Rattle.shift_texts.specs.Causes.{RefusesShift}
 use Rattle.shift_texts.specs.ShiftText.{IsOrderedRegister, shift_comments, with_comments}
 use Rattle.split_texts.specs.Causes.{IsNotWritten}
-use Rattle.split_texts.specs.Written.{IsOfKind}
+use Rattle.split_texts.specs.SplitText.{IsOfKind}
 use Rattle.state_codes.specs.declared.split.Kind.{Kind}
 use Rattle.state_codes.specs.declared.split.Kind.TheVariants.{Assign}
 use Rattle.state_codes.specs.declared.split.Part.{Part}

@@ -1,2 +1,2 @@
 -- Definitions that only private functions and proofs need.
-pub mod Made
+pub mod KindLines

@@ -1,6 +1,6 @@
 pub mod Counts
 pub mod Lines
-pub mod Compared
-pub mod Determined
+pub mod Comparison
+pub mod CountLaws
 pub mod Worked
 pub mod Inner

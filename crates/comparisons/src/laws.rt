@@ -1,6 +1,13 @@
 //! What the file determines of a comparison. Each law is the contract of a function that does nothing.
 
-ghost use Rattle.comparisons.specs.Determined.{CountsAreOne, NeverBoth, NeverBothOfRegister, RefusalsHaveReasons, RegisterCountsAreOne, RegisterRefusalsHaveReasons};
+ghost use Rattle.comparisons.specs.CountLaws.{
+  CountsAreOne,
+  NeverBoth,
+  NeverBothOfRegister,
+  RefusalsHaveReasons,
+  RegisterCountsAreOne,
+  RegisterRefusalsHaveReasons,
+};
 
 /// All texts of one job have the same parts or the same order, the same latches, and the same reads.
 pub fn counts_are_one()

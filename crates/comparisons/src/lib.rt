@@ -6,19 +6,19 @@
 //! network is kept at a time, and none is written.
 //!
 //! `specs/Counts` says what is counted of a network and its header, `specs/Lines` which refusal has which reason, and
-//! `specs/Compared` what the seven lines are.
+//! `specs/Comparison` what the seven lines are.
 //!
 //! The laws say what a reader may conclude from a line. Parts, order, latches and reads are determined, while rows and
 //! literals are of one good cover of several ([`counts_are_one`]). No line could have been of the other form
 //! ([`never_both`]). Each refusal that can come has a reason ([`refusals_have_reasons`]).
 #![tactic(auto)]
 
-mod comparing;
-mod counting;
+mod comparison;
 mod laws;
 mod lines;
+mod network_counts;
 mod worked;
 
-pub use comparing::compare;
+pub use comparison::compare;
 pub use laws::{counts_are_one, never_both, refusals_have_reasons};
 pub use worked::{worked_counts, worked_lines};

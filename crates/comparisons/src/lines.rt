@@ -2,15 +2,15 @@
 
 ghost use Rattle.std.specs.Prelude.{◌≡◌, ◌≢◌, ◌⊎◌, Bool, IfOk, IsSome, Some, length};
 ghost use Rattle.answers.specs.declared.refusals.Refusal.TheVariants.{NoMemory};
-ghost use Rattle.comparisons.specs.Compared.{IsKindLine, IsRegisterLine};
-ghost use Rattle.comparisons.specs.Inner.Made.{IsMadeLine, IsMadeRegisterLine};
+ghost use Rattle.comparisons.specs.Comparison.{IsKindLine, IsRegisterLine};
+ghost use Rattle.comparisons.specs.Inner.KindLines.{IsMadeLine, IsMadeRegisterLine};
 ghost use Rattle.comparisons.specs.Lines.{reason_of, short_line};
-ghost use Rattle.kiss_file.specs.Lawful.{IsLawful};
+ghost use Rattle.kiss_file.specs.LawfulFile.{IsLawful};
 ghost use Rattle.kiss_file.specs.Machine.{Conflicting};
 ghost use Rattle.state_codes.specs.declared.split.Kind.TheVariants as kinds;
 ghost use Rattle.state_reduce.specs.Work.{IsWork};
 
-use crate::counting::{count_across, counts_of};
+use crate::network_counts::{count_across, counts_of};
 use answers::Refusal;
 use blif_out::{HeadedNetwork, word_of_kind};
 use hs_texts::comparisons::{Reason, counted, short};
@@ -35,7 +35,8 @@ pub(crate) fn kind_line(
     requires lawful { IsLawful file.now }
     requires no_conflict { Conflicting file.now → ⊥ }
     requires work { (reduce : Bool) × IsWork reduce file.now work.now }
-    ensures { (reduce : Bool) → IsWork reduce file.now work.now → IfOk result (λ line. IsKindLine reduce file.now kind line.items) }
+    ensures { (reduce : Bool) → IsWork reduce file.now work.now
+        → IfOk result (λ line. IsKindLine reduce file.now kind line.items) }
 {
     match decompose_work(alloc, kind, b"", file, work) {
         Ok(made) => parts_line(alloc, kind, &made),
@@ -52,7 +53,8 @@ pub(crate) fn register_line(
     requires lawful { IsLawful file.now }
     requires no_conflict { Conflicting file.now → ⊥ }
     requires work { (reduce : Bool) × IsWork reduce file.now work.now }
-    ensures { (reduce : Bool) → IsWork reduce file.now work.now → IfOk result (λ line. IsRegisterLine reduce file.now line.items) }
+    ensures { (reduce : Bool) → IsWork reduce file.now work.now
+        → IfOk result (λ line. IsRegisterLine reduce file.now line.items) }
 {
     match register_of_work(alloc, file, work) {
         Ok(made) => order_line(alloc, &made),

@@ -1,7 +1,14 @@
 //! A worked network and worked lines.
 
 ghost use Rattle.std.specs.Prelude.{◌≡◌, None, Some, codes};
-ghost use Rattle.answers.specs.declared.refusals.Refusal.TheVariants.{CodeTooLong, NoMemory, NoSplit, NotDefinite, NotReached, StateCount};
+ghost use Rattle.answers.specs.declared.refusals.Refusal.TheVariants.{
+  CodeTooLong,
+  NoMemory,
+  NoSplit,
+  NotDefinite,
+  NotReached,
+  StateCount,
+};
 ghost use Rattle.comparisons.specs.Counts.{AreCounts, AreReadsAcross, literals_of, rows_of};
 ghost use Rattle.comparisons.specs.Lines.{order_line, parts_line, short_line};
 ghost use Rattle.comparisons.specs.Worked.{three_counts, three_latches, three_notes};
@@ -17,7 +24,8 @@ pub fn worked_counts()
 
 /// Lines of counts, and of refusals with a reason and without.
 pub fn worked_lines()
-    ensures parts { parts_line Serial 2 three_counts ≡ codes "serial parts 2 latches 3 reads 5 across 1 rows 8 literals 14" }
+    ensures parts { parts_line Serial 2 three_counts
+        ≡ codes "serial parts 2 latches 3 reads 5 across 1 rows 8 literals 14" }
     ensures order { order_line 12 three_counts ≡ codes "shift order 12 latches 3 reads 5 across 1 rows 8 literals 14" }
     ensures lacking { short_line (codes "serial") (NoSplit Serial) ≡ Some (codes "serial none") }
     ensures bits { short_line (codes "cascade") (CodeTooLong 127) ≡ Some (codes "cascade bits 127") }

@@ -11,7 +11,7 @@ use Rattle.list_facts.specs.Laws.Members.{Contains-none}
 use Rattle.cover_logic.specs.declared.bundles.Bundle.{Bundle}
 use Rattle.cover_logic.specs.declared.bundles.Entry.{Entry}
 use Rattle.cover_terms.specs.declared.term.Term.{Term}
-use Rattle.cover_logic.specs.declared.waiting.Group.{Group}
+use Rattle.cover_logic.specs.declared.waiting_terms.Group.{Group}
 use Rattle.cover_logic.specs.Inner.Bundles.{entries_in}
 use Rattle.cover_terms.specs.Lists.{HasSameTerms}
 use Rattle.cover_logic.specs.Inner.Entries.{IsWithin, terms_in}

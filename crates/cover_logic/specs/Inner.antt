@@ -4,7 +4,7 @@ pub mod Entries
 pub mod Planes
 pub mod Bundles
 pub mod Groups
-pub mod Waiting
+pub mod WaitingTerms
 pub mod Nodes
 pub mod Sides
 pub mod Index

@@ -16,23 +16,23 @@
 //!
 //! How the crate finds out what a row holds depends on the gate.
 //!
-//! A dense gate has 10 to 16 columns, and its terms hold most of all values (`dense`). It is asked by its values. One
-//! table has a mark for each value of off, and another for each value that a row holds already (`table`). A row can
+//! A dense gate has 10 to 16 columns, and its terms hold most of all values (`dense_gates`). It is asked by its values.
+//! One table has a mark for each value of off, and another for each value that a row holds already (`table`). A row can
 //! be left out unless it is the last row that holds some value of on, and no row kept before holds that value
 //! (`lasts`).
 //!
 //! Any other gate is asked by its terms, so the number of values does not matter. An index of off tells whether a row
 //! shares a value with off (`index`). Rows are made until each term of on lies whole within one (`primes`);
-//! in large gates one step asks this of 128 terms at once, by their columns (`waiting`, `bundles`). In long lists the
-//! same is done to find the rows and the terms of on that share a value with a row (`rivals`). Whether other rows hold
-//! the values that a row shares with a term of on is asked of one part of them at a time (`gap` of
+//! in large gates one step asks this of 128 terms at once, by their columns (`waiting_terms`, `bundles`). In long lists
+//! the same is done to find the rows and the terms of on that share a value with a row (`rivals`). Whether other rows
+//! hold the values that a row shares with a term of on is asked of one part of them at a time (`gap` of
 //! `cover_terms`). Of the rows that
 //! touch the part, the one with the fewest literals outside it either holds the part whole, or has such a literal,
 //! and the part is split there in two.
 //!
-//! Either way rows are widened by the same calls (`raise`), which ask a trait (`off`): the table and the index are its
-//! two implementations. The crate `cover_advice` says how far a row may be widened, and the table or the index is asked
-//! before its advice is followed. Terms, charts and what is asked of plain lists of terms are in `cover_terms`.
+//! Either way rows are widened by the same calls (`wide_rows`), which ask a trait (`off`): the table and the index are
+//! its two implementations. The crate `cover_advice` says how far a row may be widened, and the table or the index is
+//! asked before its advice is followed. Terms, charts and what is asked of plain lists of terms are in `cover_terms`.
 #![tactic(auto)]
 
 ghost use Rattle.std.specs.Prelude.{◌≤◌, ◌↔◌, All, IfOk, IsTrue};
@@ -41,25 +41,25 @@ ghost use Rattle.cover_logic.specs.Cover.{CanCover, IsTermCover};
 ghost use Rattle.cover_logic.specs.Inner.Rows.{AreNeededPrimes, IsClear};
 
 mod bundles;
-mod dense;
+mod dense_gates;
 mod index;
 mod lasts;
-mod needed;
 mod off;
 mod primes;
-mod raise;
 mod rivals;
+mod spare_rows;
 mod table;
-mod waiting;
+mod waiting_terms;
+mod wide_rows;
 
 pub use cover_terms::Term;
-use cover_terms::distinct::distinct;
-use dense::{dense_rows, is_dense};
+use cover_terms::distinct_terms::distinct;
+use dense_gates::{dense_rows, is_dense};
 use lasts::needed_by_lasts;
-use needed::needed_rows;
 use primes::primes;
-use raise::is_clear;
+use spare_rows::needed_rows;
 use std::alloc::{AllocError, Global};
+use wide_rows::is_clear;
 
 /// Whether `cover` may be called: at most 128 columns, no literal at or above the width, and no value
 /// in both lists.

@@ -27,7 +27,8 @@ pub trait Off {
     fn meets_at(&self, place: usize, row: Term) -> bool
         ensures { IsTrue result → MeetsSome (terms self.now) row };
 
-    ghost can_ask_wider: { (off : Self) (row wider : Term) → wider.care ≤ row.care → can_ask off row → can_ask off wider };
+    ghost can_ask_wider: { (off : Self) (row wider : Term) → wider.care ≤ row.care → can_ask off row
+        → can_ask off wider };
 }
 
 impl Off for Index {

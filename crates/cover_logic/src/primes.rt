@@ -6,8 +6,8 @@ ghost use Rattle.cover_terms.specs.Pair.{refines};
 ghost use Rattle.cover_logic.specs.Inner.Rows.{ArePrimeRows, IsClear, IsGrown, IsPrimeRow};
 
 use crate::index::Index;
-use crate::raise::{grow, raise, widened};
-use crate::waiting::Waiting;
+use crate::waiting_terms::Waiting;
+use crate::wide_rows::{grow, raise, widened};
 use cover_advice::{Limits, Prospects, Slices};
 use cover_terms::Term;
 use std::alloc::{AllocError, Global};

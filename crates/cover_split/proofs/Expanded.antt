@@ -14,11 +14,11 @@ use Rattle.cubes.specs.Laws.Meeting.{length_of_held, number_of_held}
 use Rattle.cubes.specs.Laws.Numbers.{number_below, symbol_of-number_of}
 use Rattle.kiss_file.specs.declared.file.KissFile.{KissFile}
 use Rattle.kiss_file.specs.declared.file.KissRow.{KissRow}
-use Rattle.kiss_file.specs.Lawful.{AreGiven, AreNumbered, IsLawful, IsLawfulRow, appearances, given_names}
+use Rattle.kiss_file.specs.LawfulFile.{AreGiven, AreNumbered, IsLawful, IsLawfulRow, appearances, given_names}
 use Rattle.kiss_file.specs.Machine.{Conflicting, IsRowAt, Specified, answers, given_bit, next, out, output_bit}
 use Rattle.kiss_file.specs.Names.{AreDistinct, IsPlainName}
 use Rattle.kiss_file.specs.Laws.Machine.{next_said, output_bit_said}
-use Rattle.machine_table.specs.Staying.{NeverLeaves}
+use Rattle.machine_table.specs.NextStates.{NeverLeaves}
 use Rattle.machine_table.specs.Table.{IsTable}
 use Rattle.machine_table.specs.Laws.OutputWords.{same_map, same_values}
 use Rattle.kiss_file.specs.Laws.ByState.{IsByState, lawful_by_state, numbered_by_state}

@@ -12,8 +12,8 @@ use Rattle.cubes.specs.Laws.Ends.{least_held, value_le}
 use Rattle.cubes.specs.Laws.Parts.{half_from_whole, whole_from_half}
 use Rattle.kiss_file.specs.declared.file.KissFile.{KissFile}
 use Rattle.kiss_file.specs.Machine.{next}
-use Rattle.machine_table.specs.declared.covering.Piece.{Piece}
-use Rattle.machine_table.specs.Covering.{IsHeldByPiece, IsPiece}
+use Rattle.machine_table.specs.declared.pieces.Piece.{Piece}
+use Rattle.machine_table.specs.Pieces.{IsHeldByPiece, IsPiece}
 use Rattle.machine_table.specs.Pairs.{AtEachSymbol, IsFirstWithout}
 use Rattle.cubes.specs.Laws.SharedCubes.{meets_from_held, value_below}
 use Rattle.cover_split.specs.Cover.{block_at}

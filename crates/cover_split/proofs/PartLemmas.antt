@@ -8,7 +8,7 @@ use Rattle.kiss_file.specs.declared.file.KissFile.{KissFile}
 use Rattle.kiss_file.specs.Machine.{next}
 use Rattle.pair_operators.specs.Pair.{Closed}
 use Rattle.partition.specs.Partition.{IsNontrivial, IsPartition, Le, Together, blocks_of, zero_of}
-use Rattle.partition.specs.Inside.{IsComplement, IsLargestSize}
+use Rattle.partition.specs.NestedBlocks.{IsComplement, IsLargestSize}
 use Rattle.partition.specs.Refusal.{AllLawful}
 use Rattle.partition.specs.Laws.Extremes.{zero_of_is_partition, zero_of_is_zero}
 use Rattle.partition.specs.Laws.Labels.{IsPartition-of, label-lt-blocks_of-take}

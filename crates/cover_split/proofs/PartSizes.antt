@@ -6,7 +6,7 @@ use Rattle.std.proofs.lemmas.List.Elements.{All-get_or}
 use Rattle.std.proofs.lemmas.List.Sums.{sum_by-append, sum_by-cons}
 use Rattle.std.proofs.lemmas.Option.{slice_get_within, slice_get-get_or}
 use Rattle.partition.specs.Partition.{IsNontrivial, IsOne, IsZero, Together, blocks_of}
-use Rattle.partition.specs.Inside.{IsLargestSize, size_of}
+use Rattle.partition.specs.NestedBlocks.{IsLargestSize, size_of}
 use Rattle.partition.specs.Laws.Labels.{block_stands, label-lt-blocks_of}
 use Rattle.cover_split.specs.Cover.{IsBlock, IsCover, block_at}
 use Rattle.cover_split.specs.Expansion.{IsPair, pairs_from, pairs_of, pairs_with}

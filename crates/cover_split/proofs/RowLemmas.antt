@@ -10,8 +10,8 @@ use Rattle.cubes.specs.Symbol.{symbol_of, lowest_bits}
 use Rattle.kiss_file.specs.declared.file.KissFile.{KissFile}
 use Rattle.kiss_file.specs.declared.file.KissRow.{KissRow}
 use Rattle.kiss_file.specs.Machine.{next, out}
-use Rattle.machine_table.specs.declared.covering.Piece.{Piece}
-use Rattle.machine_table.specs.Covering.{IsPiece}
+use Rattle.machine_table.specs.declared.pieces.Piece.{Piece}
+use Rattle.machine_table.specs.Pieces.{IsPiece}
 use Rattle.cover_split.specs.Cover.{Has, block_at}
 use Rattle.cover_split.specs.Expansion.{IsTarget, pairs_of}
 use Rattle.cover_split.specs.declared.joint.Joint.{Joint}

@@ -3,7 +3,7 @@ use Rattle.std.specs.Prelude.{◌≡◌, ℕ, ◌≤◌, ◌↔◌, All, List, [
 use Rattle.kiss_file.specs.declared.file.KissFile.{KissFile}
 use Rattle.pair_operators.specs.Pair.{Closed}
 use Rattle.partition.specs.Partition.{IsNontrivial, IsPartition, Together, blocks_of}
-use Rattle.partition.specs.Inside.{IsComplement, IsLargestSize}
+use Rattle.partition.specs.NestedBlocks.{IsComplement, IsLargestSize}
 use Rattle.state_codes.specs.declared.split.Part.{Part}
 use Rattle.state_codes.specs.Kinds.{IsOwnCarrier}
 use Rattle.cover_split.specs.Cover.{block_at}

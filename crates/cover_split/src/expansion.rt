@@ -1,7 +1,7 @@
 //! The machine of the pairs of a closed cover.
 ghost use Rattle.std.specs.Prelude.{◌≡◌, ◌≤◌, IfErr, IfNone, IfOk, IfSome, length, min};
 ghost use Rattle.std.specs.Option.{option_map_or};
-ghost use Rattle.kiss_file.specs.Lawful.{AreNumbered, IsLawful};
+ghost use Rattle.kiss_file.specs.LawfulFile.{AreNumbered, IsLawful};
 ghost use Rattle.kiss_file.specs.Machine.{Conflicting, Specified};
 ghost use Rattle.machine_table.specs.Table.{IsTable};
 ghost use Rattle.cover_split.specs.Cover.{IsCover};

@@ -107,7 +107,9 @@ fn is_within(first: &[u16], second: &[u16]) -> bool
 
 /// The least state that no block has.
 pub(crate) fn first_missing(lists: &[Items<usize>]) -> Option<usize>
-    ensures some { IfSome result (λ s. (s < length lists.now) × ((t : ℕ) → t < s → 0 < length (block_at lists.now t)) × (block_at lists.now s ≡ [])) }
+    ensures some { IfSome result
+        (λ s. (s < length lists.now) × ((t : ℕ) → t < s → 0 < length (block_at lists.now t))
+        × (block_at lists.now s ≡ [])) }
     ensures none { IfNone result ((t : ℕ) → t < length lists.now → 0 < length (block_at lists.now t)) }
 {
     for (s, holders) in lists.iter().enumerate() {

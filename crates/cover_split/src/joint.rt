@@ -6,8 +6,20 @@
 //! them meet both halves.
 ghost use Rattle.std.specs.Prelude.{◌≡◌, ◌<◌, ◌≤◌, ◌↔◌, All, IfOk, IsTrue, MatchResult, OnOk, Some, length, slice_get};
 ghost use Rattle.cubes.specs.declared.cube.Cube.{Cube};
-ghost use Rattle.machine_table.specs.declared.covering.Piece.{Piece};
-ghost use Rattle.cover_split.specs.Inner.Joints.{AddsJoints, AreJoints, AreListsFor, AreListsMet, AreMet, AreSpread, HasEachNext, IsDash, IsSettled, IsTargetOf, IsWholePiece};
+ghost use Rattle.machine_table.specs.declared.pieces.Piece.{Piece};
+ghost use Rattle.cover_split.specs.Inner.Joints.{
+  AddsJoints,
+  AreJoints,
+  AreListsFor,
+  AreListsMet,
+  AreMet,
+  AreSpread,
+  HasEachNext,
+  IsDash,
+  IsSettled,
+  IsTargetOf,
+  IsWholePiece,
+};
 
 use crate::cover::{Block, has_state, states_at};
 use cubes::{Cube, bit};

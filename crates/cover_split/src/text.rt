@@ -1,5 +1,26 @@
 //! Covers from their texts.
-ghost use Rattle.std.specs.Prelude.{◌≡◌, ◌≢◌, ℕ, ◌+◌, ◌<◌, ◌≤◌, ◌^◌, ◌⊎◌, ◌↔◌, All, IfErr, IfNone, IfOk, IfSome, IsTrue, List, MatchResult, OnOk, length, true};
+ghost use Rattle.std.specs.Prelude.{
+  ◌≡◌,
+  ◌≢◌,
+  ℕ,
+  ◌+◌,
+  ◌<◌,
+  ◌≤◌,
+  ◌^◌,
+  ◌⊎◌,
+  ◌↔◌,
+  All,
+  IfErr,
+  IfNone,
+  IfOk,
+  IfSome,
+  IsTrue,
+  List,
+  MatchResult,
+  OnOk,
+  length,
+  true,
+};
 ghost use Rattle.std.specs.Fmt.{decimal};
 ghost use Rattle.partition.specs.Partition.{IsStateCount};
 ghost use Rattle.partition.specs.Numerals.{IsPlain};

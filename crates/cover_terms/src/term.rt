@@ -14,7 +14,16 @@ impl Term {
     ghost use Rattle.std.specs.Prelude.{◌≡◌, ℕ, ◌<◌, ◌≤◌, ◌↔◌, IsTrue, MatchOption, bit_and, if◌then◌else◌};
     ghost use Rattle.std.specs.Int.{bit_at};
     ghost use Rattle.cover_terms.specs.Term.{FitsWidth, Holds, HoldsWithDash, LooksAt};
-    ghost use Rattle.cover_terms.specs.Pair.{HasLiteral, Includes, IsColumnHalf, IsLooser, IsIntersection, ShareValue, agree, refines};
+    ghost use Rattle.cover_terms.specs.Pair.{
+      HasLiteral,
+      Includes,
+      IsColumnHalf,
+      IsLooser,
+      IsIntersection,
+      ShareValue,
+      agree,
+      refines,
+    };
 
     /// The term with literals at the columns of `care`, by the bits of `value` there.
     pub fn masked(care: u128, value: u128) -> Term

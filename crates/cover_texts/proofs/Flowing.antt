@@ -9,7 +9,7 @@ use Rattle.cover_texts.specs.Inner.Steps.{AreParts}
 use Rattle.decomposition.specs.Flow.{Flows}
 use Rattle.kiss_file.specs.declared.file.KissFile.{KissFile}
 use Rattle.kiss_file.specs.Machine.{next}
-use Rattle.machine_table.specs.Staying.{NeverLeaves}
+use Rattle.machine_table.specs.NextStates.{NeverLeaves}
 use Rattle.kiss_file.specs.Laws.NumberedNames.{length-numbered_names}
 use Rattle.pair_operators.specs.Pair.{Closed}
 use Rattle.partition.specs.Partition.{IsPartition, Together}

@@ -5,8 +5,8 @@ use Rattle.blif_out.specs.declared.networks.CommentedNetwork.{CommentedNetwork}
 use Rattle.blif_out.specs.NetworkText.{CanBeText}
 use Rattle.cover_texts.specs.Flaws.{BadCoverRow}
 use Rattle.cover_texts.specs.Inner.Steps.{IsExpanded, IsRead}
-use Rattle.cover_texts.specs.Inner.Whole.{IsWhole}
-use Rattle.cover_texts.specs.Written.{IsCoverNetwork}
+use Rattle.cover_texts.specs.Inner.PairsNetwork.{IsWhole}
+use Rattle.cover_texts.specs.CoverText.{IsCoverNetwork}
 use Rattle.cover_texts.proofs.Judging.{none_called}
 use Rattle.kiss_file.specs.declared.file.KissFile.{KissFile}
 

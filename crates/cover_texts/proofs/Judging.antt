@@ -5,7 +5,7 @@ use Rattle.answers.specs.declared.refusals.CoverFlaw.TheVariants.{Lacks, Leaves,
 use Rattle.answers.specs.declared.refusals.Refusal.{Refusal}
 use Rattle.answers.specs.declared.refusals.Refusal.TheVariants.{NoMemory}
 use Rattle.answers.specs.Cause.{CallsForNone}
-use Rattle.answers.specs.Judged.{IsStop}
+use Rattle.answers.specs.Outcome.{IsStop}
 use Rattle.cover_split.specs.declared.cover.Cover.{Cover}
 use Rattle.cover_split.specs.declared.cover.CoverFail.{CoverFail}
 use Rattle.cover_split.specs.declared.cover.CoverFail.TheVariants as fails

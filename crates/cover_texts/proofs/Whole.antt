@@ -12,28 +12,28 @@ use Rattle.cover_split.specs.Cover.{IsCover}
 use Rattle.cover_split.specs.Expansion.{pairs_of}
 use Rattle.cover_split.specs.Refusal.{SpellsBlocks}
 use Rattle.cover_texts.specs.Inner.Steps.{AreCodesOfPairs, AreParts, IsExpanded}
-use Rattle.cover_texts.specs.Inner.Whole.{IsWhole}
+use Rattle.cover_texts.specs.Inner.PairsNetwork.{IsWhole}
 use Rattle.cover_texts.specs.Lines.{cover_comments}
-use Rattle.cover_texts.specs.Written.{FrontReadsFront, HasLatches, IsNetworkOfPairs, StartsAtFirstCopy, StepsAsPairs}
+use Rattle.cover_texts.specs.CoverText.{FrontReadsFront, HasLatches, IsNetworkOfPairs, StartsAtFirstCopy, StepsAsPairs}
 use Rattle.cover_texts.proofs.Comments.{are_comments, states_below}
 use Rattle.cover_texts.proofs.Flowing.{states_counted}
 use Rattle.cover_texts.proofs.Sizes.{length_of_code}
 use Rattle.decomposition.specs.Network.{IsNetworkOf}
-use Rattle.decomposition.specs.Within.{IsBitOf}
+use Rattle.decomposition.specs.PartReads.{IsBitOf}
 use Rattle.decomposition.proofs.Writable.{file_names, plain_fields, writable}
 use Rattle.kiss_file.specs.declared.file.KissFile.{KissFile}
-use Rattle.kiss_file.specs.Lawful.{IsLawful}
+use Rattle.kiss_file.specs.LawfulFile.{IsLawful}
 use Rattle.kiss_file.specs.Machine.{next, out}
-use Rattle.machine_table.specs.Staying.{NeverLeaves}
+use Rattle.machine_table.specs.NextStates.{NeverLeaves}
 use Rattle.machine_table.specs.Table.{IsTable}
 use Rattle.net_core.specs.declared.Network.{Network}
 use Rattle.net_core.specs.declared.SignalNames.{SignalNames}
 use Rattle.net_core.specs.Step.{NetAnswers, Step}
-use Rattle.realise.specs.Carries.{AnswersAs}
+use Rattle.realise.specs.CarriedMachine.{AnswersAs}
 use Rattle.realise.specs.Codes.{code_of}
 use Rattle.realise.specs.Laws.{ArePairwiseDistinct}
 use Rattle.realise.specs.Names.{AreNames}
-use Rattle.realise.specs.Realised.{AreCounted}
+use Rattle.realise.specs.CodeNetwork.{AreCounted}
 use Rattle.realise.specs.Laws.Apart.{names_apart}
 use Rattle.realise.specs.Laws.Carrying.{carried_answers}
 use Rattle.state_codes.specs.declared.Codes.{Codes}

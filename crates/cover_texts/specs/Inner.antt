@@ -1,5 +1,5 @@
 -- Definitions that only private functions and proofs need.
 pub mod Steps
 pub mod Pieces
-pub mod Whole
-pub mod Commented
+pub mod PairsNetwork
+pub mod CommentedNetwork

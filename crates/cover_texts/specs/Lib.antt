@@ -1,5 +1,5 @@
 pub mod Flaws
 pub mod Lines
-pub mod Written
+pub mod CoverText
 pub mod Inner
 pub mod Laws

@@ -1,17 +1,17 @@
 //! From the text of a cover to its network.
 
 ghost use Rattle.std.specs.Prelude.{◌≡◌, ℕ, List, length};
-ghost use Rattle.answers.specs.Judged.{IsJudged};
+ghost use Rattle.answers.specs.Outcome.{IsJudged};
 ghost use Rattle.blif_out.specs.NetworkText.{CanBeText};
 ghost use Rattle.cover_split.specs.Cover.{IsCover};
 ghost use Rattle.cover_texts.specs.Flaws.{BadCoverRow};
 ghost use Rattle.cover_texts.specs.Inner.Steps.{IsRead};
-ghost use Rattle.cover_texts.specs.Written.{IsCoverNetwork};
-ghost use Rattle.kiss_file.specs.Lawful.{IsLawful};
+ghost use Rattle.cover_texts.specs.CoverText.{IsCoverNetwork};
+ghost use Rattle.kiss_file.specs.LawfulFile.{IsLawful};
 
 use crate::flaws::read;
+use crate::networks::network_of_pairs;
 use crate::pairs::machine_of_pairs;
-use crate::writing::network_of_pairs;
 use answers::Refusal;
 use blif_out::CommentedNetwork;
 use cover_split::Cover;
@@ -28,7 +28,8 @@ pub fn cover(
 ) -> Result<CommentedNetwork, Refusal>
     requires lawful { IsLawful file.now }
     requires machine { machine.now ≡ file.now }
-    ensures { IsJudged (BadCoverRow file.now text.now) (λ made. CanBeText made × IsCoverNetwork file.now text.now made) result }
+    ensures { IsJudged (BadCoverRow file.now text.now)
+        (λ made. CanBeText made × IsCoverNetwork file.now text.now made) result }
 {
     let blocks = read(alloc, file, machine, text)?;
     cover_by(alloc, file, machine, &blocks)

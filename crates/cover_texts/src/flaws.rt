@@ -1,7 +1,7 @@
 //! Reading covers, and the refusals of their texts.
 
 ghost use Rattle.std.specs.Prelude.{◌≡◌, ◌<◌, ℕ, IfOk, MatchResult, length};
-ghost use Rattle.answers.specs.Judged.{IsStop};
+ghost use Rattle.answers.specs.Outcome.{IsStop};
 ghost use Rattle.cover_split.specs.declared.cover.CoverFail.TheVariants as fails;
 ghost use Rattle.cover_texts.specs.Flaws.{BadCoverRow};
 ghost use Rattle.cover_texts.specs.Inner.Steps.{IsRead, IsFailRefusal};
@@ -21,7 +21,8 @@ pub(crate) fn read(
     text: &[u8],
 ) -> Result<Cover, Refusal>
     requires { machine.now ≡ file.now }
-    ensures { MatchResult result (λ cover. IsRead (length file.now.states) text.now cover.blocks) (IsStop (BadCoverRow file.now text.now)) }
+    ensures { MatchResult result (λ cover. IsRead (length file.now.states) text.now cover.blocks)
+        (IsStop (BadCoverRow file.now text.now)) }
 {
     match parse(alloc, text, machine.states()) {
         Ok(cover) => Ok(cover),

@@ -5,14 +5,14 @@
 //! those of the blocks, of the code of each pair and of the latches.
 //!
 //! The definitions are in `specs/`: `Flaws` says which refusal a text calls for, `Lines` lays out the comments, and
-//! `Written` says all that is promised of the network and its text. `specs/Laws` has what follows from the cause.
+//! `CoverText` says all that is promised of the network and its text. `specs/Laws` has what follows from the cause.
 #![tactic(auto)]
 
 mod blocks;
 mod covers;
 mod flaws;
 mod lines;
+mod networks;
 mod pairs;
-mod writing;
 
 pub use covers::cover;

@@ -26,7 +26,9 @@ pub(crate) fn append_head(
     requires cover { IsCover (length file.now.states) cover.now.blocks }
     requires words { length codes.now.words ≡ length (expansion.pairs_of cover.now.blocks) }
     requires bits { codes.now.bits ≤ 64 }
-    ensures { OnOk result (text.new.items ≡ text.old.items ++ cover_comments file.now.states cover.now.blocks codes.now.bits codes.now.words notes.now) }
+    ensures { OnOk result
+        (text.new.items ≡ text.old.items
+        ++ cover_comments file.now.states cover.now.blocks codes.now.bits codes.now.words notes.now) }
 {
     let blocks = cover.blocks.as_slice();
     text.extend_from_slice(b"# hsdec cover\n")?;
@@ -54,7 +56,8 @@ fn append_pairs(
     requires states { All (λ pair. pair.1 < length states.now) pairs.now }
     requires words { length words.now ≡ length pairs.now }
     requires bits { bits ≤ 64 }
-    ensures { OnOk result (text.new.items ≡ text.old.items ++ flat_map (pair_line states.now bits) (zip pairs.now words.now)) }
+    ensures { OnOk result
+        (text.new.items ≡ text.old.items ++ flat_map (pair_line states.now bits) (zip pairs.now words.now)) }
 {
     for (i, word) in words.iter().enumerate() {
         append_pair(text, states, pairs[i], bits, *word)?;

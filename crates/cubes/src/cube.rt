@@ -159,7 +159,8 @@ impl Cube {
         ensures within { IfSome result (λ place. place < self.now.width) }
         ensures dash { IfSome result (λ place. bit self.now.care place ≡ false) }
         ensures other { IfSome result (λ place. bit other.now.care place ≡ true) }
-        ensures lowest { IfSome result (λ place. (k : ℕ) → k < place → bit other.now.care k ≡ true → bit self.now.care k ≡ true) }
+        ensures lowest { IfSome result
+            (λ place. (k : ℕ) → k < place → bit other.now.care k ≡ true → bit self.now.care k ≡ true) }
         ensures none { IfNone result ((y : ℕ) → HoldsNumber self.now y → HoldsNumber other.now y) }
     {
         let free = other.care & (other.care ^ self.care);

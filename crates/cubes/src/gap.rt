@@ -11,11 +11,37 @@
 //!
 //! The least gap is found from some gap: from the highest place on, wherever the gap has a 1, the half with a 0
 //! there is searched.
-ghost use Rattle.std.specs.Prelude.{ℕ, ◌≡◌, ◌<◌, ◌≤◌, ◌^◌, ◌↔◌, All, Any, Bool, IfNone, IfOk, IfSome, IsTrue, filter, true};
+ghost use Rattle.std.specs.Prelude.{
+  ℕ,
+  ◌≡◌,
+  ◌<◌,
+  ◌≤◌,
+  ◌^◌,
+  ◌↔◌,
+  All,
+  Any,
+  Bool,
+  IfNone,
+  IfOk,
+  IfSome,
+  IsTrue,
+  filter,
+  true,
+};
 ghost use Rattle.cubes.specs.Cube.{HoldsNumber};
 ghost use Rattle.cubes.specs.Gap.{HoldsEach, IsFirstGap, IsHeld};
 ghost use Rattle.cubes.specs.Symbol.{bit};
-ghost use Rattle.cubes.specs.Inner.Region.{AreWanted, HasDashesBelow, HoldsRegion, IsGapIn, IsLeastGapIn, IsNarrowed, IsOpen, looked_at, touches};
+ghost use Rattle.cubes.specs.Inner.Region.{
+  AreWanted,
+  HasDashesBelow,
+  HoldsRegion,
+  IsGapIn,
+  IsLeastGapIn,
+  IsNarrowed,
+  IsOpen,
+  looked_at,
+  touches,
+};
 
 use crate::cube::Cube;
 use std::alloc::{AllocError, Global};

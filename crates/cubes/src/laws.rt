@@ -1,7 +1,17 @@
 //! Laws of symbols and cubes, for the crates above. Each law is the contract of a function that does nothing.
 ghost use Rattle.std.specs.Prelude.{ℕ, ◌≡◌, ◌+◌, ◌<◌, ◌≤◌, ◌^◌, ◌↔◌, Bool, true, false, List, [], ◌∷◌, bit_and, length};
 ghost use Rattle.cubes.specs.declared.cube.Cube.{Cube};
-ghost use Rattle.cubes.specs.Cube.{DiffersAtPlace, HasBitsOf, Holds, HoldsNumber, IsBoth, IsHalf, Meets, greatest_of, holds};
+ghost use Rattle.cubes.specs.Cube.{
+  DiffersAtPlace,
+  HasBitsOf,
+  Holds,
+  HoldsNumber,
+  IsBoth,
+  IsHalf,
+  Meets,
+  greatest_of,
+  holds,
+};
 ghost use Rattle.cubes.specs.Symbol.{bit, lowest_bits, number_of, symbol_of};
 
 /// Symbols of a width correspond to the numbers below 2 to the power of the width.

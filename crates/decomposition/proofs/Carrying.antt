@@ -4,29 +4,29 @@ use Rattle.std.specs.List.{slice_index}
 use Rattle.std.proofs.lemmas.Bool.{false≢true}
 use Rattle.std.proofs.lemmas.List.{get_or-map, get_or_default, length-map}
 use Rattle.kiss_file.specs.declared.file.KissFile.{KissFile}
-use Rattle.kiss_file.specs.Lawful.{IsLawful}
+use Rattle.kiss_file.specs.LawfulFile.{IsLawful}
 use Rattle.kiss_file.specs.Machine.{Conflicting, next, out}
 use Rattle.kiss_file.specs.Laws.Machine.{next_is_a_state}
-use Rattle.machine_table.specs.Staying.{NeverLeaves}
+use Rattle.machine_table.specs.NextStates.{NeverLeaves}
 use Rattle.machine_table.specs.Table.{IsTable}
 use Rattle.state_pairs.specs.Laws.Lawful.{table_of_lawful}
 use Rattle.net_core.specs.declared.Network.{Network}
 use Rattle.net_core.specs.Step.{AreStarts, Step}
 use Rattle.pair_operators.specs.Pair.{Closed}
 use Rattle.partition.specs.Laws.Labels.{same_labels}
-use Rattle.realise.specs.Carries.{Carries}
+use Rattle.realise.specs.CarriedMachine.{Carries}
 use Rattle.cubes.specs.Symbol.{lowest_bits}
 use Rattle.realise.specs.Codes.{code_of}
-use Rattle.state_reduce.specs.Alike.{IsEquivalence}
+use Rattle.state_reduce.specs.AlikeStates.{IsEquivalence}
 use Rattle.state_reduce.specs.Quotient.{AreBlocksInOrder}
 use Rattle.state_reduce.specs.WorkMachine.{IsFileItself, IsMachineOfClasses, IsWorkMachine}
-use Rattle.state_reduce.specs.Inner.Named.{AreAllNamed}
+use Rattle.state_reduce.specs.Inner.BlockNames.{AreAllNamed}
 use Rattle.state_reduce.proofs.AllNamed.{all_named}
 use Rattle.state_reduce.proofs.Answered.{next_of_block, out_of_block}
 use Rattle.state_reduce.proofs.Numbers.{number_within}
 use Rattle.state_reduce.proofs.Ordered.{blocks_in_order}
 use Rattle.state_reduce.specs.Laws.Unrefused.{alike_closed, alike_consistent}
-use Rattle.decomposition.specs.Inner.Headed.{words_by}
+use Rattle.decomposition.specs.Inner.Header.{words_by}
 use Rattle.state_reduce.specs.Work.{AreClasses}
 
 -- a machine answers and moves from the class of a state as the file's machine does from the state

@@ -9,17 +9,17 @@ use Rattle.std.proofs.lemmas.Option.{slice_get-get_or, slice_get_within}
 use Rattle.dependence.specs.declared.sets.ReadSet.{ReadSet}
 use Rattle.dependence.specs.declared.sets.Reads.{Reads}
 use Rattle.dependence.specs.Candidates.{IsBitOfCode, IsCandidate}
-use Rattle.dependence.specs.Permits.{PermitsOutput, PermitsValue, next_value, output_value}
+use Rattle.dependence.specs.SufficientBits.{PermitsOutput, PermitsValue, next_value, output_value}
 use Rattle.dependence.specs.ReadRule.{LatchRuleIsIrredundant, OutputRuleIsIrredundant}
 use Rattle.dependence.specs.Reads.{AreReads, IsReadSet}
 use Rattle.kiss_file.specs.declared.file.KissFile.{KissFile}
-use Rattle.realise.specs.Realised.{AreEnough, IsEnough, IsWithin}
+use Rattle.realise.specs.CodeNetwork.{AreEnough, IsEnough, IsWithin}
 use Rattle.state_codes.specs.declared.Codes.{Codes}
 use Rattle.state_codes.specs.declared.split.Part.{Part}
 use Rattle.state_codes.specs.Agreement.{AreDistinct}
 use Rattle.state_codes.specs.Code.{IsCode, Place, bit_of, places_of, state_code}
 use Rattle.decomposition.specs.Flow.{CandidatesPermit}
-use Rattle.decomposition.specs.Irredundant.{AreIrredundant}
+use Rattle.decomposition.specs.Irredundance.{AreIrredundant}
 
 -- a code has no bits but its own
 pub no_bit_past : (n : ℕ) (parts : List Part) (codes : Codes) → IsCode n parts codes → (s i : ℕ) → s < n → codes.bits ≤ i → bit_at (get_or codes.words s 0) i ≡ 0

@@ -3,10 +3,10 @@ use Rattle.std.proofs.Common.{◌≡◌, ℕ, ◌<◌, refl, inl, inr, Bool, All
 use Rattle.list_facts.specs.Laws.Places.{item_at}
 use Rattle.cubes.specs.Laws.Bits.{same_bits}
 use Rattle.dependence.specs.Candidates.{IsCandidate}
-use Rattle.dependence.specs.Permits.{AgreeOn, next_value}
+use Rattle.dependence.specs.SufficientBits.{AgreeOn, next_value}
 use Rattle.kiss_file.specs.declared.file.KissFile.{KissFile}
 use Rattle.kiss_file.specs.Machine.{next}
-use Rattle.machine_table.specs.Staying.{NeverLeaves}
+use Rattle.machine_table.specs.NextStates.{NeverLeaves}
 use Rattle.partition.specs.Partition.{Together}
 use Rattle.state_codes.specs.declared.Codes.{Codes}
 use Rattle.state_codes.specs.declared.split.Part.{Part}

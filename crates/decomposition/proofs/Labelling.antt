@@ -8,13 +8,13 @@ use Rattle.std.proofs.lemmas.Nat.Bits.{bit_at-lt, bit_at-zero, bit_at_and, bit_a
 use Rattle.std.proofs.lemmas.Option.{get_or_from_slice_get, slice_get_within}
 use Rattle.blif_out.specs.declared.header.LatchNote.{LatchNote}
 use Rattle.dependence.specs.declared.sets.ReadSet.{ReadSet}
-use Rattle.dependence.specs.Permits.{InWord}
+use Rattle.dependence.specs.SufficientBits.{InWord}
 use Rattle.partition.specs.Partition.{IsNumbered, IsPartition, IsStateCount}
 use Rattle.partition.specs.Laws.Labels.{IsNumbered-none, IsNumbered-push, blocks_of-le, blocks_of-push, label-lt-blocks_of}
 use Rattle.state_codes.specs.declared.Codes.{Codes}
 use Rattle.state_codes.specs.Agreement.{CodesAgreeAt, IsBitPartition}
 use Rattle.decomposition.specs.Notes.{AreNotes, IsNoteOf, IsPartitionOn}
-use Rattle.decomposition.specs.Inner.Labelled.{AreLabelled, IsSeenAt}
+use Rattle.decomposition.specs.Inner.Labels.{AreLabelled, IsSeenAt}
 
 -- ---- words that agree on a set
 -- words with the same bits of the set agree there

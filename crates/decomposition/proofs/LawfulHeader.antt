@@ -15,7 +15,7 @@ use Rattle.blif_out.specs.HeadLaw.{IsLawfulHeader, IsLawfulNote, IsLawfulPart, I
 use Rattle.dependence.specs.declared.sets.ReadSet.{ReadSet}
 use Rattle.hs_io.specs.Spelling.{ArePlainFields}
 use Rattle.kiss_file.specs.declared.file.KissFile.{KissFile}
-use Rattle.kiss_file.specs.Lawful.{IsLawful}
+use Rattle.kiss_file.specs.LawfulFile.{IsLawful}
 use Rattle.partition.specs.Partition.{IsPartition}
 use Rattle.state_codes.specs.declared.Codes.{Codes}
 use Rattle.state_codes.specs.declared.split.Part.{Part}
@@ -23,7 +23,7 @@ use Rattle.state_codes.specs.declared.split.Split.{Split}
 use Rattle.state_codes.specs.Code.{IsCode}
 use Rattle.state_codes.specs.Laws.Codes.{owner-lt}
 use Rattle.state_codes.specs.Split.{IsPart}
-use Rattle.decomposition.specs.Inner.Headed.{HasSmallReads, IsHeaderOf, words_by}
+use Rattle.decomposition.specs.Inner.Header.{HasSmallReads, IsHeaderOf, words_by}
 use Rattle.decomposition.specs.Notes.{AreNotes, IsNoteOf}
 use Rattle.state_reduce.specs.Work.{AreClasses}
 use Rattle.decomposition.proofs.Carrying.{ArePrinted, IsImage}

@@ -6,16 +6,16 @@ use Rattle.dependence.specs.declared.sets.Reads.{Reads}
 use Rattle.dependence.specs.ReadRule.{LatchRuleIsIrredundant, OutputRuleIsIrredundant}
 use Rattle.dependence.specs.Reads.{AreReads}
 use Rattle.kiss_file.specs.declared.file.KissFile.{KissFile}
-use Rattle.machine_table.specs.Staying.{NeverLeaves}
+use Rattle.machine_table.specs.NextStates.{NeverLeaves}
 use Rattle.machine_table.specs.Table.{IsTable}
 use Rattle.net_core.specs.declared.Network.{Network}
 use Rattle.net_core.specs.declared.SignalNames.{SignalNames}
-use Rattle.net_core.specs.Flat.{IsFlat}
+use Rattle.net_core.specs.FlatNetwork.{IsFlat}
 use Rattle.net_core.specs.Laws.Flat.{flat_sound}
 use Rattle.partition.specs.Partition.{IsStateCount}
 use Rattle.realise.specs.Codes.{code_of}
 use Rattle.realise.specs.Laws.{ArePairwiseDistinct}
-use Rattle.realise.specs.Realised.{AreCounted, AreEnough, IsRealised}
+use Rattle.realise.specs.CodeNetwork.{AreCounted, AreEnough, IsRealised}
 use Rattle.realise.proofs.FlatNetworks.{realised_flat}
 use Rattle.realise.specs.Laws.Gates.{latch_count}
 use Rattle.realise.proofs.Stepping.{realised_carries}
@@ -27,7 +27,7 @@ use Rattle.state_codes.specs.Laws.Codes.{length-owner}
 use Rattle.state_codes.specs.Split.{IsPart}
 use Rattle.decomposition.specs.Flow.{Flows}
 use Rattle.decomposition.specs.Network.{IsNetworkOf}
-use Rattle.decomposition.specs.Irredundant.{AreIrredundant}
+use Rattle.decomposition.specs.Irredundance.{AreIrredundant}
 use Rattle.decomposition.specs.Notes.{AreNotes}
 use Rattle.decomposition.proofs.Enough.{enough, irredundant}
 use Rattle.decomposition.proofs.Flowing.{flow_permits}

@@ -8,18 +8,18 @@ use Rattle.cubes.specs.Laws.Bits.{same_digits}
 use Rattle.dependence.specs.declared.sets.ReadSet.{ReadSet}
 use Rattle.dependence.specs.declared.sets.Reads.{Reads}
 use Rattle.dependence.specs.Candidates.{IsCandidate}
-use Rattle.dependence.specs.Permits.{AgreeOn, next_value}
+use Rattle.dependence.specs.SufficientBits.{AgreeOn, next_value}
 use Rattle.dependence.specs.Reads.{AreReads}
 use Rattle.kiss_file.specs.declared.file.KissFile.{KissFile}
 use Rattle.kiss_file.specs.Machine.{next}
-use Rattle.machine_table.specs.Staying.{NeverLeaves}
+use Rattle.machine_table.specs.NextStates.{NeverLeaves}
 use Rattle.net_core.specs.declared.Gate.{Gate}
 use Rattle.net_core.specs.declared.Network.{Network}
 use Rattle.net_core.specs.declared.SignalNames.{SignalNames}
-use Rattle.net_core.specs.Flat.{IsFlat}
+use Rattle.net_core.specs.FlatNetwork.{IsFlat}
 use Rattle.partition.specs.Partition.{IsPartition}
 use Rattle.realise.specs.Laws.{ArePairwiseDistinct}
-use Rattle.realise.specs.Realised.{AreCounted, AreEnough, IsGateFor, IsRealised, IsWithin, name_at}
+use Rattle.realise.specs.CodeNetwork.{AreCounted, AreEnough, IsGateFor, IsRealised, IsWithin, name_at}
 use Rattle.realise.specs.Laws.Gates.{driven_names}
 use Rattle.state_codes.specs.declared.Codes.{Codes}
 use Rattle.state_codes.specs.declared.split.Part.{Part}
@@ -30,7 +30,7 @@ use Rattle.state_codes.specs.Split.{IsPart}
 use Rattle.decomposition.specs.Notes.{AreNotes, IsNoteOf}
 use Rattle.decomposition.specs.OwnPairs.{HasOwnPair, OwnPairs}
 use Rattle.decomposition.specs.OwnPairs.{ReadsLatch}
-use Rattle.decomposition.specs.Within.{IsBitOf, IsCarrierBit, IsPartOf, IsWithinParts, MayRead}
+use Rattle.decomposition.specs.PartReads.{IsBitOf, IsCarrierBit, IsPartOf, IsWithinParts, MayRead}
 use Rattle.decomposition.proofs.Reading.{listed_read, read_listed}
 
 -- what the network and the notes of the codes of a machine are

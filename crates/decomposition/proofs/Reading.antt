@@ -14,7 +14,7 @@ use Rattle.net_core.specs.declared.Network.{Network}
 use Rattle.net_core.specs.declared.SignalNames.{SignalNames}
 use Rattle.net_core.specs.Laws.Members.{is_same_name, times, times-append, times-cons, times-some}
 use Rattle.realise.specs.Laws.{ArePairwiseDistinct}
-use Rattle.realise.specs.Realised.{AreCounted, IsGateFor, IsWithin, name_at}
+use Rattle.realise.specs.CodeNetwork.{AreCounted, IsGateFor, IsWithin, name_at}
 use Rattle.decomposition.specs.OwnPairs.{ReadsLatch}
 
 -- a name that stands at two places stands twice

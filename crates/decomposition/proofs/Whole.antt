@@ -10,16 +10,16 @@ use Rattle.blif_out.specs.NetworkText.{CanBeWritten, CanBeHeaded}
 use Rattle.blif_out.specs.Writable.{IsWritable}
 use Rattle.hs_io.specs.Spelling.{ArePlainFields}
 use Rattle.kiss_file.specs.declared.file.KissFile.{KissFile}
-use Rattle.kiss_file.specs.Lawful.{IsLawful}
+use Rattle.kiss_file.specs.LawfulFile.{IsLawful}
 use Rattle.kiss_file.specs.Machine.{Conflicting}
 use Rattle.kiss_file.specs.Laws.Machine.{next_is_a_state}
-use Rattle.machine_table.specs.Staying.{NeverLeaves}
+use Rattle.machine_table.specs.NextStates.{NeverLeaves}
 use Rattle.net_core.specs.declared.Network.{Network}
 use Rattle.net_core.specs.declared.SignalNames.{SignalNames}
-use Rattle.realise.specs.Carries.{Carries}
+use Rattle.realise.specs.CarriedMachine.{Carries}
 use Rattle.realise.specs.Laws.{ArePairwiseDistinct}
 use Rattle.realise.specs.Names.{AreNames}
-use Rattle.realise.specs.Realised.{AreCounted}
+use Rattle.realise.specs.CodeNetwork.{AreCounted}
 use Rattle.realise.specs.Laws.Apart.{names_apart}
 use Rattle.realise.specs.Laws.Carrying.{carried_answers}
 use Rattle.state_codes.specs.declared.Codes.{Codes}
@@ -29,12 +29,12 @@ use Rattle.state_codes.specs.Code.{IsCode}
 use Rattle.state_codes.specs.Split.{IsPart}
 use Rattle.state_reduce.specs.declared.work.WorkMachine.{WorkMachine}
 use Rattle.decomposition.specs.Decomposition.{HasGates, IsDecomposed, IsDecomposition, PrintsCodes}
-use Rattle.decomposition.specs.Inner.Headed.{IsHeaderOf, words_by}
-use Rattle.decomposition.specs.Named.{Named}
+use Rattle.decomposition.specs.Inner.Header.{IsHeaderOf, words_by}
+use Rattle.decomposition.specs.Names.{Named}
 use Rattle.decomposition.specs.Network.{IsNetworkOf}
 use Rattle.decomposition.specs.Notes.{AreNotes}
 use Rattle.decomposition.specs.OwnPairs.{OwnPairs}
-use Rattle.decomposition.specs.Within.{IsWithinParts}
+use Rattle.decomposition.specs.PartReads.{IsWithinParts}
 use Rattle.state_reduce.specs.Work.{AreClasses, IsWork}
 use Rattle.decomposition.proofs.Carrying.{ArePrinted, IsImage, carries_file, image_of, labels_inside, printed_of}
 use Rattle.decomposition.proofs.LawfulHeader.{header_lawful}

@@ -16,7 +16,7 @@ use Rattle.blif_out.proofs.Words.{is_name_byte, name_from_bytes}
 use Rattle.dependence.specs.declared.sets.Reads.{Reads}
 use Rattle.hs_io.specs.Spelling.{ArePlainFields, IsFieldByte, IsPlainField}
 use Rattle.kiss_file.specs.declared.file.KissFile.{KissFile}
-use Rattle.kiss_file.specs.Lawful.{AreGiven, IsGivenName, IsLawful}
+use Rattle.kiss_file.specs.LawfulFile.{AreGiven, IsGivenName, IsLawful}
 use Rattle.kiss_file.specs.Names.{IsPlainName}
 use Rattle.net_core.specs.declared.Gate.{Gate}
 use Rattle.net_core.specs.declared.Latch.{Latch}
@@ -24,11 +24,11 @@ use Rattle.net_core.specs.declared.Network.{Network}
 use Rattle.net_core.specs.declared.SignalNames.{SignalNames}
 use Rattle.net_core.specs.declared.Start.{Start}
 use Rattle.net_core.specs.declared.Start.TheVariants.{Zero, One, Free, Unknown}
-use Rattle.net_core.specs.Sound.{driven_by}
+use Rattle.net_core.specs.SoundNetwork.{driven_by}
 use Rattle.net_core.specs.Statements.{is_plane_character}
 use Rattle.net_core.specs.Step.{AreStarts, bit_of_start, character_holds, row_holds}
 use Rattle.realise.specs.Names.{AreNames, input_letter, next_letter, output_letter, own_name, own_names, prefix, state_letter}
-use Rattle.realise.specs.Realised.{AreCounted, AreEnough, IsRealised, name_at}
+use Rattle.realise.specs.CodeNetwork.{AreCounted, AreEnough, IsRealised, name_at}
 use Rattle.gate_rows.specs.Covers.{IsGoodCover}
 use Rattle.realise.specs.Laws.Gates.{IsSomeGate, driven_names, each_gate}
 

@@ -9,18 +9,18 @@ use Rattle.dependence.specs.Reads.{AreReads}
 use Rattle.kiss_file.specs.declared.file.KissFile.{KissFile}
 use Rattle.net_core.specs.declared.Network.{Network}
 use Rattle.net_core.specs.declared.SignalNames.{SignalNames}
-use Rattle.realise.specs.Carries.{AnswersAs, Carries}
+use Rattle.realise.specs.CarriedMachine.{AnswersAs, Carries}
 use Rattle.realise.specs.Names.{AreNames}
-use Rattle.realise.specs.Realised.{AreEnough, IsRealised}
+use Rattle.realise.specs.CodeNetwork.{AreEnough, IsRealised}
 use Rattle.state_codes.specs.declared.Codes.{Codes}
 use Rattle.state_codes.specs.declared.split.Kind.{Kind}
 use Rattle.state_codes.specs.declared.split.Part.{Part}
 use Rattle.state_codes.specs.Code.{IsCode}
 use Rattle.state_reduce.specs.WorkMachine.{IsWorkMachine}
-use Rattle.decomposition.specs.Irredundant.{AreIrredundant}
-use Rattle.decomposition.specs.Named.{Named}
+use Rattle.decomposition.specs.Irredundance.{AreIrredundant}
+use Rattle.decomposition.specs.Names.{Named}
 use Rattle.decomposition.specs.OwnPairs.{OwnPairs}
-use Rattle.decomposition.specs.Within.{IsWithinParts}
+use Rattle.decomposition.specs.PartReads.{IsWithinParts}
 use Rattle.state_reduce.specs.Work.{AreClasses}
 
 -- the words printed for the states of the file are the codes of their classes; there is a latch for each bit, with

@@ -2,10 +2,10 @@
 -- decompositions).
 use Rattle.std.specs.Prelude.{◌≡◌, ℕ, ◌<◌, All, Bool, Contains, List, Some, length, slice_get}
 use Rattle.dependence.specs.Candidates.{IsCandidate}
-use Rattle.dependence.specs.Permits.{Permits}
+use Rattle.dependence.specs.SufficientBits.{Permits}
 use Rattle.kiss_file.specs.declared.file.KissFile.{KissFile}
 use Rattle.kiss_file.specs.Machine.{next}
-use Rattle.machine_table.specs.Staying.{NeverLeaves}
+use Rattle.machine_table.specs.NextStates.{NeverLeaves}
 use Rattle.partition.specs.Partition.{Together}
 use Rattle.state_codes.specs.declared.split.Part.{Part}
 use Rattle.state_codes.specs.declared.Codes.{Codes}

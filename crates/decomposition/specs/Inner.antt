@@ -1,4 +1,4 @@
 -- Definitions that only private functions and proofs need; no public contract cites them.
-pub mod Headed
-pub mod Labelled
+pub mod Header
+pub mod Labels
 pub mod HeadedNetwork

@@ -1,9 +1,9 @@
 pub mod Flow
-pub mod Named
+pub mod Names
 pub mod Notes
 pub mod OwnPairs
-pub mod Within
-pub mod Irredundant
+pub mod PartReads
+pub mod Irredundance
 pub mod Network
 pub mod Decomposition
 pub mod Inner

@@ -7,15 +7,15 @@ use Rattle.dependence.specs.Reads.{AreReads}
 use Rattle.kiss_file.specs.declared.file.KissFile.{KissFile}
 use Rattle.net_core.specs.declared.Network.{Network}
 use Rattle.net_core.specs.declared.SignalNames.{SignalNames}
-use Rattle.net_core.specs.Sound.{Sound}
-use Rattle.realise.specs.Carries.{Carries}
-use Rattle.realise.specs.Realised.{AreEnough, IsRealised}
+use Rattle.net_core.specs.SoundNetwork.{Sound}
+use Rattle.realise.specs.CarriedMachine.{Carries}
+use Rattle.realise.specs.CodeNetwork.{AreEnough, IsRealised}
 use Rattle.state_codes.specs.declared.Codes.{Codes}
 use Rattle.state_codes.specs.declared.split.Part.{Part}
-use Rattle.decomposition.specs.Irredundant.{AreIrredundant}
+use Rattle.decomposition.specs.Irredundance.{AreIrredundant}
 use Rattle.decomposition.specs.Notes.{AreNotes}
 use Rattle.decomposition.specs.OwnPairs.{OwnPairs}
-use Rattle.decomposition.specs.Within.{IsWithinParts}
+use Rattle.decomposition.specs.PartReads.{IsWithinParts}
 
 -- The gates have read sets by the rule, which are enough for what the gates give, with no bit to spare. The network
 -- has a latch for each bit. It is sound, starts at the code of the reset state, and goes from code to code as the machine goes from

@@ -2,7 +2,7 @@
 use Rattle.std.specs.Prelude.{◌≡◌, ℕ, ◌<◌, ◌↔◌, Contains, List, Some, length, slice_get, slice_index}
 use Rattle.blif_out.specs.declared.header.LatchNote.{LatchNote}
 use Rattle.dependence.specs.declared.sets.ReadSet.{ReadSet}
-use Rattle.dependence.specs.Permits.{AgreeOn}
+use Rattle.dependence.specs.SufficientBits.{AgreeOn}
 use Rattle.partition.specs.Partition.{IsPartition, Together}
 use Rattle.state_codes.specs.declared.Codes.{Codes}
 use Rattle.state_codes.specs.Agreement.{IsBitPartition}

@@ -5,13 +5,13 @@ use Rattle.kiss_file.specs.declared.file.KissFile.{KissFile}
 use Rattle.net_core.specs.declared.Gate.{Gate}
 use Rattle.net_core.specs.declared.Latch.{Latch}
 use Rattle.net_core.specs.declared.Network.{Network}
-use Rattle.net_core.specs.Flat.{base_of}
-use Rattle.net_core.specs.Sound.{driven_by}
-use Rattle.machine_table.specs.Staying.{NeverLeaves}
+use Rattle.net_core.specs.FlatNetwork.{base_of}
+use Rattle.net_core.specs.SoundNetwork.{driven_by}
+use Rattle.machine_table.specs.NextStates.{NeverLeaves}
 use Rattle.partition.specs.Partition.{IsPartition, Together}
 use Rattle.state_codes.specs.Agreement.{IsBitPartition}
 use Rattle.pair_operators.specs.Pair.{Pair}
-use Rattle.dependence.specs.Permits.{AgreeOn, Permits}
+use Rattle.dependence.specs.SufficientBits.{AgreeOn, Permits}
 
 -- a gate reads state bit c: the output of latch c is among its inputs
 abbrev pub ReadsLatch : Network → Gate → ℕ → Type 0

@@ -1,7 +1,7 @@
 //! The header that explains a network.
 
 ghost use Rattle.std.specs.Prelude.{◌≡◌, ◌<◌, ◌^◌, All, IfOk, IfSome, length, map, slice_index};
-ghost use Rattle.decomposition.specs.Inner.Headed.{HasSmallReads, IsHeaderOf, words_by};
+ghost use Rattle.decomposition.specs.Inner.Header.{HasSmallReads, IsHeaderOf, words_by};
 
 use blif_out::{Header, LatchNotes};
 use kiss_file::{StateNames, copied_states};

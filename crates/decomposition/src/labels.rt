@@ -2,8 +2,8 @@
 
 ghost use Rattle.std.specs.Prelude.{◌≡◌, ◌≢◌, ◌<◌, ◌≤◌, ◌↔◌, ℕ, All, Contains, IfOk, length, slice_index};
 ghost use Rattle.partition.specs.Partition.{IsPartition, IsStateCount, Together};
-ghost use Rattle.dependence.specs.Permits.{AgreeOn, InWord};
-ghost use Rattle.decomposition.specs.Inner.Labelled.{AreLabelled, IsSeenAt};
+ghost use Rattle.dependence.specs.SufficientBits.{AgreeOn, InWord};
+ghost use Rattle.decomposition.specs.Inner.Labels.{AreLabelled, IsSeenAt};
 ghost use Rattle.decomposition.specs.Notes.{IsPartitionOn};
 
 use partition::Partition;

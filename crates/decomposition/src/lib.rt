@@ -10,17 +10,17 @@
 //! `specs/Network` says all that is known of it.
 //!
 //! The machine that is split is the work machine of `state_reduce`: the machine of the file, or of the classes of its
-//! alike states. The other definitions are `Named` for names, `Notes` and `OwnPairs` for the partition pair of each
-//! latch, and `Within` for what the gates of a part read.
+//! alike states. The other definitions are `Names` for names, `Notes` and `OwnPairs` for the partition pair of each
+//! latch, and `PartReads` for what the gates of a part read.
 #![tactic(auto)]
 
+mod headed_networks;
 mod header;
 mod labels;
 mod laws;
 mod network;
 mod notes;
-mod writing;
 
+pub use headed_networks::headed_network;
 pub use laws::{flow_permits, own_pairs_permit};
 pub use network::{SplitNetwork, network_of_split};
-pub use writing::headed_network;

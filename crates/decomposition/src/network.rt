@@ -2,7 +2,7 @@
 
 ghost use Rattle.std.specs.Prelude.{◌≤◌, All, IfOk, length};
 ghost use Rattle.realise.specs.Laws.{ArePairwiseDistinct};
-ghost use Rattle.realise.specs.Realised.{AreCounted};
+ghost use Rattle.realise.specs.CodeNetwork.{AreCounted};
 ghost use Rattle.state_codes.specs.Agreement.{AreDistinct};
 ghost use Rattle.state_codes.specs.Code.{IsCode};
 ghost use Rattle.state_codes.specs.Split.{IsPart};
@@ -41,7 +41,8 @@ pub fn network_of_split(
     requires short { codes.now.bits ≤ 64 }
     requires counted { AreCounted machine.now codes.now.bits names.now }
     requires apart { ArePairwiseDistinct names.now }
-    ensures { IfOk result (λ made. IsNetworkOf machine.now split.now.parts codes.now names.now made.network made.notes) }
+    ensures { IfOk result
+        (λ made. IsNetworkOf machine.now split.now.parts codes.now names.now made.network made.notes) }
 {
     rule_is_irredundant();
     machine.keeps_its_states();

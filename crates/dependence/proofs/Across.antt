@@ -8,7 +8,7 @@ use Rattle.kiss_file.specs.declared.file.KissRow.{KissRow}
 use Rattle.dependence.specs.declared.effects.Effect.{Effect}
 use Rattle.dependence.specs.declared.bit.Bit.{Bit}
 use Rattle.dependence.specs.Inner.Effects.{Adds, AreGivenApart, DifferMore, Show, ShowAcross, ShowBeside}
-use Rattle.dependence.specs.Said.{row_value}
+use Rattle.dependence.specs.RowBits.{row_value}
 use Rattle.dependence.proofs.Adding.{adds_as, adds_none, adds_then, turned}
 
 contains_one : (one other : KissRow) → Contains (one ∷ []) other → one ≡ other

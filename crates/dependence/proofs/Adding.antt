@@ -17,7 +17,7 @@ use Rattle.dependence.specs.declared.bit.Bit.{Bit}
 use Rattle.dependence.specs.declared.bit.Bit.TheVariants.{Latch, Output}
 use Rattle.dependence.specs.Effects.{ActsBy, acts_on}
 use Rattle.dependence.specs.Inner.Effects.{Adds, AreGivenApart, IsActed, Show, acts_in}
-use Rattle.dependence.specs.Said.{next_bit, row_value}
+use Rattle.dependence.specs.RowBits.{next_bit, row_value}
 use Rattle.dependence.proofs.Symbols.{clash_turned, one_place}
 
 -- ---- what is added in turn

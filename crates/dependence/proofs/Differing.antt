@@ -14,11 +14,11 @@ use Rattle.cubes.specs.Laws.Numbers.{length-symbol_of}
 use Rattle.cubes.specs.Symbol.{bit, symbol_of}
 use Rattle.kiss_file.specs.declared.file.KissFile.{KissFile}
 use Rattle.kiss_file.specs.Machine.{next}
-use Rattle.machine_table.specs.Covering.{IsImage}
-use Rattle.machine_table.specs.Staying.{NeverLeaves}
+use Rattle.machine_table.specs.Pieces.{IsImage}
+use Rattle.machine_table.specs.NextStates.{NeverLeaves}
 use Rattle.dependence.specs.Inner.Differences.{AreFound, DifferInPair, IsDifference}
 use Rattle.dependence.specs.Laws.Agreeing.{each_same, same_each}
-use Rattle.dependence.specs.Permits.{InWord, next_value}
+use Rattle.dependence.specs.SufficientBits.{InWord, next_value}
 
 -- ---- the words of pairs
 digits_apart : (a b : ℕ) → a < 2 → b < 2 → (a + b) % 2 ≡ 1 → a ≢ b

@@ -17,12 +17,12 @@ use Rattle.kiss_file.specs.declared.file.KissFile.{KissFile}
 use Rattle.kiss_file.specs.declared.file.KissRow.{KissRow}
 use Rattle.kiss_file.specs.Machine.{Conflicting, IsRowAt, Specified, given_bit}
 use Rattle.kiss_file.specs.Laws.Machine.{next_not_said, next_said, output_bit_not_said, output_bit_said}
-use Rattle.machine_table.specs.declared.missing.Missing.{Missing}
-use Rattle.machine_table.specs.declared.missing.Missing.TheVariants.{Next, Output}
-use Rattle.machine_table.specs.Covering.{IsRightRow, IsSaidBy}
-use Rattle.state_pairs.specs.Asked.{IsOfState}
-use Rattle.dependence.specs.Inner.Filled.{AreNear, AreRowsOf, AreThoseMet, Fills, FillsPart, IsFilling, SayNothing, alone_of}
-use Rattle.machine_table.specs.Said.{Says, place_of}
+use Rattle.machine_table.specs.declared.open_part.Missing.{Missing}
+use Rattle.machine_table.specs.declared.open_part.Missing.TheVariants.{Next, Output}
+use Rattle.machine_table.specs.Pieces.{IsRightRow, IsSaidBy}
+use Rattle.state_pairs.specs.RowLabels.{IsOfState}
+use Rattle.dependence.specs.Inner.FilledRows.{AreNear, AreRowsOf, AreThoseMet, Fills, FillsPart, IsFilling, SayNothing, alone_of}
+use Rattle.machine_table.specs.OpenEntries.{Says, place_of}
 use Rattle.machine_table.specs.Table.{IsTable}
 use Rattle.state_pairs.specs.Laws.Asking.{lawful_row, number_of_row}
 use Rattle.machine_table.specs.Laws.Parts.{one_part}

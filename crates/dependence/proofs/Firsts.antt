@@ -5,7 +5,7 @@ use Rattle.std.proofs.lemmas.Bool.{cases_eq}
 use Rattle.std.proofs.lemmas.List.{get_or-replicate, get_or-set_other, get_or-set_same, length-replicate}
 use Rattle.std.proofs.lemmas.Option.{get_or_from_slice_get, same_Some, slice_get-get_or, slice_get_within}
 use Rattle.std.specs.List.{slice_get}
-use Rattle.dependence.specs.Inner.Asking.{AreFirsts, IsFirstLike, place_in}
+use Rattle.dependence.specs.Inner.LikeStates.{AreFirsts, IsFirstLike, place_in}
 
 module _ (words : List ℕ) (mask : ℕ) (firsts : List (Option ℕ)) (s : ℕ) (are : AreFirsts words mask firsts s) where
   -- the state at the place of s, where it has the same bits

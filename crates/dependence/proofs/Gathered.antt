@@ -10,9 +10,9 @@ use Rattle.std.proofs.lemmas.Option.{get_or_from_slice_get, slice_get-get_or, sl
 use Rattle.std.specs.List.{slice_get}
 use Rattle.kiss_file.specs.declared.file.KissFile.{KissFile}
 use Rattle.kiss_file.specs.declared.file.KissRow.{KissRow}
-use Rattle.machine_table.specs.declared.missing.Missing.{Missing}
-use Rattle.machine_table.specs.Covering.{IsRightRow, IsSaidBy}
-use Rattle.machine_table.specs.Said.{place_of}
+use Rattle.machine_table.specs.declared.open_part.Missing.{Missing}
+use Rattle.machine_table.specs.Pieces.{IsRightRow, IsSaidBy}
+use Rattle.machine_table.specs.OpenEntries.{place_of}
 use Rattle.dependence.specs.declared.effects.Effect.{Effect}
 use Rattle.dependence.specs.declared.bit.Bit.{Bit}
 use Rattle.dependence.specs.declared.sets.ReadSet.{ReadSet}
@@ -20,8 +20,8 @@ use Rattle.dependence.specs.Inputs.{Matters}
 use Rattle.dependence.specs.Effects.{ActsBy, AddsState, MattersAt}
 use Rattle.dependence.specs.Inner.Effects.{Adds, AreEffects, MattersBelow, ShowAcross}
 use Rattle.dependence.specs.Bit.{IsBit, value_of}
-use Rattle.dependence.specs.Listed.{AreListed}
-use Rattle.dependence.specs.Permits.{InWord}
+use Rattle.dependence.specs.BitLists.{AreListed}
+use Rattle.dependence.specs.SufficientBits.{InWord}
 use Rattle.dependence.specs.ReadRule.{Beside, IsReadRule}
 use Rattle.dependence.specs.Reads.{IsReadSet}
 use Rattle.dependence.proofs.Adding.{acts_within}

@@ -4,8 +4,8 @@ use Rattle.std.proofs.lemmas.Bool.{cases_eq, cases_lt}
 use Rattle.std.proofs.lemmas.List.{get_or_append_left, get_or_push, length_push}
 use Rattle.std.proofs.lemmas.List.Elements.{Contains-append_left, Contains-get_or, Contains-push, Contains-push_cases}
 use Rattle.std.specs.List.Sorted.{IsStrictlyIncreasing}
-use Rattle.dependence.specs.Permits.{InWord}
-use Rattle.dependence.specs.Listed.{AreListed}
+use Rattle.dependence.specs.SufficientBits.{InWord}
+use Rattle.dependence.specs.BitLists.{AreListed}
 
 pub listed_none : (set : ℕ) → AreListed [] set 0
 listed_none set = record {

@@ -10,15 +10,15 @@ use Rattle.cubes.specs.Laws.Meeting.{length_of_held, meets_from_clash}
 use Rattle.cubes.specs.Laws.Numbers.{length-symbol_of, number_below, symbol_of-number_of}
 use Rattle.kiss_file.specs.declared.file.KissFile.{KissFile}
 use Rattle.kiss_file.specs.declared.file.KissRow.{KissRow}
-use Rattle.machine_table.specs.declared.missing.Missing.{Missing}
-use Rattle.machine_table.specs.Covering.{IsRightRow, IsSaidBy}
-use Rattle.machine_table.specs.Said.{place_of}
+use Rattle.machine_table.specs.declared.open_part.Missing.{Missing}
+use Rattle.machine_table.specs.Pieces.{IsRightRow, IsSaidBy}
+use Rattle.machine_table.specs.OpenEntries.{place_of}
 use Rattle.dependence.specs.declared.bit.Bit.{Bit}
 use Rattle.dependence.specs.Inputs.{DifferAlone}
 use Rattle.dependence.specs.Bit.{IsBit, value_of}
 use Rattle.dependence.specs.Effects.{MattersAt}
 use Rattle.dependence.specs.Inner.Effects.{Show, ShowAcross}
-use Rattle.dependence.specs.Said.{row_value}
+use Rattle.dependence.specs.RowBits.{row_value}
 use Rattle.dependence.specs.Laws.Said.{part_counted, part_of, row_gives, says_value}
 use Rattle.dependence.proofs.Symbols.{clash_of-differing, differ_alone, parted}
 

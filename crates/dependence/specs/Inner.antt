@@ -1,7 +1,7 @@
 -- Definitions that only private functions and proofs need.
-pub mod Asking
-pub mod Judging
+pub mod LikeStates
+pub mod Judgement
 pub mod Effects
-pub mod Filled
+pub mod FilledRows
 pub mod Sets
 pub mod Differences

@@ -1,11 +1,11 @@
-pub mod Permits
+pub mod SufficientBits
 pub mod Bit
 pub mod Candidates
 pub mod ReadRule
 pub mod Inputs
 pub mod Effects
-pub mod Listed
+pub mod BitLists
 pub mod Reads
-pub mod Said
+pub mod RowBits
 pub mod Inner
 pub mod Laws

@@ -4,7 +4,7 @@ use Rattle.kiss_file.specs.declared.file.KissFile.{KissFile}
 use Rattle.state_codes.specs.declared.split.Part.{Part}
 use Rattle.state_codes.specs.declared.Codes.{Codes}
 use Rattle.dependence.specs.Candidates.{IsBitOfCode, IsCandidate}
-use Rattle.dependence.specs.Permits.{PermitsValue}
+use Rattle.dependence.specs.SufficientBits.{PermitsValue}
 
 -- the candidates below c, and the read bits above it
 abbrev pub Beside : (ℕ → Type 0) → (ℕ → Type 0) → ℕ → ℕ → Type 0

@@ -8,7 +8,7 @@ use Rattle.dependence.specs.declared.sets.ReadSet.{ReadSet}
 use Rattle.dependence.specs.declared.sets.Reads.{Reads}
 use Rattle.dependence.specs.Candidates.{IsBitOfCode, IsCandidate}
 use Rattle.dependence.specs.Inputs.{Matters}
-use Rattle.dependence.specs.Permits.{next_value, output_value}
+use Rattle.dependence.specs.SufficientBits.{next_value, output_value}
 use Rattle.dependence.specs.ReadRule.{IsReadRule}
 
 -- the bits that are read by the rule, and the inputs that matter, both ascending

@@ -4,7 +4,7 @@ ghost use Rattle.std.specs.Prelude.{◌≡◌, ◌↔◌, ◌+◌, ◌*◌, ◌<
 ghost use Rattle.kiss_file.specs.declared.file.KissFile.{KissFile};
 ghost use Rattle.dependence.specs.Bit.{GiveTheSame, IsBit, value_of};
 ghost use Rattle.dependence.specs.Inner.Differences.{AreFound, DifferInPair, IsDifference};
-ghost use Rattle.dependence.specs.Permits.{InWord};
+ghost use Rattle.dependence.specs.SufficientBits.{InWord};
 
 use crate::bit::Bit;
 use crate::words::has_bit;
@@ -25,7 +25,8 @@ impl Differences {
     /// No two states were compared yet.
     pub(crate) fn new(alloc: Global, states: usize) -> Result<Differences, AllocError>
         requires { states ≤ 256 }
-        ensures { (F : KissFile) (words : List ℕ) → length F.states ≡ states → IfOk result (λ differences. AreFound F words differences.found.items) }
+        ensures { (F : KissFile) (words : List ℕ) → length F.states ≡ states
+            → IfOk result (λ differences. AreFound F words differences.found.items) }
     {
         Ok(Differences {
             found: vec![in alloc; None; MOST_STATES * states]?,

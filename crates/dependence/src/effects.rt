@@ -1,15 +1,41 @@
 //! For which gates each input matters.
 
-ghost use Rattle.std.specs.Prelude.{◌≡◌, ◌≢◌, ◌↔◌, ◌+◌, ◌<◌, ◌≤◌, ◌^◌, ℕ, All, IfNone, IfOk, IfSome, IsTrue, OnOk, length};
+ghost use Rattle.std.specs.Prelude.{
+  ◌≡◌,
+  ◌≢◌,
+  ◌↔◌,
+  ◌+◌,
+  ◌<◌,
+  ◌≤◌,
+  ◌^◌,
+  ℕ,
+  All,
+  IfNone,
+  IfOk,
+  IfSome,
+  IsTrue,
+  OnOk,
+  length,
+};
 ghost use Rattle.cubes.specs.Symbol.{bit};
 ghost use Rattle.kiss_file.specs.Machine.{given_bit};
-ghost use Rattle.dependence.specs.Permits.{InWord};
+ghost use Rattle.dependence.specs.SufficientBits.{InWord};
 ghost use Rattle.dependence.specs.Effects.{ActsBy, AddsState, HasPlace, acts_on};
-ghost use Rattle.dependence.specs.Inner.Effects.{Adds, AreGivenApart, AreEffects, DifferMore, HasBits, IsActed, Show, ShowAcross, ShowBeside};
-ghost use Rattle.dependence.specs.Said.{next_bit};
+ghost use Rattle.dependence.specs.Inner.Effects.{
+  Adds,
+  AreGivenApart,
+  AreEffects,
+  DifferMore,
+  HasBits,
+  IsActed,
+  Show,
+  ShowAcross,
+  ShowBeside,
+};
+ghost use Rattle.dependence.specs.RowBits.{next_bit};
 
 use crate::bit::Bit;
-use crate::filled::filled_rows;
+use crate::whole_rows::filled_rows;
 use crate::words::{has_bit, with_bit};
 use kiss_file::KissRow;
 use machine_table::Machine;
@@ -195,7 +221,8 @@ fn add_of_two(effects: &mut [Effect], words: &[u64], one: &KissRow, other: &Kiss
 fn latches_apart(words: &[u64], one: &KissRow, other: &KissRow) -> u64
     requires next { IfSome one.now.to (λ t. t < length words.now) }
     requires other_next { IfSome other.now.to (λ t. t < length words.now) }
-    ensures { (i : ℕ) → IsTrue (bit result i) ↔ AreGivenApart (next_bit words.now i one.now) (next_bit words.now i other.now) }
+    ensures { (i : ℕ) → IsTrue (bit result i)
+        ↔ AreGivenApart (next_bit words.now i one.now) (next_bit words.now i other.now) }
 {
     match (one.to, other.to) {
         (Some(t), Some(u)) => words[usize::from(t)] ^ words[usize::from(u)],

@@ -11,30 +11,30 @@
 //! different values. [`add_effects`] gathers this state by state, and [`inputs_of`] gives the inputs that matter
 //! for a gate. What a state does is said by its [`filled_rows`], from which covers of gates are made too.
 //!
-//! The definitions are in `specs/`: `Permits` has what a set permits, `Bit` what the gate of a bit gives,
+//! The definitions are in `specs/`: `SufficientBits` has what a set permits, `Bit` what the gate of a bit gives,
 //! `Candidates` which bits a gate may read, `ReadRule` which of them it reads and that it can spare none, and
-//! `Inputs` where an input matters, `Effects` and `Listed` what words of bits say of it. `Reads` puts them
+//! `Inputs` where an input matters, `Effects` and `BitLists` what words of bits say of it. `Reads` puts them
 //! together. The functions of `laws` promise what follows from them.
 #![tactic(auto)]
 
-mod asking;
 mod bit;
 mod differences;
 mod effects;
-mod filled;
-mod judging;
+mod gate_reads;
 mod laws;
 mod numbers;
-mod reading;
+mod read_rule;
 mod sets;
+mod sufficient_bits;
+mod whole_rows;
 mod words;
 
-pub use asking::{permits, permits_output};
 pub use bit::Bit;
 pub use effects::{Effect, add_effects, inputs_of, no_effects};
-pub use filled::filled_rows;
+pub use gate_reads::reads;
 pub use laws::rule_is_irredundant;
 pub use numbers::Numbers;
-pub use reading::reads;
 pub use sets::{ReadSet, ReadSets, Reads};
+pub use sufficient_bits::{permits, permits_output};
+pub use whole_rows::filled_rows;
 pub use words::{bits_below, has_bit, numbers_of, with_bit};

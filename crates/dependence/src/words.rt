@@ -1,8 +1,8 @@
 //! Words of bits as sets.
 
 ghost use Rattle.std.specs.Prelude.{◌≡◌, ◌↔◌, ◌<◌, ◌≤◌, ◌⊎◌, ℕ, IfOk, IsTrue};
-ghost use Rattle.dependence.specs.Listed.{AreListed};
-ghost use Rattle.dependence.specs.Permits.{InWord};
+ghost use Rattle.dependence.specs.BitLists.{AreListed};
+ghost use Rattle.dependence.specs.SufficientBits.{InWord};
 ghost use Rattle.dependence.specs.ReadRule.{Without};
 
 use crate::Numbers;

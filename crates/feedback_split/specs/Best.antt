@@ -2,7 +2,7 @@
 use Rattle.std.specs.Prelude.{◌≡◌, ℕ, ◌<◌, List, [], ◌∷◌, length}
 use Rattle.kiss_file.specs.declared.file.KissFile.{KissFile}
 use Rattle.partition.specs.Partition.{Lt, Together}
-use Rattle.partition.specs.Merging.{IsMerged}
+use Rattle.partition.specs.MergedBlocks.{IsMerged}
 use Rattle.mm_lattice.specs.Top.{IsBelowOne, IsRightSide}
 use Rattle.state_codes.specs.declared.split.Part.{Part}
 use Rattle.feedback_split.specs.Carrier.{Suffices}

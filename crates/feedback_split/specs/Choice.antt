@@ -3,7 +3,7 @@
 use Rattle.std.specs.Prelude.{◌≡◌, ℕ, List, [], ◌∷◌, length, map}
 use Rattle.kiss_file.specs.declared.file.KissFile.{KissFile}
 use Rattle.partition.specs.Partition.{zero_of}
-use Rattle.partition.specs.Inside.{IsComplement}
+use Rattle.partition.specs.NestedBlocks.{IsComplement}
 use Rattle.pair_operators.specs.Growth.{IsGrowth}
 use Rattle.mm_lattice.specs.Generators.{IsRightOf}
 use Rattle.mm_lattice.specs.Top.{IsBelowOne}

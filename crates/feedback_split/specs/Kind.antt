@@ -2,7 +2,7 @@
 use Rattle.std.specs.Prelude.{◌≡◌, List, [], ◌∷◌}
 use Rattle.kiss_file.specs.declared.file.KissFile.{KissFile}
 use Rattle.partition.specs.Partition.{IsNontrivial, Le, blocks_of}
-use Rattle.partition.specs.Inside.{IsLargestSize}
+use Rattle.partition.specs.NestedBlocks.{IsLargestSize}
 use Rattle.mm_lattice.specs.Top.{IsRightSide}
 use Rattle.state_codes.specs.declared.split.Part.{Part}
 use Rattle.state_codes.specs.Kinds.{PartsMeetInZero}

@@ -5,7 +5,13 @@ ghost use Rattle.std.specs.List.Sorted.{IsStrictlyIncreasing};
 ghost use Rattle.cover_terms.specs.Term.{Holds};
 ghost use Rattle.cubes.specs.Symbol as symbols;
 ghost use Rattle.gate_rows.specs.Columns.{IsTermOf};
-ghost use Rattle.gate_rows.specs.Inner.Literals.{AllowsFrom, HasCharacters, code_character, columns_of, input_character};
+ghost use Rattle.gate_rows.specs.Inner.Literals.{
+  AllowsFrom,
+  HasCharacters,
+  code_character,
+  columns_of,
+  input_character,
+};
 
 use cover_logic::Term;
 use cubes::{Cube, bit};
@@ -55,7 +61,8 @@ fn with_code(start: Term, count: usize, word: u64, places: &[u8]) -> Term
     requires places { All (λ c. c < 64) places.now }
     requires width { count + length places.now ≤ 128 }
     ensures fits { result.care < 2 ^ (count + length places.now) }
-    ensures holds { (v : ℕ) → Holds result v ↔ (Holds start v × AllowsFrom count (map (code_character word) places.now) v) }
+    ensures holds { (v : ℕ) → Holds result v
+        ↔ (Holds start v × AllowsFrom count (map (code_character word) places.now) v) }
 {
     let Some((last, others)) = places.split_last() else {
         return start;

@@ -34,7 +34,9 @@ pub fn demanded_rows(
 ) -> Result<Names, AllocError>
     requires read { CanBeRead inputs.now places.now demands.now }
     requires apart { AreApart inputs.now places.now demands.now }
-    ensures cover { IfOk result (IsGoodCover (IsAsked inputs.now places.now true demands.now) (IsAsked inputs.now places.now false demands.now)) }
+    ensures cover { IfOk result
+        (IsGoodCover (IsAsked inputs.now places.now true demands.now)
+        (IsAsked inputs.now places.now false demands.now)) }
     ensures widths { IfOk result (All (λ row. length row ≡ column_count inputs.now places.now)) }
     ensures in_order { IfOk result (IsSorted (slice_cmp nat_cmp)) }
 {

@@ -13,10 +13,10 @@
 
 mod columns;
 mod demands;
-mod latching;
-mod naming;
+mod gate_names;
+mod latch_starts;
 mod texts;
 
 pub use demands::{Demand, demanded_rows};
-pub use latching::latches;
-pub use naming::{listed_names, name_from};
+pub use gate_names::{listed_names, name_from};
+pub use latch_starts::latches;

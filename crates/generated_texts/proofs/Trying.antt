@@ -2,7 +2,7 @@
 use Rattle.std.proofs.Common.{◌≡◌, ℕ, ◌++◌, false, inl, inr, List, [], ◌∷◌, Result, Ok, Err, length, sym, subst, arith, refl, ap, ◌∙◌}
 use Rattle.answers.specs.declared.refusals.Refusal.{Refusal}
 use Rattle.answers.specs.Cause.{CallsForNone}
-use Rattle.answers.specs.Judged.{IsJudged, IsStop}
+use Rattle.answers.specs.Outcome.{IsJudged, IsStop}
 use Rattle.answers.specs.Laws.Causes.{none_first}
 use Rattle.state_reduce.specs.declared.work.WorkMachine.{WorkMachine}
 use Rattle.state_reduce.specs.Work.{IsWork}
@@ -10,11 +10,11 @@ use Rattle.hs_texts.proofs.Comments.{trial_lines_are_comments}
 use Rattle.hs_texts.specs.declared.reports.TrialFigures.{TrialFigures}
 use Rattle.hs_texts.specs.Reports.{trial_lines, trial_text}
 use Rattle.kiss_file.specs.declared.file.KissFile.{KissFile}
-use Rattle.machine_gen.specs.MachineOf.{AreSizes}
+use Rattle.machine_gen.specs.WordMachine.{AreSizes}
 use Rattle.net_core.specs.Laws.Determined.{denotes_one}
 use Rattle.split_texts.specs.Splits.{HasNoPlan, IsPlanned, IsSplitOf, LacksSplit, Refuses}
 use Rattle.split_texts.specs.Causes.{HasLongCode, HasNoCode, OfParts}
-use Rattle.split_texts.specs.Written.{AreCodes, IsOfParts}
+use Rattle.split_texts.specs.SplitText.{AreCodes, IsOfParts}
 use Rattle.split_texts.specs.Laws.Causes.{apart_leaves_none, of_parts_none, short_has_none}
 use Rattle.state_codes.specs.declared.Codes.{Codes}
 use Rattle.state_codes.specs.declared.split.Kind.{Kind}
@@ -23,7 +23,7 @@ use Rattle.state_codes.specs.declared.split.Part.{Part}
 use Rattle.state_codes.specs.declared.split.Split.{Split}
 use Rattle.state_codes.specs.Fault.{AreApart}
 use Rattle.generated_texts.specs.Figures.{AreFigures}
-use Rattle.generated_texts.specs.Generated.{IsGenerated, OfGenerated}
+use Rattle.generated_texts.specs.SeedMachine.{IsGenerated, OfGenerated}
 use Rattle.generated_texts.specs.Trial.{LongCodeRow, IsTrialNetwork}
 use Rattle.generated_texts.specs.Laws.Trials.{one_generated, some_in_parallel}
 use Rattle.blif_out.specs.declared.networks.CommentedNetwork.{CommentedNetwork}

@@ -1,13 +1,13 @@
 -- The figures of a trial (source: this product's profile).
 use Rattle.std.specs.Prelude.{◌≡◌, ℕ, ◌≤◌, ◌%◌, ◌^◌, Bool, List, Option, Some, None, count_by, length, map}
 use Rattle.std.specs.List.{flat_map, range_with_len}
-use Rattle.closed_lattice.specs.Closed.{IsClosedPartition}
+use Rattle.closed_lattice.specs.ClosedPartitions.{IsClosedPartition}
 use Rattle.cubes.specs.Symbol.{symbol_of}
 use Rattle.hs_lattice.specs.Listing.{Evidence, Lists}
 use Rattle.hs_texts.specs.declared.reports.TrialFigures.{TrialFigures}
 use Rattle.kiss_file.specs.declared.file.KissFile.{KissFile}
 use Rattle.kiss_file.specs.Machine.{answers}
-use Rattle.partition.specs.Before.{Before}
+use Rattle.partition.specs.Order.{Before}
 use Rattle.partition.specs.Partition.{blocks_of}
 use Rattle.state_codes.specs.declared.split.Part.{Part}
 use Rattle.state_codes.specs.Code.{IsLength}

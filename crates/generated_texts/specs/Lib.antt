@@ -1,5 +1,5 @@
 pub mod Figures
-pub mod Generated
+pub mod SeedMachine
 pub mod Trial
 pub mod Inner
 pub mod Laws

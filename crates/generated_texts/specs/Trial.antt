@@ -15,7 +15,7 @@ use Rattle.split_texts.specs.Causes.{HasLongCode, OfParts}
 use Rattle.state_codes.specs.declared.split.Kind.TheVariants.{Parallel}
 use Rattle.state_codes.specs.declared.split.Part.{Part}
 use Rattle.generated_texts.specs.Figures.{AreFigures}
-use Rattle.generated_texts.specs.Generated.{OfGenerated}
+use Rattle.generated_texts.specs.SeedMachine.{OfGenerated}
 
 -- The network is that of the parallel decomposition of the machine, right for its kind, as `parallel` gives it. Its
 -- comments are a summary and, after it, those of the decomposition's header.

@@ -82,7 +82,8 @@ fn block_counts(alloc: Global, parts: &[Part]) -> Result<Items<usize>, AllocErro
 fn ones_of_run(alloc: Global, machine: &Machine) -> Result<usize, AllocError>
     requires inputs { machine.now.inputs ≤ 8 }
     requires outputs { machine.now.outputs ≡ 2 }
-    ensures { IfOk result (λ ones. ones ≡ ones_in (answers machine.now machine.now.reset (trial_word machine.now.inputs))) }
+    ensures { IfOk result
+        (λ ones. ones ≡ ones_in (answers machine.now machine.now.reset (trial_word machine.now.inputs))) }
 {
     let word = run_symbols(alloc, machine.inputs())?;
     let outputs = machine.walk(alloc, &word)?;

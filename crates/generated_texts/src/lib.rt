@@ -4,7 +4,7 @@
 //! decomposition, with a summary of the machine and of its decomposition among the comments. Such a machine always has
 //! a parallel decomposition, so a trial is refused only for codes that are too long or if memory runs out.
 //!
-//! `specs/Generated` says what the machine of the numbers is, `specs/Figures` what the figures of the summary
+//! `specs/SeedMachine` says what the machine of the numbers is, `specs/Figures` what the figures of the summary
 //! are, and `specs/Trial` what the network and the text of a trial are and why there may be none.
 #![tactic(auto)]
 

@@ -1,9 +1,9 @@
 //! The machine of the numbers, as a file.
 
 ghost use Rattle.std.specs.Prelude.{◌≡◌, IfOk};
-ghost use Rattle.kiss2.specs.Written.{kiss_text};
-ghost use Rattle.machine_gen.specs.MachineOf.{AreSizes};
-ghost use Rattle.generated_texts.specs.Generated.{OfGenerated};
+ghost use Rattle.kiss2.specs.KissText.{kiss_text};
+ghost use Rattle.machine_gen.specs.WordMachine.{AreSizes};
+ghost use Rattle.generated_texts.specs.SeedMachine.{OfGenerated};
 
 use kiss2::write;
 use machine_gen::make;

@@ -1,17 +1,17 @@
 //! The network of a trial, with its comments.
 
 ghost use Rattle.std.specs.Prelude.{◌≡◌, ◌≤◌, ◌++◌, IfOk, false};
-ghost use Rattle.answers.specs.Judged.{IsJudged};
+ghost use Rattle.answers.specs.Outcome.{IsJudged};
 ghost use Rattle.blif_out.specs.Comments.{IsPrintable};
 ghost use Rattle.blif_out.specs.Head.{header_text};
 ghost use Rattle.blif_out.specs.NetworkText.{CanBeText};
 ghost use Rattle.state_reduce.specs.Work.{IsWork};
-ghost use Rattle.kiss_file.specs.Lawful.{IsLawful};
+ghost use Rattle.kiss_file.specs.LawfulFile.{IsLawful};
 ghost use Rattle.kiss_file.specs.Machine.{Accepted, Conflicting};
-ghost use Rattle.machine_gen.specs.MachineOf.{AreSizes};
-ghost use Rattle.generated_texts.specs.Generated.{IsGenerated, OfGenerated};
+ghost use Rattle.machine_gen.specs.WordMachine.{AreSizes};
+ghost use Rattle.generated_texts.specs.SeedMachine.{IsGenerated, OfGenerated};
 ghost use Rattle.generated_texts.specs.Trial.{IsTrialNetwork, LongCodeRow};
-ghost use Rattle.generated_texts.specs.Inner.Coded.{IsCodedSplit, IsSummary};
+ghost use Rattle.generated_texts.specs.Inner.CodedSplit.{IsCodedSplit, IsSummary};
 ghost use Rattle.state_codes.specs.Code.{IsLength};
 
 use crate::figures::{Numbers, figures_of};
@@ -37,7 +37,8 @@ struct CodedSplit {
 /// header as comments.
 pub fn trial(alloc: Global, seed: u64, a: u16, b: u16, k: u8) -> Result<CommentedNetwork, Refusal>
     requires { AreSizes a b k }
-    ensures { IsJudged (LongCodeRow seed a b k) (λ made. CanBeText made × OfGenerated seed a b k (λ F. IsTrialNetwork seed a b k F made)) result }
+    ensures { IsJudged (LongCodeRow seed a b k)
+        (λ made. CanBeText made × OfGenerated seed a b k (λ F. IsTrialNetwork seed a b k F made)) result }
 {
     let file = make(alloc, seed, a, b, k)?;
     trial_of(alloc, Numbers { seed, a, b, k }, &file)
@@ -50,7 +51,8 @@ fn trial_of(alloc: Global, numbers: Numbers, file: &KissFile) -> Result<Commente
     requires made { IsGenerated numbers.seed numbers.a numbers.b numbers.k file.now }
     requires lawful { IsLawful file.now }
     requires accepted { Accepted file.now Fill.Refuse }
-    ensures { IsJudged (LongCodeRow numbers.seed numbers.a numbers.b numbers.k) (λ made. CanBeText made × IsTrialNetwork numbers.seed numbers.a numbers.b numbers.k file.now made) result }
+    ensures { IsJudged (LongCodeRow numbers.seed numbers.a numbers.b numbers.k)
+        (λ made. CanBeText made × IsTrialNetwork numbers.seed numbers.a numbers.b numbers.k file.now made) result }
 {
     let work = machine_of(alloc, file)?;
     trial_on(alloc, numbers, file, &work)
@@ -69,7 +71,8 @@ fn trial_on(
     requires lawful { IsLawful file.now }
     requires no_conflict { Conflicting file.now → ⊥ }
     requires work { IsWork false file.now work.now }
-    ensures { IsJudged (LongCodeRow numbers.seed numbers.a numbers.b numbers.k) (λ made. CanBeText made × IsTrialNetwork numbers.seed numbers.a numbers.b numbers.k file.now made) result }
+    ensures { IsJudged (LongCodeRow numbers.seed numbers.a numbers.b numbers.k)
+        (λ made. CanBeText made × IsTrialNetwork numbers.seed numbers.a numbers.b numbers.k file.now made) result }
 {
     let coded = split_of(alloc, numbers, file, work)?;
     Ok(network_of(alloc, numbers, file, work, coded)?)

@@ -13,7 +13,8 @@ pub fn worked_lines()
     ensures last_not_ended { HasLines (codes "a\nb") (clean 1 (codes "a" ∷ []) ∷ clean 2 (codes "b" ∷ []) ∷ []) }
     ensures blank_not_ended { HasLines (codes "a\n ") (clean 1 (codes "a" ∷ []) ∷ clean 2 [] ∷ []) }
     ensures return_not_ended { HasLines (codes "a\n\r") (clean 1 (codes "a" ∷ []) ∷ clean 2 [] ∷ []) }
-    ensures each_is_numbered { HasLines (codes "\n# a\n \t\n\r\nb") (clean 1 [] ∷ clean 2 [] ∷ clean 3 [] ∷ clean 4 [] ∷ clean 5 (codes "b" ∷ []) ∷ []) }
+    ensures each_is_numbered { HasLines (codes "\n# a\n \t\n\r\nb")
+        (clean 1 [] ∷ clean 2 [] ∷ clean 3 [] ∷ clean 4 [] ∷ clean 5 (codes "b" ∷ []) ∷ []) }
     ensures bad_is_numbered { HasLines (codes "\u{1}\na") (bad 1 (codes "\u{1}" ∷ []) ∷ clean 2 (codes "a" ∷ []) ∷ []) }
 {}
 
@@ -40,7 +41,8 @@ pub fn worked_comments()
     ensures bad_before_it { IsBad (codes "\u{1}# a\n") (codes "\u{1}" ∷ []) }
     ensures after_a_backslash { IsClean (codes "a\\#b\n") (codes "a\\" ∷ []) }
     ensures in_quotes { IsClean (codes "\"a # b\"\n") (codes "\"a" ∷ []) }
-    ensures no_other_mark { IsClean (codes "a ; b // c\n") (codes "a" ∷ codes ";" ∷ codes "b" ∷ codes "//" ∷ codes "c" ∷ []) }
+    ensures no_other_mark { IsClean (codes "a ; b // c\n")
+        (codes "a" ∷ codes ";" ∷ codes "b" ∷ codes "//" ∷ codes "c" ∷ []) }
 {}
 
 /// The bytes that make a line bad.

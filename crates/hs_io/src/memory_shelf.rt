@@ -1,4 +1,33 @@
-ghost use Rattle.std.specs.Prelude.{◌≡◌, ◌≢◌, ℕ, ◌+◌, ◌^◌, ◌<◌, ◌≤◌, ◌-◌, ◌↔◌, List, [], ◌∷◌, ◌++◌, Option, Some, None, IsErr, IsErrOf, is_err, IfSome, IfNone, OnOk, OnErr, take, length, vec_len, ⊤, if◌then◌else◌};
+ghost use Rattle.std.specs.Prelude.{
+  ◌≡◌,
+  ◌≢◌,
+  ℕ,
+  ◌+◌,
+  ◌^◌,
+  ◌<◌,
+  ◌≤◌,
+  ◌-◌,
+  ◌↔◌,
+  List,
+  [],
+  ◌∷◌,
+  ◌++◌,
+  Option,
+  Some,
+  None,
+  IsErr,
+  IsErrOf,
+  is_err,
+  IfSome,
+  IfNone,
+  OnOk,
+  OnErr,
+  take,
+  length,
+  vec_len,
+  ⊤,
+  if◌then◌else◌,
+};
 ghost use Rattle.std.specs.Option.{option_copied};
 ghost use Rattle.std.specs.Map.{lookup};
 ghost use Rattle.std.specs.Str.{bytes_eq};
@@ -29,7 +58,8 @@ impl Model for MemShelf {
 
     ghost Value = { ShelfState };
 
-    ghost view = { λ s. record { texts = s.texts.items; failing = s.failing.items; loads = s.loads; faults = s.faults } };
+    ghost view = { λ s.
+        record { texts = s.texts.items; failing = s.failing.items; loads = s.loads; faults = s.faults } };
 }
 
 impl MemShelf {
@@ -80,8 +110,10 @@ impl Shelf for MemShelf {
         ensures within { OnOk result (vec_len into.new ≤ limit) }
         ensures whole { OnOk result (IfSome (held self.old name.now) (λ bytes. into.new.items ≡ bytes)) }
         ensures one_more { IsErrOf result LoadFail.TooLong → vec_len into.new ≡ limit + 1 }
-        ensures front { IsErrOf result LoadFail.TooLong → IfSome (held self.old name.now) (λ bytes. into.new.items ≡ take (limit + 1) bytes) }
-        ensures longer { IsErrOf result LoadFail.TooLong → IfSome (held self.old name.now) (λ bytes. limit < length bytes) }
+        ensures front { IsErrOf result LoadFail.TooLong
+            → IfSome (held self.old name.now) (λ bytes. into.new.items ≡ take (limit + 1) bytes) }
+        ensures longer { IsErrOf result LoadFail.TooLong
+            → IfSome (held self.old name.now) (λ bytes. limit < length bytes) }
         ensures never_falls { self.old.faults ≤ self.new.faults }
 
         // It fails exactly at a listed load and at a name that the shelf does not have, and counts only these.
@@ -152,7 +184,8 @@ fn copy(text: &[u8], limit: usize, into: &mut Vec<u8>) -> Result<(), LoadFail>
     requires empty { into.old.items ≡ [] }
     requires limited { limit < 2 ^ 32 }
     ensures whole { OnOk result ((into.new.items ≡ text.now) × (length text.now ≤ limit)) }
-    ensures too_long { IsErrOf result LoadFail.TooLong → (into.new.items ≡ take (limit + 1) text.now) × (limit < length text.now) }
+    ensures too_long { IsErrOf result LoadFail.TooLong → (into.new.items ≡ take (limit + 1) text.now)
+        × (limit < length text.now) }
     ensures told { result ≢ Err LoadFail.Failed }
 {
     if text.len() <= limit {

@@ -1,4 +1,31 @@
-ghost use Rattle.std.specs.Prelude.{◌≡◌, ◌≢◌, ℕ, ◌+◌, ◌-◌, ◌^◌, ◌<◌, ◌≤◌, ◌↔◌, List, [], ◌++◌, Option, Some, None, IsErr, is_err, IfOk, IfSome, IfNone, OnOk, OnErr, take, length, min, if◌then◌else◌};
+ghost use Rattle.std.specs.Prelude.{
+  ◌≡◌,
+  ◌≢◌,
+  ℕ,
+  ◌+◌,
+  ◌-◌,
+  ◌^◌,
+  ◌<◌,
+  ◌≤◌,
+  ◌↔◌,
+  List,
+  [],
+  ◌++◌,
+  Option,
+  Some,
+  None,
+  IsErr,
+  is_err,
+  IfOk,
+  IfSome,
+  IfNone,
+  OnOk,
+  OnErr,
+  take,
+  length,
+  min,
+  if◌then◌else◌,
+};
 ghost use Rattle.hs_io.specs.Counts.{next_count, Rose};
 ghost use Rattle.hs_io.specs.Pieces.{Appends, AppendsFront};
 ghost use Rattle.hs_io.specs.SinkState.{SinkState, FailsNext, IsKept, fitting};
@@ -23,7 +50,8 @@ impl Model for MemSink {
 
     ghost Value = { SinkState };
 
-    ghost view = { λ s. record { given = s.given.items; room = s.room; puts = s.puts; failing = s.failing; faults = s.faults } };
+    ghost view = { λ s.
+        record { given = s.given.items; room = s.room; puts = s.puts; failing = s.failing; faults = s.faults } };
 
     ghost invariant = { λ s. (vec_len s.given ≤ s.room) × (s.room ≤ vec_capacity s.given) };
 }
@@ -31,7 +59,8 @@ impl Model for MemSink {
 impl MemSink {
     /// A sink with room for this number of bytes, all of whose memory is taken here.
     pub fn new(alloc: Global, room: usize) -> Result<MemSink, AllocError>
-        ensures { IfOk result (λ sink. sink ≡ record { given = []; room = room; puts = 0; failing = None; faults = 0 }) }
+        ensures { IfOk result
+            (λ sink. sink ≡ record { given = []; room = room; puts = 0; failing = None; faults = 0 }) }
     {
         Ok(MemSink {
             given: Vec::with_capacity(alloc, room)?,
@@ -75,8 +104,10 @@ impl Sink for MemSink {
         ensures counted { self.new.faults ≡ (if is_err result then next_count self.old.faults else self.old.faults) }
 
         // It takes what fits; the kept put takes at most the number of bytes that was kept for it.
-        ensures kept { (n : ℕ) → self.old.failing ≡ Some (next_count self.old.puts, n) → self.new.given ≡ self.old.given ++ take (min n (fitting self.old piece.now)) piece.now }
-        ensures other { ¬ IsKept self.old → self.new.given ≡ self.old.given ++ take (fitting self.old piece.now) piece.now }
+        ensures kept { (n : ℕ) → self.old.failing ≡ Some (next_count self.old.puts, n)
+            → self.new.given ≡ self.old.given ++ take (min n (fitting self.old piece.now)) piece.now }
+        ensures other { ¬ IsKept self.old
+            → self.new.given ≡ self.old.given ++ take (fitting self.old piece.now) piece.now }
         ensures puts { self.new.puts ≡ next_count self.old.puts }
         ensures room { self.new.room ≡ self.old.room }
         ensures failing { self.new.failing ≡ self.old.failing }

@@ -1,4 +1,22 @@
-ghost use Rattle.std.specs.Prelude.{◌≡◌, ℕ, ◌+◌, ◌^◌, ◌<◌, ◌≤◌, ◌↔◌, List, [], Option, IsErr, IsErrOf, IfSome, OnOk, take, length, vec_len};
+ghost use Rattle.std.specs.Prelude.{
+  ◌≡◌,
+  ℕ,
+  ◌+◌,
+  ◌^◌,
+  ◌<◌,
+  ◌≤◌,
+  ◌↔◌,
+  List,
+  [],
+  Option,
+  IsErr,
+  IsErrOf,
+  IfSome,
+  OnOk,
+  take,
+  length,
+  vec_len,
+};
 ghost use Rattle.hs_io.specs.Counts.{Rose};
 ghost use Rattle.hs_io.specs.declared.shelf.LoadFail.TheVariants.{NoMemory};
 
@@ -52,8 +70,10 @@ pub trait Shelf {
         // `TooLong`, and longer bytes give no text.
         ensures failed { IsErrOf result LoadFail.Failed → Rose (faults self.old) (faults self.new) }
         ensures one_more { IsErrOf result LoadFail.TooLong → vec_len into.new ≡ limit + 1 }
-        ensures front { IsErrOf result LoadFail.TooLong → IfSome (holds self.old name.now) (λ bytes. into.new.items ≡ take (limit + 1) bytes) }
-        ensures longer { IsErrOf result LoadFail.TooLong → IfSome (holds self.old name.now) (λ bytes. limit < length bytes) }
+        ensures front { IsErrOf result LoadFail.TooLong
+            → IfSome (holds self.old name.now) (λ bytes. into.new.items ≡ take (limit + 1) bytes) }
+        ensures longer { IsErrOf result LoadFail.TooLong
+            → IfSome (holds self.old name.now) (λ bytes. limit < length bytes) }
         ensures too_long { IfSome (holds self.old name.now) (λ bytes. limit < length bytes → IsErr result) }
 
         ensures holds_the_same { (other : List ℕ) → holds self.new other ≡ holds self.old other }

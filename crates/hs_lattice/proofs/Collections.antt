@@ -7,7 +7,7 @@ use Rattle.std.proofs.lemmas.List.Edits.{length-insert}
 use Rattle.std.proofs.lemmas.List.Elements.{All-push}
 use Rattle.std.proofs.lemmas.List.Quantifiers.{Any-push, all_pairs_push}
 use Rattle.hs_lattice.specs.Collection.{Adds, AreDifferent, IsAscending, IsOrder, Knows}
-use Rattle.hs_lattice.specs.Inner.Arranging.{IsArranged}
+use Rattle.hs_lattice.specs.Inner.Arrangement.{IsArranged}
 use Rattle.hs_lattice.specs.Places.{IsInsertionPlace}
 use Rattle.hs_lattice.specs.Laws.Insert.{Below, Here, Above, source_of, AllPairs-insert, Any-insert_kept, Any-insert_new}
 use Rattle.hs_lattice.proofs.Places.{Order, IsNarrowed, narrowed_above, narrowed_below, place_at}

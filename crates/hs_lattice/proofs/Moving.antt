@@ -4,7 +4,7 @@ use Rattle.std.specs.List.{swap}
 use Rattle.std.proofs.lemmas.Bool.{cases_lt, cases_eq}
 use Rattle.std.proofs.lemmas.List.{get_or_default, get_or-set_same, get_or-set_other, get_or_append_left, get_or_push, length_push, length-set}
 use Rattle.std.proofs.lemmas.List.Edits.{length-swap, swapped_from_swap}
-use Rattle.hs_lattice.specs.Inner.Arranging.{AreNumbers, IsArranged}
+use Rattle.hs_lattice.specs.Inner.Arrangement.{AreNumbers, IsArranged}
 
 pub numbers_none : AreNumbers 0 []
 numbers_none = record { size = refl; each = λ i lt. absurd (omega arith) }

@@ -1,3 +1,3 @@
 -- Definitions that only private functions and proofs need.
-pub mod Arranging
+pub mod Arrangement
 pub mod Passes

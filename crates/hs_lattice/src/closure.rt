@@ -171,7 +171,8 @@ pub fn join_closure<W: JoinWorld>(
     ensures joined { IfOk result (λ listing. IfWhole listing (λ _. HaveJoins (W.least world.now)
         (W.joins world.now) (map W.meaning generators.now))) }
     ensures within { IfOk result (λ listing. IfWhole listing (λ items. length items ≤ limit)) }
-    ensures few { IfOk result (λ listing. IfWhole listing (λ _. IsAscending W.meaning (W.precedes world.now) generators.now
+    ensures few { IfOk result
+        (λ listing. IfWhole listing (λ _. IsAscending W.meaning (W.precedes world.now) generators.now
         → length generators.now ≤ limit)) }
     ensures no_more { IfOk result (λ listing. IfWhole listing (λ _. (values : List W.Meaning)
         → Evidence (W.precedes world.now) (IsGenerated (W.least world.now) (W.joins world.now)

@@ -1,11 +1,24 @@
 //! Lists of different values, and their places in ascending order.
 
-ghost use Rattle.std.specs.Prelude.{◌≡◌, ◌↔◌, length, All, AllPairs, Any, IfOk, OnOk, IfSome, IfNone, IsTrue, slice_index_or};
+ghost use Rattle.std.specs.Prelude.{
+  ◌≡◌,
+  ◌↔◌,
+  length,
+  All,
+  AllPairs,
+  Any,
+  IfOk,
+  OnOk,
+  IfSome,
+  IfNone,
+  IsTrue,
+  slice_index_or,
+};
 ghost use Rattle.hs_lattice.specs.Collection.{items_in, Adds, IsAscending, IsCollection, IsEmpty, IsOrder, Knows};
 ghost use Rattle.hs_lattice.specs.Places.{IsInsertionPlace};
 
 use crate::JoinWorld;
-use crate::arranging::arrange;
+use crate::arrangement::arrange;
 use hs_list::Items;
 use std::alloc::{AllocError, Global};
 use std::marker::Model;

@@ -35,7 +35,7 @@
 //! round.
 #![tactic(auto)]
 
-mod arranging;
+mod arrangement;
 mod closure;
 mod collection;
 mod world;

@@ -4,7 +4,40 @@ ghost use Rattle.std.specs.Prelude.{◌≡◌, ◌++◌, IfOk, OnOk, codes};
 ghost use Rattle.std.specs.Fmt.{decimal};
 ghost use Rattle.std.specs.List.{flat_map};
 ghost use Rattle.hs_io.specs.Spelling.{spaced};
-ghost use Rattle.hs_texts.specs.ErrLines.{as_line, usage_line, cannot_read_line, too_long_line, kiss_line, net_line, two_drivers_line, undriven_line, cycle_line, bad_start_line, start_unknown_line, symbol_line, conflict_line, more_line, unspecified_line, part_length_line, part_place_line, not_apart_line, code_bits_line, no_split_line, not_definite_line, not_reached_line, state_count_line, inputs_line, outputs_line, cover_place_line, cover_within_line, cover_lacks_line, cover_places_line, cover_trivial_line, cover_leaves_line, clock_line};
+ghost use Rattle.hs_texts.specs.ErrLines.{
+  as_line,
+  usage_line,
+  cannot_read_line,
+  too_long_line,
+  kiss_line,
+  net_line,
+  two_drivers_line,
+  undriven_line,
+  cycle_line,
+  bad_start_line,
+  start_unknown_line,
+  symbol_line,
+  conflict_line,
+  more_line,
+  unspecified_line,
+  part_length_line,
+  part_place_line,
+  not_apart_line,
+  code_bits_line,
+  no_split_line,
+  not_definite_line,
+  not_reached_line,
+  state_count_line,
+  inputs_line,
+  outputs_line,
+  cover_place_line,
+  cover_within_line,
+  cover_lacks_line,
+  cover_places_line,
+  cover_trivial_line,
+  cover_leaves_line,
+  clock_line,
+};
 
 use hs_io::Name;
 use std::alloc::{AllocError, Global};
@@ -359,7 +392,8 @@ fn numbered_line(
     numbers: &[(&[u8], u64)],
     rest: &[u8],
 ) -> Result<Vec<u8>, AllocError>
-    ensures { IfOk result (λ line. line.items ≡ as_line (flat_map (λ pair. pair.0.now ++ decimal pair.1) numbers.now ++ rest.now)) }
+    ensures { IfOk result
+        (λ line. line.items ≡ as_line (flat_map (λ pair. pair.0.now ++ decimal pair.1) numbers.now ++ rest.now)) }
 {
     let mut line = Vec::new(alloc);
     for (words, number) in numbers {

@@ -4,12 +4,12 @@
 //! The word `-` names no file: it tries the shelf over standard input.
 #![tactic(auto)]
 
-mod given;
+mod arguments;
 mod input;
 
 use anyhow::ensure;
+use arguments::GivenArguments;
 use case_scripts::Calls;
-use given::GivenArguments;
 use hs_io::{MemShelf, MemSink};
 use hsdec_core::run;
 use hsdec_program::{SystemArguments, status};

@@ -10,35 +10,35 @@ use Rattle.answers.specs.Laws.Causes.{IsOf, Within}
 use Rattle.answers.specs.Refusal.{answer_of}
 use Rattle.blif_out.specs.declared.networks.CommentedNetwork.{CommentedNetwork}
 use Rattle.blif_out.specs.declared.networks.HeadedNetwork.{HeadedNetwork}
-use Rattle.blif_out.specs.Design.{IsClockOf, IsDesignOf, drivers_of, signals_of}
+use Rattle.blif_out.specs.Design.{IsClockOf, IsDesignOf, driven_signals, signals_of}
 use Rattle.blif_out.specs.Writable.{IsSignalName}
 use Rattle.blif_out.proofs.Designs.{plain_design_is_lawful}
 use Rattle.cover_split.proofs.Outcomes.{same_blocks}
 use Rattle.cover_split.specs.Parts.{IsLongest}
 use Rattle.cover_split.specs.Refusal.{SpellsBlocks}
-use Rattle.cover_texts.specs.Written.{IsCoverNetwork, IsNetworkOfPairs}
+use Rattle.cover_texts.specs.CoverText.{IsCoverNetwork, IsNetworkOfPairs}
 use Rattle.decomposition.specs.Decomposition.{IsDecomposed}
-use Rattle.decomposition.specs.Named.{HasNames}
+use Rattle.decomposition.specs.Names.{HasNames}
 use Rattle.decomposition.specs.OwnPairs.{OwnPairs}
 use Rattle.hsdec_core.specs.Clocks.{HasCoverLatches, HasRegisterLatches, HasSplitLatches, TakesClock, design_of}
-use Rattle.hsdec_core.specs.Inner.Headed.{NamesSignal}
+use Rattle.hsdec_core.specs.Inner.HeadedReport.{NamesSignal}
 use Rattle.hsdec_core.proofs.Registers.{latches_counted, register_drives, same_outputs}
 use Rattle.job_words.specs.declared.jobs.Job.{Job}
-use Rattle.job_words.specs.Job.{HasGivenNames, IsClockName, IsGivenName}
+use Rattle.job_words.specs.Job.{HasGivenNames, IsClockName, IsModelName}
 use Rattle.kiss_file.specs.declared.file.KissFile.{KissFile}
-use Rattle.kiss_file.specs.Lawful.{IsLawful}
+use Rattle.kiss_file.specs.LawfulFile.{IsLawful}
 use Rattle.net_core.specs.declared.Network.{Network}
 use Rattle.net_core.specs.declared.SignalNames.{SignalNames}
-use Rattle.net_core.specs.Sound.{driven_by}
+use Rattle.net_core.specs.SoundNetwork.{driven_by}
 use Rattle.realise.specs.Names.{AreNames, all_names, next_letter, own_name}
-use Rattle.shift_real.specs.Definite.{IsOrder}
+use Rattle.shift_real.specs.DefiniteMachine.{IsOrder}
 use Rattle.shift_real.specs.Laws.StartContent.{order_once}
 use Rattle.shift_texts.specs.ShiftText.{IsShiftNetwork}
 use Rattle.split_texts.specs.Laws.Codes.{length_of_codes, length_once}
 use Rattle.split_texts.specs.Laws.Kinds.{parts_once}
 use Rattle.split_texts.specs.Laws.Names.{names_once}
 use Rattle.split_texts.specs.Splits.{IsSplitOf}
-use Rattle.split_texts.specs.Written.{IsOfKind}
+use Rattle.split_texts.specs.SplitText.{IsOfKind}
 use Rattle.state_codes.specs.declared.split.Kind.{Kind}
 use Rattle.state_codes.specs.declared.split.Part.{Part}
 use Rattle.state_codes.specs.Code.{IsLength, need}
@@ -50,16 +50,16 @@ pub takes_clock_is_of : (job : Job) (HasLatches : KissFile → ℕ → Type 0) (
 takes_clock_is_of job HasLatches F refusal (clock, is, named, taken) = ap answer_of is
 
 -- ---- the design
-driver_is_signal : (N : Network) (name : List ℕ) → Contains (drivers_of N) name → Contains (signals_of N) name
+driver_is_signal : (N : Network) (name : List ℕ) → Contains (driven_signals N) name → Contains (signals_of N) name
 driver_is_signal N name driven =
     let inputs : List (List ℕ) = map (λ latch. latch.input) N.latches in
-    Contains-append_right N.inputs (N.outputs ++ (inputs ++ drivers_of N)) name
-    (Contains-append_right N.outputs (inputs ++ drivers_of N) name (Contains-append_right inputs (drivers_of N) name driven))
+    Contains-append_right N.inputs (N.outputs ++ (inputs ++ driven_signals N)) name
+    (Contains-append_right N.outputs (inputs ++ driven_signals N) name (Contains-append_right inputs (driven_signals N) name driven))
 
-name_of_signal : (name : List ℕ) → IsGivenName name → IsSignalName name
+name_of_signal : (name : List ℕ) → IsModelName name → IsSignalName name
 name_of_signal name given = record { field = given.field; no_backslash = given.no_backslash }
 
-model_lawful : (N : Network) (model : Option (List ℕ)) → IfSome model IsGivenName → IsSignalName (unwrap_or model (codes "hsdec"))
+model_lawful : (N : Network) (model : Option (List ℕ)) → IfSome model IsModelName → IsSignalName (unwrap_or model (codes "hsdec"))
 model_lawful N None given = (plain_design_is_lawful N).model
 model_lawful N (Some name) given = name_of_signal name given
 

@@ -6,7 +6,7 @@ use Rattle.answers.specs.declared.refusals.Refusal.{Refusal}
 use Rattle.answers.specs.Cause.{Cause, FirstOf}
 use Rattle.answers.specs.Laws.Causes.{HasOneAnswer, IsOf, first_has_one, one_of}
 use Rattle.answers.specs.Refusal.{answer_of}
-use Rattle.closed_lattice.specs.Closed.{IsClosedPartition}
+use Rattle.closed_lattice.specs.ClosedPartitions.{IsClosedPartition}
 use Rattle.cover_texts.specs.Flaws.{BadCoverRow}
 use Rattle.cover_texts.specs.Laws.Causes.{bad_cover_is_of, bad_cover_one}
 use Rattle.hsdec_core.specs.declared.tasks.FileTask.{FileTask}
@@ -19,7 +19,7 @@ use Rattle.hsdec_core.specs.declared.tasks.WorkTask.{WorkTask}
 use Rattle.hsdec_core.specs.declared.tasks.WorkTask.TheVariants.{Compare, Decompose, Definite, Shift}
 use Rattle.operands.specs.Laws.Causes.{never_has_one}
 use Rattle.hsdec_core.specs.Clocks.{HasCoverLatches, HasRegisterLatches, HasSplitLatches, TakesClock}
-use Rattle.hsdec_core.specs.Inner.Made.{IsPlain}
+use Rattle.hsdec_core.specs.Inner.JobOutcome.{IsPlain}
 use Rattle.hsdec_core.specs.Judgement.{file_cause, list_cause, own_cause, work_cause}
 use Rattle.hsdec_core.proofs.Clocks.{takes_clock_is_of}
 use Rattle.io_pairs.specs.Inputs.{IsInMmPair}
@@ -32,7 +32,7 @@ use Rattle.partition.specs.Sides.{RightBefore}
 use Rattle.output_consistent.specs.Outputs.{IsClosedAndConsistent}
 use Rattle.operands.specs.PartFaults.{BadPart}
 use Rattle.operands.specs.Laws.Parts.{bad_part_is_of, bad_parts_is_of}
-use Rattle.partition.specs.Before.{Before}
+use Rattle.partition.specs.Order.{Before}
 use Rattle.shift_texts.specs.Causes.{RefusesShift}
 use Rattle.shift_texts.specs.Laws.Causes.{has_long_register_is_of, keeps_apart_is_of, never_in_reset_is_of, shift_has_one_answer}
 use Rattle.split_texts.specs.Splits.{Refuses}

@@ -9,13 +9,13 @@ use Rattle.answers.specs.declared.reports.Report.{Report}
 use Rattle.answers.specs.declared.reports.Report.TheVariants.{Evidence, Whole}
 use Rattle.answers.specs.declared.reports.Report.TheVariants as reports
 use Rattle.answers.specs.Cause.{CallsForNone, Cause}
-use Rattle.answers.specs.Judged.{IsJudged, IsReported, IsStop}
+use Rattle.answers.specs.Outcome.{IsJudged, IsReported, IsStop}
 use Rattle.answers.specs.Laws.Causes.{none_first}
 use Rattle.answers.specs.Refusal.{answer_of}
 use Rattle.blif_out.specs.declared.networks.CommentedNetwork.{CommentedNetwork}
 use Rattle.blif_out.specs.NetworkText.{CanBeText}
 use Rattle.blif_out.proofs.Designs.{plain_design_is_lawful}
-use Rattle.generated_texts.specs.Generated.{OfGenerated}
+use Rattle.generated_texts.specs.SeedMachine.{OfGenerated}
 use Rattle.generated_texts.specs.Trial.{IsTrialNetwork, LongCodeRow}
 use Rattle.generated_texts.specs.Laws.Trials.{long_code_is_of}
 use Rattle.generated_texts.proofs.TrialTexts.{trial_has_text}
@@ -25,12 +25,12 @@ use Rattle.hsdec_core.specs.declared.tasks.Task.TheVariants.{Gen, OnMachine, Sim
 use Rattle.operands.specs.Causes.{Never, NoMachineOf, NoNetworkOf, OfMachine, OfNetwork}
 use Rattle.operands.specs.Fill.{fill_of}
 use Rattle.operands.specs.Load.{IsStopAt}
-use Rattle.hsdec_core.specs.Inner.Made.{IsMadeOf, IsMadeOfNetwork, IsMadeOfText, IsPlain}
+use Rattle.hsdec_core.specs.Inner.JobOutcome.{IsMadeOf, IsMadeOfNetwork, IsMadeOfText, IsPlain}
 use Rattle.hsdec_core.specs.Inner.Pages.{IsPageOf, report_of}
 use Rattle.hsdec_core.specs.Judgement.{BadSymbols, all_causes, first_cause, first_cause_of, own_cause, second_cause, second_cause_of}
 use Rattle.operands.specs.Laws.Causes.{conflict_is_of, lengthy_is_of, machine_passes, network_passes, no_machine_is_of, no_network_is_of, not_long, open_is_of}
-use Rattle.operands.specs.Opened.{HoldsMachine, HoldsNetwork}
-use Rattle.operands.specs.Loading.{IsShortText, IsText, Lengthy, MayBe}
+use Rattle.operands.specs.OpenedOperands.{HoldsMachine, HoldsNetwork}
+use Rattle.operands.specs.OperandText.{IsShortText, IsText, Lengthy, MayBe}
 use Rattle.hsdec_core.specs.Operands.{file_held, held_where, symbols_held, takes_file, takes_symbols}
 use Rattle.hsdec_core.specs.Promise.{IsAsked, IsAskedOf, IsReport, IsShown, IsShownBy}
 use Rattle.hsdec_core.specs.Stop.{IsCalledFor}
@@ -39,7 +39,7 @@ use Rattle.hsdec_core.proofs.Families.{own_plain}
 use Rattle.kiss2.proofs.Exact.{one_file}
 use Rattle.job_words.specs.declared.jobs.Job.{Job}
 use Rattle.kiss_file.specs.declared.file.KissFile.{KissFile}
-use Rattle.kiss2.specs.Written.{kiss_text}
+use Rattle.kiss2.specs.KissText.{kiss_text}
 use Rattle.net_core.specs.declared.Network.{Network}
 use Rattle.net_core.specs.Laws.Determined.{blif_one}
 use Rattle.net_sim.specs.Run.{IsRun}

@@ -7,7 +7,7 @@ use Rattle.hsdec_core.specs.declared.tasks.Task.TheVariants.{Gen, OnMachine, Sim
 use Rattle.operands.specs.Causes.{NoMachineOf, NoNetworkOf, OfMachine, OfNetwork}
 use Rattle.operands.specs.Fill.{fill_of}
 use Rattle.hsdec_core.specs.Judgement.{BadSymbols, all_causes, first_cause, first_cause_of, own_cause, second_cause, second_cause_of}
-use Rattle.operands.specs.Loading.{Lengthy}
+use Rattle.operands.specs.OperandText.{Lengthy}
 use Rattle.operands.specs.Laws.Causes.{lengthy_is_of, machine_has_one, network_has_one, never_has_one, of_machine_has_one, of_network_has_one}
 use Rattle.hsdec_core.specs.Task.{task_of}
 use Rattle.generated_texts.specs.Laws.Trials.{long_code_one}

@@ -7,11 +7,11 @@ use Rattle.std.proofs.lemmas.List.FromFn.{length-map-range_with_len}
 use Rattle.std.proofs.lemmas.Option.{get_or_from_slice_get}
 use Rattle.gate_rows.specs.Names.{name_at}
 use Rattle.kiss_file.specs.declared.file.KissFile.{KissFile}
-use Rattle.kiss_file.specs.Lawful.{AreGiven, IsLawful}
+use Rattle.kiss_file.specs.LawfulFile.{AreGiven, IsLawful}
 use Rattle.net_core.specs.declared.Gate.{Gate}
 use Rattle.net_core.specs.declared.Network.{Network}
 use Rattle.net_core.specs.declared.SignalNames.{SignalNames}
-use Rattle.net_core.specs.Sound.{driven_by}
+use Rattle.net_core.specs.SoundNetwork.{driven_by}
 use Rattle.realise.specs.Names.{AreNames, next_letter, output_letter, own_name, own_names}
 use Rattle.shift_real.specs.Gates.{taking}
 use Rattle.shift_real.specs.ShiftNetwork.{IsRegister, TakesAt}

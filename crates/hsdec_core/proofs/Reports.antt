@@ -10,7 +10,7 @@ use Rattle.answers.specs.declared.reports.Report.{Report}
 use Rattle.answers.specs.declared.reports.Report.TheVariants.{Whole}
 use Rattle.answers.specs.declared.reports.Report.TheVariants as reports
 use Rattle.answers.specs.Cause.{CallsForNone, Cause, FirstOf}
-use Rattle.answers.specs.Judged.{IsJudged, IsReported, IsStop}
+use Rattle.answers.specs.Outcome.{IsJudged, IsReported, IsStop}
 use Rattle.answers.specs.Laws.Causes.{IsOf, none_first}
 use Rattle.answers.specs.Refusal.{answer_of}
 use Rattle.blif_out.specs.declared.networks.CommentedNetwork.{CommentedNetwork}
@@ -22,13 +22,13 @@ use Rattle.blif_out.proofs.NetworkTexts.{header_is_comments, text_has_head}
 use Rattle.net_core.specs.declared.Network.{Network}
 use Rattle.operands.specs.Causes.{Never}
 use Rattle.hsdec_core.specs.Clocks.{TakesClock, design_of}
-use Rattle.hsdec_core.specs.Inner.Headed.{IsReportOf, NamesSignal}
-use Rattle.hsdec_core.specs.Inner.Made.{IsPlain}
+use Rattle.hsdec_core.specs.Inner.HeadedReport.{IsReportOf, NamesSignal}
+use Rattle.hsdec_core.specs.Inner.JobOutcome.{IsPlain}
 use Rattle.hsdec_core.proofs.Clocks.{IsLinked, design_lawful, takes_clock_is_of}
 use Rattle.job_words.specs.declared.jobs.Job.{Job}
 use Rattle.job_words.specs.Job.{HasFewSlashes, HasGivenNames}
 use Rattle.kiss_file.specs.declared.file.KissFile.{KissFile}
-use Rattle.split_texts.specs.Given.{HasFewParts}
+use Rattle.split_texts.specs.GivenParts.{HasFewParts}
 
 -- what is reported for one task of a machine, where the task is that one and the machine that of the file
 pub reported_as : {T : Type 0} (cause : T → KissFile → Cause) (IsWhole IsEvidence : T → KissFile → List ℕ → Type 0) (task done : T) (F M : KissFile) (result : Result Report Refusal) → task ≡ done → M ≡ F

@@ -10,10 +10,10 @@ use Rattle.answers.specs.Cause.{CallsForNone}
 use Rattle.answers.specs.Delivery.{IsDone, IsRefusedWith}
 use Rattle.answers.specs.Refusal.{answer_of}
 use Rattle.hs_io.specs.Pieces.{Appends, AppendsFront}
-use Rattle.hsdec_core.specs.Inner.Made.{IsMadeFor, IsMadeOf, IsPlain, IsUndone}
+use Rattle.hsdec_core.specs.Inner.JobOutcome.{IsMadeFor, IsMadeOf, IsPlain, IsUndone}
 use Rattle.hsdec_core.specs.Inner.Pages.{report_of}
 use Rattle.hsdec_core.specs.Judgement.{all_causes, first_cause}
-use Rattle.operands.specs.Loading.{MayBe}
+use Rattle.operands.specs.OperandText.{MayBe}
 use Rattle.hsdec_core.specs.Operands.{file_held, symbols_held}
 use Rattle.hsdec_core.specs.Promise.{IsAsked, IsAskedOrShown, IsEvidence}
 use Rattle.hsdec_core.specs.Stop.{Comes, IsCalledFor, IsExcused, IsFailedLoad, IsRefusedFor, IsStopOf}

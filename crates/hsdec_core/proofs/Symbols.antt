@@ -4,7 +4,7 @@ use Rattle.answers.specs.declared.refusals.Refusal.{Refusal}
 use Rattle.answers.specs.declared.reports.Report.{Report}
 use Rattle.answers.specs.declared.reports.Report.TheVariants.{Evidence, Network, Whole}
 use Rattle.hs_io.specs.Counts.{Rose, last_count}
-use Rattle.hsdec_core.specs.Inner.Made.{IsMadeOf}
+use Rattle.hsdec_core.specs.Inner.JobOutcome.{IsMadeOf}
 use Rattle.job_words.specs.declared.jobs.Job.{Job}
 use Rattle.std.proofs.Math.Path.{fun_ext}
 use Rattle.std.proofs.lemmas.Bool.{cases_order}

@@ -1,4 +1,4 @@
 -- What only private functions and proofs cite.
-pub mod Made
+pub mod JobOutcome
 pub mod Pages
-pub mod Headed
+pub mod HeadedReport

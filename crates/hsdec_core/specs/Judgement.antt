@@ -2,7 +2,7 @@
 -- in `Causes`; a command's own causes are in the crate of its family, and a clock that is refused, in `Clocks`.
 use Rattle.std.specs.Prelude.{ℕ, List, [], ◌∷◌, length}
 use Rattle.answers.specs.Cause.{Cause, FirstOf}
-use Rattle.closed_lattice.specs.Closed.{IsClosedPartition}
+use Rattle.closed_lattice.specs.ClosedPartitions.{IsClosedPartition}
 use Rattle.cover_texts.specs.Flaws.{BadCoverRow}
 use Rattle.generated_texts.specs.Trial.{LongCodeRow}
 use Rattle.hsdec_core.specs.declared.tasks.FileTask.{FileTask}
@@ -18,7 +18,7 @@ use Rattle.hsdec_core.specs.declared.tasks.WorkTask.TheVariants.{Compare, Decomp
 use Rattle.hsdec_core.specs.Clocks.{HasCoverLatches, HasRegisterLatches, HasSplitLatches, TakesClock}
 use Rattle.operands.specs.Causes.{Never, NoMachineOf, NoNetworkOf, OfMachine, OfNetwork}
 use Rattle.operands.specs.Fill.{fill_of}
-use Rattle.operands.specs.Loading.{Lengthy}
+use Rattle.operands.specs.OperandText.{Lengthy}
 use Rattle.hsdec_core.specs.Task.{task_of}
 use Rattle.job_words.specs.declared.jobs.Job.{Job}
 use Rattle.kiss_file.specs.declared.file.KissFile.{KissFile}
@@ -27,7 +27,7 @@ use Rattle.mm_lattice.specs.MmPairs.{IsMmPair}
 use Rattle.partition.specs.Sides.{RightBefore}
 use Rattle.output_consistent.specs.Outputs.{IsClosedAndConsistent}
 use Rattle.operands.specs.PartFaults.{BadPart}
-use Rattle.partition.specs.Before.{Before}
+use Rattle.partition.specs.Order.{Before}
 use Rattle.shift_texts.specs.Causes.{RefusesShift}
 use Rattle.split_texts.specs.Causes.{IsNotWritten}
 use Rattle.symbol_runs.specs.Causes.{BadSymbolRow, NoStart}

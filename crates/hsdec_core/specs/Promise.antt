@@ -1,9 +1,9 @@
 -- What each command promises of the text that it puts: one relation for each command, defined by its family.
 use Rattle.std.specs.Prelude.{◌≡◌, ℕ, ◌⊎◌, if◌then◌else◌, List, Option}
-use Rattle.closed_lattice.specs.Closed.{IsClosedPartition}
-use Rattle.comparisons.specs.Compared.{IsCompared}
-use Rattle.cover_texts.specs.Written.{IsCoverText}
-use Rattle.generated_texts.specs.Generated.{OfGenerated}
+use Rattle.closed_lattice.specs.ClosedPartitions.{IsClosedPartition}
+use Rattle.comparisons.specs.Comparison.{IsCompared}
+use Rattle.cover_texts.specs.CoverText.{IsCoverText}
+use Rattle.generated_texts.specs.SeedMachine.{OfGenerated}
 use Rattle.generated_texts.specs.Trial.{IsTrialText}
 use Rattle.hsdec_core.specs.declared.tasks.FileTask.{FileTask}
 use Rattle.hsdec_core.specs.declared.tasks.FileTask.TheVariants.{Check, Cover, High, Low, Reduce}
@@ -17,13 +17,13 @@ use Rattle.hsdec_core.specs.declared.tasks.WorkTask.{WorkTask}
 use Rattle.hsdec_core.specs.declared.tasks.WorkTask.TheVariants.{Compare, Decompose, Definite, Shift}
 use Rattle.hsdec_core.specs.Clocks.{design_of}
 use Rattle.operands.specs.Fill.{fill_of}
-use Rattle.operands.specs.Loading.{IsText}
-use Rattle.operands.specs.Opened.{HoldsMachine, HoldsNetwork}
+use Rattle.operands.specs.OperandText.{IsText}
+use Rattle.operands.specs.OpenedOperands.{HoldsMachine, HoldsNetwork}
 use Rattle.hsdec_core.specs.Task.{task_of}
 use Rattle.io_pairs.specs.Inputs.{IsInMmPair}
 use Rattle.job_words.specs.declared.jobs.Job.{Job}
 use Rattle.kiss_file.specs.declared.file.KissFile.{KissFile}
-use Rattle.kiss2.specs.Written.{kiss_text}
+use Rattle.kiss2.specs.KissText.{kiss_text}
 use Rattle.machine_reports.specs.CheckText.{IsChecked}
 use Rattle.machine_reports.specs.DefiniteText.{IsChainText}
 use Rattle.machine_reports.specs.ListTexts.{IsEvidenceText, IsListText, pair_line}
@@ -38,9 +38,9 @@ use Rattle.partition.specs.Sides.{RightBefore}
 use Rattle.net_core.specs.declared.Network.{Network}
 use Rattle.net_sim.specs.Run.{IsRun}
 use Rattle.output_consistent.specs.Outputs.{IsClosedAndConsistent}
-use Rattle.partition.specs.Before.{Before}
+use Rattle.partition.specs.Order.{Before}
 use Rattle.shift_texts.specs.ShiftText.{IsShiftText}
-use Rattle.split_texts.specs.Written.{IsWritten}
+use Rattle.split_texts.specs.SplitText.{IsWritten}
 use Rattle.state_codes.specs.declared.split.Kind.{Kind}
 use Rattle.symbol_runs.specs.Texts.{IsWalkText}
 

@@ -7,7 +7,7 @@ use Rattle.answers.specs.declared.refusals.Refusal.TheVariants.{NoMemory, Unread
 use Rattle.answers.specs.Cause.{CallsForNone, Cause}
 use Rattle.answers.specs.Refusal.{answer_of}
 use Rattle.hsdec_core.specs.Judgement.{all_causes, first_cause}
-use Rattle.operands.specs.Loading.{MayBe}
+use Rattle.operands.specs.OperandText.{MayBe}
 use Rattle.hsdec_core.specs.Operands.{file_held, symbols_held, takes_file, takes_symbols}
 use Rattle.hsdec_core.specs.Task.{task_of}
 use Rattle.job_words.specs.declared.jobs.Job.{Job}

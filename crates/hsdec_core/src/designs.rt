@@ -2,9 +2,9 @@
 
 ghost use Rattle.std.specs.Prelude.{◌≡◌, ⊤, IfOk, codes, unwrap_or};
 ghost use Rattle.answers.specs.declared.reports.Report.TheVariants as reports;
-ghost use Rattle.answers.specs.Judged.{IsJudged};
+ghost use Rattle.answers.specs.Outcome.{IsJudged};
 ghost use Rattle.hsdec_core.specs.Clocks.{design_of};
-ghost use Rattle.hsdec_core.specs.Inner.Headed.{NamesSignal};
+ghost use Rattle.hsdec_core.specs.Inner.HeadedReport.{NamesSignal};
 
 use answers::{Refusal, Report};
 use blif_out::{CommentedNetwork, Design, is_signal};
@@ -15,7 +15,8 @@ use std::alloc::{AllocError, Global};
 
 /// The report of a network in the design that a job asks for.
 pub fn designed(alloc: Global, job: &Job, made: CommentedNetwork) -> Result<Report, Refusal>
-    ensures { IsJudged (NamesSignal job.now.clock made.network) (λ report. report ≡ reports.Network (design_of job.now) made) result }
+    ensures { IsJudged (NamesSignal job.now.clock made.network)
+        (λ report. report ≡ reports.Network (design_of job.now) made) result }
 {
     refuse_signal(alloc, &job.clock, &made.network)?;
     let design = asked_design(alloc, job)?;

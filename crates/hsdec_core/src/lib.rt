@@ -23,12 +23,12 @@
 #![tactic(auto)]
 
 mod designs;
+mod job_outcome;
 mod machine_tasks;
 mod pages;
-mod performing;
-mod running;
 mod symbol_tasks;
 mod tasks;
+mod top_call;
 
 pub use answers::Answer;
-pub use running::run;
+pub use top_call::run;

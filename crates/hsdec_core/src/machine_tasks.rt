@@ -4,22 +4,30 @@ ghost use Rattle.std.specs.Prelude.{◌≡◌, ◌≤◌, ◌↔◌, ℕ, Err, I
 ghost use Rattle.hs_io.specs.Counts.{Rose};
 ghost use Rattle.answers.specs.declared.refusals.Refusal.TheVariants.{NoMemory};
 ghost use Rattle.answers.specs.declared.reports.Report.TheVariants.{Network, Whole};
-ghost use Rattle.answers.specs.Judged.{IsJudged, IsReported};
+ghost use Rattle.answers.specs.Outcome.{IsJudged, IsReported};
 ghost use Rattle.blif_out.specs.NetworkText.{CanBeHeaded};
 ghost use Rattle.hsdec_core.specs.declared.tasks.MachineTask.TheVariants.{OfWork};
 ghost use Rattle.hsdec_core.specs.declared.tasks.Task.TheVariants.{OnMachine};
 ghost use Rattle.hsdec_core.specs.declared.tasks.WorkTask.TheVariants as works;
 ghost use Rattle.operands.specs.Fill.{fill_of};
 ghost use Rattle.hsdec_core.specs.Clocks.{design_of};
-ghost use Rattle.hsdec_core.specs.Inner.Headed.{IsReportOf, NamesSignal};
-ghost use Rattle.hsdec_core.specs.Inner.Made.{IsMadeOf};
+ghost use Rattle.hsdec_core.specs.Inner.HeadedReport.{IsReportOf, NamesSignal};
+ghost use Rattle.hsdec_core.specs.Inner.JobOutcome.{IsMadeOf};
 ghost use Rattle.hsdec_core.specs.Judgement.{file_cause, list_cause, own_cause, work_cause};
 ghost use Rattle.hsdec_core.specs.Operands.{AreGranted};
-ghost use Rattle.hsdec_core.specs.Promise.{IsFileText, IsListEvidence, IsListing, IsReport, IsShown, IsWorkText, shown_of};
+ghost use Rattle.hsdec_core.specs.Promise.{
+  IsFileText,
+  IsListEvidence,
+  IsListing,
+  IsReport,
+  IsShown,
+  IsWorkText,
+  shown_of,
+};
 ghost use Rattle.hsdec_core.specs.Task.{task_of};
 ghost use Rattle.job_words.specs.declared.command.Command.TheVariants as commands;
 ghost use Rattle.job_words.specs.Job.{HasFewSlashes, HasGivenNames, IsLimit};
-ghost use Rattle.kiss_file.specs.Lawful.{IsLawful};
+ghost use Rattle.kiss_file.specs.LawfulFile.{IsLawful};
 ghost use Rattle.kiss_file.specs.Machine.{Accepted};
 ghost use Rattle.state_codes.specs.declared.split.Kind.TheVariants as kinds;
 
@@ -77,7 +85,8 @@ fn report(
     requires lawful { IsLawful file.now }
     requires accepted { Accepted file.now (fill_of job.now) }
     requires machine { machine ≡ file.now }
-    ensures { IsReported (own_cause task job.now file.now) (IsReport task job.now file.now) (IsShown task job.now file.now) result }
+    ensures { IsReported (own_cause task job.now file.now) (IsReport task job.now file.now)
+        (IsShown task job.now file.now) result }
 {
     match task {
         MachineTask::Listing(listed) => listing(
@@ -167,7 +176,8 @@ fn listing(
 ) -> Result<Report, Refusal>
     requires limited { IsLimit limit }
     requires machine { machine.now ≡ file.now }
-    ensures { IsReported (list_cause listed limit machine.now) (IsListing listed shown limit machine.now) (IsListEvidence listed shown limit machine.now) result }
+    ensures { IsReported (list_cause listed limit machine.now) (IsListing listed shown limit machine.now)
+        (IsListEvidence listed shown limit machine.now) result }
 {
     match listed {
         ListTask::Closed => closed(alloc, file, machine, limit, shown),
@@ -201,7 +211,8 @@ fn drawn(
     made: Result<CommentedNetwork, Refusal>,
 ) -> Result<Report, Refusal>
     ensures { MatchResult made
-        (λ network. IsJudged (NamesSignal job.now.clock network.network) (λ report. report ≡ Network (design_of job.now) network) result)
+        (λ network. IsJudged (NamesSignal job.now.clock network.network)
+        (λ report. report ≡ Network (design_of job.now) network) result)
         (λ refusal. result ≡ Err refusal) }
 {
     let made = made?;

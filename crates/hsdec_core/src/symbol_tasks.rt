@@ -4,11 +4,11 @@ ghost use Rattle.std.specs.Prelude.{◌≡◌, ◌≤◌, ◌↔◌, ℕ, List};
 ghost use Rattle.hs_io.specs.Counts.{Rose};
 ghost use Rattle.hsdec_core.specs.declared.tasks.Task.TheVariants as tasks;
 ghost use Rattle.operands.specs.Fill.{fill_of};
-ghost use Rattle.hsdec_core.specs.Inner.Made.{IsMadeOf};
+ghost use Rattle.hsdec_core.specs.Inner.JobOutcome.{IsMadeOf};
 ghost use Rattle.hsdec_core.specs.Operands.{AreGranted};
 ghost use Rattle.hsdec_core.specs.Task.{task_of};
 ghost use Rattle.net_core.specs.Order.{IsOrderOf};
-ghost use Rattle.operands.specs.Opened.{HoldsMachine, HoldsNetwork};
+ghost use Rattle.operands.specs.OpenedOperands.{HoldsMachine, HoldsNetwork};
 
 use answers::{Bytes, Refusal, Report};
 use blif_in::OrderedNetwork;

@@ -6,7 +6,23 @@ ghost use Rattle.std.specs.Option.{option_map};
 ghost use Rattle.hs_io.specs.Spelling.{ended, spaced};
 ghost use Rattle.job_words.specs.Job.{row_named};
 ghost use Rattle.job_words.specs.Table.{row_of};
-ghost use Rattle.hsdec_program.specs.Pages.{answers_text, command_page, form_lines, example_line, form_words, group_lines, help_page, help_page_of, lines_within, making_line, operand_lines, option_lines, page_asked, title_line, usage_text};
+ghost use Rattle.hsdec_program.specs.Pages.{
+  answers_text,
+  command_page,
+  form_lines,
+  example_line,
+  form_words,
+  group_lines,
+  help_page,
+  help_page_of,
+  lines_within,
+  making_line,
+  operand_lines,
+  option_lines,
+  page_asked,
+  title_line,
+  usage_text,
+};
 ghost use Rattle.hsdec_program.specs.Phrases.{example_of, making_of, operand_word, option_words};
 
 use crate::groups::{Group, command_group, heading, is_same};
@@ -158,7 +174,8 @@ fn help_on(
     operands: &[OperandKind],
     options: &[CommandOption],
 ) -> Result<Vec<u8>, AllocError>
-    ensures { IfOk result (λ page. page.items ≡ help_page_of (map row_of forms.now) groups.now operands.now options.now) }
+    ensures { IfOk result
+        (λ page. page.items ≡ help_page_of (map row_of forms.now) groups.now operands.now options.now) }
 {
     let mut page = Vec::from_slice(alloc, usage())?;
     append_groups(&mut page, forms, groups)?;
@@ -225,7 +242,8 @@ fn append_examples(page: &mut Vec<u8>, command: Command) -> Result<(), AllocErro
 
 /// Appends the lines of commands, group by group.
 fn append_groups(page: &mut Vec<u8>, forms: &[Form], groups: &[Group]) -> Result<(), AllocError>
-    ensures { OnOk result (page.new.items ≡ page.old.items ++ flat_map (group_lines (map row_of forms.now)) groups.now) }
+    ensures { OnOk result
+        (page.new.items ≡ page.old.items ++ flat_map (group_lines (map row_of forms.now)) groups.now) }
 {
     for group in groups {
         append_group(page, forms, *group)?;
@@ -291,7 +309,8 @@ fn append_example(page: &mut Vec<u8>, words: &[u8]) -> Result<(), AllocError>
 
 /// Appends the names of operands, each after a space.
 fn append_operand_names(page: &mut Vec<u8>, operands: &[OperandKind]) -> Result<(), AllocError>
-    ensures { OnOk result (page.new.items ≡ page.old.items ++ flat_map (λ kind. spaced (operand_word kind)) operands.now) }
+    ensures { OnOk result
+        (page.new.items ≡ page.old.items ++ flat_map (λ kind. spaced (operand_word kind)) operands.now) }
 {
     for operand in operands {
         append_spaced(page, operand_name(*operand))?;
@@ -301,7 +320,8 @@ fn append_operand_names(page: &mut Vec<u8>, operands: &[OperandKind]) -> Result<
 
 /// Appends the names of options, each after a space.
 fn append_option_names(page: &mut Vec<u8>, options: &[CommandOption]) -> Result<(), AllocError>
-    ensures { OnOk result (page.new.items ≡ page.old.items ++ flat_map (λ option. spaced (option_words option)) options.now) }
+    ensures { OnOk result
+        (page.new.items ≡ page.old.items ++ flat_map (λ option. spaced (option_words option)) options.now) }
 {
     for option in options {
         append_spaced(page, option_name(*option))?;

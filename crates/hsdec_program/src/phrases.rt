@@ -2,7 +2,15 @@
 
 ghost use Rattle.std.specs.Prelude.{◌≡◌};
 ghost use Rattle.std.specs.Option.{option_map};
-ghost use Rattle.hsdec_program.specs.Phrases.{example_of, making_of, operand_note, operand_word, option_note, option_words, phrase_of};
+ghost use Rattle.hsdec_program.specs.Phrases.{
+  example_of,
+  making_of,
+  operand_note,
+  operand_word,
+  option_note,
+  option_words,
+  phrase_of,
+};
 
 use job_words::{Command, CommandOption, OperandKind};
 

@@ -80,7 +80,8 @@ fn answer_to_words<F: Shelf, O: Sink, E: Sink>(
 ) -> Answer
     requires few { length words.now < 2 ^ 32 - 1 }
     requires granted { IfOk (JobOf words.now) (AreGranted (F.grants shelf.old)) }
-    ensures answer { IsAnswerTo words.now (F.holds shelf.old) result (O.given out.old) (O.given out.new) (out.new ≡ out.old) }
+    ensures answer { IsAnswerTo words.now (F.holds shelf.old) result (O.given out.old) (O.given out.new)
+        (out.new ≡ out.old) }
     ensures complete { IsComplete words.now (F.holds shelf.old) result
         (Rose (F.faults shelf.old) (F.faults shelf.new) ⊎ Rose (O.faults out.old) (O.faults out.new)) }
     ensures read_fault { result ≡ Answer.ReadFault → Rose (F.faults shelf.old) (F.faults shelf.new) }
@@ -89,7 +90,8 @@ fn answer_to_words<F: Shelf, O: Sink, E: Sink>(
         → out.new ≡ out.old }
     ensures silent { result ≡ Answer.Done → err.new ≡ err.old }
     ensures refused { result ≢ Answer.Done → (refusal : Refusal) × (answer_of refusal ≡ result)
-        × IsRefusedTo words.now (F.holds shelf.old) (Rose (F.faults shelf.old) (F.faults shelf.new)) (Rose (O.faults out.old) (O.faults out.new)) refusal
+        × IsRefusedTo words.now (F.holds shelf.old) (Rose (F.faults shelf.old) (F.faults shelf.new))
+        (Rose (O.faults out.old) (O.faults out.new)) refusal
         × LinePut (line_of refusal) (E.given err.old) (E.given err.new) (E.faults err.old) (E.faults err.new) }
 {
     match page_of(alloc, words) {

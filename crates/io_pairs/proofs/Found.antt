@@ -5,7 +5,7 @@ use Rattle.hs_lattice.specs.Collection.{Adds, Knows}
 use Rattle.hs_lattice.specs.Laws.Members.{All-added, Contains-added, Contains-same, Contains-value}
 use Rattle.partition.specs.Partition.{IsPartition, Le, zero_of}
 use Rattle.partition.specs.Laws.Labels.{IsPartition-of}
-use Rattle.io_pairs.specs.Inner.Collected.{AreRights, HasRight, HaveRights, IsRight, IsRightOf}
+use Rattle.io_pairs.specs.Inner.RightSides.{AreRights, HasRight, HaveRights, IsRight, IsRightOf}
 use Rattle.io_pairs.specs.Inner.Families.{Ties}
 use Rattle.partition.specs.Laws.Extremes.{zero_of_below}
 

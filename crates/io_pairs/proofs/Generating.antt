@@ -3,7 +3,7 @@ use Rattle.std.proofs.Common.{ℕ, List, length, refl, arith}
 use Rattle.hs_lattice.specs.JoinWorld.{IsGenerated, HaveJoins}
 use Rattle.partition.specs.Laws.Generating.{IsGoing, IsZeroOf, right_generated_by}
 use Rattle.partition.specs.MeetAndJoin.{IsJoin}
-use Rattle.io_pairs.specs.Inner.Collected.{HaveRights, IsRightSide}
+use Rattle.io_pairs.specs.Inner.RightSides.{HaveRights, IsRightSide}
 use Rattle.io_pairs.specs.Inner.Families.{Go}
 use Rattle.io_pairs.proofs.Going.{go_above, go_on, go_turned}
 

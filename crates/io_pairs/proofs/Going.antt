@@ -2,7 +2,7 @@
 use Rattle.std.proofs.Common.{◌≡◌, ℕ, ◌+◌, ◌<◌, List, get_or, sym, ◌∙◌, subst, inl, inr, arith}
 use Rattle.std.proofs.lemmas.Bool.{cases_eq}
 use Rattle.partition.specs.Laws.Least.{least_of-same}
-use Rattle.partition.specs.Inside.{least_of}
+use Rattle.partition.specs.NestedBlocks.{least_of}
 use Rattle.partition.specs.Partition.{Together, Le}
 use Rattle.partition.specs.Laws.Chains.{together_turned}
 use Rattle.io_pairs.specs.Inner.Families.{FamilyPair, Go, GoBelow, value_at}

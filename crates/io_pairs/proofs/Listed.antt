@@ -7,10 +7,10 @@ use Rattle.hs_lattice.specs.JoinWorld.{IsGenerated, HaveJoins}
 use Rattle.hs_lattice.specs.Laws.{IsGenerated-has}
 use Rattle.hs_lattice.specs.Listing.{Lists, Evidence}
 use Rattle.hs_lattice.specs.Laws.Outcomes.{evidence_as}
-use Rattle.partition.specs.Before.{Before}
+use Rattle.partition.specs.Order.{Before}
 use Rattle.partition.specs.MeetAndJoin.{IsJoin}
 use Rattle.io_pairs.specs.declared.worlds.IoPair.{IoPair}
-use Rattle.io_pairs.specs.Inner.Collected.{AreRights, HaveLefts, HaveRights, IsFamilyMm, IsReached, IsRightSide, ListsRights}
+use Rattle.io_pairs.specs.Inner.RightSides.{AreRights, HaveLefts, HaveRights, IsFamilyMm, IsReached, IsRightSide, ListsRights}
 use Rattle.io_pairs.specs.Inner.Families.{AreFunctions, FamilyPair, IsParted}
 use Rattle.partition.specs.Laws.Partners.{same_right_of}
 use Rattle.partition.specs.Sides.{RightBefore, Sides}

@@ -6,7 +6,7 @@ use Rattle.std.specs.declared.alloc.AllocError.{AllocError}
 use Rattle.hs_lattice.specs.Listing.{Lists, Evidence, IfMore, IfWhole}
 use Rattle.hs_lattice.specs.Laws.Outcomes.{more-from, whole-from}
 use Rattle.partition.specs.Partition.{Together}
-use Rattle.io_pairs.specs.Inner.Collected.{IsFamilyMm}
+use Rattle.io_pairs.specs.Inner.RightSides.{IsFamilyMm}
 use Rattle.io_pairs.specs.Inner.Families.{FamilyPair, Go, IsParted, SameGoing}
 use Rattle.partition.specs.Partners.{IsGreatestWith, IsLeastWith, IsMmPairOf, PairBy}
 use Rattle.partition.specs.Sides.{RightBefore, Sides}

@@ -6,7 +6,7 @@ use Rattle.partition.specs.Laws.Chains.{join_is_least}
 use Rattle.partition.specs.Laws.Extremes.{zero_of_is_partition}
 use Rattle.partition.specs.Laws.Labels.{IsPartition-of}
 use Rattle.partition.specs.Laws.World.{join_fits}
-use Rattle.io_pairs.specs.Inner.Collected.{IsFamilyMm, IsReached, IsRightOf}
+use Rattle.io_pairs.specs.Inner.RightSides.{IsFamilyMm, IsReached, IsRightOf}
 use Rattle.io_pairs.specs.Inner.Families.{IsParted}
 use Rattle.partition.specs.Laws.Extremes.{zero_of_below}
 use Rattle.io_pairs.proofs.Going.{go_above}

@@ -1,11 +1,11 @@
 -- Values that are put together, function by function and member by member, make the least partner.
 use Rattle.std.proofs.Common.{◌≡◌, ℕ, ◌+◌, ◌<◌, ◌≤◌, List, length, sym, subst, inl, inr, arith}
 use Rattle.std.proofs.lemmas.Bool.{cases_eq}
-use Rattle.partition.specs.Inside.{least_of}
+use Rattle.partition.specs.NestedBlocks.{least_of}
 use Rattle.partition.specs.Partition.{IsPartition, Together, Le, zero_of}
 use Rattle.partition.specs.Laws.Labels.{IsPartition-of}
 use Rattle.partition.specs.Laws.Merging.{merged_above, merged_held, merged_least}
-use Rattle.partition.specs.Merging.{IsMerged}
+use Rattle.partition.specs.MergedBlocks.{IsMerged}
 use Rattle.io_pairs.specs.Inner.Families.{FamilyPair, Go, Ties, TiesBelow, value_at}
 use Rattle.partition.specs.Laws.Extremes.{zero_of_below}
 use Rattle.partition.specs.Partners.{IsLeastWith}

@@ -9,8 +9,8 @@ use Rattle.cubes.specs.Cube.{HoldsNumber}
 use Rattle.cubes.specs.Symbol.{bit, symbol_of}
 use Rattle.kiss_file.specs.declared.file.KissFile.{KissFile}
 use Rattle.kiss_file.specs.Machine.{output_bit}
-use Rattle.machine_table.specs.Covering.{IsPiece}
-use Rattle.machine_table.specs.declared.covering.Piece.{Piece}
+use Rattle.machine_table.specs.Pieces.{IsPiece}
+use Rattle.machine_table.specs.declared.pieces.Piece.{Piece}
 use Rattle.machine_table.specs.Laws.OutputWords.{bits_with_none, bits_with_one, same_values}
 use Rattle.io_pairs.specs.Outputs.{output_word, word_of}
 

@@ -1,6 +1,6 @@
 -- Definitions that only private functions and proofs need.
 pub mod Families
 pub mod Marks
-pub mod Collected
+pub mod RightSides
 pub mod Words
 pub mod Lists

@@ -25,7 +25,8 @@ fn splits(
     requires values { (x : ℕ) → x < length classes.now → slice_index function.now x < length q.now }
     ensures count { IfOk result (λ v. length v.items ≡ length classes.now) }
     ensures numbers { IfOk result (λ v. (x : ℕ) → x < length classes.now
-        → slice_index v.items x ≡ slice_index classes.now x * length q.now + slice_index q.now (slice_index function.now x)) }
+        → slice_index v.items x ≡ slice_index classes.now x * length q.now + slice_index q.now
+        (slice_index function.now x)) }
 {
     let labels = q.len();
     let mut numbers = Vec::with_capacity(alloc, classes.len())?;

@@ -5,7 +5,16 @@ ghost use Rattle.std.specs.Prelude.{ℕ, ◌≡◌, ◌<◌, ◌^◌, All, List,
 ghost use Rattle.cubes.specs.Symbol.{symbol_of, lowest_bits};
 ghost use Rattle.hs_lattice.specs.JoinWorld.{IsGenerated, HaveJoins};
 ghost use Rattle.io_pairs.specs.Inputs.{IsInJoin, IsInMmPair, IsLeastInPair, IsInHigh, IsInLow, IsInRightOf};
-ghost use Rattle.io_pairs.specs.Outputs.{IsLeastOutPair, IsOutJoin, IsOutMmPair, output_word, IsOutHigh, IsOutLow, IsOutRightOf, occurring};
+ghost use Rattle.io_pairs.specs.Outputs.{
+  IsLeastOutPair,
+  IsOutJoin,
+  IsOutMmPair,
+  output_word,
+  IsOutHigh,
+  IsOutLow,
+  IsOutRightOf,
+  occurring,
+};
 ghost use Rattle.kiss_file.specs.Machine.{out};
 ghost use Rattle.kiss_file.specs.declared.file.KissFile.{KissFile};
 ghost use Rattle.partition.specs.Partition.{IsPartition, Le};
@@ -33,14 +42,17 @@ pub fn mm_pairs_are_joins()
 
 /// For both kinds, p is below the greatest partner of q exactly where the least partner of p is below q.
 pub fn partners_decide()
-    ensures inputs { (F : KissFile) (p q low high : List ℕ) → IsPartition (2 ^ F.inputs) p → IsPartition (length F.states) q
+    ensures inputs { (F : KissFile) (p q low high : List ℕ) → IsPartition (2 ^ F.inputs) p
+        → IsPartition (length F.states) q
         → IsInLow F p low → IsInHigh F q high → Le p high ↔ Le low q }
-    ensures outputs { (F : KissFile) (p q low high : List ℕ) → IsPartition (length F.states) p → IsPartition (length (occurring F)) q
+    ensures outputs { (F : KissFile) (p q low high : List ℕ) → IsPartition (length F.states) p
+        → IsPartition (length (occurring F)) q
         → IsOutLow F p low → IsOutHigh F q high → Le p high ↔ Le low q }
 {}
 
 /// The number of an output has the outputs as its bits, output b at 2^b.
 pub fn words_write_outputs()
-    ensures outputs { (F : KissFile) (s x : ℕ) → lowest_bits F.outputs (output_word F s x) ≡ out F s (symbol_of F.inputs x) }
+    ensures outputs { (F : KissFile) (s x : ℕ)
+        → lowest_bits F.outputs (output_word F s x) ≡ out F s (symbol_of F.inputs x) }
     ensures below { (F : KissFile) (s x : ℕ) → output_word F s x < 2 ^ F.outputs }
 {}

@@ -29,20 +29,20 @@
 //! What is in `specs/Inner` is for private functions alone.
 #![tactic(auto)]
 
-mod collecting;
 mod family;
 mod greatest;
 mod laws;
 mod least;
 mod listing;
 mod marks;
-mod occurring;
+mod output_words;
+mod right_sides;
 mod states;
 mod symbols;
 mod worlds;
 
 pub use laws::{mm_pairs_are_joins, partners_decide, words_write_outputs};
-pub use occurring::{Outs, OutsFail, outputs};
+pub use output_words::{Outs, OutsFail, outputs};
 pub use states::{output_high, output_low, output_pairs};
 pub use symbols::{input_high, input_low, input_pairs};
 pub use worlds::{InputWorld, IoPair, OutputWorld};

@@ -6,17 +6,17 @@
 
 ghost use Rattle.std.specs.Prelude.{◌≤◌, All, IfOk, List, ℕ, length, map};
 ghost use Rattle.hs_lattice.specs.Listing.{Evidence, IfMore, IfWhole, Lists, items_of};
-ghost use Rattle.io_pairs.specs.Inner.Collected.{HaveLefts, IsFamilyMm, IsReached, IsRightSide, ListsRights};
+ghost use Rattle.io_pairs.specs.Inner.RightSides.{HaveLefts, IsFamilyMm, IsReached, IsRightSide, ListsRights};
 ghost use Rattle.io_pairs.specs.Inner.Families.{IsFamily, functions_of};
 ghost use Rattle.partition.specs.Sides.{RightBefore, Sides};
 ghost use Rattle.io_pairs.specs.Sides.{sides_of};
-ghost use Rattle.partition.specs.Before.{Before};
+ghost use Rattle.partition.specs.Order.{Before};
 ghost use Rattle.partition.specs.Partition.{IsPartition};
 
 use crate::IoPair;
-use crate::collecting::rights;
 use crate::family::Family;
 use crate::greatest::greatest_partner;
+use crate::right_sides::rights;
 use hs_lattice::{Listing, join_closure};
 use hs_list::Items;
 use partition::{PartWorld, Partition};
@@ -35,7 +35,8 @@ fn right_sides(
         (ListsRights family.now.members family.now.values (functions_of family.now))) }
     ensures within { IfOk result (λ listing. IfWhole listing (λ items. length items ≤ limit)) }
     ensures no_more { IfOk result (λ listing. IfWhole listing (λ _. (rights : List (List ℕ))
-        → Evidence Before (IsRightSide family.now.members family.now.values (functions_of family.now)) limit rights → ⊥)) }
+        → Evidence Before (IsRightSide family.now.members family.now.values (functions_of family.now)) limit rights
+        → ⊥)) }
     ensures more { IfOk result (λ listing. IfMore listing
         (Evidence Before (IsReached family.now.members family.now.values (functions_of family.now)) limit)) }
     ensures fit { IfOk result (λ listing. All (IsPartition family.now.values) (items_of listing)) }
@@ -53,7 +54,8 @@ fn with_lefts(
 ) -> Result<Items<IoPair>, AllocError>
     requires family { IsFamily family.now }
     requires rights { All (IsPartition family.now.values) rights }
-    ensures { IfOk result (λ pairs. HaveLefts family.now.members (functions_of family.now) rights (map sides_of pairs)) }
+    ensures { IfOk result
+        (λ pairs. HaveLefts family.now.members (functions_of family.now) rights (map sides_of pairs)) }
 {
     let mut pairs = Vec::new(alloc);
     for right in rights.into_vec() {

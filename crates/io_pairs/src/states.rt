@@ -13,7 +13,7 @@ use crate::family::Family;
 use crate::greatest::greatest_partner;
 use crate::least::least_partner;
 use crate::listing::listed;
-use crate::occurring::{place_of, words_of};
+use crate::output_words::{place_of, words_of};
 use crate::symbols::symbol_count;
 use crate::{IoPair, Outs};
 use hs_lattice::Listing;
@@ -70,7 +70,8 @@ fn of_outputs(alloc: Global, m: &Machine, outs: &Outs) -> Result<Family, AllocEr
     ensures family { IfOk result IsFamily }
     ensures members { IfOk result (λ family. family.members ≡ length m.now.states) }
     ensures values { IfOk result (λ family. family.values ≡ length (occurring m.now)) }
-    ensures going { IfOk result (λ family. SameGoing (length m.now.states) (Go (functions_of family)) (GoAtSymbols m.now)) }
+    ensures going { IfOk result
+        (λ family. SameGoing (length m.now.states) (Go (functions_of family)) (GoAtSymbols m.now)) }
 {
     let states = all_numbers(alloc, m, outs)?;
     let symbols = symbol_count(m) as usize;

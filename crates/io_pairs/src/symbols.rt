@@ -50,7 +50,8 @@ fn of_inputs(alloc: Global, m: &Machine) -> Result<Family, AllocError>
     ensures family { IfOk result IsFamily }
     ensures members { IfOk result (λ family. family.members ≡ 2 ^ m.now.inputs) }
     ensures values { IfOk result (λ family. family.values ≡ length m.now.states) }
-    ensures going { IfOk result (λ family. SameGoing (2 ^ m.now.inputs) (Go (functions_of family)) (GoFromStates m.now)) }
+    ensures going { IfOk result
+        (λ family. SameGoing (2 ^ m.now.inputs) (Go (functions_of family)) (GoFromStates m.now)) }
 {
     let mut functions = Vec::with_capacity(alloc, m.states())?;
     for s in 0..m.states() {

@@ -3,12 +3,24 @@
 ghost use Rattle.std.specs.Prelude.{◌≡◌, ◌≤◌, IfOk};
 ghost use Rattle.io_pairs.specs.Inputs.{InPair, IsInJoin, IsInMmPair, IsLeastInPair};
 ghost use Rattle.io_pairs.specs.Laws.{in_pairs_grow, out_pairs_grow};
-ghost use Rattle.partition.specs.Laws.Partners.{before_chains_of, before_decides_of, joins_associate_of, joins_commute_of, joins_fit_of, joins_least_of, joins_once_of, joins_repeat_of, least_fits_of, least_once_of, right_never_before};
+ghost use Rattle.partition.specs.Laws.Partners.{
+  before_chains_of,
+  before_decides_of,
+  joins_associate_of,
+  joins_commute_of,
+  joins_fit_of,
+  joins_least_of,
+  joins_once_of,
+  joins_repeat_of,
+  least_fits_of,
+  least_once_of,
+  right_never_before,
+};
 ghost use Rattle.io_pairs.specs.Outputs.{AreOutputs, IsLeastOutPair, IsOutJoin, IsOutMmPair, OutPair};
 ghost use Rattle.partition.specs.Sides.{RightBefore, Sides};
 ghost use Rattle.io_pairs.specs.Sides.{sides_of};
 
-use crate::occurring::Outs;
+use crate::output_words::Outs;
 use crate::states::output_high;
 use crate::symbols::input_high;
 use hs_lattice::JoinWorld;
@@ -97,25 +109,34 @@ impl JoinWorld for InputWorld<'_> {
 
     ghost least_fits = { λ w x lawful is. least_fits_of _ _ (InPair w.machine.now) (in_pairs_grow w.machine.now) x is };
 
-    ghost least_once = { λ w x other lawful is same. least_once_of _ _ (InPair w.machine.now) (in_pairs_grow w.machine.now) x other is same };
+    ghost least_once = { λ w x other lawful is same. least_once_of _ _ (InPair w.machine.now)
+        (in_pairs_grow w.machine.now) x other is same };
 
-    ghost joins_fit = { λ w x y z lawful left right joined. joins_fit_of _ _ (InPair w.machine.now) (in_pairs_grow w.machine.now) x y z left right joined };
+    ghost joins_fit = { λ w x y z lawful left right joined. joins_fit_of _ _ (InPair w.machine.now)
+        (in_pairs_grow w.machine.now) x y z left right joined };
 
-    ghost joins_once = { λ w x y z other lawful left right one two. joins_once_of _ _ (InPair w.machine.now) (in_pairs_grow w.machine.now) x y z other left one two };
+    ghost joins_once = { λ w x y z other lawful left right one two. joins_once_of _ _ (InPair w.machine.now)
+        (in_pairs_grow w.machine.now) x y z other left one two };
 
-    ghost joins_commute = { λ w x y z lawful left right joined. joins_commute_of _ _ (InPair w.machine.now) (in_pairs_grow w.machine.now) x y z left right joined };
+    ghost joins_commute = { λ w x y z lawful left right joined. joins_commute_of _ _ (InPair w.machine.now)
+        (in_pairs_grow w.machine.now) x y z left right joined };
 
-    ghost joins_associate = { λ w x y z front back all lawful a b c d e f. joins_associate_of _ _ (InPair w.machine.now) (in_pairs_grow w.machine.now) x y z front back all a b c d e f };
+    ghost joins_associate = { λ w x y z front back all lawful a b c d e f. joins_associate_of _ _ (InPair w.machine.now)
+        (in_pairs_grow w.machine.now) x y z front back all a b c d e f };
 
-    ghost joins_repeat = { λ w x lawful fit. joins_repeat_of _ _ (InPair w.machine.now) (in_pairs_grow w.machine.now) x fit };
+    ghost joins_repeat = { λ w x lawful fit. joins_repeat_of _ _ (InPair w.machine.now)
+        (in_pairs_grow w.machine.now) x fit };
 
-    ghost joins_least = { λ w x y lawful is fit. joins_least_of _ _ (InPair w.machine.now) (in_pairs_grow w.machine.now) x y is fit };
+    ghost joins_least = { λ w x y lawful is fit. joins_least_of _ _ (InPair w.machine.now)
+        (in_pairs_grow w.machine.now) x y is fit };
 
     ghost precedes_irreflexive = { λ w x lawful fit before. right_never_before x before };
 
-    ghost precedes_transitive = { λ w x y z lawful a b c d e. before_chains_of _ _ (InPair w.machine.now) (in_pairs_grow w.machine.now) x y z a b d e };
+    ghost precedes_transitive = { λ w x y z lawful a b c d e. before_chains_of _ _ (InPair w.machine.now)
+        (in_pairs_grow w.machine.now) x y z a b d e };
 
-    ghost precedes_total = { λ w x y lawful left right. before_decides_of _ _ (InPair w.machine.now) (in_pairs_grow w.machine.now) x y left right };
+    ghost precedes_total = { λ w x y lawful left right. before_decides_of _ _ (InPair w.machine.now)
+        (in_pairs_grow w.machine.now) x y left right };
 }
 
 impl JoinWorld for OutputWorld<'_> {
@@ -160,25 +181,35 @@ impl JoinWorld for OutputWorld<'_> {
         a.right.equal(&b.right)
     }
 
-    ghost least_fits = { λ w x lawful is. least_fits_of _ _ (OutPair w.machine.now) (out_pairs_grow w.machine.now) x is };
+    ghost least_fits = { λ w x lawful is. least_fits_of _ _ (OutPair w.machine.now)
+        (out_pairs_grow w.machine.now) x is };
 
-    ghost least_once = { λ w x other lawful is same. least_once_of _ _ (OutPair w.machine.now) (out_pairs_grow w.machine.now) x other is same };
+    ghost least_once = { λ w x other lawful is same. least_once_of _ _ (OutPair w.machine.now)
+        (out_pairs_grow w.machine.now) x other is same };
 
-    ghost joins_fit = { λ w x y z lawful left right joined. joins_fit_of _ _ (OutPair w.machine.now) (out_pairs_grow w.machine.now) x y z left right joined };
+    ghost joins_fit = { λ w x y z lawful left right joined. joins_fit_of _ _ (OutPair w.machine.now)
+        (out_pairs_grow w.machine.now) x y z left right joined };
 
-    ghost joins_once = { λ w x y z other lawful left right one two. joins_once_of _ _ (OutPair w.machine.now) (out_pairs_grow w.machine.now) x y z other left one two };
+    ghost joins_once = { λ w x y z other lawful left right one two. joins_once_of _ _ (OutPair w.machine.now)
+        (out_pairs_grow w.machine.now) x y z other left one two };
 
-    ghost joins_commute = { λ w x y z lawful left right joined. joins_commute_of _ _ (OutPair w.machine.now) (out_pairs_grow w.machine.now) x y z left right joined };
+    ghost joins_commute = { λ w x y z lawful left right joined. joins_commute_of _ _ (OutPair w.machine.now)
+        (out_pairs_grow w.machine.now) x y z left right joined };
 
-    ghost joins_associate = { λ w x y z front back all lawful a b c d e f. joins_associate_of _ _ (OutPair w.machine.now) (out_pairs_grow w.machine.now) x y z front back all a b c d e f };
+    ghost joins_associate = { λ w x y z front back all lawful a b c d e f. joins_associate_of _ _
+        (OutPair w.machine.now) (out_pairs_grow w.machine.now) x y z front back all a b c d e f };
 
-    ghost joins_repeat = { λ w x lawful fit. joins_repeat_of _ _ (OutPair w.machine.now) (out_pairs_grow w.machine.now) x fit };
+    ghost joins_repeat = { λ w x lawful fit. joins_repeat_of _ _ (OutPair w.machine.now)
+        (out_pairs_grow w.machine.now) x fit };
 
-    ghost joins_least = { λ w x y lawful is fit. joins_least_of _ _ (OutPair w.machine.now) (out_pairs_grow w.machine.now) x y is fit };
+    ghost joins_least = { λ w x y lawful is fit. joins_least_of _ _ (OutPair w.machine.now)
+        (out_pairs_grow w.machine.now) x y is fit };
 
     ghost precedes_irreflexive = { λ w x lawful fit before. right_never_before x before };
 
-    ghost precedes_transitive = { λ w x y z lawful a b c d e. before_chains_of _ _ (OutPair w.machine.now) (out_pairs_grow w.machine.now) x y z a b d e };
+    ghost precedes_transitive = { λ w x y z lawful a b c d e. before_chains_of _ _ (OutPair w.machine.now)
+        (out_pairs_grow w.machine.now) x y z a b d e };
 
-    ghost precedes_total = { λ w x y lawful left right. before_decides_of _ _ (OutPair w.machine.now) (out_pairs_grow w.machine.now) x y left right };
+    ghost precedes_total = { λ w x y lawful left right. before_decides_of _ _ (OutPair w.machine.now)
+        (out_pairs_grow w.machine.now) x y left right };
 }

@@ -9,8 +9,8 @@ use Rattle.job_words.specs.declared.jobs.Job.{Job}
 use Rattle.job_words.specs.declared.table.CommandOption.{CommandOption}
 use Rattle.job_words.specs.declared.table.CommandOption.TheVariants.{Limit, Reduce, Start, Fill, Names, Clock, Model}
 use Rattle.job_words.specs.Item.{Item, Operand, Chosen, Lacking, Unknown, items_of}
-use Rattle.job_words.specs.Job.{HasGivenNames, IsClockName, IsGivenName, NamesAreNames, fits_option, job_of, judged_as, refusal, row_named, with_option}
-use Rattle.job_words.specs.Name.{is_clock_name, is_given_byte, is_given_name}
+use Rattle.job_words.specs.Job.{HasGivenNames, IsClockName, IsModelName, NamesAreNames, fits_option, job_of, judged_as, refusal, row_named, with_option}
+use Rattle.job_words.specs.Name.{is_clock_name, is_given_byte, is_model_name}
 use Rattle.job_words.specs.Table.{Row, built}
 use Rattle.job_words.proofs.Commands.{Keeps, with_kind-keeps}
 use Rattle.job_words.proofs.Judged.{judged-keeps, option_fits}
@@ -32,7 +32,7 @@ some_bytes : (word : List ℕ) → not (length word == 0) ≡ true → 0 < lengt
 some_bytes [] is = cc
 some_bytes (byte ∷ bytes) is = omega arith
 
-given_name : (word : List ℕ) → is_given_name word ≡ true → IsGivenName word
+given_name : (word : List ℕ) → is_model_name word ≡ true → IsModelName word
 given_name word is =
     let bytes = both (not (length word == 0) && leb (length word) 64) (list_all is_given_byte word) is in
     let lengths = both (not (length word == 0)) (leb (length word) 64) bytes.0 in
@@ -47,7 +47,7 @@ not_nil word is e = let is_nil : not (bytes_eq (codes "NIL") (codes "NIL")) ≡ 
 
 clock_name : (word : List ℕ) → is_clock_name word ≡ true → IsClockName word
 clock_name word is =
-    let parts = both (is_given_name word) (not (bytes_eq word (codes "NIL"))) is in
+    let parts = both (is_model_name word) (not (bytes_eq word (codes "NIL"))) is in
     record { given = given_name word parts.0; no_nil = not_nil word parts.1 }
 
 with_option-names : (option : CommandOption) (word : List ℕ) (job : Job) → fits_option option word ≡ true → HasGivenNames job → HasGivenNames (with_option option word job)
@@ -62,7 +62,7 @@ with_option-names Model word job fits has = record { clock = has.clock; model = 
 of_kept : (job more : Job) → Keeps job more → HasGivenNames job → HasGivenNames more
 of_kept job more kept has = record {
   clock = subst (λ (clock : Option (List ℕ)). IfSome clock IsClockName) (sym kept.clock) has.clock;
-  model = subst (λ (model : Option (List ℕ)). IfSome model IsGivenName) (sym kept.model) has.model;
+  model = subst (λ (model : Option (List ℕ)). IfSome model IsModelName) (sym kept.model) has.model;
 }
 
 -- an item that is not refused leaves names

@@ -1,3 +1,3 @@
 -- What only private functions and proofs cite.
 pub mod Draft
-pub mod Put
+pub mod Operands

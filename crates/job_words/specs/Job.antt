@@ -12,7 +12,7 @@ use Rattle.job_words.specs.declared.table.OperandKind.{OperandKind}
 use Rattle.job_words.specs.declared.table.OperandKind.TheVariants.{File, Net, Part, Parts, Symbols, Cover, Seed, A, B, K}
 use Rattle.job_words.specs.Command.{command_word}
 use Rattle.job_words.specs.Item.{Item, Operand, Chosen, Lacking, Unknown, items_of, width_of}
-use Rattle.job_words.specs.Name.{is_clock_name, is_given_name}
+use Rattle.job_words.specs.Name.{is_clock_name, is_model_name}
 use Rattle.job_words.specs.Number.{is_number, is_within, value_of}
 use Rattle.job_words.specs.Table.{Row, built}
 
@@ -55,7 +55,7 @@ fits_option Start word = true
 fits_option Fill word = bytes_eq word (codes "hold")
 fits_option Names word = true
 fits_option Clock word = is_clock_name word
-fits_option Model word = is_given_name word
+fits_option Model word = is_model_name word
 
 -- a job with one more option
 abbrev pub with_option : CommandOption → List ℕ → Job → Job
@@ -186,20 +186,20 @@ abbrev pub SizesAreSizes : Type 0
 SizesAreSizes = (words : List (List ℕ)) (job : Job) → JobOf words ≡ Ok job → (job.command ≡ commands.Gen) ⊎ (job.command ≡ commands.Trial) → HasSizes job
 
 -- a name that can be a field of a network's text and does not join its lines
-pub record IsGivenName (name : List ℕ) : Type 0 where
+pub record IsModelName (name : List ℕ) : Type 0 where
   pub field : IsPlainField name
   pub no_backslash : AllByRecursion (λ b. b ≢ 92) name
   pub short : length name ≤ 64
 
 -- such a name that a latch line does not read as no clock
 pub record IsClockName (name : List ℕ) : Type 0 where
-  pub given : IsGivenName name
+  pub given : IsModelName name
   pub no_nil : name ≢ codes "NIL"
 
 -- the names that the options of a job give
 pub record HasGivenNames (job : Job) : Type 0 where
   pub clock : IfSome job.clock IsClockName
-  pub model : IfSome job.model IsGivenName
+  pub model : IfSome job.model IsModelName
 
 -- each job has such names
 abbrev pub NamesAreNames : Type 0

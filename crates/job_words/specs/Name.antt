@@ -7,9 +7,9 @@ abbrev pub is_given_byte : ℕ → Bool
 is_given_byte byte = nat_le 33 byte && nat_le byte 126 && not (byte == 35) && not (byte == 92)
 
 -- a word is such a name
-abbrev pub is_given_name : List ℕ → Bool
-is_given_name word = not (length word == 0) && nat_le (length word) 64 && list_all is_given_byte word
+abbrev pub is_model_name : List ℕ → Bool
+is_model_name word = not (length word == 0) && nat_le (length word) 64 && list_all is_given_byte word
 
 -- a word is the name of a clock: in a latch line `NIL` says that there is none
 abbrev pub is_clock_name : List ℕ → Bool
-is_clock_name word = is_given_name word && not (bytes_eq word (codes "NIL"))
+is_clock_name word = is_model_name word && not (bytes_eq word (codes "NIL"))

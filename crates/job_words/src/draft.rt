@@ -124,7 +124,8 @@ impl Draft {
     /// Adds the next item, if it is allowed.
     pub fn accept(&mut self, alloc: Global, form: &Form, item: &Entry) -> Result<(), Refusal>
         ensures ok { (before : List Item) → IsDraft (row_of form.now) before self.old → OnOk result
-            (IsDraft (row_of form.now) (item_of item.now ∷ before) self.new × (refusal (row_of form.now) before (item_of item.now) ≡ None)) }
+            (IsDraft (row_of form.now) (item_of item.now ∷ before) self.new
+            × (refusal (row_of form.now) before (item_of item.now) ≡ None)) }
         ensures err { (before : List Item) → IsDraft (row_of form.now) before self.old → IfErr result
             (IsRefusal (refusal (row_of form.now) before (item_of item.now))) }
     {
@@ -153,7 +154,8 @@ impl Draft {
     /// Adds the next operand, if it is allowed.
     fn accept_operand(&mut self, alloc: Global, form: &Form, word: &[u8]) -> Result<(), Refusal>
         ensures ok { (before : List Item) → IsDraft (row_of form.now) before self.old → OnOk result
-            (IsDraft (row_of form.now) (Operand word.now ∷ before) self.new × (refusal (row_of form.now) before (Operand word.now) ≡ None)) }
+            (IsDraft (row_of form.now) (Operand word.now ∷ before) self.new
+            × (refusal (row_of form.now) before (Operand word.now) ≡ None)) }
         ensures err { (before : List Item) → IsDraft (row_of form.now) before self.old → IfErr result
             (IsRefusal (refusal (row_of form.now) before (Operand word.now))) }
     {

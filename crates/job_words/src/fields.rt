@@ -1,11 +1,11 @@
 //! The fields of a job from its words.
 
 ghost use Rattle.std.specs.Prelude.{◌≡◌, ◌≢◌, true, false, ◌==◌, OnOk, count_by};
-ghost use Rattle.job_words.specs.Inner.Put.{IsPut};
+ghost use Rattle.job_words.specs.Inner.Operands.{IsPut};
 ghost use Rattle.job_words.specs.Job.{fits_kind, fits_option, with_operand, with_option};
 
 use crate::draft::Refusal;
-use crate::names::{is_clock_name, is_given_name};
+use crate::names::{is_clock_name, is_model_name};
 use crate::numbers::{number, number_within};
 use crate::{CommandOption, Job, OperandKind};
 use hs_io::Name;
@@ -108,7 +108,7 @@ pub fn put_option(
         CommandOption::Names => job.names = true,
         CommandOption::Clock if !is_clock_name(word) => return Err(Refusal::Taken),
         CommandOption::Clock => job.clock = Some(Name::new(alloc, word)?),
-        CommandOption::Model if !is_given_name(word) => return Err(Refusal::Taken),
+        CommandOption::Model if !is_model_name(word) => return Err(Refusal::Taken),
         CommandOption::Model => job.model = Some(Name::new(alloc, word)?),
     }
     Ok(())

@@ -34,7 +34,8 @@ impl<'a> Entry<'a> {
 /// The item that begins at a word.
 pub fn item_at(words: &Words, i: usize) -> Entry<'_>
     requires { i < length words.now }
-    ensures item { items_of (drop i words.now) ≡ item_of result ∷ items_of (drop (i + width_of (item_of result)) words.now) }
+    ensures item { items_of (drop i words.now) ≡ item_of result ∷ items_of
+        (drop (i + width_of (item_of result)) words.now) }
     ensures within { i + width_of (item_of result) ≤ length words.now }
 {
     let count = words.count();

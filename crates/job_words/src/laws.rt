@@ -1,6 +1,13 @@
 //! Worked examples of the definitions, and laws of jobs. Each is the contract of a function that does nothing.
 
-ghost use Rattle.job_words.specs.Examples.{ReadsNumbers, ReadsSymbols, RefusesWords, TakesNames, TakesOptions, TakesSizes};
+ghost use Rattle.job_words.specs.Examples.{
+  ReadsNumbers,
+  ReadsSymbols,
+  RefusesWords,
+  TakesNames,
+  TakesOptions,
+  TakesSizes,
+};
 ghost use Rattle.job_words.specs.Job.{LimitsAreLimits, NamesAreNames, PartsAreFew, SizesAreSizes};
 
 /// The results of some lines by a table, and by the commands that are built.

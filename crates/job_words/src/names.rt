@@ -2,11 +2,11 @@
 
 ghost use Rattle.std.specs.Prelude.{◌≡◌};
 ghost use Rattle.std.specs.List.{list_all};
-ghost use Rattle.job_words.specs.Name.{is_clock_name, is_given_byte, is_given_name};
+ghost use Rattle.job_words.specs.Name.{is_clock_name, is_given_byte, is_model_name};
 
 /// Whether a word can be the name of a model.
-pub fn is_given_name(word: &[u8]) -> bool
-    ensures { result ≡ is_given_name word.now }
+pub fn is_model_name(word: &[u8]) -> bool
+    ensures { result ≡ is_model_name word.now }
 {
     !word.is_empty() && word.len() <= 64 && are_given_bytes(word)
 }
@@ -15,7 +15,7 @@ pub fn is_given_name(word: &[u8]) -> bool
 pub fn is_clock_name(word: &[u8]) -> bool
     ensures { result ≡ is_clock_name word.now }
 {
-    is_given_name(word) && word != b"NIL".as_slice()
+    is_model_name(word) && word != b"NIL".as_slice()
 }
 
 /// Whether a name can have all these bytes.

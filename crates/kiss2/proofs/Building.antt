@@ -12,7 +12,7 @@ use Rattle.cubes.specs.declared.cube.CubeFail.TheVariants.{BadChar, BadWidth}
 use Rattle.cubes.specs.Cube.{IsFirstBad}
 use Rattle.cubes.specs.Field.{IsCharacter}
 use Rattle.hs_io.specs.declared.lines.Line.{Line}
-use Rattle.kiss2.specs.Inner.Judging.{names_in_columns, once_after}
+use Rattle.kiss2.specs.Inner.ReaderState.{names_in_columns, once_after}
 use Rattle.kiss2.specs.Standing.{each_once, names_in_column, row_lines, state_names}
 use Rattle.kiss2.specs.Words.{field_at, is_character, is_character_field, is_name}
 use Rattle.kiss2.specs.Laws.Once.{among, each_once-append}

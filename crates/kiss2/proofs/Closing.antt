@@ -10,9 +10,9 @@ use Rattle.kiss2.specs.declared.fault.KissFault.{KissFault}
 use Rattle.kiss2.specs.declared.fault.KissKind.TheVariants.{NoRows, ResetUnknown}
 use Rattle.kiss_file.specs.declared.file.KissRow.{KissRow}
 use Rattle.kiss2.specs.declared.line_kind.LineKind.TheVariants.{Reset}
-use Rattle.kiss2.specs.declared.said.ResetLine.{ResetLine}
-use Rattle.kiss2.specs.declared.said.Said.{Said}
-use Rattle.kiss2.specs.Inner.Judging.{Stands, reset_line}
+use Rattle.kiss2.specs.declared.standing.ResetLine.{ResetLine}
+use Rattle.kiss2.specs.declared.standing.Said.{Said}
+use Rattle.kiss2.specs.Inner.ReaderState.{Stands, reset_line}
 use Rattle.kiss2.specs.Kiss.{IsRowOf, closing_fault, reset_unknown}
 use Rattle.kiss2.specs.Standing.{line_with, reset_name, row_lines, state_names}
 use Rattle.kiss2.specs.Words.{current_field, field_at}

@@ -11,13 +11,13 @@ use Rattle.hs_io.specs.declared.lines.Line.{Line}
 use Rattle.hs_io.specs.Lines.{lines_of}
 use Rattle.kiss2.specs.declared.fault.KissFault.{KissFault}
 use Rattle.kiss2.specs.declared.fault.KissFail.TheVariants.{Refused}
-use Rattle.kiss2.specs.declared.judging.LineFail.{LineFail}
-use Rattle.kiss2.specs.declared.judging.LineFail.TheVariants.{Fault, NoMemory}
-use Rattle.kiss2.specs.declared.said.Said.{Said}
+use Rattle.kiss2.specs.declared.line_operands.LineFail.{LineFail}
+use Rattle.kiss2.specs.declared.line_operands.LineFail.TheVariants.{Fault, NoMemory}
+use Rattle.kiss2.specs.declared.standing.Said.{Said}
 use Rattle.kiss2.specs.Faults.{fault_in}
 use Rattle.kiss2.specs.Kiss.{HaveNoFault, IsLineFault, before_end, lines_read}
-use Rattle.kiss2.specs.Inner.Judging.{FailsWith, HasShortFields, Keeps, fail_at}
-use Rattle.kiss2.specs.Inner.Reading.{GoesOn, HasCome}
+use Rattle.kiss2.specs.Inner.ReaderState.{FailsWith, HasShortFields, Keeps, fail_at}
+use Rattle.kiss2.specs.Inner.ReaderPlace.{GoesOn, HasCome}
 use Rattle.kiss2.specs.Words.{is_ending}
 use Rattle.kiss2.proofs.FieldBytes.{HasGoodFields, fields_good}
 

@@ -19,7 +19,7 @@ use Rattle.kiss2.specs.declared.fault.KissLimit.TheVariants.{Inputs, Outputs, Na
 use Rattle.kiss2.specs.declared.line_kind.LineKind.{LineKind}
 use Rattle.kiss2.specs.declared.line_kind.LineKind.TheVariants.{InputCount, OutputCount, Row}
 use Rattle.kiss2.specs.Faults.{count_fault, fault_in, fault_where, first_of, form_fault, is_not_one, long_name, operand_of, row_fault, stands_again}
-use Rattle.kiss2.specs.Inner.Good.{IsGoodRow, IsKnownRow}
+use Rattle.kiss2.specs.Inner.FaultlessLines.{IsGoodRow, IsKnownRow}
 use Rattle.kiss2.specs.Kiss.{HaveNoFault}
 use Rattle.kiss2.specs.Standing.{each_once, inputs_said, line_with, names_in_column, outputs_said, row_lines, state_names}
 use Rattle.kiss2.specs.Words.{current_field, field_at, input_field, is_character_field, is_name, is_decimal, is_of_kind, is_open, line_kind_of, next_field, decimal_value, operands, output_field, same_kind}

@@ -17,7 +17,7 @@ use Rattle.hs_io.specs.declared.lines.Line.{Line}
 use Rattle.kiss_file.specs.declared.file.KissFile.{KissFile}
 use Rattle.kiss_file.specs.declared.file.KissRow.{KissRow}
 use Rattle.kiss2.specs.declared.line_kind.LineKind.TheVariants.{InputNames, OutputNames, Reset}
-use Rattle.kiss2.specs.Inner.Good.{IsGoodRow, IsKnownRow}
+use Rattle.kiss2.specs.Inner.FaultlessLines.{IsGoodRow, IsKnownRow}
 use Rattle.kiss2.specs.Kiss.{HaveNoFault, IsNextOf, IsRecordOf, IsRowOf, closing_fault}
 use Rattle.kiss2.specs.Standing.{line_with, names_said, reset_name, row_lines, state_names}
 use Rattle.kiss2.specs.Words.{care_in, current_field, field_at, input_field, is_character_field, is_open, next_field, output_field, value_in}

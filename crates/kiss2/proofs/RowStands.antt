@@ -8,9 +8,9 @@ use Rattle.hs_io.specs.declared.lines.Line.{Line}
 use Rattle.kiss2.specs.declared.fault.KissKind.TheVariants.{BadOutput, OverLimit}
 use Rattle.kiss2.specs.declared.fault.KissLimit.TheVariants.{States}
 use Rattle.kiss2.specs.declared.line_kind.LineKind.TheVariants.{Row}
-use Rattle.kiss2.specs.declared.said.Said.{Said}
+use Rattle.kiss2.specs.declared.standing.Said.{Said}
 use Rattle.kiss2.specs.Faults.{fault_in, fault_where, first_of, row_fault}
-use Rattle.kiss2.specs.Inner.Judging.{Stands, names_on, names_seen, once_after}
+use Rattle.kiss2.specs.Inner.ReaderState.{Stands, names_on, names_seen, once_after}
 use Rattle.kiss2.specs.Standing.{each_once, row_lines, state_names}
 use Rattle.kiss2.specs.Words.{current_field, is_name, line_kind_of, next_field}
 use Rattle.kiss2.specs.Laws.Once.{each_once-append, put_both, seen_count}

@@ -11,13 +11,13 @@ use Rattle.kiss2.specs.declared.fault.KissKind.{KissKind}
 use Rattle.kiss2.specs.declared.fault.KissKind.TheVariants.{BadByte, Repeated}
 use Rattle.kiss2.specs.declared.line_kind.LineKind.{LineKind}
 use Rattle.kiss2.specs.declared.line_kind.LineKind.TheVariants.{Blank, End, InputCount, OutputCount, RowCount, StateCount, Reset, InputNames, OutputNames, Row}
-use Rattle.kiss2.specs.declared.judging.LineFail.{LineFail}
-use Rattle.kiss2.specs.declared.judging.LineFail.TheVariants.{Fault, NoMemory}
-use Rattle.kiss2.specs.declared.said.Said.{Said}
+use Rattle.kiss2.specs.declared.line_operands.LineFail.{LineFail}
+use Rattle.kiss2.specs.declared.line_operands.LineFail.TheVariants.{Fault, NoMemory}
+use Rattle.kiss2.specs.declared.standing.Said.{Said}
 use Rattle.kiss2.specs.Faults.{fault_in, fault_where, first_of, form_fault, operand_of, stands_again}
 use Rattle.kiss2.specs.Standing.{each_once, has_stood, inputs_said, line_with, names_said, outputs_said, row_lines}
 use Rattle.kiss2.specs.Words.{field_at, is_of_kind, line_kind_of, decimal_value, operands, same_kind}
-use Rattle.kiss2.specs.Inner.Judging.{FailsWith, Stands, names_on, names_seen, reset_line}
+use Rattle.kiss2.specs.Inner.ReaderState.{FailsWith, Stands, names_on, names_seen, reset_line}
 
 pub or_none : {X : Type 0} (o : Option X) → option_or o None ≡ o
 or_none None = refl

@@ -10,10 +10,10 @@ use Rattle.kiss2.specs.declared.fault.KissKind.TheVariants.{Repeated}
 use Rattle.kiss2.specs.declared.fault.KissLimit.TheVariants.{Inputs, Outputs}
 use Rattle.kiss2.specs.declared.line_kind.LineKind.{LineKind}
 use Rattle.kiss2.specs.declared.line_kind.LineKind.TheVariants.{InputCount, InputNames, OutputCount, OutputNames, RowCount, StateCount}
-use Rattle.kiss2.specs.declared.judging.LineFail.{LineFail}
-use Rattle.kiss2.specs.declared.said.Said.{Said}
+use Rattle.kiss2.specs.declared.line_operands.LineFail.{LineFail}
+use Rattle.kiss2.specs.declared.standing.Said.{Said}
 use Rattle.kiss2.specs.Faults.{count_fault, fault_in, fault_where, first_of, form_fault, names_fault, number_fault, operand_of, stands_again}
-use Rattle.kiss2.specs.Inner.Judging.{Judges, Stands}
+use Rattle.kiss2.specs.Inner.ReaderState.{Judges, Stands}
 use Rattle.kiss2.specs.Standing.{has_stood}
 use Rattle.kiss2.specs.Words.{decimal_value, field_at, line_kind_of, operands}
 use Rattle.kiss2.proofs.Stood.{fails_at, fault_word, is_some-map, operand_field, own, stay}

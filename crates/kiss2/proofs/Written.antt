@@ -14,7 +14,7 @@ use Rattle.cubes.specs.Field.{byte_of, character, characters}
 use Rattle.cubes.specs.Symbol.{bit}
 use Rattle.hs_io.specs.Spelling.{ended, line_text, spaced, spelled}
 use Rattle.kiss_file.specs.declared.file.KissRow.{KissRow}
-use Rattle.kiss2.specs.Written.{fields_of_row, output_characters}
+use Rattle.kiss2.specs.KissText.{fields_of_row, output_characters}
 
 -- the line of a row
 abbrev pub row_text : List (List ℕ) → ℕ → KissRow → List ℕ

@@ -1,6 +1,6 @@
 -- Definitions that private functions and proofs need. No public contract cites them.
-pub mod Judging
-pub mod Good
+pub mod ReaderState
+pub mod FaultlessLines
 pub mod Parts
-pub mod Reading
+pub mod ReaderPlace
 pub mod Kinds

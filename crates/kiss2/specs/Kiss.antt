@@ -13,7 +13,7 @@ use Rattle.kiss_file.specs.declared.file.KissFile.{KissFile}
 use Rattle.kiss_file.specs.declared.file.KissRow.{KissRow}
 use Rattle.kiss2.specs.declared.line_kind.LineKind.TheVariants.{InputNames, OutputNames, Reset}
 use Rattle.kiss2.specs.Faults.{fault_in}
-use Rattle.kiss_file.specs.Lawful.{IsLawful}
+use Rattle.kiss_file.specs.LawfulFile.{IsLawful}
 use Rattle.kiss2.specs.Standing.{inputs_said, line_with, names_said, outputs_said, reset_name, row_lines, state_names}
 use Rattle.kiss2.specs.Words.{care_in, current_field, is_ending, field_at, input_field, is_open, next_field, output_field, value_in}
 

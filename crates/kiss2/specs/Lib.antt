@@ -2,6 +2,6 @@ pub mod Words
 pub mod Standing
 pub mod Faults
 pub mod Kiss
-pub mod Written
+pub mod KissText
 pub mod Inner
 pub mod Laws

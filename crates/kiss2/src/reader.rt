@@ -1,20 +1,37 @@
 //! Reads a KISS2 text.
-ghost use Rattle.std.specs.Prelude.{ℕ, ◌≡◌, ◌+◌, ◌<◌, ◌^◌, ◌⊎◌, Err, List, [], false, true, IfOk, MatchResult, OnOk, Some, length};
+ghost use Rattle.std.specs.Prelude.{
+  ℕ,
+  ◌≡◌,
+  ◌+◌,
+  ◌<◌,
+  ◌^◌,
+  ◌⊎◌,
+  Err,
+  List,
+  [],
+  false,
+  true,
+  IfOk,
+  MatchResult,
+  OnOk,
+  Some,
+  length,
+};
 ghost use Rattle.hs_io.specs.declared.lines.Line.{Line};
 ghost use Rattle.hs_io.specs.Lines.{lines_of};
 ghost use Rattle.kiss2.specs.declared.fault.KissFault.{KissFault};
 ghost use Rattle.kiss_file.specs.declared.file.KissFile.{KissFile};
 ghost use Rattle.kiss2.specs.declared.fault.KissFail.TheVariants.{NoMemory, Refused};
 ghost use Rattle.kiss2.specs.Kiss.{IsKissFault, IsLineFault, Kiss, closing_fault, lines_read};
-ghost use Rattle.kiss2.specs.Inner.Judging.{IsSmall, Keeps, Stands, fail_at};
-ghost use Rattle.kiss2.specs.Inner.Reading.{HasCome};
+ghost use Rattle.kiss2.specs.Inner.ReaderState.{IsSmall, Keeps, Stands, fail_at};
+ghost use Rattle.kiss2.specs.Inner.ReaderPlace.{HasCome};
 
 use crate::fault::{KissFail, KissFault, KissKind};
-use crate::judging::LineFail;
-use crate::kept::Kept;
+use crate::kept_lines::Kept;
 use crate::line_kind::ends;
+use crate::line_operands::LineFail;
 use crate::record::record_of;
-use crate::said::Said;
+use crate::standing::Said;
 use hs_io::LineReader;
 use kiss_file::KissFile;
 use std::alloc::Global;
@@ -23,9 +40,12 @@ use std::alloc::Global;
 pub fn read(alloc: Global, bytes: &[u8]) -> Result<KissFile, KissFail>
     requires { length bytes.now < 2 ^ 32 }
     ensures read { IfOk result (λ file. Kiss bytes.now file) }
-    ensures refused { (fault : KissFault) → result ≡ Err (KissFail.Refused fault) → IsKissFault bytes.now fault.line fault.kind }
-    ensures never_refused { (file : KissFile) → Kiss bytes.now file → MatchResult result (λ read. read ≡ file) (λ fail. fail ≡ KissFail.NoMemory) }
-    ensures never_read { (fault : KissFault) → IsKissFault bytes.now fault.line fault.kind → MatchResult result (λ _. ⊥) (λ fail. (fail ≡ KissFail.Refused fault) ⊎ (fail ≡ KissFail.NoMemory)) }
+    ensures refused { (fault : KissFault) → result ≡ Err (KissFail.Refused fault)
+        → IsKissFault bytes.now fault.line fault.kind }
+    ensures never_refused { (file : KissFile) → Kiss bytes.now file
+        → MatchResult result (λ read. read ≡ file) (λ fail. fail ≡ KissFail.NoMemory) }
+    ensures never_read { (fault : KissFault) → IsKissFault bytes.now fault.line fault.kind
+        → MatchResult result (λ _. ⊥) (λ fail. (fail ≡ KissFail.Refused fault) ⊎ (fail ≡ KissFail.NoMemory)) }
 {
     let mut kept = Kept::new(alloc);
     read_text(alloc, bytes, &mut kept)
@@ -36,7 +56,8 @@ fn read_text(alloc: Global, bytes: &[u8], kept: &mut Kept) -> Result<KissFile, K
     requires short { length bytes.now < 2 ^ 32 }
     requires empty { Keeps kept.old.said kept.old.rows.items [] }
     ensures read { IfOk result (λ file. Kiss bytes.now file) }
-    ensures refused { (fault : KissFault) → result ≡ Err (KissFail.Refused fault) → IsKissFault bytes.now fault.line fault.kind }
+    ensures refused { (fault : KissFault) → result ≡ Err (KissFail.Refused fault)
+        → IsKissFault bytes.now fault.line fault.kind }
 {
     judge_lines(alloc, bytes, kept)?;
     if let Some(fault) = closing(&kept.said) {
@@ -50,7 +71,8 @@ fn judge_lines(alloc: Global, bytes: &[u8], kept: &mut Kept) -> Result<(), KissF
     requires short { length bytes.now < 2 ^ 32 }
     requires empty { Keeps kept.old.said kept.old.rows.items [] }
     ensures kept { OnOk result (Keeps kept.new.said kept.new.rows.items (lines_read bytes.now)) }
-    ensures refused { (fault : KissFault) → result ≡ Err (KissFail.Refused fault) → IsLineFault (lines_read bytes.now) fault.line fault.kind }
+    ensures refused { (fault : KissFault) → result ≡ Err (KissFail.Refused fault)
+        → IsLineFault (lines_read bytes.now) fault.line fault.kind }
 {
     let mut reader = LineReader::new(bytes);
     while judge_next(alloc, &mut reader, kept)? {}
@@ -59,11 +81,20 @@ fn judge_lines(alloc: Global, bytes: &[u8], kept: &mut Kept) -> Result<(), KissF
 
 /// Judges the next line and keeps what it says. False where the text has ended.
 fn judge_next(alloc: Global, reader: &mut LineReader<'_>, kept: &mut Kept) -> Result<bool, KissFail>
-    requires { (bytes : List ℕ) × (count : ℕ) × (length bytes < 2 ^ 32) × HasCome (lines_of bytes) kept.old.said kept.old.rows.items reader.old count }
+    requires { (bytes : List ℕ) × (count : ℕ) × (length bytes < 2 ^ 32)
+        × HasCome (lines_of bytes) kept.old.said kept.old.rows.items reader.old count }
     ensures shorter { IfOk result (λ more. more ≡ true → length reader.new < length reader.old) }
-    ensures goes_on { IfOk result (λ more. more ≡ true → (bytes : List ℕ) (count : ℕ) → HasCome (lines_of bytes) kept.old.said kept.old.rows.items reader.old count → HasCome (lines_of bytes) kept.new.said kept.new.rows.items reader.new (count + 1)) }
-    ensures done { IfOk result (λ more. more ≡ false → (bytes : List ℕ) (count : ℕ) → HasCome (lines_of bytes) kept.old.said kept.old.rows.items reader.old count → Keeps kept.new.said kept.new.rows.items (lines_read bytes)) }
-    ensures refused { (fault : KissFault) → result ≡ Err (KissFail.Refused fault) → (bytes : List ℕ) (count : ℕ) → HasCome (lines_of bytes) kept.old.said kept.old.rows.items reader.old count → IsLineFault (lines_read bytes) fault.line fault.kind }
+    ensures goes_on { IfOk result
+        (λ more. more ≡ true → (bytes : List ℕ) (count : ℕ)
+        → HasCome (lines_of bytes) kept.old.said kept.old.rows.items reader.old count
+        → HasCome (lines_of bytes) kept.new.said kept.new.rows.items reader.new (count + 1)) }
+    ensures done { IfOk result
+        (λ more. more ≡ false → (bytes : List ℕ) (count : ℕ)
+        → HasCome (lines_of bytes) kept.old.said kept.old.rows.items reader.old count
+        → Keeps kept.new.said kept.new.rows.items (lines_read bytes)) }
+    ensures refused { (fault : KissFault) → result ≡ Err (KissFail.Refused fault) → (bytes : List ℕ) (count : ℕ)
+        → HasCome (lines_of bytes) kept.old.said kept.old.rows.items reader.old count
+        → IsLineFault (lines_read bytes) fault.line fault.kind }
 {
     let Some(line) = reader.next_line(alloc)? else {
         return Ok(false);

@@ -1,5 +1,25 @@
 //! The record of lines without a fault, by the lines of their rows.
-ghost use Rattle.std.specs.Prelude.{ℕ, ◌≡◌, ◌<◌, ◌≤◌, All, Contains, List, [], IfNone, IfOk, IfSome, None, OnOk, Some, false, true, length, slice_get, slice_index_or};
+ghost use Rattle.std.specs.Prelude.{
+  ℕ,
+  ◌≡◌,
+  ◌<◌,
+  ◌≤◌,
+  All,
+  Contains,
+  List,
+  [],
+  IfNone,
+  IfOk,
+  IfSome,
+  None,
+  OnOk,
+  Some,
+  false,
+  true,
+  length,
+  slice_get,
+  slice_index_or,
+};
 ghost use Rattle.kiss_file.specs.declared.file.KissRow.{KissRow};
 ghost use Rattle.std.specs.List.{AllZip};
 ghost use Rattle.cubes.specs.Cube.{text_of};
@@ -7,11 +27,11 @@ ghost use Rattle.hs_io.specs.declared.lines.Line.{Line};
 ghost use Rattle.kiss2.specs.Kiss.{IsNextOf, IsRecordOf, IsRowOf, closing_fault};
 ghost use Rattle.kiss2.specs.Standing.{names_in_column};
 ghost use Rattle.kiss2.specs.Words.{is_character_field, is_open};
-ghost use Rattle.kiss2.specs.Inner.Good.{IsGoodRow, IsKnownRow, IsTableOf};
-ghost use Rattle.kiss2.specs.Inner.Judging.{Keeps, Stands, once_after};
+ghost use Rattle.kiss2.specs.Inner.FaultlessLines.{IsGoodRow, IsKnownRow, IsTableOf};
+ghost use Rattle.kiss2.specs.Inner.ReaderState.{Keeps, Stands, once_after};
 
-use crate::kept::Kept;
-use crate::said::{ResetLine, Said, add_name};
+use crate::kept_lines::Kept;
+use crate::standing::{ResetLine, Said, add_name};
 use crate::words::{field_of, is_open_field, outputs_in_field};
 use cubes::Cube;
 use hs_io::Line;
@@ -30,7 +50,8 @@ pub(crate) struct Table {
 /// The record that lines without a fault give, by what is kept of them. It takes the names of inputs and outputs.
 pub(crate) fn record_of(alloc: Global, kept: &mut Kept) -> Result<KissFile, AllocError>
     requires { (all : List Line) × Keeps kept.old.said kept.old.rows.items all × (closing_fault all ≡ None) }
-    ensures { (all : List Line) → Keeps kept.old.said kept.old.rows.items all → closing_fault all ≡ None → IfOk result (λ file. IsRecordOf all file) }
+    ensures { (all : List Line) → Keeps kept.old.said kept.old.rows.items all → closing_fault all ≡ None
+        → IfOk result (λ file. IsRecordOf all file) }
 {
     let counts = counts_of(&kept.said);
     let mut table = Table {
@@ -61,7 +82,8 @@ fn fill_table(table: &mut Table, lines: &[Line], said: &Said, inputs: u8) -> Res
     requires no_rows { table.old.rows ≡ [] }
     requires kept { (all : List Line) × Keeps said.now lines.now all × (closing_fault all ≡ None) }
     requires inputs { said.now.inputs ≡ Some inputs }
-    ensures { (all : List Line) → Keeps said.now lines.now all → closing_fault all ≡ None → OnOk result (IsTableOf all table.new) }
+    ensures { (all : List Line) → Keeps said.now lines.now all → closing_fault all ≡ None
+        → OnOk result (IsTableOf all table.new) }
 {
     add_column(&mut table.states, lines, 1)?;
     add_column(&mut table.states, lines, 2)?;

@@ -3,7 +3,18 @@ ghost use Rattle.std.specs.Prelude.{◌≡◌, ◌<◌, ◌≤◌, ◌^◌, fals
 ghost use Rattle.std.specs.Char.{is_ascii_digit};
 ghost use Rattle.std.specs.List.{list_all};
 ghost use Rattle.std.specs.Str.{bytes_eq};
-ghost use Rattle.kiss2.specs.Words.{care_in, field_at, has_backslash, is_character, is_character_field, is_decimal, is_open, decimal_value, operands, value_in};
+ghost use Rattle.kiss2.specs.Words.{
+  care_in,
+  field_at,
+  has_backslash,
+  is_character,
+  is_character_field,
+  is_decimal,
+  is_open,
+  decimal_value,
+  operands,
+  value_in,
+};
 
 use hs_io::{Line, Name};
 
@@ -39,7 +50,8 @@ pub(crate) fn number_in(field: &[u8]) -> Option<u32>
 /// The number with these digits, if each byte is a decimal digit.
 fn value_of_digits(field: &[u8]) -> Option<u32>
     requires { length field.now ≤ 9 }
-    ensures some { IfSome result (λ number. (list_all is_ascii_digit field.now ≡ true) × (number ≡ decimal_value field.now)) }
+    ensures some { IfSome result
+        (λ number. (list_all is_ascii_digit field.now ≡ true) × (number ≡ decimal_value field.now)) }
     ensures none { IfNone result (list_all is_ascii_digit field.now ≡ false) }
 {
     let mut number = 0u32;

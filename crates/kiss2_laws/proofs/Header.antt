@@ -11,7 +11,7 @@ use Rattle.kiss2.specs.declared.fault.KissKind.TheVariants.{BadFields, BadNumber
 use Rattle.kiss2.specs.declared.fault.KissLimit.{KissLimit}
 use Rattle.kiss2.specs.declared.fault.KissLimit.TheVariants.{NameBytes}
 use Rattle.kiss2.specs.Faults.{count_fault, fault_where, first_of, has_twice, long_name, names_fault, number_fault, reset_fault}
-use Rattle.kiss_file.specs.Lawful.{IsGivenName}
+use Rattle.kiss_file.specs.LawfulFile.{IsGivenName}
 use Rattle.kiss2.specs.Words.{decimal_value, has_backslash}
 use Rattle.kiss2_laws.proofs.ReadBack.{decimal_read}
 

@@ -26,10 +26,10 @@ use Rattle.kiss_file.specs.declared.file.KissRow.{KissRow}
 use Rattle.kiss2.specs.declared.line_kind.LineKind.{LineKind}
 use Rattle.kiss2.specs.declared.line_kind.LineKind.TheVariants.{InputNames, OutputNames, Row}
 use Rattle.kiss2.specs.Faults.{fault_where, has_twice, long_name, names_fault}
-use Rattle.kiss2.specs.Inner.Good.{IsGoodRow}
-use Rattle.kiss2.specs.Inner.Judging.{once_after}
+use Rattle.kiss2.specs.Inner.FaultlessLines.{IsGoodRow}
+use Rattle.kiss2.specs.Inner.ReaderState.{once_after}
 use Rattle.kiss2.specs.Kiss.{HaveNoFault, IsNextOf, IsRecordOf, IsRowOf, Kiss, lines_read}
-use Rattle.kiss_file.specs.Lawful.{AreGiven, AreNumbered, IsGivenName, IsLawful, IsLawfulRow, appearances}
+use Rattle.kiss_file.specs.LawfulFile.{AreGiven, AreNumbered, IsGivenName, IsLawful, IsLawfulRow, appearances}
 use Rattle.kiss_file.specs.Names.{AreDistinct, IsPlainName}
 use Rattle.kiss2.specs.Standing.{each_once, inputs_said, line_with, names_in_column, names_said, outputs_said, row_lines, state_names}
 use Rattle.kiss2.specs.Words.{care_in, current_field, field_at, has_backslash, is_ending, is_name, is_of_kind, is_open, line_kind_of, next_field, operands, output_field, same_kind, value_in}

@@ -4,7 +4,7 @@ use Rattle.std.specs.Prelude.{slice_get, slice_index}
 use Rattle.std.proofs.lemmas.Bool.{cases_lt, false≢true, false_from_ne_true}
 use Rattle.std.proofs.lemmas.List.{get_or-map, get_or-take, get_or_default, length-map, length-take, length-take-le, map-append, take_all, take_more}
 use Rattle.std.proofs.lemmas.Option.{slice_get-get_or}
-use Rattle.kiss2.specs.Inner.Judging.{once_after}
+use Rattle.kiss2.specs.Inner.ReaderState.{once_after}
 use Rattle.kiss_file.specs.Names.{AreDistinct, name_of}
 use Rattle.kiss2.specs.Standing.{each_once}
 use Rattle.kiss2.specs.Laws.Finding.{contained_from_test, contained_test}

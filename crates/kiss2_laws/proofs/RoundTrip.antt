@@ -25,11 +25,11 @@ use Rattle.kiss2.specs.declared.line_kind.LineKind.{LineKind}
 use Rattle.kiss2.specs.declared.line_kind.LineKind.TheVariants.{InputCount, InputNames, OutputCount, OutputNames, Reset, Row, RowCount, StateCount}
 use Rattle.kiss2.specs.Faults.{has_twice, names_fault}
 use Rattle.kiss2.specs.Kiss.{HaveNoFault, IsReadAs, IsRowOf, Kiss, before_end, closing_fault, lines_read, reset_unknown}
-use Rattle.kiss_file.specs.Lawful.{AreGiven, IsGivenName, IsLawful, IsLawfulRow, appearances, given_names}
+use Rattle.kiss_file.specs.LawfulFile.{AreGiven, IsGivenName, IsLawful, IsLawfulRow, appearances, given_names}
 use Rattle.kiss_file.specs.Names.{IsPlainName, name_of}
 use Rattle.kiss2.specs.Standing.{each_once, has_stood, inputs_said, line_with, names_in_column, names_said, outputs_said, row_lines, state_names}
 use Rattle.kiss2.specs.Words.{decimal_value, field_at, is_ending, is_of_kind, kind_of_field, operands, same_kind}
-use Rattle.kiss2.specs.Written.{fields_of_row, given_line, kiss_lines, kiss_text, next_name, output_characters, states_standing}
+use Rattle.kiss2.specs.KissText.{fields_of_row, given_line, kiss_lines, kiss_text, next_name, output_characters, states_standing}
 use Rattle.kiss2.specs.Laws.Faultless.{faultless_none, faultless_push}
 use Rattle.kiss2.specs.Laws.Finding.{contained_test, once_from_distinct}
 use Rattle.kiss2_laws.proofs.Header.{count_written, names_written, number_written, reset_written}

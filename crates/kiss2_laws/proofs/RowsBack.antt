@@ -26,11 +26,11 @@ use Rattle.kiss2.specs.declared.line_kind.LineKind.{LineKind}
 use Rattle.kiss2.specs.declared.line_kind.LineKind.TheVariants.{End, Row}
 use Rattle.kiss2.specs.Faults.{fault_in, fault_where, first_of, has_twice, long_name}
 use Rattle.kiss2.specs.Kiss.{HaveNoFault, IsNextOf, IsRowOf}
-use Rattle.kiss_file.specs.Lawful.{IsLawfulRow}
+use Rattle.kiss_file.specs.LawfulFile.{IsLawfulRow}
 use Rattle.kiss_file.specs.Names.{IsPlainName, name_of}
 use Rattle.kiss2.specs.Standing.{inputs_said, line_with, names_in_column, outputs_said, row_lines, state_names}
 use Rattle.kiss2.specs.Words.{care_in, is_character, is_character_field, is_ending, is_name, is_open, kind_of_field, line_kind_of, same_kind, value_in}
-use Rattle.kiss2.specs.Written.{fields_of_row, next_name, output_characters}
+use Rattle.kiss2.specs.KissText.{fields_of_row, next_name, output_characters}
 use Rattle.kiss2.proofs.Building.{names_in_column-append}
 use Rattle.kiss2.specs.Laws.Faultless.{faultless_push}
 use Rattle.kiss2.specs.Laws.Finding.{contained_test}

@@ -1,6 +1,6 @@
 //! What is read is lawful, and what is written is read back.
 ghost use Rattle.kiss2.specs.Kiss.{ReadIsLawful};
-ghost use Rattle.kiss2.specs.Written.{WrittenIsRead};
+ghost use Rattle.kiss2.specs.KissText.{WrittenIsRead};
 
 /// What is read is lawful.
 pub fn read_is_lawful()

@@ -1,6 +1,6 @@
 pub mod Names
 pub mod NumberedNames
-pub mod Lawful
+pub mod LawfulFile
 pub mod Machine
 pub mod Worked
 pub mod Laws

@@ -8,7 +8,7 @@ use Rattle.kiss_file.specs.declared.fill.Fill.{Fill}
 use Rattle.kiss_file.specs.declared.fill.Fill.TheVariants.{Hold}
 use Rattle.kiss_file.specs.declared.file.KissFile.{KissFile}
 use Rattle.kiss_file.specs.declared.file.KissRow.{KissRow}
-use Rattle.kiss_file.specs.Lawful.{IsLawful}
+use Rattle.kiss_file.specs.LawfulFile.{IsLawful}
 
 -- the rows of a state that hold a symbol, in order
 abbrev pub rows_at : KissFile → ℕ → List Bool → List KissRow

@@ -5,21 +5,21 @@
 //! names of their own are named by [`numbered_names`]: s0, s1, s2 and so on.
 //!
 //! `specs/Names` says which names a state may have, `specs/NumberedNames` what the names of numbers are, and
-//! `specs/Lawful` which records a text can have. `specs/Machine` is the machine of a file: its next states and outputs,
-//! its answers to words, and which files have one. The functions of `laws` state what follows from these definitions,
-//! and what they come to for a file of three rows.
+//! `specs/LawfulFile` which records a text can have. `specs/Machine` is the machine of a file: its next states and
+//! outputs, its answers to words, and which files have one. The functions of `laws` state what follows from these
+//! definitions, and what they come to for a file of three rows.
 #![tactic(auto)]
 
 mod copies;
 mod file;
 mod fill;
 mod laws;
-mod numbered;
+mod number_names;
 mod state_names;
 
 pub use copies::{copied_file, copied_given, copied_states};
 pub use file::{KissFile, KissRow, Rows};
 pub use fill::Fill;
 pub use laws::{next_is_a_state, rows_decide, worked_machine};
-pub use numbered::numbered_names;
+pub use number_names::numbered_names;
 pub use state_names::StateNames;

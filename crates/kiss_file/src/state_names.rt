@@ -1,4 +1,21 @@
-ghost use Rattle.std.specs.Prelude.{ℕ, ◌≡◌, ◌<◌, List, [], ◌∷◌, ◌++◌, Contains, IfNone, IfOk, IfSome, OnErr, OnOk, Some, length, slice_get};
+ghost use Rattle.std.specs.Prelude.{
+  ℕ,
+  ◌≡◌,
+  ◌<◌,
+  List,
+  [],
+  ◌∷◌,
+  ◌++◌,
+  Contains,
+  IfNone,
+  IfOk,
+  IfSome,
+  OnErr,
+  OnOk,
+  Some,
+  length,
+  slice_get,
+};
 ghost use Rattle.kiss_file.specs.Names.{AreDistinct};
 
 use indexmap::IndexSet;

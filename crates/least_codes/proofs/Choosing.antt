@@ -1,9 +1,9 @@
 -- Candidates that are chosen one after another.
 use Rattle.std.proofs.Common.{◌≡◌, ◌⊎◌, ◌↔◌, ◌∙◌, ℕ, ◌+◌, ◌-◌, ◌<◌, List, [], ◌∷◌, length, inl, inr, ap, sym, subst, refl, arith}
 use Rattle.std.proofs.lemmas.Bool.{cases_eq}
-use Rattle.dependence.specs.Permits.{InWord}
+use Rattle.dependence.specs.SufficientBits.{InWord}
 use Rattle.least_codes.specs.declared.choice.Question.{Question}
-use Rattle.least_codes.specs.Inner.Apart.{TellsApart}
+use Rattle.least_codes.specs.Inner.StatePairs.{TellsApart}
 use Rattle.least_codes.specs.Inner.Choice.{And, AreChosen, Ascend, HasNone, IsFirstChoice, Tell}
 use Rattle.least_codes.specs.LeastReads.{ListBefore}
 use Rattle.least_codes.proofs.Ascending.{ascend_lower, contains_cases, contains_head, contains_later}

@@ -7,13 +7,13 @@ use Rattle.std.proofs.lemmas.List.Sums.{sum_by_push}
 use Rattle.std.proofs.lemmas.Nat.Bits.{same_from_bits_below}
 use Rattle.std.specs.List.{sum}
 use Rattle.kiss_file.specs.declared.file.KissFile.{KissFile}
-use Rattle.dependence.specs.Permits.{InWord, next_value}
+use Rattle.dependence.specs.SufficientBits.{InWord, next_value}
 use Rattle.least_codes.specs.declared.choice.Choice.{Choice}
 use Rattle.least_codes.specs.declared.choice.Question.{Question}
 use Rattle.least_codes.specs.declared.table.Images.{Images}
 use Rattle.least_codes.specs.declared.two_states.TwoStates.{TwoStates}
 use Rattle.least_codes.specs.Cost.{IsCost, IsLatchCost}
-use Rattle.least_codes.specs.Inner.Apart.{IsPair, TellsApart}
+use Rattle.least_codes.specs.Inner.StatePairs.{IsPair, TellsApart}
 use Rattle.least_codes.specs.Inner.Choice.{IsLeastChoice}
 use Rattle.least_codes.specs.Inner.Costs.{AreCosts}
 use Rattle.least_codes.specs.Inner.Table.{AreApartIn, IsInside, IsSplitBy, IsImageTable}

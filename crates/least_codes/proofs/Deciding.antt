@@ -3,7 +3,7 @@ use Rattle.std.proofs.Common.{◌≡◌, ◌⊎◌, ℕ, zero, suc, ◌<◌, Boo
 use Rattle.std.proofs.lemmas.Bool.{cases_eq}
 use Rattle.std.specs.Int.{bit_at}
 use Rattle.kiss_file.specs.declared.file.KissFile.{KissFile}
-use Rattle.dependence.specs.Permits.{AgreeOn, PermitsValue}
+use Rattle.dependence.specs.SufficientBits.{AgreeOn, PermitsValue}
 use Rattle.least_codes.proofs.Ascending.{contains_cases, contains_head, contains_later}
 
 abbrev pub Decided : Type 0 → Type 0

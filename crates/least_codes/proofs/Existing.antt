@@ -7,7 +7,7 @@ use Rattle.std.proofs.lemmas.Option.{slice_get-get_or}
 use Rattle.std.specs.Int.{bit_at}
 use Rattle.std.specs.List.{range_with_len}
 use Rattle.kiss_file.specs.declared.file.KissFile.{KissFile}
-use Rattle.dependence.specs.Permits.{next_value}
+use Rattle.dependence.specs.SufficientBits.{next_value}
 use Rattle.state_codes.specs.Code.{need}
 use Rattle.state_codes.specs.Laws.Need.{need-enough}
 use Rattle.least_codes.specs.Cost.{IsCost, IsLatchCost}

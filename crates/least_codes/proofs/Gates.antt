@@ -7,7 +7,7 @@ use Rattle.std.proofs.lemmas.Option.{get_or_from_slice_get, slice_get-get_or, sl
 use Rattle.std.specs.List.{slice_get}
 use Rattle.std.specs.List.Sorted.{IsStrictlyIncreasing}
 use Rattle.kiss_file.specs.declared.file.KissFile.{KissFile}
-use Rattle.partition.specs.Inside.{IsInside}
+use Rattle.partition.specs.NestedBlocks.{IsInside}
 use Rattle.partition.specs.Partition.{IsPartition, blocks_of}
 use Rattle.state_codes.specs.declared.split.Part.{Part}
 use Rattle.state_codes.specs.declared.Codes.{Codes}
@@ -17,7 +17,7 @@ use Rattle.state_codes.specs.Laws.Codes.{codes_are_one, owner-lt}
 use Rattle.state_codes.specs.Laws.Places.{label_places-all, places_of-all}
 use Rattle.state_codes.specs.Split.{own_part}
 use Rattle.dependence.specs.Candidates.{IsBitOfCode, IsCandidate, IsOpenTo}
-use Rattle.dependence.specs.Permits.{next_value}
+use Rattle.dependence.specs.SufficientBits.{next_value}
 use Rattle.dependence.specs.ReadRule.{Beside, IsReadRule}
 use Rattle.dependence.specs.Reads.{IsReadSet}
 use Rattle.dependence.specs.Laws.Judged.{permits_more}

@@ -4,10 +4,10 @@ use Rattle.std.proofs.lemmas.Bool.{cases_lt}
 use Rattle.std.proofs.lemmas.List.Elements.{All-contains, All-from_get_or, Contains-get_or}
 use Rattle.std.proofs.lemmas.Nat.Bits.{bit_at-zero}
 use Rattle.kiss_file.specs.declared.file.KissFile.{KissFile}
-use Rattle.dependence.specs.Permits.{InWord}
+use Rattle.dependence.specs.SufficientBits.{InWord}
 use Rattle.least_codes.specs.declared.choice.Choice.{Choice}
 use Rattle.least_codes.specs.declared.choice.Question.{Question}
-use Rattle.least_codes.specs.Inner.Apart.{AreToldApart, TellsApart}
+use Rattle.least_codes.specs.Inner.StatePairs.{AreToldApart, TellsApart}
 use Rattle.least_codes.specs.Inner.Choice.{And, AreChosen, HasNone, IsFirstChoice, IsLeastChoice, Tell}
 use Rattle.least_codes.specs.LeastReads.{AreEnoughBits, AreFewest, AreLeastReads, IsLeastReadSet}
 use Rattle.least_codes.proofs.Ascending.{Listing, ascend_increasing, increasing_ascend, listing}

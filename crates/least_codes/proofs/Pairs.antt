@@ -6,7 +6,7 @@ use Rattle.std.proofs.lemmas.List.Elements.{All-nil, All-push, All-weaker, Conta
 use Rattle.kiss_file.specs.declared.file.KissFile.{KissFile}
 use Rattle.dependence.specs.Bit.{GiveTheSame}
 use Rattle.least_codes.specs.declared.two_states.TwoStates.{TwoStates}
-use Rattle.least_codes.specs.Inner.Apart.{AreToldApart, AreApartOf, ArePairs, ArePairsUpTo, Differ, IsPair}
+use Rattle.least_codes.specs.Inner.StatePairs.{AreToldApart, AreApartOf, ArePairs, ArePairsUpTo, Differ, IsPair}
 
 pub pairs_begun : (pairs : List TwoStates) (t : ℕ) → ArePairs pairs t → ArePairsUpTo pairs t 0
 pairs_begun pairs t are = record {

@@ -7,15 +7,15 @@ use Rattle.cubes.specs.Symbol.{bit, symbol_of}
 use Rattle.cubes.specs.Laws.Numbers.{length-symbol_of}
 use Rattle.kiss_file.specs.declared.file.KissFile.{KissFile}
 use Rattle.kiss_file.specs.Machine.{next}
-use Rattle.machine_table.specs.Covering.{IsImage}
+use Rattle.machine_table.specs.Pieces.{IsImage}
 use Rattle.machine_table.specs.Pairs.{HaveOneBit}
-use Rattle.machine_table.specs.Staying.{NeverLeaves}
-use Rattle.dependence.specs.Permits.{next_value}
+use Rattle.machine_table.specs.NextStates.{NeverLeaves}
+use Rattle.dependence.specs.SufficientBits.{next_value}
 use Rattle.dependence.specs.Bit.{GiveTheSame}
 use Rattle.dependence.specs.Laws.Agreeing.{same_each}
 use Rattle.least_codes.specs.declared.two_states.TwoStates.{TwoStates}
 use Rattle.least_codes.specs.declared.table.Images.{Images}
-use Rattle.least_codes.specs.Inner.Apart.{AreToldApart, ArePairs, IsPair}
+use Rattle.least_codes.specs.Inner.StatePairs.{AreToldApart, ArePairs, IsPair}
 use Rattle.least_codes.specs.Inner.Table.{AreApartIn, HasRow, IsRow, IsSplitBy, IsImageTable, IsTableOf, KeepsBit}
 
 -- numbers below 2 are equal where the tests for 1 are

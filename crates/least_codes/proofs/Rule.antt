@@ -7,7 +7,7 @@ use Rattle.list_facts.specs.Laws.Members.{among_or_not}
 use Rattle.kiss_file.specs.declared.file.KissFile.{KissFile}
 use Rattle.state_codes.specs.Code.{need}
 use Rattle.state_codes.specs.Laws.Need.{need-least}
-use Rattle.dependence.specs.Permits.{InWord, PermitsValue}
+use Rattle.dependence.specs.SufficientBits.{InWord, PermitsValue}
 use Rattle.dependence.specs.ReadRule.{Beside, IsIrredundant, IsReadRule}
 use Rattle.dependence.specs.Laws.Judged.{permits_more}
 use Rattle.dependence.specs.Laws.Irredundant.{rule_least}

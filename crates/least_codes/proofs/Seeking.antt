@@ -3,7 +3,7 @@ use Rattle.std.proofs.Common.{◌≡◌, ◌⊎◌, ◌∙◌, ℕ, zero, suc, �
 use Rattle.std.proofs.lemmas.Bool.{cases_eq, cases_lt}
 use Rattle.std.proofs.lemmas.List.Elements.{All-contains, All-from_get_or, Contains-get_or}
 use Rattle.kiss_file.specs.declared.file.KissFile.{KissFile}
-use Rattle.dependence.specs.Permits.{PermitsValue}
+use Rattle.dependence.specs.SufficientBits.{PermitsValue}
 use Rattle.dependence.specs.Laws.Judged.{permits_more}
 use Rattle.least_codes.specs.Inner.Choice.{Ascend}
 use Rattle.least_codes.specs.LeastReads.{AreEnoughBits, AreLeastReads, ListBefore}

@@ -8,7 +8,7 @@ use Rattle.std.specs.Int.{bit_at}
 use Rattle.std.specs.List.{range_with_len}
 use Rattle.kiss_file.specs.declared.file.KissFile.{KissFile}
 use Rattle.state_codes.specs.Agreement.{CodesAgreeAt}
-use Rattle.dependence.specs.Permits.{PermitsValue}
+use Rattle.dependence.specs.SufficientBits.{PermitsValue}
 use Rattle.least_codes.specs.LeastCode.{AreCodeWords}
 use Rattle.least_codes.proofs.Greedy.{of_one, of_two}
 use Rattle.least_codes.proofs.Halves.{few_below}

@@ -3,9 +3,9 @@ use Rattle.std.proofs.Common.{◌≡◌, ℕ, ◌<◌, Bool, List, length, get_o
 use Rattle.std.proofs.lemmas.Bool.{cases_order}
 use Rattle.std.proofs.lemmas.List.Elements.{All-contains}
 use Rattle.kiss_file.specs.declared.file.KissFile.{KissFile}
-use Rattle.dependence.specs.Permits.{AgreeOn, PermitsValue}
+use Rattle.dependence.specs.SufficientBits.{AgreeOn, PermitsValue}
 use Rattle.least_codes.specs.declared.two_states.TwoStates.{TwoStates}
-use Rattle.least_codes.specs.Inner.Apart.{AreToldApart, TellsApart}
+use Rattle.least_codes.specs.Inner.StatePairs.{AreToldApart, TellsApart}
 
 -- a greater set tells apart what a smaller one does
 pub tells_more : (words : List ℕ) (apart : List TwoStates) (R S : ℕ → Type 0) → ((c : ℕ) → R c → S c) → TellsApart words apart R → TellsApart words apart S

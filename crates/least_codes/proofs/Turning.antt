@@ -8,9 +8,9 @@ use Rattle.std.specs.Int.{bit_at}
 use Rattle.cubes.specs.Symbol.{bit}
 use Rattle.kiss_file.specs.declared.file.KissFile.{KissFile}
 use Rattle.kiss_file.specs.Machine.{next}
-use Rattle.machine_table.specs.Staying.{NeverLeaves}
+use Rattle.machine_table.specs.NextStates.{NeverLeaves}
 use Rattle.state_codes.specs.Agreement.{CodesAgreeAt}
-use Rattle.dependence.specs.Permits.{PermitsValue, next_value}
+use Rattle.dependence.specs.SufficientBits.{PermitsValue, next_value}
 use Rattle.least_codes.specs.Cost.{IsCost, IsLatchCost}
 use Rattle.least_codes.specs.LeastCode.{AreCodeWords, TextsBefore}
 use Rattle.least_codes.specs.LeastReads.{AreEnoughBits}

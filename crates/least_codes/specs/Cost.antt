@@ -1,7 +1,7 @@
 -- The least numbers of bits that the latches of a code can read (source: this project).
 use Rattle.std.specs.Prelude.{◌≡◌, ℕ, ◌<◌, List, length, slice_index, sum}
 use Rattle.kiss_file.specs.declared.file.KissFile.{KissFile}
-use Rattle.dependence.specs.Permits.{next_value}
+use Rattle.dependence.specs.SufficientBits.{next_value}
 use Rattle.least_codes.specs.LeastReads.{AreFewest}
 
 -- cost is the least number of the bits that the gate of latch i can read

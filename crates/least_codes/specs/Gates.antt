@@ -5,7 +5,7 @@ use Rattle.state_codes.specs.declared.Codes.{Codes}
 use Rattle.dependence.specs.declared.sets.ReadSet.{ReadSet}
 use Rattle.dependence.specs.declared.sets.Reads.{Reads}
 use Rattle.dependence.specs.Candidates.{IsBitOfCode}
-use Rattle.dependence.specs.Permits.{next_value, output_value}
+use Rattle.dependence.specs.SufficientBits.{next_value, output_value}
 use Rattle.least_codes.specs.LeastReads.{AreLeastReads}
 
 -- each latch and each output reads a least set of the bits of the code

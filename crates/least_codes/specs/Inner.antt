@@ -1,5 +1,5 @@
 -- Definitions that only private functions and proofs need.
-pub mod Apart
+pub mod StatePairs
 pub mod Choice
 pub mod Table
 pub mod Costs

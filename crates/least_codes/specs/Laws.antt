@@ -3,13 +3,13 @@ pub mod Chosen
 use Rattle.std.specs.Prelude.{◌≡◌, ◌↔◌, ℕ, ◌^◌, ◌<◌, ◌≤◌, Bool, Contains, List, Some, length, slice_get, slice_index}
 use Rattle.std.specs.List.Sorted.{IsStrictlyIncreasing}
 use Rattle.kiss_file.specs.declared.file.KissFile.{KissFile}
-use Rattle.machine_table.specs.Staying.{NeverLeaves}
+use Rattle.machine_table.specs.NextStates.{NeverLeaves}
 use Rattle.partition.specs.Partition.{Together}
 use Rattle.state_codes.specs.declared.split.Part.{Part}
 use Rattle.state_codes.specs.declared.Codes.{Codes}
 use Rattle.state_codes.specs.Code.{IsCode, need}
 use Rattle.dependence.specs.declared.sets.Reads.{Reads}
-use Rattle.dependence.specs.Permits.{InWord, PermitsValue}
+use Rattle.dependence.specs.SufficientBits.{InWord, PermitsValue}
 use Rattle.dependence.specs.ReadRule.{IsReadRule}
 use Rattle.dependence.specs.Reads.{AreReads}
 use Rattle.least_codes.specs.Gates.{EachReadsLeast}

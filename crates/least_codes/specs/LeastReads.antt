@@ -3,7 +3,7 @@
 use Rattle.std.specs.Prelude.{◌≡◌, ◌⊎◌, ◌↔◌, ℕ, ◌<◌, ◌≤◌, All, Bool, Contains, List, [], ◌∷◌, length}
 use Rattle.std.specs.List.Sorted.{IsStrictlyIncreasing}
 use Rattle.kiss_file.specs.declared.file.KissFile.{KissFile}
-use Rattle.dependence.specs.Permits.{InWord, PermitsValue}
+use Rattle.dependence.specs.SufficientBits.{InWord, PermitsValue}
 
 -- at the first place where two lists of equal length differ, the first list has the smaller number
 abbrev pub ListBefore : List ℕ → List ℕ → Type 0

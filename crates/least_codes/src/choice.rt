@@ -1,8 +1,8 @@
 //! Sets of bits that distinguish states.
 
 ghost use Rattle.std.specs.Prelude.{◌≡◌, ◌↔◌, ◌<◌, ◌≤◌, ℕ, All, IfNone, IfSome, IsTrue, length};
-ghost use Rattle.dependence.specs.Permits.{AgreeOn, InWord};
-ghost use Rattle.least_codes.specs.Inner.Apart.{IsPair, TellsApart};
+ghost use Rattle.dependence.specs.SufficientBits.{AgreeOn, InWord};
+ghost use Rattle.least_codes.specs.Inner.StatePairs.{IsPair, TellsApart};
 ghost use Rattle.least_codes.specs.Inner.Choice.{HasNone, IsFirstChoice, IsLeastChoice};
 
 use crate::two_states::TwoStates;

@@ -1,8 +1,31 @@
 //! All codes of few bits, one after another.
 
-ghost use Rattle.std.specs.Prelude.{◌≡◌, ◌↔◌, ◌⊎◌, ◌<◌, ◌≤◌, ◌+◌, ℕ, All, IfOk, IsTrue, List, OnOk, length, slice_index};
+ghost use Rattle.std.specs.Prelude.{
+  ◌≡◌,
+  ◌↔◌,
+  ◌⊎◌,
+  ◌<◌,
+  ◌≤◌,
+  ◌+◌,
+  ℕ,
+  All,
+  IfOk,
+  IsTrue,
+  List,
+  OnOk,
+  length,
+  slice_index,
+};
 ghost use Rattle.kiss_file.specs.declared.file.KissFile.{KissFile};
-ghost use Rattle.least_codes.specs.Inner.Lists.{AreBefore, AreSeen, IsDraft, IsBestWith, IsBestSeen, IsLessThan, IsUsed};
+ghost use Rattle.least_codes.specs.Inner.Lists.{
+  AreBefore,
+  AreSeen,
+  IsDraft,
+  IsBestWith,
+  IsBestSeen,
+  IsLessThan,
+  IsUsed,
+};
 ghost use Rattle.least_codes.specs.Inner.Table.{IsInside, IsImageTable};
 ghost use Rattle.least_codes.specs.LeastCode.{AreCodeWords, IsLeastCode};
 ghost use Rattle.state_codes.specs.Code.{need};

@@ -1,6 +1,20 @@
 //! What follows from the definitions. Each law is the contract of a function that does nothing.
 
-ghost use Rattle.least_codes.specs.Laws.{AllBitsPermit, GivenCodesAreLeast, LeastCodeExists, LeastCodeHasZeros, LeastCodeIsOne, LeastCodeReadsLeast, LeastReadsAreOne, LeastReadsExist, LeastSplitExists, LeastSplitIsOne, PartsTellAll, RuleGivesLeast, RuleGivesLeastSet};
+ghost use Rattle.least_codes.specs.Laws.{
+  AllBitsPermit,
+  GivenCodesAreLeast,
+  LeastCodeExists,
+  LeastCodeHasZeros,
+  LeastCodeIsOne,
+  LeastCodeReadsLeast,
+  LeastReadsAreOne,
+  LeastReadsExist,
+  LeastSplitExists,
+  LeastSplitIsOne,
+  PartsTellAll,
+  RuleGivesLeast,
+  RuleGivesLeastSet,
+};
 
 /// The machine determines its least code, and the split that gives it. Any codes that this split gives are that
 /// code.

@@ -2,7 +2,7 @@
 
 ghost use Rattle.std.specs.Prelude.{◌≡◌, IfOk, length};
 ghost use Rattle.dependence.specs.Bit.{IsBit, value_of};
-ghost use Rattle.dependence.specs.Permits.{InWord, PermitsValue};
+ghost use Rattle.dependence.specs.SufficientBits.{InWord, PermitsValue};
 ghost use Rattle.least_codes.specs.LeastReads.{IsLeastReadSet};
 
 use crate::choice::{Question, least_choice};
@@ -27,7 +27,8 @@ pub fn least_reads(
     requires words { length codes.now.words ≡ length m.now.states }
     requires bit { IsBit m.now bit }
     requires enough { PermitsValue m.now codes.now.words (InWord candidates) (value_of m.now codes.now.words bit) }
-    ensures { IfOk result (IsLeastReadSet m.now codes.now.words (InWord candidates) (value_of m.now codes.now.words bit)) }
+    ensures { IfOk result
+        (IsLeastReadSet m.now codes.now.words (InWord candidates) (value_of m.now codes.now.words bit)) }
 {
     let words = codes.words.as_slice();
     let apart = states_apart(alloc, m, words, bit)?;

@@ -2,7 +2,7 @@
 
 ghost use Rattle.std.specs.Prelude.{◌≡◌, ◌↔◌, ◌+◌, ◌<◌, ℕ, All, Contains, IfOk, IsTrue, OnOk, length};
 ghost use Rattle.dependence.specs.Bit.{IsBit, value_of};
-ghost use Rattle.least_codes.specs.Inner.Apart.{AreToldApart, ArePairs, IsPair};
+ghost use Rattle.least_codes.specs.Inner.StatePairs.{AreToldApart, ArePairs, IsPair};
 
 use dependence::Bit;
 use machine_table::Machine;

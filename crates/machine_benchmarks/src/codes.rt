@@ -7,7 +7,7 @@ ghost use Rattle.partition.specs.Partition.{IsPartition, IsStateCount};
 ghost use Rattle.state_codes.specs.Code.{IsCode};
 ghost use Rattle.state_codes.specs.Split.{IsPart};
 
-use crate::plain;
+use crate::plain_reads;
 use anyhow::{Error, bail};
 use bench_cases::Case;
 use dependence::{ReadSets, reads};
@@ -53,7 +53,7 @@ fn answer_of_codes(
         found = if case.work == "reads" {
             read_count(alloc, m, split, codes)?
         } else {
-            plain::read_count(alloc, m, codes)?
+            plain_reads::read_count(alloc, m, codes)?
         };
     }
     Ok(found)

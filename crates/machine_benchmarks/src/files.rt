@@ -1,7 +1,7 @@
 //! Files and machines of cases.
 
 ghost use Rattle.std.specs.Prelude.{IfOk};
-ghost use Rattle.kiss_file.specs.Lawful.{IsLawful};
+ghost use Rattle.kiss_file.specs.LawfulFile.{IsLawful};
 
 use crate::shapes::{shape_of, text_of};
 use anyhow::{Error, bail};

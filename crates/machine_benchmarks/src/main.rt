@@ -17,13 +17,13 @@
 //!   two pieces of a state.
 #![tactic(auto)]
 
-ghost use Rattle.kiss_file.specs.Lawful.{IsLawful};
+ghost use Rattle.kiss_file.specs.LawfulFile.{IsLawful};
 
 mod codes;
 mod files;
 mod lattices;
 mod marks;
-mod plain;
+mod plain_reads;
 mod shapes;
 mod tables;
 

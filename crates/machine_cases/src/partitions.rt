@@ -2,7 +2,7 @@
 //! partitions of them.
 
 ghost use Rattle.std.specs.Prelude.{◌≡◌, length};
-ghost use Rattle.kiss_file.specs.Lawful.{IsLawful};
+ghost use Rattle.kiss_file.specs.LawfulFile.{IsLawful};
 
 use crate::words::{cut, number, part, put_part, put_partitions};
 use case_lines::Answer;

@@ -1,7 +1,7 @@
 //! The calls of `shift_real`.
 
 ghost use Rattle.std.specs.Prelude.{◌≡◌, ℕ, IfSome};
-ghost use Rattle.kiss_file.specs.Lawful.{IsLawful};
+ghost use Rattle.kiss_file.specs.LawfulFile.{IsLawful};
 ghost use Rattle.shift_real.specs.Register.{HasShortOrder};
 ghost use Rattle.shift_real.specs.ShiftNetwork.{AreNamesFor};
 

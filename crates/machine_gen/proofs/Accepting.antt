@@ -9,7 +9,7 @@ use Rattle.kiss_file.specs.declared.file.KissFile.{KissFile}
 use Rattle.kiss_file.specs.declared.file.KissRow.{KissRow}
 use Rattle.kiss_file.specs.Machine.{Accepted, Conflicting, GiveBoth, IsRowAt, NameTwo, Specified, given_bit}
 use Rattle.kiss_file.specs.Laws.NumberedNames.{length-numbered_names}
-use Rattle.machine_gen.specs.MachineOf.{AreSizes, IsMachineOf}
+use Rattle.machine_gen.specs.WordMachine.{AreSizes, IsMachineOf}
 use Rattle.machine_gen.proofs.Standing.{both_given, held_symbol, row_at_symbol, row_known, symbol_number}
 
 -- a row does not contradict itself

@@ -7,8 +7,8 @@ use Rattle.kiss_file.specs.declared.file.KissFile.{KissFile}
 use Rattle.kiss_file.specs.declared.file.KissRow.{KissRow}
 use Rattle.kiss_file.specs.Machine.{IsRowAt, given_bit, next, out, output_bit}
 use Rattle.kiss_file.specs.Laws.Machine.{next_said, output_bit_said}
-use Rattle.machine_gen.specs.Going.{GoByParts}
-use Rattle.machine_gen.specs.MachineOf.{AreSizes, IsMachineOf, next_first, next_second}
+use Rattle.machine_gen.specs.PartSteps.{GoByParts}
+use Rattle.machine_gen.specs.WordMachine.{AreSizes, IsMachineOf, next_first, next_second}
 use Rattle.machine_gen.proofs.Accepting.{no_conflict}
 use Rattle.machine_gen.proofs.Numbered.{two_digits}
 use Rattle.machine_gen.proofs.Standing.{row_at_symbol}

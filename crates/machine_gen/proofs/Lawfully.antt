@@ -9,10 +9,10 @@ use Rattle.std.proofs.lemmas.Option.{get_or_from_slice_get}
 use Rattle.cubes.specs.Symbol.{bit}
 use Rattle.kiss_file.specs.declared.file.KissFile.{KissFile}
 use Rattle.kiss_file.specs.declared.file.KissRow.{KissRow}
-use Rattle.kiss_file.specs.Lawful.{IsLawful, IsLawfulRow}
+use Rattle.kiss_file.specs.LawfulFile.{IsLawful, IsLawfulRow}
 use Rattle.kiss_file.specs.Laws.ByState.{IsByState, lawful_by_state}
-use Rattle.machine_gen.specs.Inner.Drawing.{next_of, place_of}
-use Rattle.machine_gen.specs.MachineOf.{AreSizes, IsMachineOf}
+use Rattle.machine_gen.specs.Inner.Draws.{next_of, place_of}
+use Rattle.machine_gen.specs.WordMachine.{AreSizes, IsMachineOf}
 use Rattle.machine_gen.proofs.Accepting.{state_count}
 use Rattle.machine_gen.proofs.Cubes.{few_symbols}
 use Rattle.machine_gen.proofs.Numbered.{first_within, next_within, second_within, two_digits}

@@ -6,8 +6,8 @@ use Rattle.std.proofs.lemmas.Nat.{div-mul-add, div_below, mod-mul-add, mod_below
 use Rattle.std.proofs.lemmas.Bool.{cases_lt}
 use Rattle.kiss_file.specs.declared.file.KissRow.{KissRow}
 use Rattle.machine_gen.specs.declared.rows.Place.{Place}
-use Rattle.machine_gen.specs.Inner.Drawing.{IsRowOfPlace, next_of, place_of}
-use Rattle.machine_gen.specs.MachineOf.{AreRows, AreSizes, next_first, next_second}
+use Rattle.machine_gen.specs.Inner.Draws.{IsRowOfPlace, next_of, place_of}
+use Rattle.machine_gen.specs.WordMachine.{AreRows, AreSizes, next_first, next_second}
 
 -- a row stands at a number
 abbrev pub StandsAt : (ℕ → ℕ) → ℕ → ℕ → ℕ → List KissRow → ℕ → Type 0

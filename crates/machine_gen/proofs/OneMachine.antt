@@ -7,7 +7,7 @@ use Rattle.cubes.specs.Field.{byte_of}
 use Rattle.kiss_file.specs.declared.file.KissFile.{KissFile}
 use Rattle.kiss_file.specs.declared.file.KissRow.{KissRow}
 use Rattle.kiss2.specs.Laws.SameRecord.{same_cube}
-use Rattle.machine_gen.specs.MachineOf.{AreRows, AreSizes, HaveOneMachine, IsDrawnRow}
+use Rattle.machine_gen.specs.WordMachine.{AreRows, AreSizes, HaveOneMachine, IsDrawnRow}
 use Rattle.machine_gen.proofs.Standing.{row_at_number}
 
 same_row : (b k i j x state : ℕ) (row other : KissRow) → IsDrawnRow b k i j x state row → IsDrawnRow b k i j x state other → row ≡ other

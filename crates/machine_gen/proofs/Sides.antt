@@ -11,8 +11,8 @@ use Rattle.kiss_file.specs.Machine.{next}
 use Rattle.partition.specs.Partition.{IsNumbered, IsPartition, Together, blocks_of}
 use Rattle.partition.specs.Laws.Labels.{label-lt-blocks_of-take}
 use Rattle.pair_operators.specs.Pair.{Closed}
-use Rattle.machine_gen.specs.MachineOf.{AreSizes, IsMachineOf, next_first, next_second}
-use Rattle.machine_gen.specs.Parallel.{AreParallel, IsNontrivialClosed, by_first, by_second}
+use Rattle.machine_gen.specs.WordMachine.{AreSizes, IsMachineOf, next_first, next_second}
+use Rattle.machine_gen.specs.ParallelParts.{AreParallel, IsNontrivialClosed, by_first, by_second}
 use Rattle.machine_gen.proofs.Accepting.{state_count}
 use Rattle.machine_gen.proofs.Going.{at_state}
 use Rattle.machine_gen.proofs.Numbered.{two_digits}

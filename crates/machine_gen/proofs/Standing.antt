@@ -15,8 +15,8 @@ use Rattle.cubes.specs.Laws.Bits.{bit_from_one, bit_from_zero}
 use Rattle.cubes.specs.Laws.Numbers.{bit-above, length-symbol_of, number_below, number_of-symbol_of, symbol_of-number_of}
 use Rattle.cubes.specs.Laws.Places.{length-characters}
 use Rattle.kiss_file.specs.declared.file.KissRow.{KissRow}
-use Rattle.machine_gen.specs.Inner.Drawing.{IsRowOfPlace as IsRowAtPlace, next_of, place_of}
-use Rattle.machine_gen.specs.MachineOf.{AreRows, AreSizes, IsDrawnRow, next_first, next_second}
+use Rattle.machine_gen.specs.Inner.Draws.{IsRowOfPlace as IsRowAtPlace, next_of, place_of}
+use Rattle.machine_gen.specs.WordMachine.{AreRows, AreSizes, IsDrawnRow, next_first, next_second}
 use Rattle.machine_gen.proofs.Numbered.{StandsAt, first_within, second_within, symbol_within}
 
 -- ---- a field without dashes holds its own symbol and no other

@@ -1,10 +1,10 @@
 -- One step of the loop over rows: what is drawn for a place, and where it leads.
 use Rattle.std.proofs.Common.{◌≡◌, ℕ, ◌+◌, ◌*◌, ◌^◌, ◌<◌, List, length, get_or, max, sym, subst, ap, ◌∙◌, arith}
 use Rattle.std.proofs.lemmas.List.FromFn.{get_or-map-range_with_len, length-map-range_with_len}
-use Rattle.machine_gen.specs.declared.drawing.Draw.{Draw}
+use Rattle.machine_gen.specs.declared.draws.Draw.{Draw}
 use Rattle.machine_gen.specs.declared.rows.Place.{Place}
-use Rattle.machine_gen.specs.Inner.Drawing.{draw_of, draws_of, next_of, place_of}
-use Rattle.machine_gen.specs.MachineOf.{AreSizes}
+use Rattle.machine_gen.specs.Inner.Draws.{draw_of, draws_of, next_of, place_of}
+use Rattle.machine_gen.specs.WordMachine.{AreSizes}
 use Rattle.machine_gen.proofs.Numbered.{first_within, next_within, second_within, symbol_within, two_digits}
 
 -- ---- what stands at a place of the words' list

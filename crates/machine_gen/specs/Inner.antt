@@ -1,2 +1,2 @@
 -- Definitions that only private functions and proofs need.
-pub mod Drawing
+pub mod Draws

@@ -1,5 +1,5 @@
 pub mod Words
-pub mod MachineOf
-pub mod Going
-pub mod Parallel
+pub mod WordMachine
+pub mod PartSteps
+pub mod ParallelParts
 pub mod Inner

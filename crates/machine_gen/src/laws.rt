@@ -1,9 +1,9 @@
 //! Laws of generated machines, each the contract of a function that does nothing.
 
 ghost use Rattle.std.specs.Prelude.{◌≡◌};
-ghost use Rattle.machine_gen.specs.Going.{GoByParts};
-ghost use Rattle.machine_gen.specs.MachineOf.{HaveOneMachine, next_first, next_second};
-ghost use Rattle.machine_gen.specs.Parallel.{PartsAreParallel};
+ghost use Rattle.machine_gen.specs.PartSteps.{GoByParts};
+ghost use Rattle.machine_gen.specs.WordMachine.{HaveOneMachine, next_first, next_second};
+ghost use Rattle.machine_gen.specs.ParallelParts.{PartsAreParallel};
 ghost use Rattle.machine_gen.specs.Words.{word};
 
 /// The words and the sizes determine the machine.

@@ -1,11 +1,11 @@
 //! The rows.
 
 ghost use Rattle.std.specs.Prelude.{◌≡◌, ◌+◌, ◌-◌, ◌*◌, ◌^◌, ◌<◌, ◌≤◌, IfOk, length, slice_index_or};
-ghost use Rattle.machine_gen.specs.Inner.Drawing.{IsRowOfPlace, place_of};
-ghost use Rattle.machine_gen.specs.MachineOf.{AreRows, AreSizes};
+ghost use Rattle.machine_gen.specs.Inner.Draws.{IsRowOfPlace, place_of};
+ghost use Rattle.machine_gen.specs.WordMachine.{AreRows, AreSizes};
 ghost use Rattle.machine_gen.specs.Words.{word};
 
-use crate::drawing::{Draw, draws};
+use crate::draws::{Draw, draws};
 use cubes::Cube;
 use kiss_file::{KissRow, Rows};
 use std::alloc::{AllocError, Global};

@@ -2,16 +2,16 @@
 use Rattle.std.proofs.Common.{◌≡◌, ℕ, ◌-◌, ◌<◌, Bool, List, inl, inr, length, slice_index, ap, ◌∙◌, subst, arith}
 use Rattle.std.proofs.lemmas.Bool.{cases_eq}
 use Rattle.answers.specs.Cause.{CallsForNone}
-use Rattle.answers.specs.Judged.{IsStop}
+use Rattle.answers.specs.Outcome.{IsStop}
 use Rattle.answers.specs.declared.refusals.Refusal.{Refusal}
 use Rattle.state_reduce.specs.declared.work.WorkMachine.{WorkMachine}
 use Rattle.state_reduce.specs.Laws.Works.{one_work}
 use Rattle.state_reduce.specs.Work.{IsWork, IsWorkOf}
 use Rattle.kiss_file.specs.declared.file.KissFile.{KissFile}
-use Rattle.machine_table.specs.Staying.{NeverLeaves}
+use Rattle.machine_table.specs.NextStates.{NeverLeaves}
 use Rattle.partition.specs.Partition.{IsOne, IsPartition}
 use Rattle.shift_real.specs.Chain.{AreTogetherAfter, IsChain}
-use Rattle.shift_real.specs.Definite.{AreFirstApart, Definite, IsOrder}
+use Rattle.shift_real.specs.DefiniteMachine.{AreFirstApart, Definite, IsOrder}
 use Rattle.shift_real.proofs.Telling.{kept_apart}
 use Rattle.machine_reports.specs.Causes.{KeepsApart, NotDefiniteRow}
 use Rattle.machine_reports.specs.DefiniteText.{IsChainText, IsWholeChain}

@@ -3,14 +3,14 @@ use Rattle.std.proofs.Common.{◌≡◌, ◌≢◌, ℕ, List, sym, ap, ◌∙�
 use Rattle.kiss_file.specs.declared.fill.Fill.{Fill}
 use Rattle.kiss_file.specs.declared.file.KissFile.{KissFile}
 use Rattle.kiss2.specs.Kiss.{Kiss}
-use Rattle.kiss_file.specs.Lawful.{IsLawful}
+use Rattle.kiss_file.specs.LawfulFile.{IsLawful}
 use Rattle.kiss_file.specs.Machine.{Accepted, answers}
-use Rattle.kiss2.specs.Written.{kiss_text}
+use Rattle.kiss2.specs.KissText.{kiss_text}
 use Rattle.kiss_file.specs.Laws.Machine.{next_is_a_state}
 use Rattle.kiss2_laws.proofs.RoundTrip.{says_again}
-use Rattle.state_reduce.specs.declared.judging.QuotientFail.{QuotientFail}
-use Rattle.state_reduce.specs.declared.judging.QuotientFail.TheVariants.{NoMemory}
-use Rattle.state_reduce.specs.Alike.{AreUnlike, IsEquivalence}
+use Rattle.state_reduce.specs.declared.demands.QuotientFail.{QuotientFail}
+use Rattle.state_reduce.specs.declared.demands.QuotientFail.TheVariants.{NoMemory}
+use Rattle.state_reduce.specs.AlikeStates.{AreUnlike, IsEquivalence}
 use Rattle.state_reduce.specs.Cause.{Caused}
 use Rattle.state_reduce.specs.Quotient.{AnswersAsMembers, AreBlocksInOrder, IsQuotient}
 use Rattle.state_reduce.specs.Laws.Unrefused.{unrefused}

@@ -8,7 +8,7 @@ use Rattle.io_pairs.specs.Inputs.{IsInMmPair}
 use Rattle.io_pairs.specs.Outputs.{IsOutMmPair, occurring}
 use Rattle.partition.specs.Sides.{RightBefore}
 use Rattle.kiss_file.specs.declared.file.KissFile.{KissFile}
-use Rattle.shift_real.specs.Definite.{AreFirstApart}
+use Rattle.shift_real.specs.DefiniteMachine.{AreFirstApart}
 
 -- there are more values with the property than the limit, as limit + 1 of them in order show
 abbrev pub MoreThan : {M : Type 0} → (M → M → Type 0) → (M → Type 0) → ℕ → Cause

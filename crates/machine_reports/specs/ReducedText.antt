@@ -3,10 +3,10 @@ use Rattle.std.specs.Prelude.{◌≡◌, ℕ, Bool, List}
 use Rattle.kiss_file.specs.declared.fill.Fill.{Fill}
 use Rattle.kiss_file.specs.declared.file.KissFile.{KissFile}
 use Rattle.kiss2.specs.Kiss.{Kiss}
-use Rattle.kiss_file.specs.Lawful.{IsLawful}
+use Rattle.kiss_file.specs.LawfulFile.{IsLawful}
 use Rattle.kiss_file.specs.Machine.{Accepted, answers}
-use Rattle.kiss2.specs.Written.{kiss_text}
-use Rattle.state_reduce.specs.Alike.{AreUnlike, IsEquivalence, IsWord}
+use Rattle.kiss2.specs.KissText.{kiss_text}
+use Rattle.state_reduce.specs.AlikeStates.{AreUnlike, IsEquivalence, IsWord}
 use Rattle.state_reduce.specs.Quotient.{AnswersAsMembers, AreBlocksInOrder, IsQuotient}
 
 -- Q is the machine of the classes of alike states of F, in order. No two states of Q are alike. Each state of Q

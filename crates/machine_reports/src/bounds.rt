@@ -1,7 +1,7 @@
 //! The bounds on the inputs and outputs of a machine whose pairs of symbols or of outputs are listed.
 
 ghost use Rattle.std.specs.Prelude.{◌≤◌};
-ghost use Rattle.answers.specs.Judged.{IsJudged};
+ghost use Rattle.answers.specs.Outcome.{IsJudged};
 ghost use Rattle.io_pairs.specs.Outputs.{AreOutputs};
 ghost use Rattle.machine_reports.specs.Causes.{TooManyInputsRow, TooManyOutputsRow};
 

@@ -1,8 +1,8 @@
 //! The report of `definite`.
 
 ghost use Rattle.std.specs.Prelude.{◌≡◌, Bool};
-ghost use Rattle.answers.specs.Judged.{IsJudged};
-ghost use Rattle.kiss_file.specs.Lawful.{IsLawful};
+ghost use Rattle.answers.specs.Outcome.{IsJudged};
+ghost use Rattle.kiss_file.specs.LawfulFile.{IsLawful};
 ghost use Rattle.kiss_file.specs.Machine.{Accepted};
 ghost use Rattle.state_reduce.specs.Work.{IsWork};
 ghost use Rattle.machine_reports.specs.Causes.{NotDefiniteRow};

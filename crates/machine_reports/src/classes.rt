@@ -1,7 +1,7 @@
 //! The report of `reduce`.
 
 ghost use Rattle.std.specs.Prelude.{◌≡◌, IfOk};
-ghost use Rattle.kiss_file.specs.Lawful.{IsLawful};
+ghost use Rattle.kiss_file.specs.LawfulFile.{IsLawful};
 ghost use Rattle.kiss_file.specs.Machine.{Accepted};
 ghost use Rattle.machine_reports.specs.ReducedText.{IsReducedText};
 

@@ -1,7 +1,7 @@
 //! The report of `ispairs`.
 
 ghost use Rattle.std.specs.Prelude.{◌≤◌};
-ghost use Rattle.answers.specs.Judged.{IsReported};
+ghost use Rattle.answers.specs.Outcome.{IsReported};
 ghost use Rattle.io_pairs.specs.Inputs.{IsInMmPair};
 ghost use Rattle.partition.specs.Sides.{RightBefore};
 ghost use Rattle.machine_reports.specs.Causes.{MoreThan, RefusesInputPairs};

@@ -4,7 +4,7 @@
 ghost use Rattle.std.specs.Prelude.{◌≡◌, ℕ, ◌-◌, Bool, List, length, map};
 ghost use Rattle.answers.specs.Laws.Causes.{HasOneAnswer};
 ghost use Rattle.answers.specs.declared.refusals.Refusal.{Refusal};
-ghost use Rattle.closed_lattice.specs.Closed.{IsClosedPartition};
+ghost use Rattle.closed_lattice.specs.ClosedPartitions.{IsClosedPartition};
 ghost use Rattle.cubes.specs.Symbol.{digit, symbol_of};
 ghost use Rattle.io_pairs.specs.Outputs.{output_word};
 ghost use Rattle.kiss_file.specs.Machine.{out};
@@ -13,9 +13,15 @@ ghost use Rattle.mm_lattice.specs.MmPairs.{IsMmPair};
 ghost use Rattle.partition.specs.Sides.{RightBefore};
 ghost use Rattle.output_consistent.specs.Outputs.{IsClosedAndConsistent};
 ghost use Rattle.operands.specs.PartFaults.{BadPart};
-ghost use Rattle.partition.specs.Before.{Before};
-ghost use Rattle.shift_real.specs.Definite.{Definite};
-ghost use Rattle.machine_reports.specs.Causes.{KeepsApart, MoreThan, NotDefiniteRow, RefusesInputPairs, RefusesOutputPairs};
+ghost use Rattle.partition.specs.Order.{Before};
+ghost use Rattle.shift_real.specs.DefiniteMachine.{Definite};
+ghost use Rattle.machine_reports.specs.Causes.{
+  KeepsApart,
+  MoreThan,
+  NotDefiniteRow,
+  RefusesInputPairs,
+  RefusesOutputPairs,
+};
 ghost use Rattle.machine_reports.specs.DefiniteText.{IsWholeChain};
 ghost use Rattle.machine_reports.specs.OutputTexts.{output_digits};
 ghost use Rattle.machine_reports.specs.StateTexts.{ShowsStates};
@@ -33,7 +39,8 @@ pub fn commands_have_one_answer()
 
 /// A machine whose chain is whole is definite, and one that keeps two states apart is not.
 pub fn chains_tell_definite_machines()
-    ensures whole { (W : KissFile) (members : List (List ℕ)) → IsWholeChain W members → Definite W (length members - 1) }
+    ensures whole { (W : KissFile) (members : List (List ℕ)) → IsWholeChain W members
+        → Definite W (length members - 1) }
     ensures apart { (W : KissFile) (refusal : Refusal) (k : ℕ) → KeepsApart W refusal → Definite W k → ⊥ }
 {}
 
@@ -44,7 +51,8 @@ pub fn texts_show_states()
 
 /// The digits of the number of an output are the digits of its bits, output 0 first.
 pub fn lines_show_outputs()
-    ensures { (F : KissFile) (s x : ℕ) → output_digits F.outputs (output_word F s x) ≡ map digit (out F s (symbol_of F.inputs x)) }
+    ensures { (F : KissFile) (s x : ℕ)
+        → output_digits F.outputs (output_word F s x) ≡ map digit (out F s (symbol_of F.inputs x)) }
 {
     io_pairs::words_write_outputs();
 }

@@ -1,13 +1,13 @@
 //! The reports of `closed`, `output` and `pairs`.
 
 ghost use Rattle.std.specs.Prelude.{◌≡◌, ◌≤◌, IfOk, map};
-ghost use Rattle.answers.specs.Judged.{IsReported};
-ghost use Rattle.closed_lattice.specs.Closed.{IsClosedPartition};
+ghost use Rattle.answers.specs.Outcome.{IsReported};
+ghost use Rattle.closed_lattice.specs.ClosedPartitions.{IsClosedPartition};
 ghost use Rattle.mm_lattice.specs.MmPairs.{IsMmPair};
 ghost use Rattle.partition.specs.Sides.{RightBefore};
 ghost use Rattle.mm_lattice.specs.Sides.{sides_of};
 ghost use Rattle.output_consistent.specs.Outputs.{IsClosedAndConsistent};
-ghost use Rattle.partition.specs.Before.{Before};
+ghost use Rattle.partition.specs.Order.{Before};
 ghost use Rattle.machine_reports.specs.Causes.{MoreThan};
 ghost use Rattle.machine_reports.specs.ListTexts.{IsEvidenceText, IsListText, lines_of};
 ghost use Rattle.machine_reports.specs.StateTexts.{state_line, state_pair_line};

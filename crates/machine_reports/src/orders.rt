@@ -1,9 +1,9 @@
 //! The order of a machine, or the refusal that it has none.
 
 ghost use Rattle.std.specs.Prelude.{◌<◌, Bool, IfOk, length};
-ghost use Rattle.answers.specs.Judged.{IsJudged};
+ghost use Rattle.answers.specs.Outcome.{IsJudged};
 ghost use Rattle.state_reduce.specs.Work.{IsWork};
-ghost use Rattle.shift_real.specs.Definite.{AreFirstApart, IsOrder};
+ghost use Rattle.shift_real.specs.DefiniteMachine.{AreFirstApart, IsOrder};
 ghost use Rattle.machine_reports.specs.Causes.{KeepsApart};
 
 use answers::Refusal;

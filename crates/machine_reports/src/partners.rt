@@ -1,7 +1,7 @@
 //! The reports of `low` and `high`.
 
 ghost use Rattle.std.specs.Prelude.{◌≡◌, length};
-ghost use Rattle.answers.specs.Judged.{IsJudged};
+ghost use Rattle.answers.specs.Outcome.{IsJudged};
 ghost use Rattle.operands.specs.PartFaults.{BadPart};
 ghost use Rattle.machine_reports.specs.PartnerTexts.{IsHighText, IsLowText};
 

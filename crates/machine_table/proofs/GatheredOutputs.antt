@@ -7,7 +7,7 @@ use Rattle.cubes.specs.Symbol.{bit, symbol_of, lowest_bits}
 use Rattle.cubes.specs.Laws.Bits.{bit-or, bit-zero, bit_from_one}
 use Rattle.kiss_file.specs.declared.file.KissFile.{KissFile}
 use Rattle.kiss_file.specs.declared.file.KissRow.{KissRow}
-use Rattle.kiss_file.specs.Lawful.{IsLawfulRow}
+use Rattle.kiss_file.specs.LawfulFile.{IsLawfulRow}
 use Rattle.kiss_file.specs.Machine.{Conflicting, IsRowAt, given_bit, out, output_bit}
 use Rattle.kiss_file.specs.Laws.Machine.{output_bit_said}
 use Rattle.machine_table.specs.Laws.OutputWords.{same_map}

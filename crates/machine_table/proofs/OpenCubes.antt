@@ -8,11 +8,11 @@ use Rattle.cubes.specs.Gap.{HoldsEach, IsFirstGap, IsHeld}
 use Rattle.cubes.specs.Symbol.{symbol_of}
 use Rattle.kiss_file.specs.declared.file.KissFile.{KissFile}
 use Rattle.kiss_file.specs.declared.file.KissRow.{KissRow}
-use Rattle.machine_table.specs.declared.missing.Missing.{Missing}
-use Rattle.machine_table.specs.Said.{IsSaid, Says, place_of}
+use Rattle.machine_table.specs.declared.open_part.Missing.{Missing}
+use Rattle.machine_table.specs.OpenEntries.{IsSaid, Says, place_of}
 use Rattle.state_pairs.specs.Table.{IsTable}
-use Rattle.machine_table.specs.declared.missing.Missing.TheVariants.{Next, Output}
-use Rattle.state_pairs.specs.Asked.{IsOfState}
+use Rattle.machine_table.specs.declared.open_part.Missing.TheVariants.{Next, Output}
+use Rattle.state_pairs.specs.RowLabels.{IsOfState}
 use Rattle.machine_table.specs.Inner.OpenSymbol.{AreCubesOf, AreFullCubes, IsFirstOf, IsFull, IsSaidEverywhere}
 use Rattle.state_rows.specs.Places.{IsNumberOf}
 use Rattle.state_pairs.specs.Laws.Asking.{is_row_at, lawful_row, looked_at, number_of_row}

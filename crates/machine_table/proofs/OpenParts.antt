@@ -2,9 +2,9 @@
 use Rattle.std.proofs.Common.{◌≡◌, ℕ, ◌+◌, ◌<◌, ◌≤◌, ◌^◌, ◌⊎◌, Option, Some, None, length, inl, inr, sym, subst, arith}
 use Rattle.std.proofs.lemmas.Bool.{cases_lt}
 use Rattle.kiss_file.specs.declared.file.KissFile.{KissFile}
-use Rattle.machine_table.specs.declared.missing.Missing.{Missing}
-use Rattle.machine_table.specs.declared.missing.Missing.TheVariants.{Next, Output}
-use Rattle.machine_table.specs.Said.{IsEntry, IsFirstOpen, IsSaid, StandsBefore, place_of}
+use Rattle.machine_table.specs.declared.open_part.Missing.{Missing}
+use Rattle.machine_table.specs.declared.open_part.Missing.TheVariants.{Next, Output}
+use Rattle.machine_table.specs.OpenEntries.{IsEntry, IsFirstOpen, IsSaid, StandsBefore, place_of}
 use Rattle.machine_table.specs.Laws.Parts.{one_part}
 use Rattle.machine_table.specs.Inner.OpenSymbol.{IsFirstAmong, IsFirstOpenAt, IsFirstOpenOf, IsSaidEverywhere, SaysAll}
 

@@ -8,7 +8,7 @@ use Rattle.kiss_file.specs.declared.file.KissFile.{KissFile}
 use Rattle.kiss_file.specs.declared.file.KissRow.{KissRow}
 use Rattle.kiss_file.specs.Machine.{Conflicting, Specified, given_bit, output_bit}
 use Rattle.kiss_file.specs.Laws.Machine.{output_bit_not_said, output_bit_said}
-use Rattle.state_pairs.specs.Asked.{HaveOneLabel, NoneIsOpen, IsLabelAt, IsOpenAt, bit_label}
+use Rattle.state_pairs.specs.RowLabels.{HaveOneLabel, NoneIsOpen, IsLabelAt, IsOpenAt, bit_label}
 use Rattle.state_rows.specs.Least.{IsMetBy, lesser_of}
 use Rattle.state_pairs.specs.Pairs.{AgreeAt, AgreeInBit, AtEachSymbol, DifferInBit, IsFoundInBits, IsFirstWithout}
 use Rattle.state_pairs.specs.Laws.Labels.{AreLabels, if_some_each}

@@ -12,9 +12,9 @@ use Rattle.kiss_file.specs.declared.file.KissFile.{KissFile}
 use Rattle.kiss_file.specs.declared.file.KissRow.{KissRow}
 use Rattle.kiss_file.specs.Machine.{Conflicting, IsRowAt, output_bit}
 use Rattle.kiss_file.specs.Laws.Machine.{next_said, output_bit_said}
-use Rattle.machine_table.specs.declared.covering.Piece.{Piece}
-use Rattle.machine_table.specs.Covering.{IsPiece}
-use Rattle.state_pairs.specs.Asked.{IsOfState}
+use Rattle.machine_table.specs.declared.pieces.Piece.{Piece}
+use Rattle.machine_table.specs.Pieces.{IsPiece}
+use Rattle.state_pairs.specs.RowLabels.{IsOfState}
 use Rattle.machine_table.specs.Inner.OpenSymbol.{SaysAll}
 use Rattle.state_pairs.specs.Table.{IsTable}
 use Rattle.state_pairs.specs.Laws.Asking.{lawful_row, number_of_row}

@@ -10,9 +10,9 @@ use Rattle.kiss_file.specs.declared.file.KissFile.{KissFile}
 use Rattle.kiss_file.specs.declared.file.KissRow.{KissRow}
 use Rattle.kiss_file.specs.Machine.{Conflicting, IsRowAt, next, out, output_bit}
 use Rattle.kiss_file.specs.Laws.Machine.{next_not_said, next_said}
-use Rattle.machine_table.specs.declared.covering.Piece.{Piece}
-use Rattle.machine_table.specs.Covering.{IsHeldByPiece, IsPiece}
-use Rattle.machine_table.specs.Inner.Settled.{AddsPieces, IsSettledIn}
+use Rattle.machine_table.specs.declared.pieces.Piece.{Piece}
+use Rattle.machine_table.specs.Pieces.{IsHeldByPiece, IsPiece}
+use Rattle.machine_table.specs.Inner.SettledCubes.{AddsPieces, IsSettledIn}
 use Rattle.state_pairs.specs.Table.{IsTable}
 use Rattle.state_pairs.specs.Laws.Labels.{label_or_open}
 use Rattle.machine_table.proofs.OutputLabels.{bit_from_digit, given_label, when_given, when_not_given}

@@ -5,9 +5,9 @@ use Rattle.cubes.specs.Laws.Numbers.{number_below, symbol_of-number_of}
 use Rattle.kiss_file.specs.declared.file.KissFile.{KissFile}
 use Rattle.kiss_file.specs.declared.file.KissRow.{KissRow}
 use Rattle.kiss_file.specs.Machine.{IsRowAt, Specified}
-use Rattle.machine_table.specs.declared.missing.Missing.{Missing}
-use Rattle.machine_table.specs.declared.missing.Missing.TheVariants.{Next, Output}
-use Rattle.machine_table.specs.Said.{IsEntry, IsSaid, Says, place_of}
+use Rattle.machine_table.specs.declared.open_part.Missing.{Missing}
+use Rattle.machine_table.specs.declared.open_part.Missing.TheVariants.{Next, Output}
+use Rattle.machine_table.specs.OpenEntries.{IsEntry, IsSaid, Says, place_of}
 
 pub specified : (F : KissFile) → ((s number : ℕ) (part : Missing) → IsEntry F s number part → IsSaid F s number part) → Specified F
 specified F said s x within width = record {

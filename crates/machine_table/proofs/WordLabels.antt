@@ -10,7 +10,7 @@ use Rattle.kiss_file.specs.declared.file.KissFile.{KissFile}
 use Rattle.kiss_file.specs.declared.file.KissRow.{KissRow}
 use Rattle.kiss_file.specs.Machine.{Conflicting, IsRowAt, Specified, given_bit, out, output_bit}
 use Rattle.kiss_file.specs.Laws.Machine.{output_bit_not_said, output_bit_said}
-use Rattle.state_pairs.specs.Asked.{HaveOneLabel, IsLabelAt, IsOpenAt}
+use Rattle.state_pairs.specs.RowLabels.{HaveOneLabel, IsLabelAt, IsOpenAt}
 use Rattle.machine_table.specs.Inner.OpenSymbol.{SaysAll}
 use Rattle.state_pairs.specs.Pairs.{AgreeAt}
 use Rattle.state_pairs.specs.Table.{IsTable}

@@ -8,10 +8,10 @@ use Rattle.kiss_file.specs.declared.file.KissRow.{KissRow}
 use Rattle.kiss_file.specs.Machine.{given_bit}
 use Rattle.state_rows.specs.Worked.{high_half, low_half, odd_symbols, high_row, low_row, three_rows}
 use Rattle.state_rows.specs.Laws.WorkedConflict.{first_two, only_two}
-use Rattle.machine_table.specs.declared.missing.Missing.{Missing}
-use Rattle.machine_table.specs.declared.missing.Missing.TheVariants.{Next, Output}
+use Rattle.machine_table.specs.declared.open_part.Missing.{Missing}
+use Rattle.machine_table.specs.declared.open_part.Missing.TheVariants.{Next, Output}
 use Rattle.machine_table.specs.Conflict.{IsFirstConflict}
-use Rattle.machine_table.specs.Said.{IsEntry, IsFirstOpen, IsSaid, StandsBefore, Says, place_of}
+use Rattle.machine_table.specs.OpenEntries.{IsEntry, IsFirstOpen, IsSaid, StandsBefore, Says, place_of}
 use Rattle.machine_table.specs.Worked.{three_row_file}
 
 -- ---- the conflict

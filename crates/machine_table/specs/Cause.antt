@@ -4,10 +4,10 @@ use Rattle.kiss_file.specs.declared.fill.Fill.{Fill}
 use Rattle.kiss_file.specs.declared.fill.Fill.TheVariants.{Refuse}
 use Rattle.kiss_file.specs.declared.file.KissFile.{KissFile}
 use Rattle.kiss_file.specs.Machine.{Conflicting}
-use Rattle.machine_table.specs.declared.building.BuildFail.{BuildFail}
-use Rattle.machine_table.specs.declared.building.BuildFail.TheVariants.{Conflict, Unspecified, NoMemory}
+use Rattle.machine_table.specs.declared.builder.BuildFail.{BuildFail}
+use Rattle.machine_table.specs.declared.builder.BuildFail.TheVariants.{Conflict, Unspecified, NoMemory}
 use Rattle.machine_table.specs.Conflict.{IsFirstConflict}
-use Rattle.machine_table.specs.Said.{IsFirstOpen}
+use Rattle.machine_table.specs.OpenEntries.{IsFirstOpen}
 
 -- the refusal names the first conflict, or memory ran out
 abbrev pub IsConflictOf : KissFile → BuildFail → Type 0

@@ -1,5 +1,5 @@
 -- Definitions for private functions and proofs; no public contract cites them.
 pub mod OpenSymbol
-pub mod Settled
+pub mod SettledCubes
 pub mod Step
 pub mod Gathered

@@ -1,11 +1,11 @@
 pub mod Table
-pub mod Said
+pub mod OpenEntries
 pub mod Conflict
 pub mod Cause
 pub mod Pairs
-pub mod Covering
-pub mod Merging
+pub mod Pieces
+pub mod MergedStates
 pub mod Inner
-pub mod Staying
+pub mod NextStates
 pub mod Worked
 pub mod Laws

@@ -1,7 +1,7 @@
 //! The pairs of next states of two states, listed, or merged in a partition.
 ghost use Rattle.std.specs.Prelude.{ℕ, ◌≡◌, ◌≢◌, ◌<◌, ◌↔◌, ◌^◌, AllPairs, Contains, IfOk, IfSome, OnOk, length};
-ghost use Rattle.machine_table.specs.Covering.{IsImage};
-ghost use Rattle.machine_table.specs.Merging.{MergesImages};
+ghost use Rattle.machine_table.specs.Pieces.{IsImage};
+ghost use Rattle.machine_table.specs.MergedStates.{MergesImages};
 ghost use Rattle.partition.specs.Partition.{IsPartition};
 ghost use Rattle.state_pairs.specs.AddedPairs.{AddsPairs};
 

@@ -2,12 +2,12 @@
 ghost use Rattle.std.specs.Prelude.{ℕ, ◌≡◌, [], ◌∷◌, false, true};
 ghost use Rattle.cubes.specs.Symbol.{symbol_of};
 ghost use Rattle.kiss_file.specs.declared.file.KissFile.{KissFile};
-ghost use Rattle.kiss_file.specs.Lawful.{IsLawful};
+ghost use Rattle.kiss_file.specs.LawfulFile.{IsLawful};
 ghost use Rattle.kiss_file.specs.Machine.{next, out};
 ghost use Rattle.machine_table.specs.Conflict.{IsFirstConflict};
-ghost use Rattle.machine_table.specs.Said.{IsFirstOpen};
+ghost use Rattle.machine_table.specs.OpenEntries.{IsFirstOpen};
 ghost use Rattle.machine_table.specs.Worked.{three_row_file};
-ghost use Rattle.machine_table.specs.declared.missing.Missing.TheVariants.{Output};
+ghost use Rattle.machine_table.specs.declared.open_part.Missing.TheVariants.{Output};
 ghost use Rattle.state_pairs.specs.Table.{IsTable};
 
 /// `Machine::build` accepts every lawful file.

@@ -7,30 +7,30 @@
 //! those of two states, asking only rows that share a symbol.
 //!
 //! `specs/Table` says which files have a machine, `specs/Conflict` which two rows a refusal names,
-//! `specs/Said` which open entry it names, and `specs/Cause` when each refusal occurs. `specs/Staying` says
+//! `specs/OpenEntries` which open entry it names, and `specs/Cause` when each refusal occurs. `specs/NextStates` says
 //! that a machine never leaves its states, `specs/Pairs` what is
-//! asked of two states at all symbols, `specs/Covering` what the images and pieces list and what filled rows
-//! say, and `specs/Merging` what becomes of a partition in which the next states of two states are merged. The
-//! definitions of `Table`, `Staying`, `Pairs` and `Merging` are those of `state_pairs`. `specs/Worked` has a small file,
-//! and [`worked_file`] says what these definitions make of it.
+//! asked of two states at all symbols, `specs/Pieces` what the images and pieces list and what filled rows
+//! say, and `specs/MergedStates` what becomes of a partition in which the next states of two states are merged. The
+//! definitions of `Table`, `NextStates`, `Pairs` and `MergedStates` are those of `state_pairs`. `specs/Worked` has a
+//! small file, and [`worked_file`] says what these definitions make of it.
 #![tactic(auto)]
 
-mod building;
-mod covering;
+mod builder;
 mod images;
 mod laws;
 mod machine;
-mod missing;
 mod open_entry;
+mod open_part;
 mod pairs;
 mod part_trees;
+mod pieces;
 mod row_tree;
-mod walking;
+mod walk;
 
-pub use building::BuildFail;
-pub use covering::Piece;
+pub use builder::BuildFail;
 pub use kiss_file::Fill;
 pub use laws::{lawful_is_a_table, worked_file};
 pub use machine::Machine;
-pub use missing::Missing;
 pub use open_entry::{all_outputs, says};
+pub use open_part::Missing;
+pub use pieces::Piece;

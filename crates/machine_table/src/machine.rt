@@ -1,12 +1,12 @@
 //! The data of a machine, and the questions about one state and one symbol.
 ghost use Rattle.std.specs.Prelude.{ℕ, ◌≡◌, ◌<◌, ◌≤◌, ◌^◌, All, Contains, IsTrue, Some, length, slice_get};
 ghost use Rattle.cubes.specs.Symbol.{symbol_of};
-ghost use Rattle.kiss_file.specs.Lawful.{IsLawfulRow};
+ghost use Rattle.kiss_file.specs.LawfulFile.{IsLawfulRow};
 ghost use Rattle.kiss_file.specs.Machine.{Conflicting, Specified, next, output_bit};
 ghost use Rattle.kiss_file.specs.Names.{AreDistinct};
 ghost use Rattle.kiss_file.specs.declared.file.KissRow.{KissRow};
 ghost use Rattle.state_rows.specs.Places.{IsNumberOf};
-ghost use Rattle.state_pairs.specs.Staying.{NeverLeaves};
+ghost use Rattle.state_pairs.specs.NextStates.{NeverLeaves};
 ghost use Rattle.state_pairs.specs.Table.{IsTable};
 
 use kiss_file::KissRow;
@@ -124,7 +124,8 @@ impl Machine {
         requires { s < length self.now.states }
         ensures inside { All (λ i. i < length self.now.rows) result.now }
         ensures own { (i : ℕ) → Contains result.now i → IsNumberOf self.now s i }
-        ensures each { (i : ℕ) (row : KissRow) → slice_get self.now.rows i ≡ Some row → row.from ≡ s → Contains result.now i }
+        ensures each { (i : ℕ) (row : KissRow) → slice_get self.now.rows i ≡ Some row → row.from ≡ s
+            → Contains result.now i }
         ensures table { IsTable self.now }
         ensures no_conflict { Conflicting self.now → ⊥ }
     {

@@ -2,10 +2,17 @@
 ghost use Rattle.std.specs.Prelude.{ℕ, ◌+◌, ◌-◌, ◌≡◌, ◌<◌, ◌≤◌, ◌^◌, ◌↔◌, All, IfNone, IfOk, IfSome, IsTrue, length};
 ghost use Rattle.cubes.specs.Gap.{IsHeld};
 ghost use Rattle.kiss_file.specs.declared.file.KissFile.{KissFile};
-ghost use Rattle.machine_table.specs.declared.missing.Missing.{Missing};
-ghost use Rattle.machine_table.specs.Inner.OpenSymbol.{AreFullCubes, IsFirstAmong, IsFirstOf, IsFull, IsSaidEverywhere, SaysAll};
+ghost use Rattle.machine_table.specs.declared.open_part.Missing.{Missing};
+ghost use Rattle.machine_table.specs.Inner.OpenSymbol.{
+  AreFullCubes,
+  IsFirstAmong,
+  IsFirstOf,
+  IsFull,
+  IsSaidEverywhere,
+  SaysAll,
+};
 ghost use Rattle.state_pairs.specs.Table.{IsTable};
-ghost use Rattle.machine_table.specs.Said.{IsEntry, IsFirstOpen, IsSaid, Says, place_of};
+ghost use Rattle.machine_table.specs.OpenEntries.{IsEntry, IsFirstOpen, IsSaid, Says, place_of};
 
 use crate::{Machine, Missing};
 use cubes::{Cube, first_gap};
@@ -57,7 +64,8 @@ fn is_full(row: &KissRow, outputs: u8) -> bool
 
 /// The earlier of two open parts: the one of the lesser symbol, and the first where they are at one symbol.
 fn earlier(first: Option<(u32, Missing)>, gap: Option<u32>, part: Missing) -> Option<(u32, Missing)>
-    ensures { (F : KissFile) (s : ℕ) → IsFirstAmong F s (place_of part) first → IsFirstOf F s part gap → IsFirstAmong F s (place_of part + 1) result }
+    ensures { (F : KissFile) (s : ℕ) → IsFirstAmong F s (place_of part) first → IsFirstOf F s part gap
+        → IsFirstAmong F s (place_of part + 1) result }
 {
     let Some(other) = gap else {
         return first;
@@ -71,8 +79,11 @@ fn earlier(first: Option<(u32, Missing)>, gap: Option<u32>, part: Missing) -> Op
 impl Machine {
     /// The first entry that no row says.
     pub(crate) fn first_open(&self, alloc: Global) -> Result<Option<Entry>, AllocError>
-        ensures some { IfOk result (λ found. IfSome found (λ entry. IsFirstOpen self.now entry.state entry.symbol entry.part)) }
-        ensures none { IfOk result (λ found. IfNone found ((s number : ℕ) (part : Missing) → IsEntry self.now s number part → IsSaid self.now s number part)) }
+        ensures some { IfOk result
+            (λ found. IfSome found (λ entry. IsFirstOpen self.now entry.state entry.symbol entry.part)) }
+        ensures none { IfOk result
+            (λ found. IfNone found
+            ((s number : ℕ) (part : Missing) → IsEntry self.now s number part → IsSaid self.now s number part)) }
     {
         for s in 0..self.states() {
             if let Some((symbol, part)) = self.first_open_at(alloc, s)? {

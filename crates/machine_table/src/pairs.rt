@@ -3,7 +3,7 @@ ghost use Rattle.std.specs.Prelude.{ℕ, ◌≡◌, ◌<◌, ◌≤◌, ◌^◌,
 ghost use Rattle.kiss_file.specs.Machine.{Specified};
 ghost use Rattle.partition.specs.Partition.{Together};
 ghost use Rattle.machine_table.specs.Inner.OpenSymbol.{SaysAll};
-ghost use Rattle.state_pairs.specs.Asked.{DifferAt, HaveOneLabel, NoneIsOpen};
+ghost use Rattle.state_pairs.specs.RowLabels.{DifferAt, HaveOneLabel, NoneIsOpen};
 ghost use Rattle.state_rows.specs.Least.{IsMetBy};
 ghost use Rattle.state_pairs.specs.Pairs.{AgreeAt, AgreeInBit, AtEachSymbol, GoInto, HaveOneBit, IsFirstWithout};
 
@@ -19,10 +19,16 @@ impl Machine {
         requires t { search.now.t < length self.now.states }
         requires known { length self.now.states ≤ Q.states search.now.question.now }
         requires one { HaveOneLabel (Q.said search.now.question.now) self.now }
-        requires none_open { Specified self.now → NoneIsOpen (Q.said search.now.question.now) self.now search.now.s search.now.t }
-        ensures some { IfSome result (DifferAt (Q.said search.now.question.now) (Q.unsaid search.now.question.now) self.now search.now.s search.now.t) }
+        requires none_open { Specified self.now
+            → NoneIsOpen (Q.said search.now.question.now) self.now search.now.s search.now.t }
+        ensures some { IfSome result
+            (DifferAt (Q.said search.now.question.now)
+            (Q.unsaid search.now.question.now) self.now search.now.s search.now.t) }
         ensures within { IfSome result (λ x. x < 2 ^ self.now.inputs) }
-        ensures met { (y : ℕ) → DifferAt (Q.said search.now.question.now) (Q.unsaid search.now.question.now) self.now search.now.s search.now.t y → IsMetBy result search.now.least y }
+        ensures met { (y : ℕ)
+            → DifferAt (Q.said search.now.question.now)
+            (Q.unsaid search.now.question.now) self.now search.now.s search.now.t y
+            → IsMetBy result search.now.least y }
     {
         let found = self.rows.first_said(search);
         if is_settled(found, search.least) {

@@ -5,7 +5,7 @@ use Rattle.hs_lattice.specs.Collection.{Adds, Knows}
 use Rattle.hs_lattice.specs.Laws.Members.{All-added, Contains-added, Contains-same, Contains-value}
 use Rattle.kiss_file.specs.declared.file.KissFile.{KissFile}
 use Rattle.mm_lattice.specs.Generators.{IsRightOf}
-use Rattle.mm_lattice.specs.Inner.Collected.{AreRights, HasRight, HaveRights}
+use Rattle.mm_lattice.specs.Inner.RightSides.{AreRights, HasRight, HaveRights}
 
 -- Right sides: those of the states before t with each other, and of t with the states before s.
 pub record IsCollecting (F : KissFile) (t s : ℕ) (found : List (List ℕ)) : Type 0 where

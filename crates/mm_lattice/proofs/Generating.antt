@@ -11,7 +11,7 @@ use Rattle.partition.specs.Partition.{Together, zero_of}
 use Rattle.partition.specs.Partners.{IsLeastWith, IsMmPairOf, PairBy}
 use Rattle.partition.specs.Sides.{Sides}
 use Rattle.mm_lattice.specs.Generators.{IsRightOf}
-use Rattle.mm_lattice.specs.Inner.Collected.{HaveRights}
+use Rattle.mm_lattice.specs.Inner.RightSides.{HaveRights}
 use Rattle.mm_lattice.specs.Laws.{mm_joins_fit, mm_least_fits, same_right}
 use Rattle.mm_lattice.specs.MmPairs.{IsLeastMmPair, IsMmJoin, IsMmPair}
 use Rattle.mm_lattice.specs.Top.{IsRightSide}

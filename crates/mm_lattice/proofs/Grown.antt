@@ -4,10 +4,10 @@ use Rattle.cubes.specs.Symbol.{symbol_of}
 use Rattle.cubes.specs.Laws.Numbers.{length-symbol_of}
 use Rattle.kiss_file.specs.declared.file.KissFile.{KissFile}
 use Rattle.kiss_file.specs.Machine.{next}
-use Rattle.machine_table.specs.Covering.{IsImage}
+use Rattle.machine_table.specs.Pieces.{IsImage}
 use Rattle.state_pairs.specs.AddedPairs.{BelowCount, IsFound}
-use Rattle.machine_table.specs.Merging.{MergesImages, MergesPairs}
-use Rattle.machine_table.specs.Staying.{NeverLeaves}
+use Rattle.machine_table.specs.MergedStates.{MergesImages, MergesPairs}
+use Rattle.machine_table.specs.NextStates.{NeverLeaves}
 use Rattle.state_pairs.specs.Laws.MergedPairs.{merges_as, merges_below_none, merges_more, merges_pair}
 use Rattle.mm_lattice.specs.Generators.{IsRightOf}
 use Rattle.mm_lattice.proofs.Holds.{right_held}

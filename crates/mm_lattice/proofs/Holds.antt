@@ -1,13 +1,13 @@
 -- What two states go to, put together, is m of the partition that holds them together.
 use Rattle.std.proofs.Common.{◌≡◌, ℕ, ◌<◌, inl, inr, List, ◌∷◌, length, sym, ◌∙◌, subst, arith}
 use Rattle.kiss_file.specs.declared.file.KissFile.{KissFile}
-use Rattle.machine_table.specs.Merging.{MergesImages}
-use Rattle.machine_table.specs.Staying.{NeverLeaves}
+use Rattle.machine_table.specs.MergedStates.{MergesImages}
+use Rattle.machine_table.specs.NextStates.{NeverLeaves}
 use Rattle.partition.specs.Laws.Extremes.{zero_of_is_partition, zero_of_below}
 use Rattle.partition.specs.Laws.Labels.{IsPartition-of}
 use Rattle.partition.specs.Partition.{IsHold, IsPartition, IsStateCount, Together, zero_of}
 use Rattle.pair_operators.specs.Laws.Going.{goes_each, goes_in_pair, goes_itself, goes_merged, goes_turned, images_going}
-use Rattle.pair_operators.specs.Going.{Goes}
+use Rattle.pair_operators.specs.NextBlocks.{Goes}
 use Rattle.partition.specs.Laws.Holds.{hold_exists}
 use Rattle.mm_lattice.specs.Generators.{IsRightOf}
 

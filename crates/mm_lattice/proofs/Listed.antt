@@ -8,12 +8,12 @@ use Rattle.hs_lattice.specs.Laws.{IsGenerated-has}
 use Rattle.hs_lattice.specs.Listing.{Lists, Evidence}
 use Rattle.hs_lattice.specs.Laws.Outcomes.{evidence_as}
 use Rattle.kiss_file.specs.declared.file.KissFile.{KissFile}
-use Rattle.partition.specs.Before.{Before}
+use Rattle.partition.specs.Order.{Before}
 use Rattle.partition.specs.MeetAndJoin.{IsJoin}
 use Rattle.partition.specs.Partition.{IsPartition, IsStateCount, zero_of}
 use Rattle.pair_operators.specs.Extremes.{IsHigh}
 use Rattle.mm_lattice.specs.declared.worlds.MmPair.{MmPair}
-use Rattle.mm_lattice.specs.Inner.Collected.{AreRights, HaveLefts, HaveRights, IsReached, ListsRights}
+use Rattle.mm_lattice.specs.Inner.RightSides.{AreRights, HaveLefts, HaveRights, IsReached, ListsRights}
 use Rattle.mm_lattice.specs.Laws.{same_right}
 use Rattle.mm_lattice.specs.MmPairs.{IsMmPair}
 use Rattle.partition.specs.Sides.{RightBefore, Sides}

@@ -5,15 +5,15 @@ use Rattle.std.proofs.lemmas.List.{get_or_append_left, get_or_push, length_push}
 use Rattle.std.proofs.lemmas.List.Elements.{All-push, Contains-append_left, Contains-push}
 use Rattle.std.proofs.lemmas.Option.{get_or_from_slice_get}
 use Rattle.kiss_file.specs.declared.file.KissFile.{KissFile}
-use Rattle.machine_table.specs.Staying.{NeverLeaves}
+use Rattle.machine_table.specs.NextStates.{NeverLeaves}
 use Rattle.partition.specs.Laws.Chains.{together_turned}
 use Rattle.partition.specs.Laws.Labels.{IsPartition-of}
 use Rattle.partition.specs.Laws.Merging.{merged_above, merged_held}
-use Rattle.partition.specs.Merging.{IsMerged}
+use Rattle.partition.specs.MergedBlocks.{IsMerged}
 use Rattle.partition.specs.Partition.{IsPartition, IsZero, Le, Together}
-use Rattle.partition.specs.Splitting.{AreRelated}
+use Rattle.partition.specs.RelationBlocks.{AreRelated}
 use Rattle.pair_operators.specs.Extremes.{IsHigh}
-use Rattle.pair_operators.specs.Going.{Goes}
+use Rattle.pair_operators.specs.NextBlocks.{Goes}
 use Rattle.pair_operators.specs.Laws.Going.{goes_each, goes_from, goes_in_pair, goes_itself, goes_on, goes_turned}
 use Rattle.mm_lattice.specs.declared.placed_pairs.PlacedPair.{PlacedPair}
 use Rattle.mm_lattice.specs.Generators.{IsRightOf}

@@ -10,7 +10,7 @@ use Rattle.partition.specs.Laws.World.{join_fits}
 use Rattle.pair_operators.specs.Extremes.{IsHigh, MmPair}
 use Rattle.pair_operators.specs.Laws.Pairs.{pair_monotone}
 use Rattle.mm_lattice.specs.Generators.{IsRightOf}
-use Rattle.mm_lattice.specs.Inner.Collected.{IsReached}
+use Rattle.mm_lattice.specs.Inner.RightSides.{IsReached}
 use Rattle.partition.specs.Laws.Extremes.{zero_of_below}
 
 pub reached_zero : (F : KissFile) → IsStateCount (length F.states) → IsReached F (zero_of (length F.states))

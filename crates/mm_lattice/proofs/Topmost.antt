@@ -14,7 +14,7 @@ use Rattle.pair_operators.specs.Laws.Growth.{grown_keeps, grown_meets, growth_is
 use Rattle.pair_operators.specs.Laws.Pairs.{pair_monotone}
 use Rattle.pair_operators.specs.Pair.{Pair}
 use Rattle.mm_lattice.specs.Generators.{IsRightOf}
-use Rattle.mm_lattice.specs.Inner.Collected.{IsReached}
+use Rattle.mm_lattice.specs.Inner.RightSides.{IsReached}
 use Rattle.mm_lattice.specs.Top.{IsBelowOne, IsGreatestRight, IsRightSide, RightsAreTrivial}
 use Rattle.partition.specs.Laws.Holds.{hold_below}
 use Rattle.mm_lattice.proofs.Reached.{reached_join, reached_pair, reached_two, reached_zero}

@@ -1,3 +1,3 @@
 -- Definitions that only private functions and proofs need.
-pub mod Collected
+pub mod RightSides
 pub mod PlacedPairs

@@ -18,10 +18,10 @@
 //! right sides strictly below one. What is in `specs/Inner` serves private functions alone.
 #![tactic(auto)]
 
-mod collecting;
 mod laws;
 mod listing;
 mod placed_pairs;
+mod right_sides;
 mod top;
 mod worlds;
 

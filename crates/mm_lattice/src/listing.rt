@@ -6,18 +6,18 @@
 
 ghost use Rattle.std.specs.Prelude.{◌≤◌, All, AllPairs, IfOk, List, ℕ, length, map};
 ghost use Rattle.hs_lattice.specs.Listing.{Evidence, IfMore, IfWhole, Lists, items_of};
-ghost use Rattle.mm_lattice.specs.Inner.Collected.{AreRights, HaveLefts, HaveRights, IsReached, ListsRights};
+ghost use Rattle.mm_lattice.specs.Inner.RightSides.{AreRights, HaveLefts, HaveRights, IsReached, ListsRights};
 ghost use Rattle.mm_lattice.specs.Inner.PlacedPairs.{ArePlaced};
 ghost use Rattle.mm_lattice.specs.MmPairs.{IsMmPair};
 ghost use Rattle.partition.specs.Sides.{RightBefore, Sides};
 ghost use Rattle.mm_lattice.specs.Sides.{sides_of};
 ghost use Rattle.mm_lattice.specs.Top.{IsRightSide};
-ghost use Rattle.partition.specs.Before.{Before};
+ghost use Rattle.partition.specs.Order.{Before};
 ghost use Rattle.partition.specs.Partition.{IsPartition};
 
 use crate::MmPair;
-use crate::collecting::rights;
 use crate::placed_pairs::{PlacedPair, left_by_pairs, placed_pairs};
+use crate::right_sides::rights;
 use crate::worlds::with_right_beside;
 use hs_lattice::{Listing, join_closure};
 use hs_list::Items;

@@ -9,7 +9,7 @@ ghost use Rattle.mm_lattice.specs.Inner.PlacedPairs.{AreBelow, ArePlaced, HavePl
 ghost use Rattle.pair_operators.specs.Extremes.{IsHigh};
 ghost use Rattle.partition.specs.Partition.{IsPartition};
 
-use crate::collecting::right_of;
+use crate::right_sides::right_of;
 use machine_table::Machine;
 use partition::Partition;
 use std::alloc::{AllocError, Global};

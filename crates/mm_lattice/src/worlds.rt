@@ -3,10 +3,21 @@
 ghost use Rattle.mm_lattice.specs.MmPairs.{IsLeastMmPair, IsMmJoin, IsMmPair};
 ghost use Rattle.partition.specs.Sides.{RightBefore, Sides};
 ghost use Rattle.mm_lattice.specs.Sides.{sides_of};
-ghost use Rattle.pair_operators.specs.Asked.{AreAsked};
+ghost use Rattle.pair_operators.specs.NextColumns.{AreAsked};
 ghost use Rattle.pair_operators.specs.Extremes.{IsHigh};
 ghost use Rattle.std.specs.Prelude.{◌≡◌, ⊤, IfOk, OnOk, length};
-ghost use Rattle.mm_lattice.specs.Laws.{mm_joins_associate, mm_joins_commute, mm_joins_fit, mm_joins_least, mm_joins_once, mm_joins_repeat, mm_least_fits, mm_least_once, right_before_chains, right_before_decides};
+ghost use Rattle.mm_lattice.specs.Laws.{
+  mm_joins_associate,
+  mm_joins_commute,
+  mm_joins_fit,
+  mm_joins_least,
+  mm_joins_once,
+  mm_joins_repeat,
+  mm_least_fits,
+  mm_least_once,
+  right_before_chains,
+  right_before_decides,
+};
 ghost use Rattle.partition.specs.Laws.Partners.{right_never_before};
 
 use hs_lattice::JoinWorld;
@@ -106,11 +117,14 @@ impl JoinWorld for MmWorld<'_> {
 
     ghost joins_fit = { λ w x y z lawful left right joined. mm_joins_fit w.machine.now x y z left right joined };
 
-    ghost joins_once = { λ w x y z other lawful left right one two. mm_joins_once w.machine.now x y z other left one two };
+    ghost joins_once = { λ w x y z other lawful left right one two.
+        mm_joins_once w.machine.now x y z other left one two };
 
-    ghost joins_commute = { λ w x y z lawful left right joined. mm_joins_commute w.machine.now x y z left right joined };
+    ghost joins_commute = { λ w x y z lawful left right joined.
+        mm_joins_commute w.machine.now x y z left right joined };
 
-    ghost joins_associate = { λ w x y z front back all lawful a b c d e f. mm_joins_associate w.machine.now x y z front back all a b c d e f };
+    ghost joins_associate = { λ w x y z front back all lawful a b c d e f.
+        mm_joins_associate w.machine.now x y z front back all a b c d e f };
 
     ghost joins_repeat = { λ w x lawful fit. mm_joins_repeat w.machine.now x fit };
 

@@ -6,13 +6,13 @@ use Rattle.std.proofs.lemmas.List.{get_or-map, length-map}
 use Rattle.std.proofs.lemmas.List.Elements.{All-append, All-map}
 use Rattle.net_core.specs.declared.Gate.{Gate}
 use Rattle.net_core.specs.declared.Network.{Network}
-use Rattle.net_core.specs.declared.ordering.NumberedGate.{NumberedGate}
-use Rattle.net_core.specs.declared.failing.NetFail.{NetFail}
-use Rattle.net_core.specs.declared.failing.NetFail.TheVariants.{TwoDrivers, Undriven, Cycle, NoMemory}
+use Rattle.net_core.specs.declared.gate_order.NumberedGate.{NumberedGate}
+use Rattle.net_core.specs.declared.causes.NetFail.{NetFail}
+use Rattle.net_core.specs.declared.causes.NetFail.TheVariants.{TwoDrivers, Undriven, Cycle, NoMemory}
 use Rattle.net_core.specs.Causes.{AreOnce, IsCause, IsCycle, uses_of}
 use Rattle.net_core.specs.Order.{AreAt, IsNumbered}
-use Rattle.net_core.specs.Sound.{IsOrdered, Sound, driven_by, drivers_of}
-use Rattle.net_core.specs.Inner.Told.{TellsAgain, TellsOutside}
+use Rattle.net_core.specs.SoundNetwork.{IsOrdered, Sound, driven_by, drivers_of}
+use Rattle.net_core.specs.Inner.Failures.{TellsAgain, TellsOutside}
 use Rattle.net_core.specs.Inner.Walk.{reads_of, ReadsWithin}
 use Rattle.net_core.specs.Laws.Drivers.{count_drivers}
 use Rattle.net_core.specs.Laws.Zipped.{zip_lengths}

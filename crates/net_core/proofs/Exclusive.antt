@@ -9,11 +9,11 @@ use Rattle.std.proofs.lemmas.Slice.Eq.{bytes_eq-Decides}
 use Rattle.list_facts.specs.Laws.Members.{Contains-cons, Contains-here, Contains-none, Contains-there}
 use Rattle.net_core.specs.declared.Gate.{Gate}
 use Rattle.net_core.specs.declared.Network.{Network}
-use Rattle.net_core.specs.declared.failing.NetFail.{NetFail}
-use Rattle.net_core.specs.declared.failing.NetFail.TheVariants.{TwoDrivers, Undriven, Cycle, NoMemory}
-use Rattle.net_core.specs.declared.ordering.Order.{Order}
+use Rattle.net_core.specs.declared.causes.NetFail.{NetFail}
+use Rattle.net_core.specs.declared.causes.NetFail.TheVariants.{TwoDrivers, Undriven, Cycle, NoMemory}
+use Rattle.net_core.specs.declared.gate_order.Order.{Order}
 use Rattle.net_core.specs.Causes.{AcceptsSound, AreOnce, CausesAreAlike, IsCause, IsCycle, IsFirstAgain, IsFirstOutside, GateReads, ReadsAlong, SoundHasNoCause, uses_of}
-use Rattle.net_core.specs.Sound.{IsOrdered, Sound, driven_by, drivers_of}
+use Rattle.net_core.specs.SoundNetwork.{IsOrdered, Sound, driven_by, drivers_of}
 use Rattle.net_core.specs.Laws.Counted.{once_place, once_right, twice}
 use Rattle.net_core.proofs.Numbered.{stands_at}
 use Rattle.net_core.proofs.Ordered.{name_of_gate}

@@ -5,7 +5,7 @@ use Rattle.std.specs.Str.{bytes_eq}
 use Rattle.std.proofs.lemmas.Bool.{false≢true}
 use Rattle.list_facts.specs.Laws.Members.{Contains-cons, Contains-none}
 use Rattle.net_core.specs.declared.Network.{Network}
-use Rattle.net_core.specs.Denotes.{Denotes}
+use Rattle.net_core.specs.Denotation.{Denotes}
 use Rattle.net_core.specs.Faults.{StatementFault, BadByte, NoModel, Unsupported, BadFields, BadRow, MixedCover, LatchKind, Clocks, has_fault, AreFaultless}
 use Rattle.net_core.specs.Statements.{Statement, NumberedStatement, statements_of, said_in, inputs_in, outputs_in, latch_in, clocks_in, gates_of}
 use Rattle.net_core.specs.Worked.{DenotesNothing}

@@ -11,7 +11,7 @@ use Rattle.std.proofs.lemmas.Cmp.{nat_list_eq_equiv}
 use Rattle.std.proofs.lemmas.Map.Text.{is_eq-slice_cmp}
 use Rattle.std.proofs.lemmas.Option.{none-some, same_Some}
 use Rattle.list_facts.specs.Laws.Members.{Contains-cons, Contains-here, Contains-none, Contains-there}
-use Rattle.net_core.specs.Inner.Keyed.{AreKeyed, number_of}
+use Rattle.net_core.specs.Inner.NameNumbers.{AreKeyed, number_of}
 use Rattle.net_core.specs.Laws.Members.{is_same_name, same_name}
 
 -- the list before its last item

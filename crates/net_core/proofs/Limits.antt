@@ -10,7 +10,7 @@ use Rattle.net_core.specs.declared.Gate.{Gate}
 use Rattle.net_core.specs.declared.Latch.{Latch}
 use Rattle.net_core.specs.declared.Network.{Network}
 use Rattle.net_core.specs.Blif.{IsWithinLimits, names_in}
-use Rattle.net_core.specs.Denotes.{Denotes}
+use Rattle.net_core.specs.Denotation.{Denotes}
 use Rattle.net_core.specs.Limits.{StatementLimit, NameBytes, InputCount, OutputCount, LatchCount, GateCount, GateInputs, is_names, goes_over, KeepsLimit, LimitsByStatement}
 use Rattle.net_core.specs.Statements.{Statement, Names, said_in, inputs_in, outputs_in, latch_in, gates_of}
 

@@ -8,11 +8,11 @@ use Rattle.std.proofs.lemmas.Option.{get_or_from_slice_get, slice_get_within}
 use Rattle.net_core.specs.Causes.{AreOnce, IsFirstAgain, IsFirstOutside}
 use Rattle.net_core.specs.Order.{AreAt, IsNumbered}
 use Rattle.net_core.specs.Laws.Zipped.{zip_push}
-use Rattle.net_core.specs.Inner.Told.{TellsAgain, TellsOutside}
+use Rattle.net_core.specs.Inner.Failures.{TellsAgain, TellsOutside}
 use Rattle.net_core.specs.declared.Gate.{Gate}
-use Rattle.net_core.specs.declared.ordering.NumberedGate.{NumberedGate}
-use Rattle.net_core.specs.declared.failing.NetFail.{NetFail}
-use Rattle.net_core.specs.declared.failing.NetFail.TheVariants.{TwoDrivers, Undriven, Cycle, NoMemory}
+use Rattle.net_core.specs.declared.gate_order.NumberedGate.{NumberedGate}
+use Rattle.net_core.specs.declared.causes.NetFail.{NetFail}
+use Rattle.net_core.specs.declared.causes.NetFail.TheVariants.{TwoDrivers, Undriven, Cycle, NoMemory}
 
 -- what a part of the work tells at its exit
 pub at_exit : {T : Type 0} (Q : NetFail → Type 0) (r : Result T NetFail) (fail : NetFail) → IsErrAnd r (λ e. e ≡ fail) → Q fail → IfErr r Q

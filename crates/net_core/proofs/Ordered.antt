@@ -12,10 +12,10 @@ use Rattle.list_facts.specs.Laws.Members.{Contains-cons, Contains-here, Contains
 use Rattle.list_facts.specs.Laws.Places.{get_behind}
 use Rattle.net_core.specs.declared.Gate.{Gate}
 use Rattle.net_core.specs.declared.Network.{Network}
-use Rattle.net_core.specs.declared.ordering.NumberedGate.{NumberedGate}
+use Rattle.net_core.specs.declared.gate_order.NumberedGate.{NumberedGate}
 use Rattle.net_core.specs.Causes.{AreOnce, GateReads, ReadsAlong, IsCycle}
 use Rattle.net_core.specs.Order.{AreAt, IsNumbered}
-use Rattle.net_core.specs.Sound.{IsOrdered, driven_by, drivers_of}
+use Rattle.net_core.specs.SoundNetwork.{IsOrdered, driven_by, drivers_of}
 use Rattle.net_core.specs.Inner.Walk.{read_by, reads_of, Needs, NeedsAlong, StandOnce, IsBehind, IsGateCycle, IsSequence}
 use Rattle.net_core.specs.Laws.Counted.{once_apart, once_place, once_right, counted-cons, counted_none, cond_of}
 use Rattle.net_core.specs.Laws.Zipped.{zip_lengths}

@@ -7,11 +7,11 @@ use Rattle.std.proofs.lemmas.List.Elements.{Contains-append_left, Contains-get_o
 use Rattle.std.proofs.lemmas.List.Sums.{sum_by-cons, sum_by-set}
 use Rattle.std.proofs.lemmas.Option.{get_or_from_slice_get, slice_get_within}
 use Rattle.list_facts.specs.Laws.Members.{Contains-cons, Contains-here, Contains-none, Contains-there}
-use Rattle.net_core.specs.declared.ordering.NumberedGate.{NumberedGate}
-use Rattle.net_core.specs.declared.walking.Walk.{Walk}
-use Rattle.net_core.specs.declared.walking.Stop.{Stop}
-use Rattle.net_core.specs.declared.walking.Look.{Look}
-use Rattle.net_core.specs.declared.walking.Look.TheVariants.{Whole, Settled, New, Open}
+use Rattle.net_core.specs.declared.gate_order.NumberedGate.{NumberedGate}
+use Rattle.net_core.specs.declared.walk.Walk.{Walk}
+use Rattle.net_core.specs.declared.walk.Stop.{Stop}
+use Rattle.net_core.specs.declared.walk.Look.{Look}
+use Rattle.net_core.specs.declared.walk.Look.TheVariants.{Whole, Settled, New, Open}
 use Rattle.net_core.specs.Inner.Walk.{read_by, reads_of, Needs, IsPath, IsBehind, IsWalk, IsLook, IsStanding, IsSequence, TellsCycle, last_stage}
 use Rattle.net_core.specs.Laws.Counted.{once_left, once_push, twice}
 

@@ -4,8 +4,8 @@ use Rattle.std.specs.Option.{option_to_list}
 use Rattle.std.specs.List.{flat_map}
 use Rattle.net_core.specs.declared.Network.{Network}
 use Rattle.net_core.specs.Statements.{Statement, Inputs, Outputs, Clock, LatchLine, Names, LatchParts, latch_parts, said_in}
-use Rattle.net_core.specs.Denotes.{Denotes}
-use Rattle.net_core.specs.Sound.{Sound}
+use Rattle.net_core.specs.Denotation.{Denotes}
+use Rattle.net_core.specs.SoundNetwork.{Sound}
 
 -- the names on a latch's line: its input, its output, and its control if it has a type
 abbrev pub latch_names : Option LatchParts → List (List ℕ)

@@ -4,10 +4,10 @@ use Rattle.std.specs.List.{flat_map}
 use Rattle.std.specs.Str.{bytes_eq}
 use Rattle.net_core.specs.declared.Gate.{Gate}
 use Rattle.net_core.specs.declared.Network.{Network}
-use Rattle.net_core.specs.declared.failing.NetFail.{NetFail}
-use Rattle.net_core.specs.declared.failing.NetFail.TheVariants.{TwoDrivers, Undriven, Cycle, NoMemory}
-use Rattle.net_core.specs.declared.ordering.Order.{Order}
-use Rattle.net_core.specs.Sound.{Sound, driven_by, drivers_of}
+use Rattle.net_core.specs.declared.causes.NetFail.{NetFail}
+use Rattle.net_core.specs.declared.causes.NetFail.TheVariants.{TwoDrivers, Undriven, Cycle, NoMemory}
+use Rattle.net_core.specs.declared.gate_order.Order.{Order}
+use Rattle.net_core.specs.SoundNetwork.{Sound, driven_by, drivers_of}
 
 -- no name occurs twice
 abbrev pub AreOnce : List (List ℕ) → Type 0

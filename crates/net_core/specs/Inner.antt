@@ -1,5 +1,5 @@
 -- Definitions that private functions and proofs need; no public contract cites them.
-pub mod Told
+pub mod Failures
 pub mod Walk
 pub mod Cycle
-pub mod Keyed
+pub mod NameNumbers

@@ -4,7 +4,7 @@ use Rattle.std.specs.Prelude.{◌≡◌, ℕ, ◌-◌, ◌↔◌, Bool, false, t
 use Rattle.std.specs.List.{filter_map, flat_map, list_any}
 use Rattle.net_core.specs.declared.Network.{Network}
 use Rattle.net_core.specs.Blif.{IsWithinLimits, names_in}
-use Rattle.net_core.specs.Denotes.{Denotes}
+use Rattle.net_core.specs.Denotation.{Denotes}
 use Rattle.net_core.specs.Statements.{Statement, Names, said_in, inputs_in, outputs_in, latch_in}
 
 pub data StatementLimit : Type 0 where

@@ -3,9 +3,9 @@ use Rattle.std.specs.Prelude.{◌≡◌, ℕ, Some, List, [], length, map, slice
 use Rattle.std.specs.List.{AllZip}
 use Rattle.net_core.specs.declared.Gate.{Gate}
 use Rattle.net_core.specs.declared.Network.{Network}
-use Rattle.net_core.specs.declared.ordering.NumberedGate.{NumberedGate}
-use Rattle.net_core.specs.declared.ordering.Order.{Order}
-use Rattle.net_core.specs.Sound.{IsOrdered, driven_by, drivers_of}
+use Rattle.net_core.specs.declared.gate_order.NumberedGate.{NumberedGate}
+use Rattle.net_core.specs.declared.gate_order.Order.{Order}
+use Rattle.net_core.specs.SoundNetwork.{IsOrdered, driven_by, drivers_of}
 
 -- the items are those at these places of the list
 abbrev pub AreAt : {X : Type 0} → List X → List ℕ → List X → Type 0

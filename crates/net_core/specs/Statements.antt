@@ -8,7 +8,7 @@ use Rattle.net_core.specs.declared.Gate.{Gate}
 use Rattle.net_core.specs.declared.Latch.{Latch}
 use Rattle.net_core.specs.declared.Start.{Start}
 use Rattle.net_core.specs.declared.Start.TheVariants.{Zero, One, Free, Unknown}
-use Rattle.net_core.specs.Joined.{read_lines}
+use Rattle.net_core.specs.JoinedLines.{read_lines}
 use Rattle.net_core.specs.Start.{start_digit}
 use Rattle.net_core.specs.Words.{model_word, inputs_word, outputs_word, clock_word, latch_word, names_word, rising_edge, no_control}
 

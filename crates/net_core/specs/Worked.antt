@@ -5,7 +5,7 @@ use Rattle.net_core.specs.declared.Latch.{Latch}
 use Rattle.net_core.specs.declared.Network.{Network}
 use Rattle.net_core.specs.declared.Start.{Start}
 use Rattle.net_core.specs.declared.Start.TheVariants.{Zero, One, Free, Unknown}
-use Rattle.net_core.specs.Denotes.{Denotes}
+use Rattle.net_core.specs.Denotation.{Denotes}
 use Rattle.net_core.specs.Step.{Step}
 
 -- the bytes denote no network

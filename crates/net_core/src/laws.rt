@@ -2,11 +2,11 @@
 
 ghost use Rattle.net_core.specs.Blif.{BlifOnce};
 ghost use Rattle.net_core.specs.Causes.{CausesAreAlike, SoundHasNoCause};
-ghost use Rattle.net_core.specs.Denotes.{DenotesOnce};
+ghost use Rattle.net_core.specs.Denotation.{DenotesOnce};
 ghost use Rattle.net_core.specs.Limits.{LimitsByStatement};
-ghost use Rattle.net_core.specs.Flat.{FlatIsSound, GivenIsAStep};
+ghost use Rattle.net_core.specs.FlatNetwork.{FlatIsSound, GivenIsAStep};
 ghost use Rattle.net_core.specs.Step.{AnswersAreDetermined};
-ghost use Rattle.net_core.specs.Sound.{SoundIsDetermined};
+ghost use Rattle.net_core.specs.SoundNetwork.{SoundIsDetermined};
 
 /// A text denotes at most one network.
 pub fn denotes_once()

@@ -4,13 +4,13 @@
 //! and gates, each with the rows that its value is read from. The crates that write, read and run networks
 //! promise by the definitions of this crate:
 //!
-//! - What a text denotes: its joined lines (`specs/Joined.antt`), the statements on them
+//! - What a text denotes: its joined lines (`specs/JoinedLines.antt`), the statements on them
 //!   (`specs/Statements.antt`, `Start.antt`), the faults of a statement, given those before it
-//!   (`specs/Faults.antt`), and the network of a text without faults (`specs/Denotes.antt`).
+//!   (`specs/Faults.antt`), and the network of a text without faults (`specs/Denotation.antt`).
 //! - What a reader accepts: the limits (`specs/Limits.antt`), and texts within them that denote a sound network
 //!   (`specs/Blif.antt`).
-//! - Which networks are sound, so that their signals are determined (`specs/Sound.antt`, `Flat.antt`), and
-//!   what a network does at a symbol and over words (`specs/Step.antt`).
+//! - Which networks are sound, so that their signals are determined (`specs/SoundNetwork.antt`, `FlatNetwork.antt`),
+//!   and what a network does at a symbol and over words (`specs/Step.antt`).
 //!
 //! [`check`] gives the gates of a sound network in an order of evaluation (`specs/Order.antt`), and for any
 //! other network the first cause why it is not sound (`specs/Causes.antt`). `specs/Inner` is for private
@@ -23,24 +23,24 @@
 ghost use Rattle.std.specs.Prelude.{◌≡◌};
 ghost use Rattle.net_core.specs.Start.{start_digit};
 
-mod checking;
+mod causes;
+mod checker;
 mod cycle;
-mod failing;
+mod gate_order;
 mod laws;
 mod numbering;
-mod ordering;
-mod walking;
+mod walk;
 mod worked;
 
-pub use checking::check;
-pub use failing::NetFail;
+pub use causes::NetFail;
+pub use checker::check;
+pub use gate_order::{NumberedGate, Order};
 use hs_io::{Name, Names};
 use hs_list::Items;
 pub use laws::{
     answers_are_determined, blif_once, causes_are_alike, denotes_once, flat_is_sound,
     given_is_a_step, limits_by_statement, sound_has_no_cause, sound_is_determined,
 };
-pub use ordering::{NumberedGate, Order};
 pub use worked::{
     worked_answers, worked_gates, worked_latches, worked_lines, worked_models, worked_readings,
     worked_steps, worked_values,

@@ -1,14 +1,33 @@
 //! The numbers of signals.
 
-ghost use Rattle.std.specs.Prelude.{◌≡◌, ◌<◌, ℕ, List, [], ◌∷◌, ◌++◌, Contains, IfErr, IfNone, IfOk, IfSome, MatchOption, OnOk, Some, length, map, slice_get};
+ghost use Rattle.std.specs.Prelude.{
+  ◌≡◌,
+  ◌<◌,
+  ℕ,
+  List,
+  [],
+  ◌∷◌,
+  ◌++◌,
+  Contains,
+  IfErr,
+  IfNone,
+  IfOk,
+  IfSome,
+  MatchOption,
+  OnOk,
+  Some,
+  length,
+  map,
+  slice_get,
+};
 ghost use Rattle.std.specs.List.{AllZip, flat_map};
 ghost use Rattle.net_core.specs.Causes.{AreOnce};
 ghost use Rattle.net_core.specs.Order.{AreAt, IsNumbered};
-ghost use Rattle.net_core.specs.Sound.{driven_by, drivers_of};
-ghost use Rattle.net_core.specs.Inner.Told.{TellsAgain, TellsOutside};
+ghost use Rattle.net_core.specs.SoundNetwork.{driven_by, drivers_of};
+ghost use Rattle.net_core.specs.Inner.Failures.{TellsAgain, TellsOutside};
 
-use crate::failing::NetFail;
-use crate::ordering::NumberedGate;
+use crate::causes::NetFail;
+use crate::gate_order::NumberedGate;
 use crate::{Gate, Latch, Network};
 use hs_io::{Name, copied_names};
 use hs_list::Items;
@@ -29,7 +48,7 @@ pub(crate) struct Signals {
 impl Model for Signals {
     ghost use Rattle.std.specs.Prelude.{ℕ, List};
     ghost use Rattle.net_core.specs.Causes.{AreOnce};
-    ghost use Rattle.net_core.specs.Inner.Keyed.{AreKeyed};
+    ghost use Rattle.net_core.specs.Inner.NameNumbers.{AreKeyed};
 
     ghost Value = { List (List ℕ) };
 

@@ -3,10 +3,32 @@
 
 ghost use Rattle.std.specs.Prelude.{◌≡◌, true, false, [], ◌∷◌, ◌++◌, map, codes};
 ghost use Rattle.net_core.specs.declared.Start.TheVariants.{Zero};
-ghost use Rattle.net_core.specs.Denotes.{Denotes};
+ghost use Rattle.net_core.specs.Denotation.{Denotes};
 ghost use Rattle.net_core.specs.Statements.{statements_of};
 ghost use Rattle.net_core.specs.Step.{NetAnswers, Step, gate_value};
-ghost use Rattle.net_core.specs.Worked.{DenotesNothing, HasNoStep, empty_network, gate, network, toggle, unlike, reads_later, own_contrary, own_value, joined_text, joined_network, starts_text, starts_network, controls_text, controls_network, gates_text, gates_network, latch, long_name, one_input};
+ghost use Rattle.net_core.specs.Worked.{
+  DenotesNothing,
+  HasNoStep,
+  empty_network,
+  gate,
+  network,
+  toggle,
+  unlike,
+  reads_later,
+  own_contrary,
+  own_value,
+  joined_text,
+  joined_network,
+  starts_text,
+  starts_network,
+  controls_text,
+  controls_network,
+  gates_text,
+  gates_network,
+  latch,
+  long_name,
+  one_input,
+};
 
 /// Lines that are joined, skipped, bad, or after the end of the text.
 pub fn worked_lines()
@@ -27,7 +49,8 @@ pub fn worked_lines()
 /// The first statement, words that are not supported, and a name that is longer than the limit.
 pub fn worked_models()
     ensures alone { Denotes (codes ".model m") empty_network }
-    ensures added_up { Denotes (codes ".model m\n.inputs a\n.outputs b\n.inputs c\n.outputs a c\n") (network (codes "ac") (codes "bac") [] []) }
+    ensures added_up { Denotes (codes ".model m\n.inputs a\n.outputs b\n.inputs c\n.outputs a c\n")
+        (network (codes "ac") (codes "bac") [] []) }
     ensures empty { DenotesNothing [] }
     ensures ended_first { DenotesNothing (codes ".end\n.model m\n") }
     ensures inputs_first { DenotesNothing (codes ".inputs a\n.model m\n") }
@@ -82,31 +105,43 @@ pub fn worked_gates()
 /// rising edge. A start is one digit. A blank line or a comment may come between the rows of a gate, and any
 /// other statement ends them.
 pub fn worked_readings()
-    ensures clock_beside_inputs { Denotes (codes ".model m\n.inputs a\n.latch a p re c 0\n") (network (codes "a") [] (latch (codes "a") (codes "p") Zero ∷ []) []) }
-    ensures clock_word_beside_inputs { Denotes (codes ".model m\n.inputs a\n.clock c\n") (network (codes "a") [] [] []) }
+    ensures clock_beside_inputs { Denotes (codes ".model m\n.inputs a\n.latch a p re c 0\n")
+        (network (codes "a") [] (latch (codes "a") (codes "p") Zero ∷ []) []) }
+    ensures clock_word_beside_inputs { Denotes (codes ".model m\n.inputs a\n.clock c\n")
+        (network (codes "a") [] [] []) }
     ensures active_high { DenotesNothing (codes ".model m\n.latch a p ah c 0\n") }
     ensures active_low { DenotesNothing (codes ".model m\n.latch a p al c 0\n") }
     ensures asynchronous { DenotesNothing (codes ".model m\n.latch a p as c 0\n") }
     ensures two_digits { DenotesNothing (codes ".model m\n.latch a p 00\n") }
-    ensures skipped_lines { Denotes (codes ".model m\n.inputs a\n.names a z\n\n# rows\n1 1\n") (network (codes "a") [] [] (gate (codes "a") (codes "z") (codes "1" ∷ []) true ∷ [])) }
+    ensures skipped_lines { Denotes (codes ".model m\n.inputs a\n.names a z\n\n# rows\n1 1\n")
+        (network (codes "a") [] [] (gate (codes "a") (codes "z") (codes "1" ∷ []) true ∷ [])) }
     ensures row_after_latch { DenotesNothing (codes ".model m\n.names a z\n.latch a p\n1 1\n") }
     ensures row_after_clock { DenotesNothing (codes ".model m\n.names a z\n.clock c\n1 1\n") }
 {}
 
 /// The values of gates, whose rows list the on-set or the off-set, and of gates without rows.
 pub fn worked_values()
-    ensures held { gate_value (gate (codes "ab") (codes "z") (codes "1-" ∷ codes "01" ∷ []) true) (false ∷ true ∷ []) ≡ true }
-    ensures not_held { gate_value (gate (codes "ab") (codes "z") (codes "1-" ∷ codes "01" ∷ []) true) (false ∷ false ∷ []) ≡ false }
-    ensures dash_held { gate_value (gate (codes "ab") (codes "z") (codes "1-" ∷ codes "01" ∷ []) true) (true ∷ false ∷ []) ≡ true }
-    ensures off_held { gate_value (gate (codes "ab") (codes "z") (codes "1-" ∷ codes "01" ∷ []) false) (true ∷ true ∷ []) ≡ false }
-    ensures off_not_held { gate_value (gate (codes "ab") (codes "z") (codes "1-" ∷ codes "01" ∷ []) false) (false ∷ false ∷ []) ≡ true }
+    ensures held { gate_value (gate (codes "ab") (codes "z") (codes "1-" ∷ codes "01" ∷ []) true) (false ∷ true ∷ [])
+        ≡ true }
+    ensures not_held { gate_value (gate (codes "ab") (codes "z") (codes "1-" ∷ codes "01" ∷ []) true)
+        (false ∷ false ∷ []) ≡ false }
+    ensures dash_held { gate_value (gate (codes "ab") (codes "z") (codes "1-" ∷ codes "01" ∷ []) true)
+        (true ∷ false ∷ []) ≡ true }
+    ensures off_held { gate_value (gate (codes "ab") (codes "z") (codes "1-" ∷ codes "01" ∷ []) false)
+        (true ∷ true ∷ []) ≡ false }
+    ensures off_not_held { gate_value (gate (codes "ab") (codes "z") (codes "1-" ∷ codes "01" ∷ []) false)
+        (false ∷ false ∷ []) ≡ true }
     ensures no_rows { gate_value (gate (codes "a") (codes "z") [] true) (true ∷ []) ≡ false }
     ensures constant { gate_value (gate [] (codes "z") ([] ∷ []) true) [] ≡ true }
     ensures off_constant { gate_value (gate [] (codes "z") ([] ∷ []) false) [] ≡ false }
-    ensures first_input_first { gate_value (gate (codes "ab") (codes "z") (codes "10" ∷ []) true) (true ∷ false ∷ []) ≡ true }
-    ensures second_input_second { gate_value (gate (codes "ab") (codes "z") (codes "10" ∷ []) true) (false ∷ true ∷ []) ≡ false }
-    ensures two_rows_hold { gate_value (gate (codes "ab") (codes "z") (codes "1-" ∷ codes "11" ∷ codes "00" ∷ []) true) (true ∷ true ∷ []) ≡ true }
-    ensures off_two_rows_hold { gate_value (gate (codes "ab") (codes "z") (codes "1-" ∷ codes "11" ∷ codes "00" ∷ []) false) (true ∷ true ∷ []) ≡ false }
+    ensures first_input_first { gate_value (gate (codes "ab") (codes "z") (codes "10" ∷ []) true) (true ∷ false ∷ [])
+        ≡ true }
+    ensures second_input_second { gate_value (gate (codes "ab") (codes "z") (codes "10" ∷ []) true) (false ∷ true ∷ [])
+        ≡ false }
+    ensures two_rows_hold { gate_value (gate (codes "ab") (codes "z") (codes "1-" ∷ codes "11" ∷ codes "00" ∷ []) true)
+        (true ∷ true ∷ []) ≡ true }
+    ensures off_two_rows_hold { gate_value
+        (gate (codes "ab") (codes "z") (codes "1-" ∷ codes "11" ∷ codes "00" ∷ []) false) (true ∷ true ∷ []) ≡ false }
 {}
 
 /// Steps of networks, and networks without a step: no valuation fits, or two valuations differ.
@@ -122,5 +157,6 @@ pub fn worked_steps()
 
 /// The answers of a network of two unlike inputs and two unlike outputs to three symbols.
 pub fn worked_answers()
-    ensures { NetAnswers unlike [] ((true ∷ false ∷ []) ∷ (true ∷ true ∷ []) ∷ (false ∷ false ∷ []) ∷ []) ((true ∷ false ∷ []) ∷ (false ∷ true ∷ []) ∷ (false ∷ false ∷ []) ∷ []) }
+    ensures { NetAnswers unlike [] ((true ∷ false ∷ []) ∷ (true ∷ true ∷ []) ∷ (false ∷ false ∷ []) ∷ [])
+        ((true ∷ false ∷ []) ∷ (false ∷ true ∷ []) ∷ (false ∷ false ∷ []) ∷ []) }
 {}

@@ -4,9 +4,9 @@ use Rattle.std.proofs.lemmas.Option.{none-some, same_Some}
 use Rattle.net_core.specs.declared.Latch.{Latch}
 use Rattle.net_core.specs.declared.Network.{Network}
 use Rattle.net_core.specs.Step.{bit_of_start}
-use Rattle.net_sim.specs.declared.failing.SimFail.{SimFail}
-use Rattle.net_sim.specs.declared.failing.SimFail.TheVariants.{BadStart, UnknownStart, BadSymbol, NoMemory}
-use Rattle.net_sim.specs.Inner.Told.{TellsStart, TellsText}
+use Rattle.net_sim.specs.declared.causes.SimFail.{SimFail}
+use Rattle.net_sim.specs.declared.causes.SimFail.TheVariants.{BadStart, UnknownStart, BadSymbol, NoMemory}
+use Rattle.net_sim.specs.Inner.Failures.{TellsStart, TellsText}
 
 -- what an answer tells, in other words
 pub told_as : {T : Type 0} (r : Result T SimFail) (P Q : SimFail → Type 0) → ((fail : SimFail) → P fail → Q fail) → IfErr r P → IfErr r Q

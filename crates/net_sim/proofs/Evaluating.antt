@@ -1,8 +1,8 @@
 -- Gates that get their values one after another.
 use Rattle.std.proofs.Common.{◌≡◌, ℕ, suc, ◌+◌, ◌<◌, Bool, List, Some, length, get_or, slice_get, drop, set, ap, add-one}
 use Rattle.std.proofs.Math.Seq.{drop-cons}
-use Rattle.net_core.specs.declared.ordering.NumberedGate.{NumberedGate}
-use Rattle.net_sim.specs.Inner.Evaluated.{evaluated, value_at, with_value}
+use Rattle.net_core.specs.declared.gate_order.NumberedGate.{NumberedGate}
+use Rattle.net_sim.specs.Inner.GateValues.{evaluated, value_at, with_value}
 
 -- the next gate in turn
 pub evaluated_next :

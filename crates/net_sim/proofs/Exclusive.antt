@@ -9,8 +9,8 @@ use Rattle.net_core.specs.declared.Latch.{Latch}
 use Rattle.net_core.specs.declared.Network.{Network}
 use Rattle.net_core.specs.Step.{AreStarts, NetAnswers, bit_of_start}
 use Rattle.net_core.specs.Laws.Determined.{same_answers}
-use Rattle.net_sim.specs.declared.failing.SimFail.{SimFail}
-use Rattle.net_sim.specs.declared.failing.SimFail.TheVariants.{BadStart, UnknownStart, BadSymbol, NoMemory}
+use Rattle.net_sim.specs.declared.causes.SimFail.{SimFail}
+use Rattle.net_sim.specs.declared.causes.SimFail.TheVariants.{BadStart, UnknownStart, BadSymbol, NoMemory}
 use Rattle.net_sim.specs.BitTexts.{IsBitText, text_of_bits, character_of}
 use Rattle.net_sim.specs.Symbols.{IsFirstRefused, SaysSymbol, SayWord}
 use Rattle.net_sim.specs.Starts.{IsFirstUnknown, IsStart}

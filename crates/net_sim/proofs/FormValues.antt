@@ -17,9 +17,9 @@ use Rattle.cubes.specs.Field.{IsCharacter, allows, byte_of, characters_hold}
 use Rattle.cubes.specs.Symbol.{number_of, symbol_of}
 use Rattle.cubes.specs.Laws.Numbers.{length-symbol_of, number_below, symbol_of-number_of}
 use Rattle.net_core.specs.Step.{character_holds, row_holds}
-use Rattle.net_core.specs.declared.ordering.NumberedGate.{NumberedGate}
+use Rattle.net_core.specs.declared.gate_order.NumberedGate.{NumberedGate}
 use Rattle.net_sim.specs.declared.forms.GateForm.{GateForm}
-use Rattle.net_sim.specs.Inner.Evaluated.{bits_at, value_at, value_for}
+use Rattle.net_sim.specs.Inner.GateValues.{bits_at, value_at, value_for}
 use Rattle.net_sim.specs.Inner.Forms.{AreForms, IsCubes, IsForm, IsTable}
 use Rattle.net_sim.proofs.Known.{zip_get}
 use Rattle.net_sim.proofs.Rows.{row_holds_other}

@@ -9,14 +9,14 @@ use Rattle.std.proofs.lemmas.List.Elements.{All-contains}
 use Rattle.std.proofs.lemmas.Option.{same_Some, none-some, slice_get_within}
 use Rattle.list_facts.specs.Laws.Members.{Contains-cons, Contains-here, Contains-none, Contains-there}
 use Rattle.net_core.specs.declared.Gate.{Gate}
-use Rattle.net_core.specs.declared.ordering.NumberedGate.{NumberedGate}
+use Rattle.net_core.specs.declared.gate_order.NumberedGate.{NumberedGate}
 use Rattle.net_core.specs.Causes.{AreOnce}
 use Rattle.net_core.specs.Order.{AreAt, IsNumbered}
-use Rattle.net_core.specs.Sound.{IsOrdered, driven_by}
+use Rattle.net_core.specs.SoundNetwork.{IsOrdered, driven_by}
 use Rattle.net_core.specs.Step.{gate_value, row_holds}
 use Rattle.net_core.specs.Laws.Counted.{once_place}
 use Rattle.net_core.specs.Laws.Valuations.{FitsGate, ReadsDriven}
-use Rattle.net_sim.specs.Inner.Evaluated.{bits_at, evaluated, value_at, with_value}
+use Rattle.net_sim.specs.Inner.GateValues.{bits_at, evaluated, value_at, with_value}
 
 -- of two lists of which the items belong together, the item of the one at a place and that of the other
 pub zip_get : {A B : Type 0} (R : A → B → Type 0) (xs : List A) (ys : List B) (i : ℕ) (x : A) → AllZip R xs ys → slice_get xs i ≡ Some x → (y : B) × (slice_get ys i ≡ Some y) × R x y

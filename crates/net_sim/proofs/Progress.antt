@@ -7,20 +7,20 @@ use Rattle.hs_io.specs.declared.lines.Line.{Line}
 use Rattle.hs_io.specs.Lines.{is_skipped, line_of, physical_lines}
 use Rattle.hs_io.specs.Spelling.{ended}
 use Rattle.net_core.specs.declared.Network.{Network}
-use Rattle.net_core.specs.declared.ordering.Order.{Order}
+use Rattle.net_core.specs.declared.gate_order.Order.{Order}
 use Rattle.net_core.specs.Order.{IsOrderOf}
-use Rattle.net_core.specs.Sound.{Sound}
+use Rattle.net_core.specs.SoundNetwork.{Sound}
 use Rattle.net_core.specs.Step.{NetAnswers, Step}
 use Rattle.net_core.specs.Laws.Zipped.{zip_push}
-use Rattle.net_sim.specs.declared.failing.SimFail.{SimFail}
-use Rattle.net_sim.specs.declared.failing.SimFail.TheVariants.{BadStart, UnknownStart, BadSymbol, NoMemory}
-use Rattle.net_sim.specs.declared.running.Runner.{Runner}
+use Rattle.net_sim.specs.declared.causes.SimFail.{SimFail}
+use Rattle.net_sim.specs.declared.causes.SimFail.TheVariants.{BadStart, UnknownStart, BadSymbol, NoMemory}
+use Rattle.net_sim.specs.declared.runner.Runner.{Runner}
 use Rattle.net_sim.specs.BitTexts.{text_of_bits}
 use Rattle.net_sim.specs.Symbols.{IsRefusedLine, IsSymbolFault, SaysSymbol}
 use Rattle.net_sim.specs.Run.{IsRun, answers_text}
 use Rattle.net_sim.specs.Starts.{IsStart}
-use Rattle.net_sim.specs.Inner.Told.{TellsLine, TellsSymbol}
-use Rattle.net_sim.specs.Inner.Ran.{HasAnswered, HasRun, HasRunTo, Leads, TookLine}
+use Rattle.net_sim.specs.Inner.Failures.{TellsLine, TellsSymbol}
+use Rattle.net_sim.specs.Inner.RunProgress.{HasAnswered, HasRun, HasRunTo, Leads, TookLine}
 use Rattle.net_sim.proofs.Taking.{more_taken, none_taken, said_skipped, said_symbol, symbol_said}
 
 -- one more step

@@ -6,9 +6,9 @@ use Rattle.std.proofs.lemmas.Nat.Bits.{bit_at_set_other, bit_at_set_same}
 use Rattle.cubes.specs.Symbol.{bit, number_of, symbol_of}
 use Rattle.cubes.specs.Laws.Bits.{bit_from_one, same_bits}
 use Rattle.cubes.specs.Laws.Numbers.{number_below}
-use Rattle.net_core.specs.declared.ordering.NumberedGate.{NumberedGate}
-use Rattle.net_sim.specs.declared.small.SmallGate.{SmallGate}
-use Rattle.net_sim.specs.Inner.Evaluated.{bits_at, value_at, value_for}
+use Rattle.net_core.specs.declared.gate_order.NumberedGate.{NumberedGate}
+use Rattle.net_sim.specs.declared.small_gates.SmallGate.{SmallGate}
+use Rattle.net_sim.specs.Inner.GateValues.{bits_at, value_at, value_for}
 use Rattle.net_sim.specs.Inner.Forms.{HasValues, IsSmall}
 use Rattle.net_sim.proofs.FormValues.{bits_of_number, count_bits, number_within}
 

@@ -13,14 +13,14 @@ use Rattle.list_facts.specs.Laws.Members.{Contains-none}
 use Rattle.list_facts.specs.Laws.Places.{get_first}
 use Rattle.net_core.specs.declared.Gate.{Gate}
 use Rattle.net_core.specs.declared.Network.{Network}
-use Rattle.net_core.specs.declared.ordering.Order.{Order}
-use Rattle.net_core.specs.Flat.{base_of}
+use Rattle.net_core.specs.declared.gate_order.Order.{Order}
+use Rattle.net_core.specs.FlatNetwork.{base_of}
 use Rattle.net_core.specs.Order.{AreAt, IsOrderOf}
-use Rattle.net_core.specs.Sound.{HasOneValuation, Sound, driven_by, drivers_of}
+use Rattle.net_core.specs.SoundNetwork.{HasOneValuation, Sound, driven_by, drivers_of}
 use Rattle.net_core.specs.Step.{Gives, IsValuation, Step}
 use Rattle.net_core.specs.Laws.Counted.{once_place}
 use Rattle.net_core.specs.Laws.Valuations.{FitsGate, ReadsDriven, reads_driven, sound_one}
-use Rattle.net_sim.specs.Inner.Evaluated.{bits_at, evaluated}
+use Rattle.net_sim.specs.Inner.GateValues.{bits_at, evaluated}
 use Rattle.net_sim.proofs.Known.{Knows, bits_known, evaluated_known}
 
 pub slice_get-append_right : {X : Type 0} (xs ys : List X) (n i : ℕ) (x : X) → n ≡ length xs → slice_get ys i ≡ Some x → slice_get (xs ++ ys) (n + i) ≡ Some x

@@ -7,7 +7,7 @@ use Rattle.std.proofs.lemmas.Option.{none-some, same_Some}
 use Rattle.hs_io.specs.declared.lines.Line.{Line}
 use Rattle.hs_io.specs.Lines.{is_skipped, line_of, lines_from, lines_of, physical_lines}
 use Rattle.net_sim.specs.Symbols.{IsRefusedLine, IsSymbolFault, SaysSymbol}
-use Rattle.net_sim.specs.Inner.Ran.{HasTaken}
+use Rattle.net_sim.specs.Inner.RunProgress.{HasTaken}
 use Rattle.net_sim.proofs.Stepped.{slice_get-append_right}
 
 -- a line that says a symbol is not skipped

@@ -10,8 +10,8 @@ use Rattle.cubes.specs.Cube.{holds, text_of}
 use Rattle.cubes.specs.Symbol.{number_of, symbol_of}
 use Rattle.cubes.specs.Laws.Numbers.{number_below, symbol_of-number_of}
 use Rattle.net_core.specs.Step.{character_holds, row_holds}
-use Rattle.net_core.specs.declared.ordering.NumberedGate.{NumberedGate}
-use Rattle.net_sim.specs.Inner.Evaluated.{bits_at}
+use Rattle.net_core.specs.declared.gate_order.NumberedGate.{NumberedGate}
+use Rattle.net_sim.specs.Inner.GateValues.{bits_at}
 use Rattle.net_sim.specs.Inner.Pieces.{AreBelow, AreNumbersOf, ArePieces, HasCut, HaveNumbered, HaveWidths, IsWide, numbers_hold, pieces_hold}
 use Rattle.net_sim.proofs.FormValues.{count_bits, cube_of_row, or_none}
 

@@ -14,7 +14,7 @@ use Rattle.net_sim.specs.Run.{IsRunCause}
 use Rattle.net_sim.specs.Symbols.{IsFirstRefused, IsRefusedLine, SaysSymbol}
 use Rattle.net_sim.specs.Starts.{IsFirstUnknown}
 use Rattle.net_sim.specs.Worked.{shifted, started}
-use Rattle.net_sim.specs.declared.failing.SimFail.TheVariants.{BadSymbol}
+use Rattle.net_sim.specs.declared.causes.SimFail.TheVariants.{BadSymbol}
 
 -- a bit is written as 0 or 1
 no_other : (bit : Bool) (character : ℕ) → 50 ≤ character → character_of bit ≡ character → ⊥

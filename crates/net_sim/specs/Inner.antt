@@ -1,8 +1,8 @@
 -- Definitions that private functions and proofs need; no public contract cites them.
-pub mod Said
-pub mod Evaluated
+pub mod SymbolLine
+pub mod GateValues
 pub mod Pieces
 pub mod Forms
-pub mod Ran
-pub mod Told
+pub mod RunProgress
+pub mod Failures
 pub mod Numbers

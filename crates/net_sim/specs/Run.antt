@@ -4,8 +4,8 @@ use Rattle.std.specs.List.{flat_map}
 use Rattle.hs_io.specs.Spelling.{ended}
 use Rattle.net_core.specs.declared.Network.{Network}
 use Rattle.net_core.specs.Step.{NetAnswers}
-use Rattle.net_sim.specs.declared.failing.SimFail.{SimFail}
-use Rattle.net_sim.specs.declared.failing.SimFail.TheVariants.{BadStart, UnknownStart, BadSymbol, NoMemory}
+use Rattle.net_sim.specs.declared.causes.SimFail.{SimFail}
+use Rattle.net_sim.specs.declared.causes.SimFail.TheVariants.{BadStart, UnknownStart, BadSymbol, NoMemory}
 use Rattle.net_sim.specs.BitTexts.{IsBitText, text_of_bits}
 use Rattle.net_sim.specs.Starts.{IsStart, IsFirstUnknown}
 use Rattle.net_sim.specs.Symbols.{IsSymbolFile, IsSymbolFault}

@@ -1,6 +1,24 @@
 //! Reads and writes bits as texts.
 
-ghost use Rattle.std.specs.Prelude.{◌≡◌, ◌≢◌, ℕ, ◌==◌, Bool, List, [], ◌∷◌, ◌++◌, true, false, IfNone, IfSome, OnOk, length, map, codes};
+ghost use Rattle.std.specs.Prelude.{
+  ◌≡◌,
+  ◌≢◌,
+  ℕ,
+  ◌==◌,
+  Bool,
+  List,
+  [],
+  ◌∷◌,
+  ◌++◌,
+  true,
+  false,
+  IfNone,
+  IfSome,
+  OnOk,
+  length,
+  map,
+  codes,
+};
 ghost use Rattle.hs_io.specs.Spelling.{ended};
 ghost use Rattle.net_sim.specs.BitTexts.{text_of_bits, character_of};
 
@@ -9,7 +27,8 @@ use std::alloc::AllocError;
 /// Whether the text is that of as many bits as the slice has places. If so, it then holds these bits.
 pub(crate) fn read_bits(text: &[u8], bits: &mut [bool]) -> bool
     ensures read { result ≡ true → text.now ≡ text_of_bits bits.new }
-    ensures refused { result ≡ false → (others : List Bool) → length others ≡ length bits.old → text.now ≢ text_of_bits others }
+    ensures refused { result ≡ false → (others : List Bool) → length others ≡ length bits.old
+        → text.now ≢ text_of_bits others }
 {
     if bits.is_empty() {
         text == b"-".as_slice()

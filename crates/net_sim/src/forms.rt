@@ -8,7 +8,7 @@ ghost use Rattle.net_sim.specs.Inner.Forms.{AreForms, HasValues, IsCubes, IsForm
 
 use crate::gate_values::value_of_cubes;
 use crate::pieces::{Pieces, wide_rows};
-use crate::small::{MOST_SMALL, SmallGate};
+use crate::small_gates::{MOST_SMALL, SmallGate};
 use cubes::Cube;
 use hs_list::Items;
 use net_core::NumberedGate;
@@ -106,8 +106,12 @@ fn cubes_of(alloc: Global, gate: &NumberedGate, width: u8) -> Result<Items<Cube>
 fn push_row(cubes: &mut Items<Cube>, row: &[u8], width: u8) -> Result<(), AllocError>
     requires positive { 0 < width }
     requires bound { width ≤ 32 }
-    ensures widths { OnOk result (All (λ cube. cube.width ≡ width) cubes.old → All (λ cube. cube.width ≡ width) cubes.new) }
-    ensures held { OnOk result ((symbol : List Bool) → length symbol ≡ width → list_any (λ cube. holds cube symbol) cubes.new ≡ (list_any (λ cube. holds cube symbol) cubes.old || row_holds row.now symbol)) }
+    ensures widths { OnOk result
+        (All (λ cube. cube.width ≡ width) cubes.old → All (λ cube. cube.width ≡ width) cubes.new) }
+    ensures held { OnOk result
+        ((symbol : List Bool) → length symbol ≡ width
+        → list_any (λ cube. holds cube symbol) cubes.new ≡
+        (list_any (λ cube. holds cube symbol) cubes.old || row_holds row.now symbol)) }
 {
     match Cube::parse(row, width) {
         Ok(cube) => cubes.push(cube),

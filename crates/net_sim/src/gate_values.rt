@@ -1,12 +1,28 @@
 //! The values of gates, by their rows, by cubes and by tables.
 
-ghost use Rattle.std.specs.Prelude.{◌≡◌, ◌+◌, ◌*◌, ◌<◌, ◌≤◌, ◌^◌, All, Bool, List, Some, false, true, length, slice_get, slice_index_or};
+ghost use Rattle.std.specs.Prelude.{
+  ◌≡◌,
+  ◌+◌,
+  ◌*◌,
+  ◌<◌,
+  ◌≤◌,
+  ◌^◌,
+  All,
+  Bool,
+  List,
+  Some,
+  false,
+  true,
+  length,
+  slice_get,
+  slice_index_or,
+};
 ghost use Rattle.std.specs.List.{list_any};
 ghost use Rattle.cubes.specs.Cube.{holds as cube_holds};
 ghost use Rattle.cubes.specs.Symbol.{number_of, symbol_of};
 ghost use Rattle.net_core.specs.Step.{character_holds, row_holds};
 ghost use Rattle.net_sim.specs.declared.forms.GateForm.{GateForm};
-ghost use Rattle.net_sim.specs.Inner.Evaluated.{bits_at, value_at, value_for};
+ghost use Rattle.net_sim.specs.Inner.GateValues.{bits_at, value_at, value_for};
 ghost use Rattle.net_sim.specs.Inner.Forms.{IsCubes, IsForm};
 ghost use Rattle.net_sim.specs.Inner.Pieces.{IsWide};
 

@@ -6,7 +6,7 @@ ghost use Rattle.net_sim.specs.Run.{IsRunCause, answers_text};
 ghost use Rattle.net_sim.specs.Symbols.{IsSymbolFile};
 ghost use Rattle.net_core.specs.declared.Start.TheVariants.{Free, One, Unknown, Zero};
 ghost use Rattle.net_core.specs.Worked.{unlike};
-ghost use Rattle.net_sim.specs.declared.failing.SimFail.TheVariants.{BadStart, BadSymbol, UnknownStart};
+ghost use Rattle.net_sim.specs.declared.causes.SimFail.TheVariants.{BadStart, BadSymbol, UnknownStart};
 ghost use Rattle.net_sim.specs.Worked.{RunsOnlyTo, behind_buffer, latched, shifted, started};
 
 /// The texts of bits, of answers, and of a file of two symbols.
@@ -31,7 +31,8 @@ pub fn worked_runs()
     ensures given_start { RunsOnlyTo latched (Some (codes "1")) (codes "1\n1\n1\n") (codes "1\n0\n1\n") }
     ensures first_bit_first { RunsOnlyTo shifted (Some (codes "10")) (codes "0\n0\n") (codes "0\n1\n") }
     ensures start_at_one { RunsOnlyTo (started (codes "pq") One Zero) None (codes "0\n1\n") (codes "10\n01\n") }
-    ensures given_for_unknown { RunsOnlyTo (started (codes "pq") Unknown Free) (Some (codes "01")) (codes "1\n0\n") (codes "01\n10\n") }
+    ensures given_for_unknown { RunsOnlyTo (started (codes "pq") Unknown Free) (Some (codes "01")) (codes "1\n0\n")
+        (codes "01\n10\n") }
     ensures unlike { RunsOnlyTo unlike None (codes "10\n11\n00\n") (codes "10\n01\n00\n") }
 {}
 
@@ -40,7 +41,8 @@ pub fn worked_runs()
 pub fn worked_refusals()
     ensures short_start { IsRunCause shifted (Some (codes "1")) (codes "0\n") BadStart }
     ensures no_bit_in_start { IsRunCause shifted (Some (codes "1x")) (codes "0\n") BadStart }
-    ensures unknown_start { IsRunCause (started (codes "q") Unknown Free) None (codes "0\n") (UnknownStart (codes "p")) }
+    ensures unknown_start { IsRunCause (started (codes "q") Unknown Free) None (codes "0\n")
+        (UnknownStart (codes "p")) }
     ensures free_start { IsRunCause (started (codes "q") One Free) None (codes "0\n") (UnknownStart (codes "q")) }
     ensures no_symbol { IsRunCause shifted None (codes "1\n2\n0 1\n") (BadSymbol 2) }
     ensures two_fields { IsRunCause shifted None (codes "# a\n1\n\n0 1\n2\n") (BadSymbol 4) }

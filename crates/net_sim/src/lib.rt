@@ -13,25 +13,26 @@
 //! - `Inner` is for private functions only.
 //!
 //! Before the first symbol a run makes tables of the gates with few inputs, and cubes of the rows of most others
-//! (`forms`). A gate of at most six inputs is one record (`small`). It reads the file line by line (`said`).
+//! (`forms`). A gate of at most six inputs is one record (`small_gates`). It reads the file line by line
+//! (`symbol_line`).
 #![tactic(auto)]
 
 mod bit_texts;
-mod failing;
+mod causes;
 mod forms;
 mod gate_values;
 mod laws;
 mod pieces;
-mod running;
-mod said;
-mod small;
-mod starting;
-mod stepping;
+mod runner;
+mod small_gates;
+mod starts;
+mod step;
+mod symbol_line;
 mod symbols;
 
 pub use bit_texts::append_answer;
-pub use failing::SimFail;
+pub use causes::SimFail;
 pub use laws::{worked_refusals, worked_runs, worked_texts};
-pub use running::run;
-pub use stepping::step_into;
+pub use runner::run;
+pub use step::step_into;
 pub use symbols::{SymbolFail, read_symbols};

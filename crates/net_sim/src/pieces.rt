@@ -3,8 +3,16 @@
 ghost use Rattle.std.specs.Prelude.{◌≡◌, ◌*◌, ◌<◌, ◌≤◌, ◌||◌, true, All, Bool, List, IfOk, OnOk, length};
 ghost use Rattle.std.specs.List.{list_any};
 ghost use Rattle.net_core.specs.Step.{row_holds};
-ghost use Rattle.net_sim.specs.Inner.Evaluated.{bits_at};
-ghost use Rattle.net_sim.specs.Inner.Pieces.{AreBelow, AreNumbersOf, ArePieces, HaveWidths, IsWide, numbers_hold, pieces_hold};
+ghost use Rattle.net_sim.specs.Inner.GateValues.{bits_at};
+ghost use Rattle.net_sim.specs.Inner.Pieces.{
+  AreBelow,
+  AreNumbersOf,
+  ArePieces,
+  HaveWidths,
+  IsWide,
+  numbers_hold,
+  pieces_hold,
+};
 
 use crate::gate_values::{is_held_by, number_at};
 use cubes::Cube;
@@ -38,7 +46,10 @@ fn push_pieces(
     width: usize,
 ) -> Result<(), AllocError>
     ensures widths { OnOk result (All (HaveWidths width) rows.old → All (HaveWidths width) rows.new) }
-    ensures held { OnOk result ((symbol : List Bool) → length symbol ≡ width → list_any (λ cubes. pieces_hold cubes symbol) rows.new ≡ (list_any (λ cubes. pieces_hold cubes symbol) rows.old || row_holds row.now symbol)) }
+    ensures held { OnOk result
+        ((symbol : List Bool) → length symbol ≡ width
+        → list_any (λ cubes. pieces_hold cubes symbol) rows.new ≡
+        (list_any (λ cubes. pieces_hold cubes symbol) rows.old || row_holds row.now symbol)) }
 {
     if row.len() != width {
         return Ok(());

@@ -1,13 +1,32 @@
 //! Reads a file of symbols as numbers.
 
-ghost use Rattle.std.specs.Prelude.{◌≡◌, ℕ, ◌+◌, ◌*◌, ◌^◌, ◌<◌, ◌≤◌, ◌⊎◌, All, Bool, List, [], IfErr, IfOk, MatchResult, OnOk, length, map};
+ghost use Rattle.std.specs.Prelude.{
+  ◌≡◌,
+  ℕ,
+  ◌+◌,
+  ◌*◌,
+  ◌^◌,
+  ◌<◌,
+  ◌≤◌,
+  ◌⊎◌,
+  All,
+  Bool,
+  List,
+  [],
+  IfErr,
+  IfOk,
+  MatchResult,
+  OnOk,
+  length,
+  map,
+};
 ghost use Rattle.cubes.specs.Symbol.{number_of, symbol_of};
 ghost use Rattle.hs_io.specs.Lines.{line_of};
 ghost use Rattle.net_sim.specs.declared.symbols.SymbolFail.TheVariants.{NoMemory, Refused};
 ghost use Rattle.net_sim.specs.Symbols.{IsSymbolFault, IsSymbolFile, TellsRefused};
 ghost use Rattle.net_sim.specs.Inner.Numbers.{AddedLine, TellsRefusedLine};
 
-use crate::said::{Said, read_line};
+use crate::symbol_line::{Said, read_line};
 use hs_io::first_line;
 use hs_list::Items;
 use std::alloc::{AllocError, Global};
@@ -39,8 +58,10 @@ pub fn read_symbols(alloc: Global, inputs: u8, bytes: &[u8]) -> Result<Vec<u32>,
     ensures read { IfOk result (λ numbers. IsSymbolFile inputs bytes.now (map (symbol_of inputs) numbers.items)) }
     ensures below { IfOk result (λ numbers. All (λ x. x < 2 ^ inputs) numbers.items) }
     ensures refused { IfErr result (TellsRefused inputs bytes.now) }
-    ensures never_refused { (word : List (List Bool)) → IsSymbolFile inputs bytes.now word → MatchResult result (λ numbers. map (symbol_of inputs) numbers.items ≡ word) (λ fail. fail ≡ NoMemory) }
-    ensures never_read { (line : ℕ) → IsSymbolFault inputs bytes.now line → MatchResult result (λ _. ⊥) (λ fail. (fail ≡ Refused line) ⊎ (fail ≡ NoMemory)) }
+    ensures never_refused { (word : List (List Bool)) → IsSymbolFile inputs bytes.now word
+        → MatchResult result (λ numbers. map (symbol_of inputs) numbers.items ≡ word) (λ fail. fail ≡ NoMemory) }
+    ensures never_read { (line : ℕ) → IsSymbolFault inputs bytes.now line
+        → MatchResult result (λ _. ⊥) (λ fail. (fail ≡ Refused line) ⊎ (fail ≡ NoMemory)) }
 {
     read_lines(alloc, inputs, bytes)
 }

@@ -4,9 +4,9 @@ use Rattle.std.proofs.lemmas.List.{length-replicate}
 use Rattle.answers.specs.declared.refusals.Refusal.{Refusal}
 use Rattle.hs_io.specs.declared.shelf.LoadFail.{LoadFail}
 use Rattle.hs_io.specs.declared.shelf.LoadFail.TheVariants as fails
-use Rattle.operands.specs.Inner.Failing.{IsLoadRefusal}
+use Rattle.operands.specs.Inner.LoadRefusal.{IsLoadRefusal}
 use Rattle.operands.specs.Load.{IsStopAt}
-use Rattle.operands.specs.Loading.{Lengthy, MayBe, most_bytes}
+use Rattle.operands.specs.OperandText.{Lengthy, MayBe, most_bytes}
 
 -- there are bytes of every number
 some_of : (n : ℕ) → (bytes : List ℕ) × (length bytes ≡ n)

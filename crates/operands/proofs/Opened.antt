@@ -2,24 +2,24 @@
 use Rattle.std.proofs.Common.{◌⊎◌, ℕ, List, Option, Result, Ok, Err, inl, inr, refl, sym, ◌∙◌, subst}
 use Rattle.answers.specs.declared.refusals.Refusal.{Refusal}
 use Rattle.answers.specs.declared.refusals.Refusal.TheVariants.{Conflict}
-use Rattle.blif_in.specs.declared.reading.OrderedNetwork.{OrderedNetwork}
-use Rattle.operands.specs.declared.opening.OpenedMachine.{OpenedMachine}
+use Rattle.blif_in.specs.declared.reader.OrderedNetwork.{OrderedNetwork}
+use Rattle.operands.specs.declared.opened_operands.OpenedMachine.{OpenedMachine}
 use Rattle.operands.specs.Causes.{Conflicts, LeavesOpen, NoMachineOf, OfFile, SaysNoMachine}
 use Rattle.operands.specs.Fill.{fill_of}
-use Rattle.operands.specs.Inner.Reading.{IsBuiltOf, IsEntryRefusal, IsReadAs, IsReadOf}
-use Rattle.operands.specs.Opened.{IsNetOpened, IsOpened}
-use Rattle.operands.specs.Loading.{IsShortText, IsText}
+use Rattle.operands.specs.Inner.TextRefusal.{IsBuiltOf, IsEntryRefusal, IsReadAs, IsReadOf}
+use Rattle.operands.specs.OpenedOperands.{IsNetOpened, IsOpened}
+use Rattle.operands.specs.OperandText.{IsShortText, IsText}
 use Rattle.operands.specs.Laws.Causes.{no_conflict, no_fault, not_long}
 use Rattle.job_words.specs.declared.jobs.Job.{Job}
 use Rattle.kiss_file.specs.declared.fill.Fill.{Fill}
 use Rattle.kiss_file.specs.declared.file.KissFile.{KissFile}
 use Rattle.kiss2.specs.Kiss.{Kiss}
-use Rattle.kiss_file.specs.Lawful.{IsLawful}
+use Rattle.kiss_file.specs.LawfulFile.{IsLawful}
 use Rattle.kiss_file.specs.Machine.{Accepted}
-use Rattle.machine_table.specs.declared.missing.Missing.{Missing}
+use Rattle.machine_table.specs.declared.open_part.Missing.{Missing}
 use Rattle.machine_table.specs.Cause.{IsRefusedAt}
 use Rattle.machine_table.specs.Conflict.{IsFirstConflict}
-use Rattle.machine_table.specs.Said.{IsFirstOpen}
+use Rattle.machine_table.specs.OpenEntries.{IsFirstOpen}
 
 -- ---- a machine that could not be built
 pub built_conflict : (F : KissFile) (row other : ℕ) → IsFirstConflict F row other → Conflicts F (Conflict row other)

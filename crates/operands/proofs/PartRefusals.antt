@@ -1,7 +1,7 @@
 -- A fault of the text of a part calls for its refusal.
 use Rattle.std.proofs.Common.{◌≡◌, ◌⊎◌, inl, inr, ℕ, List, refl, subst}
 use Rattle.answers.specs.declared.refusals.Refusal.TheVariants.{PartLabel, PartLength}
-use Rattle.answers.specs.Judged.{IsStop}
+use Rattle.answers.specs.Outcome.{IsStop}
 use Rattle.partition.specs.declared.PartFail.{PartFail}
 use Rattle.partition.specs.declared.PartFail.TheVariants.{BadText, NoMemory, WrongLength}
 use Rattle.partition.specs.Text.{TextFault}

@@ -6,7 +6,7 @@ use Rattle.std.proofs.lemmas.List.Elements.{all_zip_more}
 use Rattle.std.proofs.lemmas.Option.{get_or_from_slice_get, slice_get_read}
 use Rattle.answers.specs.declared.refusals.Refusal.{Refusal}
 use Rattle.answers.specs.Cause.{CallsForNone}
-use Rattle.answers.specs.Judged.{IsStop}
+use Rattle.answers.specs.Outcome.{IsStop}
 use Rattle.operands.specs.PartFaults.{BadPartAt, BadParts, IsFirstBadPart}
 use Rattle.operands.specs.Laws.Parts.{parts_are_not_bad, piece_tells}
 use Rattle.operands.specs.PartTexts.{ArePartTexts, IsTextOfPartition, texts_of_parts}

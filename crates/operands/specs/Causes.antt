@@ -6,16 +6,16 @@ use Rattle.answers.specs.Cause.{Cause, FirstOf}
 use Rattle.blif_in.specs.declared.fault.BlifFault.{BlifFault}
 use Rattle.blif_in.specs.Text.{IsBlifFault}
 use Rattle.cubes.specs.Symbol.{digit, symbol_of}
-use Rattle.operands.specs.Loading.{Lengthy}
+use Rattle.operands.specs.OperandText.{Lengthy}
 use Rattle.kiss2.specs.declared.fault.KissFault.{KissFault}
 use Rattle.kiss_file.specs.declared.fill.Fill.{Fill}
 use Rattle.kiss_file.specs.declared.fill.Fill.TheVariants.{Refuse}
 use Rattle.kiss_file.specs.declared.file.KissFile.{KissFile}
 use Rattle.kiss2.specs.Kiss.{IsKissFault, Kiss}
 use Rattle.kiss_file.specs.Machine.{Accepted, Conflicting}
-use Rattle.machine_table.specs.declared.missing.Missing.{Missing}
+use Rattle.machine_table.specs.declared.open_part.Missing.{Missing}
 use Rattle.machine_table.specs.Conflict.{IsFirstConflict}
-use Rattle.machine_table.specs.Said.{IsFirstOpen}
+use Rattle.machine_table.specs.OpenEntries.{IsFirstOpen}
 use Rattle.net_core.specs.declared.Network.{Network}
 use Rattle.net_core.specs.Blif.{Blif}
 

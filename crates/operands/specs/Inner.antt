@@ -1,3 +1,3 @@
 -- What only private functions and proofs cite.
-pub mod Failing
-pub mod Reading
+pub mod LoadRefusal
+pub mod TextRefusal

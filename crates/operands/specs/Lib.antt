@@ -3,7 +3,7 @@ pub mod Fill
 pub mod Inner
 pub mod Laws
 pub mod Load
-pub mod Loading
-pub mod Opened
+pub mod OperandText
+pub mod OpenedOperands
 pub mod PartFaults
 pub mod PartTexts

@@ -3,7 +3,7 @@ use Rattle.std.specs.Prelude.{◌≡◌, ◌⊎◌, ℕ, List, Option, Result, O
 use Rattle.answers.specs.declared.refusals.Refusal.{Refusal}
 use Rattle.answers.specs.declared.refusals.Refusal.TheVariants.{NoMemory, Unreadable}
 use Rattle.answers.specs.Cause.{Cause}
-use Rattle.operands.specs.Loading.{IsText, Lengthy, MayBe}
+use Rattle.operands.specs.OperandText.{IsText, Lengthy, MayBe}
 
 -- memory ran out, the load failed, or the bytes call for the refusal
 abbrev pub IsStopAt : Option (List ℕ) → Type 0 → List ℕ → (List ℕ → Cause) → Refusal → Type 0

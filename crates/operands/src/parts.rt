@@ -1,7 +1,7 @@
 //! Reading the operands PART and PARTS.
 
 ghost use Rattle.partition.specs.Partition.{IsStateCount};
-ghost use Rattle.answers.specs.Judged.{IsJudged};
+ghost use Rattle.answers.specs.Outcome.{IsJudged};
 ghost use Rattle.operands.specs.PartFaults.{BadPart, BadPartAt, BadParts};
 ghost use Rattle.operands.specs.PartTexts.{ArePartTexts, IsTextOfPartition};
 

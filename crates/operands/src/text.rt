@@ -2,7 +2,7 @@
 
 ghost use Rattle.std.specs.Prelude.{◌≡◌, ◌≤◌, ◌↔◌, ℕ, List};
 ghost use Rattle.hs_io.specs.Counts.{Rose};
-ghost use Rattle.operands.specs.Inner.Failing.{IsLoadRefusal};
+ghost use Rattle.operands.specs.Inner.LoadRefusal.{IsLoadRefusal};
 ghost use Rattle.operands.specs.Load.{IsLoaded};
 
 use answers::{Bytes, Refusal};

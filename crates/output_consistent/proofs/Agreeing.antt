@@ -6,9 +6,9 @@ use Rattle.cubes.specs.Laws.Numbers.{length-symbol_of, number_below, symbol_of-n
 use Rattle.kiss_file.specs.declared.file.KissFile.{KissFile}
 use Rattle.kiss_file.specs.Machine.{out}
 use Rattle.machine_table.specs.Pairs.{AgreeAt, AtEachSymbol}
-use Rattle.pair_operators.specs.Consistent.{Consistent}
+use Rattle.pair_operators.specs.Consistency.{Consistent}
 use Rattle.partition.specs.Laws.Least.{least_of-together, least_of-same}
-use Rattle.partition.specs.Inside.{least_of}
+use Rattle.partition.specs.NestedBlocks.{least_of}
 
 -- what holds at each number of a symbol holds for each symbol
 pub at_symbol : (inputs : ℕ) (P : List Bool → Type 0) → AtEachSymbol inputs (λ x. P (symbol_of inputs x)) → (x : List Bool) → length x ≡ inputs → P x

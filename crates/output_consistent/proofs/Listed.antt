@@ -5,14 +5,14 @@ use Rattle.hs_lattice.specs.JoinWorld.{HaveJoins}
 use Rattle.hs_lattice.specs.Laws.{IsGenerated-has}
 use Rattle.kiss_file.specs.declared.file.KissFile.{KissFile}
 use Rattle.kiss_file.specs.Machine.{answers, next, out}
-use Rattle.machine_table.specs.Staying.{NeverLeaves}
-use Rattle.pair_operators.specs.Consistent.{Consistent}
+use Rattle.machine_table.specs.NextStates.{NeverLeaves}
+use Rattle.pair_operators.specs.Consistency.{Consistent}
 use Rattle.partition.specs.Partition.{IsStateCount, Le, Together}
 use Rattle.partition.specs.MeetAndJoin.{IsJoin, Leads}
 use Rattle.partition.specs.Laws.Extremes.{zero_of_is_zero}
-use Rattle.closed_lattice.specs.Closed.{HasPrincipal, IsPrincipalWithin}
+use Rattle.closed_lattice.specs.ClosedPartitions.{HasPrincipal, IsPrincipalWithin}
 use Rattle.closed_lattice.specs.Laws.Generating.{IsMade, IsZeroOf, join_closed, made_by_pairs, zero_closed}
-use Rattle.state_reduce.specs.Alike.{IsEquivalence, IsWord}
+use Rattle.state_reduce.specs.AlikeStates.{IsEquivalence, IsWord}
 use Rattle.state_reduce.specs.Laws.Unrefused.{alike_closed, alike_consistent}
 use Rattle.output_consistent.specs.Outputs.{IsClosedAndConsistent}
 

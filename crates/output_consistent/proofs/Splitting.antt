@@ -4,9 +4,9 @@ use Rattle.cubes.specs.Symbol.{symbol_of}
 use Rattle.cubes.specs.Laws.Numbers.{length-symbol_of}
 use Rattle.kiss_file.specs.declared.file.KissFile.{KissFile}
 use Rattle.kiss_file.specs.Machine.{output_bit}
-use Rattle.partition.specs.Splitting.{IsSplitBy}
+use Rattle.partition.specs.RelationBlocks.{IsSplitBy}
 use Rattle.output_consistent.specs.Outputs.{IsOutputPartition}
-use Rattle.output_consistent.specs.Inner.Agreeing.{AgreeInEach}
+use Rattle.output_consistent.specs.Inner.Agreement.{AgreeInEach}
 use Rattle.output_consistent.proofs.Agreeing.{at_symbol}
 
 pub agree_turned : (F : KissFile) (bit s t : ℕ) → AgreeInEach F bit s t → AgreeInEach F bit t s

@@ -1,2 +1,2 @@
 -- What private functions and proofs need; no public contract cites it.
-pub mod Agreeing
+pub mod Agreement

@@ -1,9 +1,9 @@
 -- Partitions of a machine's states and its outputs (source: Hartmanis and Stearns, output-consistent partitions).
 use Rattle.std.specs.Prelude.{◌≡◌, ◌<◌, ◌↔◌, ℕ, Bool, List, length}
-use Rattle.closed_lattice.specs.Closed.{IsClosedPartition}
+use Rattle.closed_lattice.specs.ClosedPartitions.{IsClosedPartition}
 use Rattle.kiss_file.specs.declared.file.KissFile.{KissFile}
 use Rattle.kiss_file.specs.Machine.{output_bit}
-use Rattle.pair_operators.specs.Consistent.{Consistent}
+use Rattle.pair_operators.specs.Consistency.{Consistent}
 use Rattle.partition.specs.Partition.{IsPartition, Together}
 
 -- a partition of the states that is closed and consistent

@@ -2,7 +2,7 @@
 
 ghost use Rattle.std.specs.Prelude.{ℕ, ◌<◌, IfNone, IfOk, IfSome, length};
 ghost use Rattle.output_consistent.specs.Outputs.{IsOutputPartition};
-ghost use Rattle.output_consistent.specs.Inner.Agreeing.{AgreeInEach};
+ghost use Rattle.output_consistent.specs.Inner.Agreement.{AgreeInEach};
 
 use machine_table::Machine;
 use partition::Partition;

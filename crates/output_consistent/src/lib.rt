@@ -11,9 +11,9 @@
 #![tactic(auto)]
 
 mod bits;
-mod deciding;
+mod consistency;
 mod listing;
 
 pub use bits::bit_partition;
-pub use deciding::is_consistent;
+pub use consistency::is_consistent;
 pub use listing::all;

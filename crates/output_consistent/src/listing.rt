@@ -8,7 +8,7 @@
 
 ghost use Rattle.std.specs.Prelude.{ℕ, ◌≤◌, IfOk, List, length};
 ghost use Rattle.hs_lattice.specs.Listing.{Evidence, IfMore, IfWhole, Lists};
-ghost use Rattle.partition.specs.Before.{Before};
+ghost use Rattle.partition.specs.Order.{Before};
 ghost use Rattle.output_consistent.specs.Outputs.{IsClosedAndConsistent};
 
 use closed_lattice::principals_within;

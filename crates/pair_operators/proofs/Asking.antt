@@ -2,10 +2,10 @@
 use Rattle.std.proofs.Common.{ℕ, ◌≡◌, ◌<◌, All, List, length, get_or, ap, sym, ◌∙◌, subst}
 use Rattle.cubes.specs.Symbol.{symbol_of}
 use Rattle.kiss_file.specs.declared.file.KissFile.{KissFile}
-use Rattle.pair_operators.specs.Asked.{IsNextColumn}
-use Rattle.pair_operators.specs.declared.asked.Keys.{Keys}
-use Rattle.pair_operators.specs.declared.asked.NextColumn.{NextColumn}
-use Rattle.pair_operators.specs.Going.{Goes}
+use Rattle.pair_operators.specs.NextColumns.{IsNextColumn}
+use Rattle.pair_operators.specs.declared.next_columns.Keys.{Keys}
+use Rattle.pair_operators.specs.declared.next_columns.NextColumn.{NextColumn}
+use Rattle.pair_operators.specs.NextBlocks.{Goes}
 use Rattle.pair_operators.specs.Inner.Keys.{AreKeys, AreMixed, mixed}
 
 -- states that go together have one label at the symbol of a column

@@ -1,10 +1,10 @@
 -- States that go together are put together, state by state.
 use Rattle.std.proofs.Common.{◌≡◌, ℕ, List, length, subst, inl, inr, arith}
 use Rattle.kiss_file.specs.declared.file.KissFile.{KissFile}
-use Rattle.machine_table.specs.Staying.{NeverLeaves}
-use Rattle.partition.specs.Splitting.{IsSplitBy}
+use Rattle.machine_table.specs.NextStates.{NeverLeaves}
+use Rattle.partition.specs.RelationBlocks.{IsSplitBy}
 use Rattle.pair_operators.specs.Extremes.{IsHigh}
-use Rattle.pair_operators.specs.Going.{Goes}
+use Rattle.pair_operators.specs.NextBlocks.{Goes}
 use Rattle.pair_operators.specs.Laws.Going.{goes_each, goes_in_pair, goes_itself}
 
 -- states are together exactly where they go together: the greatest left side

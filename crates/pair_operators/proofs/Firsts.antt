@@ -2,10 +2,10 @@
 use Rattle.std.proofs.Common.{ℕ, ◌+◌, ◌<◌, List, length, sym, subst, inl, inr, arith}
 use Rattle.std.proofs.lemmas.Bool.{cases_eq}
 use Rattle.kiss_file.specs.declared.file.KissFile.{KissFile}
-use Rattle.partition.specs.Inside.{least_of}
+use Rattle.partition.specs.NestedBlocks.{least_of}
 use Rattle.partition.specs.Laws.Least.{least_of-same, least_of-together}
 use Rattle.pair_operators.specs.Pair.{Pair}
-use Rattle.pair_operators.specs.Going.{Goes}
+use Rattle.pair_operators.specs.NextBlocks.{Goes}
 use Rattle.pair_operators.specs.Laws.Going.{goes_each, goes_in_pair, goes_turned, goes_on}
 
 -- each state goes with the least state of its block

@@ -1,15 +1,15 @@
 -- Next states of the states, one after another, are together with those of the least states of their blocks.
 use Rattle.std.proofs.Common.{◌≡◌, ℕ, ◌+◌, ◌<◌, ◌≤◌, List, length, sym, subst, refl, arith}
 use Rattle.kiss_file.specs.declared.file.KissFile.{KissFile}
-use Rattle.machine_table.specs.Merging.{MergesImages}
-use Rattle.machine_table.specs.Staying.{NeverLeaves}
+use Rattle.machine_table.specs.MergedStates.{MergesImages}
+use Rattle.machine_table.specs.NextStates.{NeverLeaves}
 use Rattle.partition.specs.Partition.{IsPartition, Le}
-use Rattle.partition.specs.Inside.{least_of}
+use Rattle.partition.specs.NestedBlocks.{least_of}
 use Rattle.partition.specs.Laws.Labels.{IsPartition-of}
 use Rattle.partition.specs.Laws.Least.{least_of-le}
 use Rattle.pair_operators.specs.Pair.{Pair}
 use Rattle.pair_operators.specs.Extremes.{IsLow}
-use Rattle.pair_operators.specs.Going.{Goes}
+use Rattle.pair_operators.specs.NextBlocks.{Goes}
 use Rattle.pair_operators.specs.Laws.Going.{goes_above, goes_itself, goes_merged, images_going}
 use Rattle.pair_operators.proofs.Firsts.{FirstsGo, firsts_more, pair_from_firsts, firsts_from_pair}
 

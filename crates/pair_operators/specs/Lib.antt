@@ -1,8 +1,8 @@
 pub mod Pair
-pub mod Going
+pub mod NextBlocks
 pub mod Extremes
-pub mod Asked
-pub mod Consistent
+pub mod NextColumns
+pub mod Consistency
 pub mod Growth
 pub mod Inner
 pub mod Laws

@@ -1,13 +1,13 @@
 //! The greatest partition of a pair.
 ghost use Rattle.std.specs.Prelude.{ℕ, ◌≡◌, ◌<◌, ◌↔◌, IfNone, IfOk, IfSome, IsTrue, OnOk, length};
-ghost use Rattle.pair_operators.specs.Asked.{AreAsked};
+ghost use Rattle.pair_operators.specs.NextColumns.{AreAsked};
 ghost use Rattle.pair_operators.specs.Extremes.{IsHigh};
 ghost use Rattle.partition.specs.Partition.{IsPartition};
-ghost use Rattle.partition.specs.Splitting.{AreRelated};
-ghost use Rattle.pair_operators.specs.Going.{Goes};
+ghost use Rattle.partition.specs.RelationBlocks.{AreRelated};
+ghost use Rattle.pair_operators.specs.NextBlocks.{Goes};
 ghost use Rattle.pair_operators.specs.Inner.Keys.{AreKeys};
 
-use crate::asked::{AskedSymbols, Keys};
+use crate::next_columns::{AskedSymbols, Keys};
 use machine_table::Machine;
 use partition::Partition;
 use std::alloc::{AllocError, Global};

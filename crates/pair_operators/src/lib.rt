@@ -6,21 +6,22 @@
 //! two states at a time. [`high_beside`] asks first the symbols that told states apart in earlier calls.
 //!
 //! The definitions are in `specs/`: `Pair` has pairs and closed partitions, `Extremes` the least and the
-//! greatest, `Asked` the symbols that are asked first, and `Consistent` what the outputs of a machine demand of a partition. What follows from them, for
-//! the crates above, is in `specs/Laws` and is promised by the functions of `laws`.
+//! greatest, `NextColumns` the symbols that are asked first, and `Consistency` what the outputs of a machine demand of
+//! a partition. What follows from them, for the crates above, is in `specs/Laws` and is promised by the functions of
+//! `laws`.
 #![tactic(auto)]
 
-mod asked;
 mod greatest;
 mod laws;
 mod least;
+mod next_columns;
 mod pairs;
 
-pub use asked::{AskedSymbols, NextColumn};
 pub use greatest::{high, high_beside};
 pub use laws::{
     chains_of_operators, least_and_greatest, mm_pairs, operators_grow, pairs_of_bounds,
     pairs_of_sides,
 };
 pub use least::low;
+pub use next_columns::{AskedSymbols, NextColumn};
 pub use pairs::is_pair;

@@ -8,7 +8,7 @@ use Rattle.pair_operators.specs.Laws.Pairs.{meets_pair}
 use Rattle.partition.specs.Partition.{IsNumbered, IsPartition, IsStateCount, Together, blocks_of}
 use Rattle.partition.specs.MeetAndJoin.{IsMeet}
 use Rattle.partition.specs.Laws.Labels.{IsNumbered-none, IsNumbered-push, IsPartition-of, label-le, label-lt-blocks_of}
-use Rattle.closed_lattice.specs.Closed.{IsClosedPartition}
+use Rattle.closed_lattice.specs.ClosedPartitions.{IsClosedPartition}
 
 -- the labels of the states below k, by their keys
 record IsLabelled (key : ℕ → ℕ) (k : ℕ) (labels : List ℕ) : Type 0 where

@@ -3,7 +3,7 @@ use Rattle.std.proofs.Common.{ℕ, ◌<◌, List, length, subst, arith}
 use Rattle.kiss_file.specs.declared.file.KissFile.{KissFile}
 use Rattle.partition.specs.Partition.{IsNontrivial, IsPartition, IsZero, Le, Lt, Together, zero_of}
 use Rattle.partition.specs.Laws.Chains.{together_itself}
-use Rattle.closed_lattice.specs.Closed.{IsClosedPartition}
+use Rattle.closed_lattice.specs.ClosedPartitions.{IsClosedPartition}
 use Rattle.closed_lattice.specs.Limits.{HoldsApart, IsGreatestGrown}
 use Rattle.parallel_split.specs.Kind.{HasNoneInParallel}
 use Rattle.parallel_split.specs.Best.{IsNoMeetOfTwo}

@@ -5,7 +5,7 @@ use Rattle.std.specs.List.{remove}
 use Rattle.kiss_file.specs.declared.file.KissFile.{KissFile}
 use Rattle.partition.specs.Partition.{Lt}
 use Rattle.partition.specs.MeetAndJoin.{IsMeet}
-use Rattle.closed_lattice.specs.Closed.{IsClosedPartition}
+use Rattle.closed_lattice.specs.ClosedPartitions.{IsClosedPartition}
 use Rattle.state_codes.specs.declared.split.Part.{Part}
 use Rattle.state_codes.specs.Kinds.{PartsMeetInZero}
 

@@ -4,8 +4,8 @@ use Rattle.std.specs.List.Sorted.{IsPermutation}
 use Rattle.kiss_file.specs.declared.file.KissFile.{KissFile}
 use Rattle.partition.specs.Partition.{IsOne, IsPartition, IsZero, Together, zero_of}
 use Rattle.partition.specs.MeetAndJoin.{IsMeet}
-use Rattle.partition.specs.Before.{Before}
-use Rattle.closed_lattice.specs.Closed.{IsPrincipal}
+use Rattle.partition.specs.Order.{Before}
+use Rattle.closed_lattice.specs.ClosedPartitions.{IsPrincipal}
 use Rattle.pair_operators.specs.Growth.{IsGrowth}
 use Rattle.closed_lattice.specs.Limits.{HoldsApart}
 use Rattle.state_codes.specs.declared.split.Part.{Part}

@@ -1,7 +1,7 @@
 -- What a parallel split is (source: Hartmanis and Stearns).
 use Rattle.std.specs.Prelude.{◌≡◌, ℕ, ◌≤◌, All, List, [], length}
 use Rattle.kiss_file.specs.declared.file.KissFile.{KissFile}
-use Rattle.closed_lattice.specs.Closed.{IsClosedPartition}
+use Rattle.closed_lattice.specs.ClosedPartitions.{IsClosedPartition}
 use Rattle.closed_lattice.specs.Limits.{MeetInZero}
 use Rattle.state_codes.specs.declared.split.Part.{Part}
 use Rattle.partition.specs.Partition.{IsNontrivial}

@@ -16,7 +16,7 @@ mod laws;
 mod members;
 mod ordering;
 mod parallel;
-mod sparing;
+mod spare_members;
 
 pub use laws::choice_is_one;
 pub use parallel::split;

@@ -44,7 +44,8 @@ fn first_held(p: &Partition) -> Option<(usize, usize)>
 /// For the first two states that are together in the meet so far, a greatest closed partition that has them in two
 /// blocks, and so on until the meet is zero. In ascending order. None where one of these partitions is zero.
 pub(crate) fn members(alloc: Global, m: &Machine) -> Result<Option<Vec<Partition>>, AllocError>
-    ensures some { IfOk result (λ found. IfSome found (λ list. (zero : List ℕ) × IsZero zero × AreMembers m.now zero list.items)) }
+    ensures some { IfOk result
+        (λ found. IfSome found (λ list. (zero : List ℕ) × IsZero zero × AreMembers m.now zero list.items)) }
     ensures none { IfOk result (λ found. IfNone found (HasNoneInParallel m.now)) }
 {
     let n = m.states();

@@ -3,7 +3,7 @@
 ghost use Rattle.std.specs.Prelude.{◌≡◌, All, AllPairs, OnOk, length};
 ghost use Rattle.hs_lattice.specs.Places.{IsInsertionPlace};
 ghost use Rattle.parallel_split.specs.Inner.Members.{PutsInOrder};
-ghost use Rattle.partition.specs.Before.{Before};
+ghost use Rattle.partition.specs.Order.{Before};
 ghost use Rattle.partition.specs.Partition.{IsPartition};
 
 use partition::Partition;

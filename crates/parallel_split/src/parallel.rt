@@ -7,7 +7,7 @@ ghost use Rattle.parallel_split.specs.Kind.{HasNoneInParallel, IsParallel};
 ghost use Rattle.state_codes.specs.Split.{IsPart, lone_part};
 
 use crate::members::members;
-use crate::sparing::leave_out;
+use crate::spare_members::leave_out;
 use machine_table::Machine;
 use partition::Partition;
 use state_codes::{Kind, Part, PartNumbers, Parts, Split};

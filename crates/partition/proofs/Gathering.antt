@@ -13,7 +13,7 @@ use Rattle.partition.specs.MeetAndJoin.{IsJoin, Leads}
 use Rattle.partition.specs.Bits.{bit_of}
 use Rattle.partition.specs.Laws.Chains.{together_turned}
 use Rattle.partition.specs.Inner.Rows.{Has, words_for, place_in, AreRows, AreRowsOf, AreTwo}
-use Rattle.partition.specs.Inner.Gathering.{AreWithin, IsInRow, AreRowNumbers, HaveNumbers, GoesTo}
+use Rattle.partition.specs.Inner.JoinedRows.{AreWithin, IsInRow, AreRowNumbers, HaveNumbers, GoesTo}
 use Rattle.partition.proofs.Words.{bit_of-lt}
 use Rattle.partition.proofs.BlockRows.{in_hand, row_end, row_slice, slice_past, place_word, place_bit, zeros_read}
 

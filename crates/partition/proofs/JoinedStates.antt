@@ -4,7 +4,7 @@ use Rattle.std.proofs.lemmas.Bool.{cases_eq}
 use Rattle.std.specs.Bool.{OnFalse}
 use Rattle.partition.specs.Partition.{IsPartition, Together, Le}
 use Rattle.partition.specs.MeetAndJoin.{IsJoin, Chain}
-use Rattle.partition.specs.Merging.{IsMerged}
+use Rattle.partition.specs.MergedBlocks.{IsMerged}
 use Rattle.partition.specs.Laws.Labels.{IsPartition-of}
 use Rattle.partition.specs.Laws.Merging.{merged_above, merged_held}
 use Rattle.partition.specs.Laws.Chains.{chain_link, chain_on, chain_within, chain_keeps, together_turned}

@@ -3,7 +3,7 @@ use Rattle.std.proofs.Common.{◌≡◌, ◌≢◌, ℕ, ◌+◌, ◌<◌, ◌�
 use Rattle.std.proofs.lemmas.Bool.{cases_eq, eq-eqb, ne_eqb}
 use Rattle.std.proofs.lemmas.List.{length_push, get_or_append_left, get_or_push, get_or-set_same, get_or-set_other, length-set}
 use Rattle.partition.specs.Partition.{blocks_of, IsNumbered, IsPartition, Le}
-use Rattle.partition.specs.Inside.{least_of, blocks_below, IsInside}
+use Rattle.partition.specs.NestedBlocks.{least_of, blocks_below, IsInside}
 use Rattle.partition.specs.Laws.Least.{least_of-first, least_of-le, least_of-same}
 use Rattle.partition.specs.Laws.Labels.{blocks_of-push, blocks_of-take-more, label-lt-blocks_of, label-lt-blocks_of-take, block_stands, label-le, blocks_of-le, IsNumbered-none, IsNumbered-push}
 

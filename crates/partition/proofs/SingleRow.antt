@@ -6,7 +6,7 @@ use Rattle.std.proofs.lemmas.Nat.Bits.{bit_at-zero, bit_at-pow_same, bit_at-pow_
 use Rattle.std.specs.Int.{bit_at}
 use Rattle.partition.specs.Bits.{bit_of}
 use Rattle.partition.specs.Inner.Rows.{Has}
-use Rattle.partition.specs.declared.bits.single.TheConstants.{POWERS}
+use Rattle.partition.specs.declared.bits.single_rows.TheConstants.{POWERS}
 use Rattle.partition.proofs.Words.{bit_of_past, same_bit}
 
 abbrev pub line : ℕ → List ℕ

@@ -4,7 +4,7 @@ use Rattle.std.proofs.lemmas.Bool.{cases_eq, eq-eqb, ne_eqb}
 use Rattle.std.proofs.lemmas.List.{take_all}
 use Rattle.std.proofs.lemmas.List.Sums.{count_by_more_yes, count_by_more_no}
 use Rattle.partition.specs.Partition.{blocks_of, IsPartition, IsZero, zero_of}
-use Rattle.partition.specs.Inside.{least_of, blocks_below, size_of, IsInside, IsComplement, IsLargestSize}
+use Rattle.partition.specs.NestedBlocks.{least_of, blocks_below, size_of, IsInside, IsComplement, IsLargestSize}
 use Rattle.partition.specs.Laws.Labels.{blocks_of-take-more, label-lt-blocks_of, block_stands}
 use Rattle.partition.specs.Laws.Extremes.{zero_of_is_partition, zero_of_is_zero, zero_once}
 use Rattle.partition.specs.Laws.Least.{least_of-first}

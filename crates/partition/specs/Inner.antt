@@ -1,5 +1,5 @@
 -- Definitions that only private functions and proofs need.
 pub mod Rows
 pub mod Ties
-pub mod Relabelled
-pub mod Gathering
+pub mod RemovedLabel
+pub mod JoinedRows

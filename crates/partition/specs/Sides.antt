@@ -1,6 +1,6 @@
 -- Pairs of partitions, in the order of their right sides.
 use Rattle.std.specs.Prelude.{ℕ, List}
-use Rattle.partition.specs.Before.{Before}
+use Rattle.partition.specs.Order.{Before}
 
 -- the left side and the right side
 abbrev pub Sides : Type 0

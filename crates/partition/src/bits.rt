@@ -4,18 +4,18 @@ ghost use Rattle.std.specs.Prelude.{◌≡◌, ℕ, ◌+◌, ◌/◌, ◌<◌, �
 ghost use Rattle.std.specs.Bool.{OnFalse};
 ghost use Rattle.partition.specs.Partition.{IsPartition, Together, blocks_of};
 ghost use Rattle.partition.specs.MeetAndJoin.{IsMeet, IsJoin, IsGreatestBelow, IsLeastAbove};
-ghost use Rattle.partition.specs.Before.{Before};
+ghost use Rattle.partition.specs.Order.{Before};
 ghost use Rattle.partition.specs.Bits.{bit_of};
 
-mod gathering;
+mod joined_rows;
 mod lattice;
 mod numbers;
 mod rows;
-mod single;
+mod single_rows;
 
 use crate::Partition;
 use rows::{block_rows, row_count, row_with, word_count};
-use single::single_row;
+use single_rows::single_row;
 use std::alloc::{AllocError, Global};
 use std::marker::Model;
 

@@ -1,7 +1,7 @@
 //! Merging of blocks, in the partition itself.
 ghost use Rattle.std.specs.Prelude.{◌≡◌, ℕ, ◌<◌, length, slice_index};
-ghost use Rattle.partition.specs.Merging.{IsMerged};
-ghost use Rattle.partition.specs.Inner.Relabelled.{relabelled};
+ghost use Rattle.partition.specs.MergedBlocks.{IsMerged};
+ghost use Rattle.partition.specs.Inner.RemovedLabel.{relabelled};
 
 use crate::Partition;
 

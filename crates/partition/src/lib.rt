@@ -7,21 +7,31 @@
 //! - `specs/Partition`: blocks, and states that are together;
 //! - `specs/Bits`: rows;
 //! - `specs/MeetAndJoin`: meet and join;
-//! - `specs/Before`: the order of listings;
-//! - `specs/Inside`: blocks inside blocks, and complements;
+//! - `specs/Order`: the order of listings;
+//! - `specs/NestedBlocks`: blocks inside blocks, and complements;
 //! - `specs/Text` and `specs/Refusal`: texts and refusals;
 //! - `specs/Sides` and `specs/Partners`: pairs of partitions, and Mm pairs of any relation of partitions;
 //! - `specs/Laws`: the laws that other crates cite.
 #![tactic(auto)]
 
 ghost use Rattle.std.specs.Prelude.{◌≡◌, ◌<◌, ◌≤◌, ◌↔◌, length, slice_index, IsTrue, IfOk};
-ghost use Rattle.partition.specs.Inside.{least_of};
-ghost use Rattle.partition.specs.Partition.{IsPartition, IsStateCount, IsZero, IsOne, IsHold, Together, blocks_of, one_of, zero_of};
+ghost use Rattle.partition.specs.NestedBlocks.{least_of};
+ghost use Rattle.partition.specs.Partition.{
+  IsPartition,
+  IsStateCount,
+  IsZero,
+  IsOne,
+  IsHold,
+  Together,
+  blocks_of,
+  one_of,
+  zero_of,
+};
 
 mod bits;
 mod blocks;
 mod bounds;
-mod inside;
+mod nested_blocks;
 mod numbering;
 mod order;
 mod states;
@@ -58,7 +68,8 @@ impl Model for Partition {
 
     ghost view = { λ p. p.labels.items };
 
-    ghost invariant = { λ p. IsPartition (length p.labels.items) p.labels.items × (p.blocks ≡ blocks_of p.labels.items) };
+    ghost invariant = { λ p. IsPartition (length p.labels.items) p.labels.items
+        × (p.blocks ≡ blocks_of p.labels.items) };
 }
 
 /// Why labels or a text are not a partition. Places count labels from 0.

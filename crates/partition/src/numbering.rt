@@ -1,6 +1,17 @@
 //! Numbers classes of equal values by first appearance, which makes labels of them.
 
-ghost use Rattle.std.specs.Prelude.{◌≡◌, ℕ, ◌<◌, ◌+◌, length, IfOk, MatchOption, slice_index, slice_index_or, slice_set};
+ghost use Rattle.std.specs.Prelude.{
+  ◌≡◌,
+  ℕ,
+  ◌<◌,
+  ◌+◌,
+  length,
+  IfOk,
+  MatchOption,
+  slice_index,
+  slice_index_or,
+  slice_set,
+};
 ghost use Rattle.partition.specs.Partition.{IsPartition, IsStateCount, SameTogether};
 
 use crate::Partition;

@@ -2,7 +2,7 @@
 
 ghost use Rattle.std.specs.Prelude.{◌≡◌, ◌<◌, ◌↔◌, length, slice_index, IsTrue, IfOk};
 ghost use Rattle.partition.specs.Partition.{IsPartition, Le};
-ghost use Rattle.partition.specs.Before.{Before, IsSmaller};
+ghost use Rattle.partition.specs.Order.{Before, IsSmaller};
 
 use crate::{MOST_STATES, Partition};
 

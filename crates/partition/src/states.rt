@@ -1,6 +1,25 @@
 //! Sets of states as four words of bits.
 
-ghost use Rattle.std.specs.Prelude.{◌≡◌, ℕ, ◌+◌, ◌-◌, ◌%◌, ◌^◌, ◌<◌, ◌≤◌, ◌≢◌, ◌↔◌, min, max, IsTrue, IfSome, IfNone, take, length, slice_index};
+ghost use Rattle.std.specs.Prelude.{
+  ◌≡◌,
+  ℕ,
+  ◌+◌,
+  ◌-◌,
+  ◌%◌,
+  ◌^◌,
+  ◌<◌,
+  ◌≤◌,
+  ◌≢◌,
+  ◌↔◌,
+  min,
+  max,
+  IsTrue,
+  IfSome,
+  IfNone,
+  take,
+  length,
+  slice_index,
+};
 ghost use Rattle.partition.specs.Bits.{bit_of};
 ghost use Rattle.partition.specs.Inner.Rows.{Has, four_of};
 

@@ -1,6 +1,26 @@
 //! Labels and texts that come from outside: each refusal has the first place that shows it.
 
-ghost use Rattle.std.specs.Prelude.{◌≡◌, ◌≢◌, ℕ, ◌<◌, ◌≤◌, ◌↔◌, ◌++◌, length, slice_index, IfOk, MatchResult, OnOk, OnErr, ◌∷◌, ◌⊎◌, List, IfSome, IfNone, IsTrue};
+ghost use Rattle.std.specs.Prelude.{
+  ◌≡◌,
+  ◌≢◌,
+  ℕ,
+  ◌<◌,
+  ◌≤◌,
+  ◌↔◌,
+  ◌++◌,
+  length,
+  slice_index,
+  IfOk,
+  MatchResult,
+  OnOk,
+  OnErr,
+  ◌∷◌,
+  ◌⊎◌,
+  List,
+  IfSome,
+  IfNone,
+  IsTrue,
+};
 ghost use Rattle.partition.specs.Partition.{IsPartition, IsStateCount, blocks_of};
 ghost use Rattle.std.specs.Fmt.{decimal};
 ghost use Rattle.partition.specs.Text.{labels_text, TextFault};

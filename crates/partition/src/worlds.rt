@@ -3,8 +3,20 @@
 ghost use Rattle.std.specs.Prelude.{◌≡◌, List, ℕ};
 ghost use Rattle.partition.specs.Partition.{IsPartition, IsStateCount, zero_of};
 ghost use Rattle.partition.specs.MeetAndJoin.{IsJoin};
-ghost use Rattle.partition.specs.Before.{Before};
-ghost use Rattle.partition.specs.Laws.World.{zero_fits, zero_once, join_fits, join_once, join_commutes, join_associates, join_repeats, join_zero, before_never, before_chains, before_decides};
+ghost use Rattle.partition.specs.Order.{Before};
+ghost use Rattle.partition.specs.Laws.World.{
+  zero_fits,
+  zero_once,
+  join_fits,
+  join_once,
+  join_commutes,
+  join_associates,
+  join_repeats,
+  join_zero,
+  before_never,
+  before_chains,
+  before_decides,
+};
 
 use crate::{BitPart, Partition};
 use hs_lattice::JoinWorld;
@@ -63,7 +75,8 @@ impl JoinWorld for PartWorld {
 
     ghost joins_commute = { λ w p q r lawful left right joined. join_commutes w.n p q r left right joined };
 
-    ghost joins_associate = { λ w p q r front back all lawful a b c d e f. join_associates w.n p q r front back all a b c d e f };
+    ghost joins_associate = { λ w p q r front back all lawful a b c d e f.
+        join_associates w.n p q r front back all a b c d e f };
 
     ghost joins_repeat = { λ w p lawful fit. join_repeats w.n p fit };
 
@@ -130,7 +143,8 @@ impl JoinWorld for BitWorld {
 
     ghost joins_commute = { λ w p q r lawful left right joined. join_commutes w.n p q r left right joined };
 
-    ghost joins_associate = { λ w p q r front back all lawful a b c d e f. join_associates w.n p q r front back all a b c d e f };
+    ghost joins_associate = { λ w p q r front back all lawful a b c d e f.
+        join_associates w.n p q r front back all a b c d e f };
 
     ghost joins_repeat = { λ w p lawful fit. join_repeats w.n p fit };
 

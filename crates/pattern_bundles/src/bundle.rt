@@ -49,7 +49,8 @@ impl Model for Bundle {
 
 /// All places at which some pattern has no dash.
 fn places_with_bits(patterns: &[Pattern]) -> u64
-    ensures { (k place : ℕ) (p : Pattern) → slice_get patterns.now k ≡ Some p → bit_at p.care place ≡ 1 → bit_at result place ≡ 1 }
+    ensures { (k place : ℕ) (p : Pattern) → slice_get patterns.now k ≡ Some p → bit_at p.care place ≡ 1
+        → bit_at result place ≡ 1 }
 {
     let mut care = 0u64;
     for pattern in patterns {

@@ -12,7 +12,7 @@ use Rattle.cubes.specs.Laws.Numbers.{length-symbol_of, number_below, symbol_of-n
 use Rattle.dependence.specs.declared.bit.Bit.{Bit}
 use Rattle.dependence.specs.declared.sets.ReadSet.{ReadSet}
 use Rattle.dependence.specs.Bit.{IsBit, value_of}
-use Rattle.dependence.specs.Said.{row_value}
+use Rattle.dependence.specs.RowBits.{row_value}
 use Rattle.dependence.specs.Laws.Said.{mapped, part_counted, part_of, row_gives, says_value}
 use Rattle.gate_rows.specs.declared.demands.Demand.{Demand}
 use Rattle.gate_rows.specs.Columns.{IsReadIn}
@@ -21,10 +21,10 @@ use Rattle.gate_rows.specs.Demands.{AreApart, CanBeRead, IsAsked, demand_at}
 use Rattle.gate_rows.proofs.TermCovers.{same_cover}
 use Rattle.kiss_file.specs.declared.file.KissFile.{KissFile}
 use Rattle.kiss_file.specs.declared.file.KissRow.{KissRow}
-use Rattle.realise.specs.Realised.{IsEnough, IsWithin}
+use Rattle.realise.specs.CodeNetwork.{IsEnough, IsWithin}
 use Rattle.realise.specs.Rows.{GivesAt, read_values}
 use Rattle.realise.specs.Inner.Lists.{asked_by, width_of}
-use Rattle.realise.specs.Inner.Filled.{AreFilled, IsRight}
+use Rattle.realise.specs.Inner.FilledRows.{AreFilled, IsRight}
 use Rattle.realise.proofs.EqualReads.{equal_reads}
 
 -- what is asked by one row more

@@ -11,7 +11,7 @@ use Rattle.gate_rows.specs.Columns.{input_of}
 use Rattle.kiss_file.specs.declared.file.KissFile.{KissFile}
 use Rattle.net_core.specs.Laws.Valuations.{parts_of_append}
 use Rattle.realise.specs.Laws.{EqualReads}
-use Rattle.realise.specs.Realised.{IsEnough}
+use Rattle.realise.specs.CodeNetwork.{IsEnough}
 
 -- bits that do not differ are one
 same_unless : (a b : Bool) → ((a ≡ b → ⊥) → ⊥) → a ≡ b

@@ -4,10 +4,10 @@ use Rattle.std.proofs.lemmas.Bool.{cases_lt}
 use Rattle.std.proofs.lemmas.List.Elements.{All-append, All-contains, All-weaker, Contains-append_left, Contains-append_right}
 use Rattle.kiss_file.specs.declared.file.KissFile.{KissFile}
 use Rattle.kiss_file.specs.declared.file.KissRow.{KissRow}
-use Rattle.machine_table.specs.declared.missing.Missing.{Missing}
-use Rattle.machine_table.specs.Covering.{IsRightRow, IsSaidBy}
-use Rattle.machine_table.specs.Said.{place_of}
-use Rattle.realise.specs.Inner.Filled.{AreFilledBelow, IsRight}
+use Rattle.machine_table.specs.declared.open_part.Missing.{Missing}
+use Rattle.machine_table.specs.Pieces.{IsRightRow, IsSaidBy}
+use Rattle.machine_table.specs.OpenEntries.{place_of}
+use Rattle.realise.specs.Inner.FilledRows.{AreFilledBelow, IsRight}
 
 -- rows of one state more
 pub rows_added : (F : KissFile) (s : ℕ) (own old new : List KissRow) → new ≡ old ++ own → AreFilledBelow F s old

@@ -8,11 +8,11 @@ use Rattle.net_core.specs.declared.Gate.{Gate}
 use Rattle.net_core.specs.declared.Latch.{Latch}
 use Rattle.net_core.specs.declared.Network.{Network}
 use Rattle.net_core.specs.declared.SignalNames.{SignalNames}
-use Rattle.net_core.specs.Flat.{base_of}
-use Rattle.net_core.specs.Sound.{driven_by, drivers_of}
+use Rattle.net_core.specs.FlatNetwork.{base_of}
+use Rattle.net_core.specs.SoundNetwork.{driven_by, drivers_of}
 use Rattle.net_core.specs.Laws.Members.{times, times-append}
 use Rattle.realise.specs.Laws.{ArePairwiseDistinct, RealisedIsFlat}
-use Rattle.realise.specs.Realised.{AreCounted, AreEnough, IsRealised, name_at}
+use Rattle.realise.specs.CodeNetwork.{AreCounted, AreEnough, IsRealised, name_at}
 use Rattle.realise.specs.Laws.Gates.{IsSomeGate, driven_names, each_gate}
 
 -- names at numbers below their count are among them

@@ -8,9 +8,9 @@ use Rattle.std.proofs.lemmas.Bool.{cases_Bool, false≢true}
 use Rattle.std.proofs.lemmas.List.Elements.{All-append, All-from_recursion}
 use Rattle.std.proofs.lemmas.List.Folds.{Any-from_list_any, list_any_at}
 use Rattle.kiss_file.specs.declared.file.KissFile.{KissFile}
-use Rattle.kiss_file.specs.Lawful.{AreGiven, IsGivenName, IsLawful, given_names}
+use Rattle.kiss_file.specs.LawfulFile.{AreGiven, IsGivenName, IsLawful, given_names}
 use Rattle.net_core.specs.Laws.Members.{is_same_name, same_name}
-use Rattle.realise.specs.Inner.Free.{are_free, first_free, is_given, first_count}
+use Rattle.realise.specs.Inner.FreeNames.{are_free, first_free, is_given, first_count}
 use Rattle.realise.specs.Names.{AreFree, IsPrefixCount, input_letter, next_letter, output_letter, own_name, own_names, prefix, state_letter, unless_given, used_names}
 
 -- ---- the test

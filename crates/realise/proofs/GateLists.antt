@@ -9,7 +9,7 @@ use Rattle.list_facts.specs.Laws.Places.{get_behind, get_cases, get_first}
 use Rattle.dependence.specs.declared.sets.ReadSet.{ReadSet}
 use Rattle.dependence.specs.declared.sets.Reads.{Reads}
 use Rattle.dependence.specs.Bit.{value_of}
-use Rattle.dependence.specs.Permits.{next_value, output_value}
+use Rattle.dependence.specs.SufficientBits.{next_value, output_value}
 use Rattle.gate_rows.specs.Covers.{IsGoodCover}
 use Rattle.gate_rows.specs.Latches.{AreLatches}
 use Rattle.gate_rows.proofs.LatchNames.{listed_count}
@@ -18,9 +18,9 @@ use Rattle.net_core.specs.declared.Gate.{Gate}
 use Rattle.net_core.specs.declared.Network.{Network}
 use Rattle.net_core.specs.declared.SignalNames.{SignalNames}
 use Rattle.dependence.specs.declared.bit.Bit.{Bit}
-use Rattle.realise.specs.Realised.{AreEnough, IsGateFor, IsRealised, name_at}
+use Rattle.realise.specs.CodeNetwork.{AreEnough, IsGateFor, IsRealised, name_at}
 use Rattle.realise.specs.Rows.{GivesAt}
-use Rattle.realise.specs.Inner.Adding.{AddsGates, IsGateAt}
+use Rattle.realise.specs.Inner.AddedGates.{AddsGates, IsGateAt}
 use Rattle.realise.specs.Inner.Lists.{width_of}
 
 -- one gate more

@@ -9,7 +9,7 @@ use Rattle.list_facts.specs.Laws.Everywhere.{all_at, map_same}
 use Rattle.cubes.specs.Symbol.{bit}
 use Rattle.dependence.specs.declared.sets.ReadSet.{ReadSet}
 use Rattle.dependence.specs.declared.sets.Reads.{Reads}
-use Rattle.dependence.specs.Permits.{next_value, output_value}
+use Rattle.dependence.specs.SufficientBits.{next_value, output_value}
 use Rattle.gate_rows.specs.Columns.{input_of}
 use Rattle.kiss_file.specs.declared.file.KissFile.{KissFile}
 use Rattle.kiss_file.specs.Machine.{next, out, output_bit}
@@ -22,7 +22,7 @@ use Rattle.net_core.specs.Laws.Flat.{flat_sound, given_step}
 use Rattle.net_core.specs.Laws.Valuations.{FitsGate}
 use Rattle.realise.specs.Codes.{code_of}
 use Rattle.realise.specs.Laws.{ArePairwiseDistinct, RealisedCarries}
-use Rattle.realise.specs.Realised.{AreCounted, AreEnough, HasGate, IsGateFor, IsRealised, IsWithin, name_at}
+use Rattle.realise.specs.CodeNetwork.{AreCounted, AreEnough, HasGate, IsGateFor, IsRealised, IsWithin, name_at}
 use Rattle.realise.specs.Rows.{read_values}
 use Rattle.realise.proofs.FlatNetworks.{realised_flat}
 use Rattle.realise.specs.Laws.Gates.{latch_count, latch_gate, output_gate}

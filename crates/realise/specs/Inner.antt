@@ -1,5 +1,5 @@
 -- Definitions that only private functions and proofs need.
-pub mod Free
-pub mod Filled
+pub mod FreeNames
+pub mod FilledRows
 pub mod Lists
-pub mod Adding
+pub mod AddedGates

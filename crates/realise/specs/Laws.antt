@@ -7,14 +7,14 @@ use Rattle.std.specs.Str.{bytes_eq}
 use Rattle.dependence.specs.declared.sets.ReadSet.{ReadSet}
 use Rattle.dependence.specs.declared.sets.Reads.{Reads}
 use Rattle.kiss_file.specs.declared.file.KissFile.{KissFile}
-use Rattle.kiss_file.specs.Lawful.{IsLawful}
-use Rattle.machine_table.specs.Staying.{NeverLeaves}
+use Rattle.kiss_file.specs.LawfulFile.{IsLawful}
+use Rattle.machine_table.specs.NextStates.{NeverLeaves}
 use Rattle.net_core.specs.declared.Network.{Network}
 use Rattle.net_core.specs.declared.SignalNames.{SignalNames}
-use Rattle.net_core.specs.Flat.{IsFlat}
-use Rattle.realise.specs.Carries.{Carries}
+use Rattle.net_core.specs.FlatNetwork.{IsFlat}
+use Rattle.realise.specs.CarriedMachine.{Carries}
 use Rattle.realise.specs.Names.{AreNames, all_names}
-use Rattle.realise.specs.Realised.{AreCounted, AreEnough, IsEnough, IsRealised}
+use Rattle.realise.specs.CodeNetwork.{AreCounted, AreEnough, IsEnough, IsRealised}
 use Rattle.realise.specs.Rows.{read_values}
 
 -- no name occurs twice

@@ -1,7 +1,7 @@
 pub mod Names
 pub mod Codes
-pub mod Carries
+pub mod CarriedMachine
 pub mod Rows
-pub mod Realised
+pub mod CodeNetwork
 pub mod Laws
 pub mod Inner

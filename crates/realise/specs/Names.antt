@@ -3,7 +3,7 @@ use Rattle.std.specs.Prelude.{◌≡◌, ℕ, zero, suc, ◌≤◌, Contains, Li
 use Rattle.std.specs.Fmt.{decimal}
 use Rattle.std.specs.List.{range_with_len}
 use Rattle.kiss_file.specs.declared.file.KissFile.{KissFile}
-use Rattle.kiss_file.specs.Lawful.{given_names}
+use Rattle.kiss_file.specs.LawfulFile.{given_names}
 use Rattle.net_core.specs.declared.SignalNames.{SignalNames}
 
 -- the letters of inputs, outputs, latch inputs and latch outputs: x, z, d and q

@@ -1,6 +1,6 @@
 //! What follows from the definitions, each the contract of a function that does nothing.
 
-ghost use Rattle.realise.specs.Carries.{CarriedAnswers};
+ghost use Rattle.realise.specs.CarriedMachine.{CarriedAnswers};
 ghost use Rattle.realise.specs.Laws.{EqualReads, NamesAreApart, RealisedCarries, RealisedIsFlat};
 
 /// A network that carries each step of a machine answers every word as the machine does, if the machine never

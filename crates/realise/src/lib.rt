@@ -9,18 +9,18 @@
 //! [`names`] gives the names of the signals for a file: those that the file gives, and own names for the
 //! others. The least number of prefixes keeps the own names apart from the given ones.
 //!
-//! The definitions are in `specs/`: `Names` has the names, `Codes` codes as bits, `Carries` what it is to
-//! carry a machine, `Rows` where a gate gives a bit, and `Realised` the network of codes. The functions of
+//! The definitions are in `specs/`: `Names` has the names, `Codes` codes as bits, `CarriedMachine` what it is to
+//! carry a machine, `Rows` where a gate gives a bit, and `CodeNetwork` the network of codes. The functions of
 //! `laws` promise what follows from them.
 #![tactic(auto)]
 
-mod building;
-mod filled;
+mod code_network;
 mod laws;
 mod lists;
 mod own_names;
-mod said;
+mod row_bits;
+mod whole_rows;
 
-pub use building::network;
+pub use code_network::network;
 pub use laws::{carried_answers, equal_reads, names_apart, realised_carries, realised_is_flat};
 pub use own_names::names;

@@ -8,12 +8,12 @@ ghost use Rattle.std.specs.Ordering.{nat_cmp};
 ghost use Rattle.dependence.specs.Bit.{IsBit, value_of};
 ghost use Rattle.dependence.specs.Effects.{HasPlace};
 ghost use Rattle.gate_rows.specs.Covers.{IsGoodCover};
-ghost use Rattle.realise.specs.Realised.{IsEnough, IsWithin};
+ghost use Rattle.realise.specs.CodeNetwork.{IsEnough, IsWithin};
 ghost use Rattle.realise.specs.Rows.{GivesAt};
 ghost use Rattle.realise.specs.Inner.Lists.{asked_by, width_of};
-ghost use Rattle.realise.specs.Inner.Filled.{AreFilled, IsRight};
+ghost use Rattle.realise.specs.Inner.FilledRows.{AreFilled, IsRight};
 
-use crate::said::said_bit;
+use crate::row_bits::said_bit;
 use dependence::{Bit, ReadSet};
 use gate_rows::{Demand, demanded_rows};
 use hs_io::Names;

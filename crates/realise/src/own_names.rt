@@ -3,11 +3,11 @@
 ghost use Rattle.std.specs.Prelude.{◌≡◌, ◌≤◌, [], ◌++◌, IfOk, OnOk, unwrap_or};
 ghost use Rattle.std.specs.List.{list_any};
 ghost use Rattle.std.specs.Str.{bytes_eq};
-ghost use Rattle.kiss_file.specs.Lawful.{IsLawful};
+ghost use Rattle.kiss_file.specs.LawfulFile.{IsLawful};
 ghost use Rattle.realise.specs.Names as named;
 ghost use Rattle.realise.specs.Names.{AreNames, IsPrefixCount, own_name, prefix, unless_given};
-ghost use Rattle.realise.specs.Inner.Free as free;
-ghost use Rattle.realise.specs.Inner.Free.{first_count};
+ghost use Rattle.realise.specs.Inner.FreeNames as free;
+ghost use Rattle.realise.specs.Inner.FreeNames.{first_count};
 
 use hs_io::{Name, Names, copied_names};
 use kiss_file::KissFile;

@@ -3,8 +3,8 @@
 use Rattle.std.specs.Prelude.{◌≡◌, ℕ, List, [], ◌∷◌, length, map}
 use Rattle.kiss_file.specs.declared.file.KissFile.{KissFile}
 use Rattle.partition.specs.Partition.{IsOne, IsPartition, IsZero, Lt, zero_of}
-use Rattle.partition.specs.Inside.{IsComplement, IsInside}
-use Rattle.closed_lattice.specs.Closed.{IsPrincipal}
+use Rattle.partition.specs.NestedBlocks.{IsComplement, IsInside}
+use Rattle.closed_lattice.specs.ClosedPartitions.{IsPrincipal}
 use Rattle.pair_operators.specs.Growth.{IsGrowth}
 use Rattle.state_codes.specs.declared.split.Part.{Part}
 

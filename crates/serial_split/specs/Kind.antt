@@ -4,8 +4,8 @@ use Rattle.std.specs.List.{range_with_len}
 use Rattle.kiss_file.specs.declared.file.KissFile.{KissFile}
 use Rattle.partition.specs.Partition.{IsNontrivial, IsOne, IsPartition, IsZero, Lt, blocks_of}
 use Rattle.partition.specs.MeetAndJoin.{IsMeet}
-use Rattle.partition.specs.Inside.{IsLargestSize}
-use Rattle.closed_lattice.specs.Closed.{IsClosedPartition}
+use Rattle.partition.specs.NestedBlocks.{IsLargestSize}
+use Rattle.closed_lattice.specs.ClosedPartitions.{IsClosedPartition}
 use Rattle.state_codes.specs.declared.split.Part.{Part}
 use Rattle.state_codes.specs.Kinds.{IsOwnCarrier, PartsMeetInZero}
 

@@ -3,7 +3,7 @@ use Rattle.std.proofs.Common.{◌≡◌, All, Bool, List, [], ◌∷◌, length,
 use Rattle.std.proofs.lemmas.List.Elements.{All-head, All-tail}
 use Rattle.net_core.specs.declared.Network.{Network}
 use Rattle.net_core.specs.Step.{NetAnswers}
-use Rattle.shift_real.specs.Inner.Along.{GoesAlong, outputs_along}
+use Rattle.shift_real.specs.Inner.Positions.{GoesAlong, outputs_along}
 
 pub answers_from : {P : Type 0} (N : Network) (IsPosition : P → Type 0) (values : P → List Bool) (next : P → List Bool → P) (outputs : P → List Bool → List Bool) → GoesAlong N IsPosition values next outputs
     → (p : P) (word : List (List Bool)) → IsPosition p → All (λ x. length x ≡ length N.inputs) word → NetAnswers N (values p) word (outputs_along next outputs p word)

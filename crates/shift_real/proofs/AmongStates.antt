@@ -5,9 +5,9 @@ use Rattle.dependence.specs.declared.bit.Bit.{Bit}
 use Rattle.dependence.specs.declared.bit.Bit.TheVariants.{Output}
 use Rattle.dependence.specs.declared.effects.Effect.{Effect}
 use Rattle.dependence.specs.Effects.{ActsBy, AddsState, MattersAt}
-use Rattle.dependence.specs.Permits.{output_value}
+use Rattle.dependence.specs.SufficientBits.{output_value}
 use Rattle.kiss_file.specs.declared.file.KissFile.{KissFile}
-use Rattle.shift_real.specs.Inner.Reading.{AreEffectsAfter, MattersAmong}
+use Rattle.shift_real.specs.Inner.OutputReads.{AreEffectsAfter, MattersAmong}
 
 pub effects_none : (F : KissFile) (states : List ℕ) (effects : List Effect) → length effects ≡ F.inputs → ((a : ℕ) (gate : Bit) → ActsBy effects a gate → ⊥) → AreEffectsAfter F states 0 effects
 effects_none F states effects size none = record {

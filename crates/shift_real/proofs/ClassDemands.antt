@@ -13,10 +13,10 @@ use Rattle.gate_rows.specs.Demands.{demand_at}
 use Rattle.kiss_file.specs.declared.file.KissFile.{KissFile}
 use Rattle.kiss_file.specs.declared.file.KissRow.{KissRow}
 use Rattle.kiss_file.specs.Machine.{given_bit, output_bit}
-use Rattle.machine_table.specs.declared.missing.Missing.{Missing}
-use Rattle.machine_table.specs.declared.missing.Missing.TheVariants.{Output as OutputPart}
-use Rattle.machine_table.specs.Covering.{IsRightRow, IsSaidBy}
-use Rattle.machine_table.specs.Said.{place_of}
+use Rattle.machine_table.specs.declared.open_part.Missing.{Missing}
+use Rattle.machine_table.specs.declared.open_part.Missing.TheVariants.{Output as OutputPart}
+use Rattle.machine_table.specs.Pieces.{IsRightRow, IsSaidBy}
+use Rattle.machine_table.specs.OpenEntries.{place_of}
 use Rattle.shift_real.specs.Inner.ContentDemands.{AreClassDemands, IsClassDemand, IsHeldAfter, IsOfClassAsFar, IsOfClassBelow, IsWithinMask, asked_by}
 
 -- ---- rows that are asked one by one

@@ -14,7 +14,7 @@ use Rattle.cubes.specs.Laws.Bits.{one_from_bit, same_bits, zero_from_bit}
 use Rattle.cubes.specs.Laws.Numbers.{length-symbol_of, number_below, number_of-symbol_of, symbol_of-number_of}
 use Rattle.kiss_file.specs.declared.file.KissFile.{KissFile}
 use Rattle.kiss_file.specs.Machine.{next}
-use Rattle.machine_table.specs.Staying.{NeverLeaves}
+use Rattle.machine_table.specs.NextStates.{NeverLeaves}
 use Rattle.shift_real.specs.declared.contents.Content.{Content}
 use Rattle.shift_real.specs.Inner.Contents.{AreContents, IsAtItsNumber, IsContentOf, IsOfSomeWord, content_after, contents_after, turned_bits}
 use Rattle.shift_real.specs.Register.{state_after, word_number}

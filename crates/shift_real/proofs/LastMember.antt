@@ -3,11 +3,11 @@ use Rattle.std.proofs.Common.{◌≡◌, ◌≢◌, ℕ, ◌+◌, ◌-◌, ◌<�
 use Rattle.std.proofs.lemmas.Bool.{cases_lt}
 use Rattle.std.proofs.lemmas.Option.{slice_get-get_or, slice_get_within}
 use Rattle.kiss_file.specs.declared.file.KissFile.{KissFile}
-use Rattle.machine_table.specs.Staying.{NeverLeaves}
+use Rattle.machine_table.specs.NextStates.{NeverLeaves}
 use Rattle.pair_operators.specs.Extremes.{IsHigh}
 use Rattle.partition.specs.Partition.{IsPartition}
 use Rattle.shift_real.specs.Chain.{AreTogetherAfter, IsChain, TellsAfter}
-use Rattle.shift_real.specs.Definite.{AreFirstApart, Definite, IsOrder}
+use Rattle.shift_real.specs.DefiniteMachine.{AreFirstApart, Definite, IsOrder}
 use Rattle.shift_real.proofs.Telling.{kept_apart}
 
 -- there is a member

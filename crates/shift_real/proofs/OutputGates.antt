@@ -16,9 +16,9 @@ use Rattle.cubes.specs.Symbol.{bit, number_of, symbol_of}
 use Rattle.cubes.specs.Laws.Bits.{same_bits}
 use Rattle.cubes.specs.Laws.Numbers.{length-symbol_of, number_below, symbol_of-number_of}
 use Rattle.dependence.specs.declared.sets.ReadSet.{ReadSet}
-use Rattle.dependence.specs.Listed.{AreListed}
+use Rattle.dependence.specs.BitLists.{AreListed}
 use Rattle.dependence.specs.Inputs.{DifferAlone}
-use Rattle.dependence.specs.Permits.{InWord}
+use Rattle.dependence.specs.SufficientBits.{InWord}
 use Rattle.gate_rows.specs.declared.demands.Demand.{Demand}
 use Rattle.gate_rows.specs.Columns.{column_count, column_values, input_of}
 use Rattle.gate_rows.specs.Covers.{IsGoodCover}
@@ -33,9 +33,9 @@ use Rattle.net_core.specs.declared.SignalNames.{SignalNames}
 use Rattle.net_core.specs.Laws.Valuations.{parts_of_append}
 use Rattle.shift_real.specs.Gates.{GivesAfter, InputMatters, IsOutputGate, IsReadAfter, LatchMatters, output_after}
 use Rattle.shift_real.specs.Inner.ContentDemands.{AreClassDemands, IsClassDemand, IsWithinMask}
-use Rattle.shift_real.specs.declared.reading.OutputReading.{OutputReading}
+use Rattle.shift_real.specs.declared.output_reads.OutputReading.{OutputReading}
 use Rattle.shift_real.specs.Inner.OutputReading.{IsOutputReading}
-use Rattle.shift_real.specs.Inner.Reading.{FlipMatters, MattersAmong}
+use Rattle.shift_real.specs.Inner.OutputReads.{FlipMatters, MattersAmong}
 use Rattle.shift_real.specs.Inner.Tables.{AreFirsts, IsStateTable, content_of, word_of}
 use Rattle.shift_real.specs.Register.{latch_values}
 use Rattle.shift_real.specs.Words.{IsWord}

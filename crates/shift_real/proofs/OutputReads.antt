@@ -15,7 +15,7 @@ use Rattle.gate_rows.proofs.ReadNumbers.{code_at}
 use Rattle.kiss_file.specs.declared.file.KissFile.{KissFile}
 use Rattle.kiss_file.specs.Machine.{output_bit}
 use Rattle.shift_real.specs.Gates.{InputMatters, LatchMatters}
-use Rattle.shift_real.specs.Inner.Reading.{FlipMatters, MattersAmong}
+use Rattle.shift_real.specs.Inner.OutputReads.{FlipMatters, MattersAmong}
 use Rattle.shift_real.specs.Inner.Tables.{AreFirsts, IsFirstAlike, IsStateTable, content_of, state_at}
 use Rattle.shift_real.specs.Register.{latch_values}
 use Rattle.shift_real.proofs.Alike.{one_class, one_first}

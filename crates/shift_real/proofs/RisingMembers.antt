@@ -4,12 +4,12 @@ use Rattle.std.proofs.lemmas.Option.{slice_get_within}
 use Rattle.list_facts.specs.Laws.Places.{get_behind, get_cases, get_first}
 use Rattle.partition.specs.Laws.Blocks.{strictly_fewer}
 use Rattle.kiss_file.specs.declared.file.KissFile.{KissFile}
-use Rattle.machine_table.specs.Staying.{NeverLeaves}
+use Rattle.machine_table.specs.NextStates.{NeverLeaves}
 use Rattle.pair_operators.specs.Extremes.{IsHigh}
 use Rattle.partition.specs.Laws.Labels.{blocks_of-le, label-lt-blocks_of, same_labels}
 use Rattle.partition.specs.Partition.{IsPartition, IsZero, Le, Lt, blocks_of}
 use Rattle.shift_real.specs.Chain.{IsChain, TellsAfter}
-use Rattle.shift_real.specs.Inner.Rising.{IsRising, IsRisingTo}
+use Rattle.shift_real.specs.Inner.RisingChain.{IsRising, IsRisingTo}
 use Rattle.shift_real.proofs.Telling.{high_tells, tells_below, zero_tells}
 
 -- ---- the last of a list

@@ -16,20 +16,20 @@ use Rattle.gate_rows.specs.Latches.{AreLatches}
 use Rattle.gate_rows.specs.Names.{name_at}
 use Rattle.kiss_file.specs.declared.file.KissFile.{KissFile}
 use Rattle.kiss_file.specs.Machine.{answers, out, output_bit}
-use Rattle.machine_table.specs.Staying.{NeverLeaves}
+use Rattle.machine_table.specs.NextStates.{NeverLeaves}
 use Rattle.net_core.specs.declared.Gate.{Gate}
 use Rattle.net_core.specs.declared.Latch.{Latch}
 use Rattle.net_core.specs.declared.Network.{Network}
 use Rattle.net_core.specs.declared.SignalNames.{SignalNames}
-use Rattle.net_core.specs.Flat.{base_of}
-use Rattle.net_core.specs.Sound.{Sound, driven_by, drivers_of}
+use Rattle.net_core.specs.FlatNetwork.{base_of}
+use Rattle.net_core.specs.SoundNetwork.{Sound, driven_by, drivers_of}
 use Rattle.net_core.specs.Step.{AreStarts, Gives, IsValuation, NetAnswers, gate_value, row_holds}
 use Rattle.net_core.specs.Laws.Flat.{flat_sound, given_step}
 use Rattle.net_core.specs.Laws.Members.{times, times-append}
 use Rattle.net_core.specs.Laws.Valuations.{FitsGate}
-use Rattle.shift_real.specs.Inner.Along.{outputs_along}
+use Rattle.shift_real.specs.Inner.Positions.{outputs_along}
 use Rattle.shift_real.proofs.Along.{answers_from}
-use Rattle.shift_real.specs.Definite.{Definite, IsOrder}
+use Rattle.shift_real.specs.DefiniteMachine.{Definite, IsOrder}
 use Rattle.shift_real.specs.Gates.{IsOutputGate, output_after, taking, values_read}
 use Rattle.shift_real.specs.Inner.Latches.{AddsOutputGates, IsOutputGateAt, latch_gate, taken_by}
 use Rattle.shift_real.specs.Inner.ShiftGates.{AreShiftGates, IsShiftNetwork}

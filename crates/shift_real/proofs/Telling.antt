@@ -3,10 +3,10 @@ use Rattle.std.proofs.Common.{◌≡◌, ℕ, zero, suc, ◌+◌, ◌<◌, inl, 
 use Rattle.std.proofs.lemmas.Bool.{cases_eq, cases_lt}
 use Rattle.kiss_file.specs.declared.file.KissFile.{KissFile}
 use Rattle.kiss_file.specs.Machine.{next}
-use Rattle.machine_table.specs.Staying.{NeverLeaves}
+use Rattle.machine_table.specs.NextStates.{NeverLeaves}
 use Rattle.partition.specs.Laws.Holds.{hold_exists}
 use Rattle.pair_operators.specs.Extremes.{IsHigh}
-use Rattle.pair_operators.specs.Going.{Goes}
+use Rattle.pair_operators.specs.NextBlocks.{Goes}
 use Rattle.pair_operators.specs.Laws.Going.{goes_each, goes_from, goes_itself, goes_turned}
 use Rattle.partition.specs.Laws.Chains.{together_turned}
 use Rattle.partition.specs.Partition.{IsHold, IsPartition, IsZero, Le, Together}

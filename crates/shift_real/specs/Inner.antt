@@ -1,9 +1,9 @@
 -- Definitions that private functions and proofs need; no public contract cites them.
-pub mod Along
-pub mod Rising
+pub mod Positions
+pub mod RisingChain
 pub mod Contents
 pub mod Tables
-pub mod Reading
+pub mod OutputReads
 pub mod ContentDemands
 pub mod DemandedGate
 pub mod Latches

@@ -3,8 +3,8 @@ pub mod StartContent
 use Rattle.std.specs.Prelude.{◌≡◌, ℕ, ◌*◌, ◌<◌, ◌++◌, Bool, List, length, take}
 use Rattle.kiss_file.specs.declared.file.KissFile.{KissFile}
 use Rattle.kiss_file.specs.Machine.{next}
-use Rattle.machine_table.specs.Staying.{NeverLeaves}
-use Rattle.shift_real.specs.Definite.{Definite}
+use Rattle.machine_table.specs.NextStates.{NeverLeaves}
+use Rattle.shift_real.specs.DefiniteMachine.{Definite}
 use Rattle.shift_real.specs.Register.{latch_values, shifted, state_after}
 use Rattle.shift_real.specs.Words.{IsWord, next_along}
 

@@ -1,5 +1,5 @@
 pub mod Words
-pub mod Definite
+pub mod DefiniteMachine
 pub mod Chain
 pub mod Register
 pub mod Start

@@ -3,7 +3,7 @@
 use Rattle.std.specs.Prelude.{◌≡◌, ◌≢◌, ℕ, ◌*◌, ◌≤◌, ◌++◌, Bool, List, [], ◌∷◌}
 use Rattle.cubes.specs.Symbol.{number_of}
 use Rattle.kiss_file.specs.declared.file.KissFile.{KissFile}
-use Rattle.shift_real.specs.Definite.{IsOrder}
+use Rattle.shift_real.specs.DefiniteMachine.{IsOrder}
 use Rattle.shift_real.specs.Words.{IsWord, next_along}
 
 -- a machine with an order, whose register has few bits

@@ -4,7 +4,7 @@ use Rattle.cubes.specs.Symbol.{lowest_bits}
 use Rattle.kiss_file.specs.declared.file.KissFile.{KissFile}
 use Rattle.shift_real.specs.declared.starts.RegisterFail.{RegisterFail}
 use Rattle.shift_real.specs.declared.starts.RegisterFail.TheVariants.{NotReached, NoMemory}
-use Rattle.shift_real.specs.Definite.{IsOrder}
+use Rattle.shift_real.specs.DefiniteMachine.{IsOrder}
 use Rattle.shift_real.specs.Register.{IsNotReached, IsStartContent, latch_values}
 
 -- the bits of the number are the latch values of the start content, latch i at 2 ^ i

@@ -1,6 +1,24 @@
 //! What a register of the last symbols can hold.
 
-ghost use Rattle.std.specs.Prelude.{◌≡◌, ◌≢◌, ℕ, ◌+◌, ◌*◌, ◌^◌, ◌<◌, ◌≤◌, ◌++◌, All, IfNone, IfOk, IfSome, OnOk, length, slice_get, Some};
+ghost use Rattle.std.specs.Prelude.{
+  ◌≡◌,
+  ◌≢◌,
+  ℕ,
+  ◌+◌,
+  ◌*◌,
+  ◌^◌,
+  ◌<◌,
+  ◌≤◌,
+  ◌++◌,
+  All,
+  IfNone,
+  IfOk,
+  IfSome,
+  OnOk,
+  length,
+  slice_get,
+  Some,
+};
 ghost use Rattle.std.specs.List.{flat_map};
 ghost use Rattle.shift_real.specs.declared.contents.Content.{Content};
 ghost use Rattle.shift_real.specs.Inner.Contents.{AreContents, contents_after, turned_bits};
@@ -79,9 +97,12 @@ fn turned(x: u32, inputs: u8) -> u64
 /// The place of the first content after which the machine is in this state.
 pub(crate) fn first_reaching(contents: &[Content], state: usize) -> Option<usize>
     ensures within { IfSome result (λ i. i < length contents.now) }
-    ensures some { IfSome result (λ i. (content : Content) → slice_get contents.now i ≡ Some content → content.state ≡ state) }
-    ensures first { IfSome result (λ i. (j : ℕ) (content : Content) → j < i → slice_get contents.now j ≡ Some content → content.state ≢ state) }
-    ensures none { IfNone result ((j : ℕ) (content : Content) → slice_get contents.now j ≡ Some content → content.state ≢ state) }
+    ensures some { IfSome result
+        (λ i. (content : Content) → slice_get contents.now i ≡ Some content → content.state ≡ state) }
+    ensures first { IfSome result
+        (λ i. (j : ℕ) (content : Content) → j < i → slice_get contents.now j ≡ Some content → content.state ≢ state) }
+    ensures none { IfNone result
+        ((j : ℕ) (content : Content) → slice_get contents.now j ≡ Some content → content.state ≢ state) }
 {
     for (i, content) in contents.iter().enumerate() {
         if usize::from(content.state) == state {

@@ -47,7 +47,8 @@ fn add_class(
     requires output { b < m.now.outputs }
     requires class { class < length m.now.states }
     requires before { AreClassDemands m.now b classes.now (IsOfClassBelow classes.now mask class) demands.old.items }
-    ensures { OnOk result (AreClassDemands m.now b classes.now (IsOfClassBelow classes.now mask (class + 1)) demands.new.items) }
+    ensures { OnOk result
+        (AreClassDemands m.now b classes.now (IsOfClassBelow classes.now mask (class + 1)) demands.new.items) }
 {
     let _outputs = m.outputs();
     let rows = filled_rows(alloc, m, class)?;

@@ -24,7 +24,7 @@
 //! The definitions are in `specs/`:
 //!
 //! - `Words` has words and the states after them;
-//! - `Definite` has definite machines and their orders;
+//! - `DefiniteMachine` has definite machines and their orders;
 //! - `Chain` has the chain;
 //! - `Register` has the contents of the register, and `Start` what it starts at;
 //! - `Gates` says what the gates read and give;
@@ -41,7 +41,7 @@ mod latches;
 mod laws;
 mod orders;
 mod output_gates;
-mod reading;
+mod output_reads;
 mod registers;
 mod starts;
 mod tables;

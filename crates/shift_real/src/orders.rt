@@ -1,7 +1,7 @@
 //! The order of a definite machine.
 
 ghost use Rattle.std.specs.Prelude.{◌≡◌, ◌≢◌, ℕ, ◌<◌, IfErr, IfNone, IfOk, IfSome, length, slice_index};
-ghost use Rattle.shift_real.specs.Definite.{IsOrder, IsOrderCause};
+ghost use Rattle.shift_real.specs.DefiniteMachine.{IsOrder, IsOrderCause};
 
 use crate::chains::chain;
 use machine_table::Machine;

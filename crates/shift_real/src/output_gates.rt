@@ -7,11 +7,11 @@ ghost use Rattle.shift_real.specs.Gates.{IsOutputGate};
 ghost use Rattle.shift_real.specs.ShiftNetwork.{AreNamesFor};
 ghost use Rattle.shift_real.specs.Inner.DemandedGate.{IsGateOfDemands};
 ghost use Rattle.shift_real.specs.Inner.Latches.{AddsOutputGates};
-ghost use Rattle.shift_real.specs.Inner.Reading.{AreEffectsAfter};
+ghost use Rattle.shift_real.specs.Inner.OutputReads.{AreEffectsAfter};
 ghost use Rattle.shift_real.specs.Inner.Tables.{IsStateTable};
 
 use crate::demands::content_demands;
-use crate::reading::{effects_after, output_reading};
+use crate::output_reads::{effects_after, output_reading};
 use dependence::{Effect, ReadSet};
 use gate_rows::{Demand, demanded_rows, listed_names, name_from};
 use hs_io::Names;

@@ -1,8 +1,8 @@
 //! The network of a shift register.
 
 ghost use Rattle.std.specs.Prelude.{ℕ, IfErr, IfOk, OnOk};
-ghost use Rattle.net_core.specs.Sound.{Sound};
-ghost use Rattle.shift_real.specs.Definite.{IsOrder};
+ghost use Rattle.net_core.specs.SoundNetwork.{Sound};
+ghost use Rattle.shift_real.specs.DefiniteMachine.{IsOrder};
 ghost use Rattle.shift_real.specs.Register.{HasShortOrder};
 ghost use Rattle.shift_real.specs.ShiftNetwork.{AnswersAs, AreNamesFor, IsRegister, StepsAlong};
 ghost use Rattle.shift_real.specs.Start.{IsRegisterCause};

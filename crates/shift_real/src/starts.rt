@@ -1,7 +1,7 @@
 //! What the register of a definite machine starts at.
 
 ghost use Rattle.std.specs.Prelude.{◌≡◌, ℕ, IfErr, IfOk};
-ghost use Rattle.shift_real.specs.Definite.{IsOrder};
+ghost use Rattle.shift_real.specs.DefiniteMachine.{IsOrder};
 ghost use Rattle.shift_real.specs.Register.{HasShortOrder};
 ghost use Rattle.shift_real.specs.Start.{IsRegisterCause, WritesStart};
 ghost use Rattle.shift_real.specs.Inner.RegisterContents.{AreRegisterContents};

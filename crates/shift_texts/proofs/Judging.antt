@@ -1,7 +1,7 @@
 -- Which refusals are called for, and which are not.
 use Rattle.std.proofs.Common.{◌*◌, ◌≤◌, ℕ, Bool, [], ◌∷◌, ap, arith, inl, inr, subst}
 use Rattle.answers.specs.Cause.{CallsForNone}
-use Rattle.answers.specs.Judged.{IsStop}
+use Rattle.answers.specs.Outcome.{IsStop}
 use Rattle.answers.specs.Laws.Causes.{none_first}
 use Rattle.answers.specs.declared.refusals.Refusal.{Refusal}
 use Rattle.state_reduce.specs.declared.work.WorkMachine.{WorkMachine}
@@ -10,7 +10,7 @@ use Rattle.state_reduce.specs.Work.{IsWork, IsWorkOf}
 use Rattle.kiss_file.specs.declared.file.KissFile.{KissFile}
 use Rattle.machine_reports.specs.Causes.{KeepsApart}
 use Rattle.machine_reports.proofs.Defining.{none_apart}
-use Rattle.shift_real.specs.Definite.{IsOrder}
+use Rattle.shift_real.specs.DefiniteMachine.{IsOrder}
 use Rattle.shift_real.specs.Register.{HasShortOrder}
 use Rattle.shift_real.specs.Laws.StartContent.{order_once}
 use Rattle.shift_texts.specs.Causes.{HasLongRegister, HasNoRegister, HasNoShortOrder, NeverInReset, RefusesShift}

@@ -8,15 +8,15 @@ use Rattle.state_reduce.specs.Work.{IsWork}
 use Rattle.decomposition.proofs.Carrying.{IsImage, image_of}
 use Rattle.decomposition.proofs.Writable.{AreSignalNames, file_names}
 use Rattle.kiss_file.specs.declared.file.KissFile.{KissFile}
-use Rattle.kiss_file.specs.Lawful.{IsLawful}
+use Rattle.kiss_file.specs.LawfulFile.{IsLawful}
 use Rattle.kiss_file.specs.Machine.{Conflicting, answers}
 use Rattle.net_core.specs.declared.Network.{Network}
 use Rattle.net_core.specs.declared.SignalNames.{SignalNames}
-use Rattle.net_core.specs.Sound.{Sound}
+use Rattle.net_core.specs.SoundNetwork.{Sound}
 use Rattle.net_core.specs.Step.{NetAnswers}
 use Rattle.realise.specs.Names.{AreNames}
 use Rattle.realise.specs.Laws.Apart.{names_apart}
-use Rattle.shift_real.specs.Definite.{IsOrder}
+use Rattle.shift_real.specs.DefiniteMachine.{IsOrder}
 use Rattle.shift_real.specs.Register.{HasShortOrder, IsNotReached}
 use Rattle.shift_real.specs.ShiftNetwork.{AnswersAs, AreNamesFor, IsRegister, StepsAlong}
 use Rattle.shift_real.specs.Laws.StartContent.{order_once}

@@ -5,7 +5,7 @@ use Rattle.answers.specs.declared.refusals.Refusal.TheVariants.{CodeTooLong, Not
 use Rattle.state_reduce.specs.Work.{OnWork}
 use Rattle.kiss_file.specs.declared.file.KissFile.{KissFile}
 use Rattle.machine_reports.specs.Causes.{KeepsApart}
-use Rattle.shift_real.specs.Definite.{IsOrder}
+use Rattle.shift_real.specs.DefiniteMachine.{IsOrder}
 use Rattle.shift_real.specs.Register.{IsNotReached}
 
 -- a register of as many symbols as the order has more than 12 bits

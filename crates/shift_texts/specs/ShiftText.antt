@@ -13,7 +13,7 @@ use Rattle.kiss_file.specs.declared.file.KissFile.{KissFile}
 use Rattle.net_core.specs.declared.Network.{Network}
 use Rattle.net_core.specs.declared.SignalNames.{SignalNames}
 use Rattle.realise.specs.Names.{AreNames}
-use Rattle.shift_real.specs.Definite.{IsOrder}
+use Rattle.shift_real.specs.DefiniteMachine.{IsOrder}
 use Rattle.shift_real.specs.ShiftNetwork.{AnswersAs, IsRegister, StepsAlong}
 use Rattle.shift_texts.specs.declared.registers.OrderedRegister.{OrderedRegister}
 

@@ -1,11 +1,11 @@
 //! The network of the register of a machine that is worked on.
 
 ghost use Rattle.std.specs.Prelude.{ℕ, Bool, IfOk};
-ghost use Rattle.answers.specs.Judged.{IsJudged};
+ghost use Rattle.answers.specs.Outcome.{IsJudged};
 ghost use Rattle.state_reduce.specs.Work.{IsWork};
-ghost use Rattle.kiss_file.specs.Lawful.{IsLawful};
+ghost use Rattle.kiss_file.specs.LawfulFile.{IsLawful};
 ghost use Rattle.kiss_file.specs.Machine.{Conflicting};
-ghost use Rattle.shift_real.specs.Definite.{IsOrder};
+ghost use Rattle.shift_real.specs.DefiniteMachine.{IsOrder};
 ghost use Rattle.shift_real.specs.Register.{HasShortOrder, IsNotReached};
 ghost use Rattle.shift_texts.specs.Causes.{NeverInReset};
 ghost use Rattle.shift_texts.specs.Inner.Registers.{IsRegisterOf};

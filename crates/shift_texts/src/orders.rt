@@ -1,7 +1,7 @@
 //! The order of a machine whose register has few bits.
 
 ghost use Rattle.std.specs.Prelude.{Bool};
-ghost use Rattle.answers.specs.Judged.{IsJudged};
+ghost use Rattle.answers.specs.Outcome.{IsJudged};
 ghost use Rattle.state_reduce.specs.Work.{IsWork};
 ghost use Rattle.shift_real.specs.Register.{HasShortOrder};
 ghost use Rattle.shift_texts.specs.Causes.{HasNoShortOrder};

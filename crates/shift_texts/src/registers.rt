@@ -1,9 +1,9 @@
 //! The register of a file's machine.
 
 ghost use Rattle.std.specs.Prelude.{◌≡◌, Bool, IfOk};
-ghost use Rattle.answers.specs.Judged.{IsJudged};
+ghost use Rattle.answers.specs.Outcome.{IsJudged};
 ghost use Rattle.blif_out.specs.NetworkText.{CanBeText};
-ghost use Rattle.kiss_file.specs.Lawful.{IsLawful};
+ghost use Rattle.kiss_file.specs.LawfulFile.{IsLawful};
 ghost use Rattle.kiss_file.specs.Machine.{Accepted, Conflicting};
 ghost use Rattle.state_reduce.specs.Work.{IsWork};
 ghost use Rattle.shift_texts.specs.Causes.{RefusesShift};
@@ -40,7 +40,8 @@ pub fn shift(
     requires lawful { IsLawful file.now }
     requires accepted { Accepted file.now fill }
     requires machine { machine ≡ file.now }
-    ensures { IsJudged (RefusesShift reduce file.now) (λ made. CanBeText made × IsShiftNetwork reduce file.now made) result }
+    ensures { IsJudged (RefusesShift reduce file.now)
+        (λ made. CanBeText made × IsShiftNetwork reduce file.now made) result }
 {
     let work = work_machine(alloc, file, machine, fill, reduce)?;
     shift_of(alloc, file, &work)
@@ -52,7 +53,9 @@ fn shift_of(alloc: Global, file: &KissFile, work: &WorkMachine) -> Result<Commen
     requires lawful { IsLawful file.now }
     requires no_conflict { Conflicting file.now → ⊥ }
     requires work { (reduce : Bool) × IsWork reduce file.now work.now }
-    ensures { (reduce : Bool) → IsWork reduce file.now work.now → IsJudged (RefusesShift reduce file.now) (λ made. CanBeText made × IsShiftNetwork reduce file.now made) result }
+    ensures { (reduce : Bool) → IsWork reduce file.now work.now
+        → IsJudged (RefusesShift reduce file.now)
+        (λ made. CanBeText made × IsShiftNetwork reduce file.now made) result }
 {
     let register = register_of_work(alloc, file, work)?;
     Ok(commented(alloc, register)?)
@@ -78,7 +81,8 @@ pub fn register_of_work(
     requires no_conflict { Conflicting file.now → ⊥ }
     requires work { (reduce : Bool) × IsWork reduce file.now work.now }
     ensures { (reduce : Bool) → IsWork reduce file.now work.now
-        → IsJudged (RefusesShift reduce file.now) (λ made. CanBeText (with_comments made) × IsOrderedRegister reduce file.now made) result }
+        → IsJudged (RefusesShift reduce file.now)
+        (λ made. CanBeText (with_comments made) × IsOrderedRegister reduce file.now made) result }
 {
     let order = short_order(alloc, file, work)?;
     let network = register_of(alloc, file, work, order)?;

@@ -4,7 +4,7 @@ use Rattle.std.specs.declared.alloc.AllocError.{AllocError}
 use Rattle.answers.specs.declared.refusals.Refusal.{Refusal}
 use Rattle.answers.specs.declared.refusals.Refusal.TheVariants as refusals
 use Rattle.answers.specs.Cause.{CallsForNone}
-use Rattle.answers.specs.Judged.{IsStop}
+use Rattle.answers.specs.Outcome.{IsStop}
 use Rattle.answers.specs.Laws.Causes.{none_first}
 use Rattle.blif_out.specs.declared.networks.HeadedNetwork.{HeadedNetwork}
 use Rattle.state_reduce.specs.declared.work.WorkMachine.{WorkMachine}
@@ -21,8 +21,8 @@ use Rattle.state_codes.specs.Code.{IsCode}
 use Rattle.state_codes.specs.Fault.{CodeFault, FirstTogether}
 use Rattle.state_codes.specs.Split.{IsPart}
 use Rattle.split_texts.specs.Causes.{HasLongCode, HasNoCode, LeavesTogether}
-use Rattle.split_texts.specs.Inner.Named.{NamesStates}
-use Rattle.split_texts.specs.Written.{AreCodes, IsOfParts}
+use Rattle.split_texts.specs.Inner.NamedStates.{NamesStates}
+use Rattle.split_texts.specs.SplitText.{AreCodes, IsOfParts}
 use Rattle.split_texts.specs.Laws.Causes.{apart_leaves_none, short_has_none}
 use Rattle.split_texts.specs.Laws.Codes.{apart_of_codes}
 

@@ -4,7 +4,7 @@ use Rattle.std.proofs.lemmas.Bool.{cases_lt}
 use Rattle.answers.specs.declared.refusals.Refusal.{Refusal}
 use Rattle.answers.specs.declared.refusals.Refusal.TheVariants.{CodeTooLong}
 use Rattle.answers.specs.Cause.{CallsForNone}
-use Rattle.answers.specs.Judged.{IsJudged, IsStop}
+use Rattle.answers.specs.Outcome.{IsJudged, IsStop}
 use Rattle.answers.specs.Laws.Causes.{none_first}
 use Rattle.blif_out.specs.declared.networks.HeadedNetwork.{HeadedNetwork}
 use Rattle.blif_out.specs.NetworkText.{CanBeHeaded}
@@ -12,7 +12,7 @@ use Rattle.state_reduce.specs.declared.work.WorkMachine.{WorkMachine}
 use Rattle.decomposition.specs.Decomposition.{HasGates, IsDecomposed}
 use Rattle.state_reduce.specs.Work.{IsWork, IsWorkOf}
 use Rattle.kiss_file.specs.declared.file.KissFile.{KissFile}
-use Rattle.kiss_file.specs.Lawful.{IsLawful}
+use Rattle.kiss_file.specs.LawfulFile.{IsLawful}
 use Rattle.kiss_file.specs.Machine.{Conflicting}
 use Rattle.split_texts.specs.Splits.{AreParts, HasNoPlan, IsPlanned, LacksSplit, Refuses}
 use Rattle.split_texts.specs.Laws.Plans.{lacking_is_apart}
@@ -24,7 +24,7 @@ use Rattle.state_codes.specs.declared.split.Split.{Split}
 use Rattle.state_codes.specs.Code.{IsCode}
 use Rattle.state_codes.specs.Fault.{AreApart}
 use Rattle.split_texts.specs.Causes.{HasLongCode, HasNoCode, HasNoText, IsNotWritten, LeavesTogether, OfParts}
-use Rattle.split_texts.specs.Written.{IsOfKind, IsOfParts, KeepsPromises}
+use Rattle.split_texts.specs.SplitText.{IsOfKind, IsOfParts, KeepsPromises}
 use Rattle.split_texts.specs.Laws.Codes.{length_of_codes}
 use Rattle.split_texts.specs.Laws.Causes.{apart_leaves_none, of_parts_none, on_work_none}
 use Rattle.split_texts.proofs.Listing.{read_by_rule}

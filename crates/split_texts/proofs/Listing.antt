@@ -9,18 +9,18 @@ use Rattle.decomposition.proofs.Reading.{listed_read, read_listed}
 use Rattle.decomposition.proofs.Whole.{apart, counted}
 use Rattle.dependence.specs.declared.sets.ReadSet.{ReadSet}
 use Rattle.dependence.specs.Candidates.{IsBitOfCode, IsCandidate}
-use Rattle.dependence.specs.Permits.{next_value, output_value}
+use Rattle.dependence.specs.SufficientBits.{next_value, output_value}
 use Rattle.dependence.specs.Reads.{IsReadSet}
 use Rattle.kiss_file.specs.declared.file.KissFile.{KissFile}
-use Rattle.kiss_file.specs.Lawful.{IsLawful}
+use Rattle.kiss_file.specs.LawfulFile.{IsLawful}
 use Rattle.kiss_file.specs.Machine.{Conflicting}
 use Rattle.net_core.specs.declared.Gate.{Gate}
 use Rattle.net_core.specs.declared.Network.{Network}
 use Rattle.realise.specs.Laws.{ArePairwiseDistinct}
-use Rattle.realise.specs.Realised.{AreCounted, HasGate, IsGateFor, IsWithin, name_at}
+use Rattle.realise.specs.CodeNetwork.{AreCounted, HasGate, IsGateFor, IsWithin, name_at}
 use Rattle.state_codes.specs.declared.Codes.{Codes}
 use Rattle.state_codes.specs.declared.split.Part.{Part}
-use Rattle.split_texts.specs.Inner.ByRule.{HasReads, ReadByRule}
+use Rattle.split_texts.specs.Inner.RuleReads.{HasReads, ReadByRule}
 
 -- a set by the rule has inputs of the machine and bits of the code
 set_within : (W : KissFile) (words : List ℕ) (bits : ℕ) (Candidate : ℕ → Type 0) (value : ℕ → List Bool → Bool) (set : ReadSet) → ((c : ℕ) → Candidate c → c < bits) → IsReadSet W words Candidate value set → IsWithin W.inputs bits set

@@ -2,7 +2,7 @@
 use Rattle.std.proofs.Common.{◌≡◌, ℕ, ◌<◌, ◌≤◌, ◌↔◌, All, Global, List, Ok, Option, Some, None, IfSome, IsNone, Vec, length, sym, ap, ◌∙◌, subst}
 use Rattle.std.specs.Vec.{vec_len}
 use Rattle.answers.specs.Cause.{CallsForNone}
-use Rattle.answers.specs.Judged.{IsJudged}
+use Rattle.answers.specs.Outcome.{IsJudged}
 use Rattle.kiss_file.specs.declared.file.KissFile.{KissFile}
 use Rattle.operands.specs.PartFaults.{BadParts}
 use Rattle.operands.specs.PartTexts.{ArePartTexts}
@@ -13,10 +13,10 @@ use Rattle.state_codes.specs.declared.split.Kind.{Kind}
 use Rattle.state_codes.specs.declared.split.Kind.TheVariants.{Assign}
 use Rattle.state_codes.specs.declared.split.Split.{Split}
 use Rattle.state_codes.specs.Split.{IsPart, given_parts}
-use Rattle.split_texts.specs.Given.{HasFewParts}
+use Rattle.split_texts.specs.GivenParts.{HasFewParts}
 use Rattle.split_texts.specs.Kinds.{row_of}
 use Rattle.split_texts.specs.Splits.{IsPlanned, Refuses}
-use Rattle.split_texts.specs.Inner.Found.{IsFound}
+use Rattle.split_texts.specs.Inner.SearchResult.{IsFound}
 use Rattle.split_texts.specs.Laws.Parts.{few_partitions}
 
 -- ---- parts that are found

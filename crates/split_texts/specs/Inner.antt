@@ -1,4 +1,4 @@
 -- Definitions that only private functions and proofs need.
-pub mod Found
-pub mod ByRule
-pub mod Named
+pub mod SearchResult
+pub mod RuleReads
+pub mod NamedStates

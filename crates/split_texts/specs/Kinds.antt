@@ -20,7 +20,7 @@ use Rattle.state_codes.specs.declared.Codes.{Codes}
 use Rattle.state_codes.specs.declared.split.Kind.{Kind}
 use Rattle.state_codes.specs.declared.split.Kind.TheVariants.{Code, Assign, Parallel, Serial, Cascade, Feedback, Least}
 use Rattle.state_codes.specs.declared.split.Part.{Part}
-use Rattle.split_texts.specs.Given.{AreGivenParts, code_parts}
+use Rattle.split_texts.specs.GivenParts.{AreGivenParts, code_parts}
 use Rattle.split_texts.specs.LeastNetwork.{HasOtherCount, IsLeastNetwork}
 
 -- What is stated for each kind, of the operand PARTS, a machine and parts of it:

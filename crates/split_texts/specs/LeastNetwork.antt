@@ -4,7 +4,7 @@ use Rattle.answers.specs.declared.refusals.Refusal.TheVariants.{StateCount}
 use Rattle.answers.specs.Cause.{Cause}
 use Rattle.decomposition.specs.OwnPairs.{ReadsLatch}
 use Rattle.dependence.specs.Candidates.{IsBitOfCode}
-use Rattle.dependence.specs.Permits.{next_value, output_value}
+use Rattle.dependence.specs.SufficientBits.{next_value, output_value}
 use Rattle.kiss_file.specs.declared.file.KissFile.{KissFile}
 use Rattle.least_codes.specs.LeastCode.{IsLeastCode}
 use Rattle.least_codes.specs.LeastReads.{AreLeastReads}

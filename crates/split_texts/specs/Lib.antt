@@ -1,8 +1,8 @@
-pub mod Given
+pub mod GivenParts
 pub mod LeastNetwork
 pub mod Kinds
 pub mod Splits
 pub mod Causes
-pub mod Written
+pub mod SplitText
 pub mod Inner
 pub mod Laws

@@ -1,18 +1,18 @@
 //! A decomposition of the machine of a file.
 
 ghost use Rattle.std.specs.Prelude.{◌≡◌, Bool};
-ghost use Rattle.answers.specs.Judged.{IsJudged};
+ghost use Rattle.answers.specs.Outcome.{IsJudged};
 ghost use Rattle.blif_out.specs.NetworkText.{CanBeHeaded};
-ghost use Rattle.kiss_file.specs.Lawful.{IsLawful};
+ghost use Rattle.kiss_file.specs.LawfulFile.{IsLawful};
 ghost use Rattle.kiss_file.specs.Machine.{Accepted, Conflicting};
-ghost use Rattle.split_texts.specs.Given.{HasFewParts};
+ghost use Rattle.split_texts.specs.GivenParts.{HasFewParts};
 ghost use Rattle.split_texts.specs.Causes.{IsNotWritten};
-ghost use Rattle.split_texts.specs.Written.{IsOfKind};
+ghost use Rattle.split_texts.specs.SplitText.{IsOfKind};
 ghost use Rattle.state_reduce.specs.Work.{IsWork};
 ghost use Rattle.state_codes.specs.declared.split.Kind.TheVariants as kinds;
 
+use crate::networks::network_of_plan;
 use crate::plans::plan;
-use crate::writing::network_of_plan;
 use answers::Refusal;
 use blif_out::HeadedNetwork;
 use kiss_file::{Fill, KissFile};
@@ -36,7 +36,8 @@ pub fn decompose(
     requires lawful { IsLawful file.now }
     requires accepted { Accepted file.now fill }
     requires machine { machine ≡ file.now }
-    ensures { IsJudged (IsNotWritten kind text.now reduce file.now) (λ made. CanBeHeaded made × IsOfKind kind text.now reduce file.now made) result }
+    ensures { IsJudged (IsNotWritten kind text.now reduce file.now)
+        (λ made. CanBeHeaded made × IsOfKind kind text.now reduce file.now made) result }
 {
     let work = work_machine(alloc, file, machine, fill, reduce)?;
     decompose_work(alloc, kind, text, file, &work)
@@ -56,7 +57,8 @@ pub fn decompose_work(
     requires no_conflict { Conflicting file.now → ⊥ }
     requires work { (reduce : Bool) × IsWork reduce file.now work.now }
     ensures { (reduce : Bool) → IsWork reduce file.now work.now
-        → IsJudged (IsNotWritten kind text.now reduce file.now) (λ made. CanBeHeaded made × IsOfKind kind text.now reduce file.now made) result }
+        → IsJudged (IsNotWritten kind text.now reduce file.now)
+        (λ made. CanBeHeaded made × IsOfKind kind text.now reduce file.now made) result }
 {
     let split = plan(alloc, kind, text, &work.machine)?;
     network_of_plan(alloc, file, work, split)

@@ -14,14 +14,14 @@
 //! [`decompose`] makes the machine that a command works on, plans its split, and gives its network with the header
 //! that explains it; [`decompose_work`] does so on a machine that is there already. [`codes_of`] gives the codes of a split, or the refusal that says why it has none, and
 //! [`network_of_codes`] gives its network. `specs/Causes` says which refusals a machine without a decomposition calls
-//! for, in their order. `specs/Written` says what holds of the network, its header and their text; it is the
+//! for, in their order. `specs/SplitText` says what holds of the network, its header and their text; it is the
 //! headline. `specs/LeastNetwork` has the promises of the least code.
 #![tactic(auto)]
 
 mod decompositions;
+mod networks;
 mod plans;
-mod writing;
 
 pub use decompositions::{decompose, decompose_work};
+pub use networks::{codes_of, network_of_codes, network_of_plan};
 pub use plans::plan;
-pub use writing::{codes_of, network_of_codes, network_of_plan};

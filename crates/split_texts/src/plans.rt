@@ -1,10 +1,10 @@
 //! The split of a kind, or the refusal that there is none.
 
 ghost use Rattle.std.specs.Prelude.{◌≡◌, ℕ, IfOk, List};
-ghost use Rattle.answers.specs.Judged.{IsJudged};
+ghost use Rattle.answers.specs.Outcome.{IsJudged};
 ghost use Rattle.state_codes.specs.declared.split.Kind.TheVariants as kinds;
-ghost use Rattle.split_texts.specs.Given.{HasFewParts};
-ghost use Rattle.split_texts.specs.Inner.Found.{IsFound};
+ghost use Rattle.split_texts.specs.GivenParts.{HasFewParts};
+ghost use Rattle.split_texts.specs.Inner.SearchResult.{IsFound};
 ghost use Rattle.split_texts.specs.Splits.{HasNoPlan, IsPlanned, Refuses};
 
 use answers::Refusal;
@@ -55,7 +55,8 @@ fn natural(alloc: Global, machine: &Machine) -> Result<Split, AllocError>
 /// The split into the partitions of PARTS.
 fn assigned(alloc: Global, text: &[u8], machine: &Machine) -> Result<Split, Refusal>
     requires { HasFewParts text.now }
-    ensures { IsJudged (Refuses kinds.Assign text.now machine.now) (IsPlanned kinds.Assign text.now machine.now) result }
+    ensures { IsJudged (Refuses kinds.Assign text.now machine.now)
+        (IsPlanned kinds.Assign text.now machine.now) result }
 {
     let parts = read_parts(alloc, text, machine.states())?;
     Ok(given(alloc, parts)?)
@@ -63,7 +64,8 @@ fn assigned(alloc: Global, text: &[u8], machine: &Machine) -> Result<Split, Refu
 
 /// The split of the least code, which is sought for 3 to 8 states.
 fn least(alloc: Global, machine: &Machine) -> Result<Split, Refusal>
-    ensures { (text : List ℕ) → IsJudged (Refuses kinds.Least text machine.now) (IsPlanned kinds.Least text machine.now) result }
+    ensures { (text : List ℕ)
+        → IsJudged (Refuses kinds.Least text machine.now) (IsPlanned kinds.Least text machine.now) result }
 {
     let states = machine.states();
     if states < 3 || states > 8 {

@@ -3,7 +3,7 @@ use Rattle.std.specs.Prelude.{◌≡◌, ℕ, zero, suc, ◌^◌, ◌<◌, ◌�
 use Rattle.std.specs.List.{AllZip, position_or_len, range_with_len}
 use Rattle.std.specs.Int.{bit_at}
 use Rattle.partition.specs.Partition.{blocks_of}
-use Rattle.partition.specs.Inside.{IsInside}
+use Rattle.partition.specs.NestedBlocks.{IsInside}
 use Rattle.state_codes.specs.declared.split.Part.{Part}
 use Rattle.state_codes.specs.declared.Codes.{Codes}
 

@@ -1,13 +1,27 @@
 //! Codes as they are made: bit after bit, for all states at once.
 
-ghost use Rattle.std.specs.Prelude.{◌≡◌, ℕ, ◌+◌, ◌<◌, ◌≤◌, ◌∷◌, [], ◌==◌, if◌then◌else◌, All, length, slice_index, IfOk};
+ghost use Rattle.std.specs.Prelude.{
+  ◌≡◌,
+  ℕ,
+  ◌+◌,
+  ◌<◌,
+  ◌≤◌,
+  ◌∷◌,
+  [],
+  ◌==◌,
+  if◌then◌else◌,
+  All,
+  length,
+  slice_index,
+  IfOk,
+};
 ghost use Rattle.std.specs.Int.{bit_at};
 ghost use Rattle.partition.specs.Partition.{blocks_of};
 ghost use Rattle.state_codes.specs.Split.{IsPart};
 ghost use Rattle.state_codes.specs.Code.{need, AreInside, label_places, places_of, IsLaidOut};
 ghost use Rattle.state_codes.specs.Inner.Draft.{Adds};
 
-use crate::coding::needed_bits;
+use crate::encoder::needed_bits;
 use crate::{BitOwners, CarrierMarks, CodeWords, Codes, Part};
 use partition::Partition;
 use std::alloc::{AllocError, Global};

@@ -16,12 +16,12 @@
 //! these facts for callers.
 #![tactic(auto)]
 
-mod coding;
 mod draft;
+mod encoder;
 mod laws;
 mod split;
 
-pub use coding::encode;
+pub use encoder::encode;
 use hs_list::Items;
 pub use laws::{bits_halve, carrier_bits_tell, codes_are_one, need_is_least, part_bits_tell};
 pub use split::{Kind, Part, PartNumbers, Parts, Split, given, one_part};

@@ -6,8 +6,8 @@ use Rattle.std.proofs.lemmas.List.Elements.{Contains-get_or}
 use Rattle.std.proofs.lemmas.Option.{slice_get_within}
 use Rattle.kiss_file.specs.declared.file.KissFile.{KissFile}
 use Rattle.kiss_file.specs.declared.file.KissRow.{KissRow}
-use Rattle.state_pairs.specs.Asked.{IsOfState}
-use Rattle.state_pairs.specs.Aligned.{AreAligned, HoldAllRows}
+use Rattle.state_pairs.specs.RowLabels.{IsOfState}
+use Rattle.state_pairs.specs.AlignedRows.{AreAligned, HoldAllRows}
 use Rattle.state_rows.specs.Columns.{AreColumns, ArePicked, HaveSameCubes, RepresentBoth, IsAtPlace}
 use Rattle.state_rows.specs.Places.{IsNumberOf, ListRows, places_of}
 use Rattle.state_pairs.specs.Laws.Asking.{number_of_row}

@@ -7,9 +7,9 @@ use Rattle.cubes.specs.Cube.{HoldsNumber}
 use Rattle.cubes.specs.Laws.Ends.{least_held}
 use Rattle.kiss_file.specs.declared.file.KissFile.{KissFile}
 use Rattle.kiss_file.specs.declared.file.KissRow.{KissRow}
-use Rattle.state_pairs.specs.Asked.{AllSay, ApartBelow, AreApartAt, HaveOneLabel, MeetsApart, SayApart, SayTwo}
+use Rattle.state_pairs.specs.RowLabels.{AllSay, ApartBelow, AreApartAt, HaveOneLabel, MeetsApart, SayApart, SayTwo}
 use Rattle.state_rows.specs.Least.{IsMetBy}
-use Rattle.state_pairs.specs.Aligned.{AreAligned, Represents}
+use Rattle.state_pairs.specs.AlignedRows.{AreAligned, Represents}
 use Rattle.state_rows.specs.Columns.{HaveOneCube}
 use Rattle.state_rows.specs.Laws.OneCube.{held_by_like}
 use Rattle.state_pairs.specs.Table.{IsTable}

@@ -9,7 +9,7 @@ use Rattle.kiss_file.specs.declared.file.KissFile.{KissFile}
 use Rattle.kiss_file.specs.declared.file.KissRow.{KissRow}
 use Rattle.pattern_bundles.specs.Pattern.{IsWithoutMark}
 use Rattle.state_rows.specs.declared.bundles.RowBundle.{RowBundle}
-use Rattle.state_pairs.specs.Asked.{AreApartAt, IsApartAt, IsOfState}
+use Rattle.state_pairs.specs.RowLabels.{AreApartAt, IsApartAt, IsOfState}
 use Rattle.state_rows.specs.Least.{IsMetBy, lesser_of}
 use Rattle.state_pairs.specs.MarkedRows.{AreLeft, IsApartIn, IsSearchedIn, IsSearchedTo, MeetsEach}
 use Rattle.state_rows.specs.Bundles.{IsFit, IsInBundles, MarksRows}

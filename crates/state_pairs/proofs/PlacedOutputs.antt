@@ -9,15 +9,15 @@ use Rattle.cubes.specs.Laws.Bits.{same_digits}
 use Rattle.cubes.specs.Laws.Ends.{least_held}
 use Rattle.kiss_file.specs.declared.file.KissFile.{KissFile}
 use Rattle.kiss_file.specs.declared.file.KissRow.{KissRow}
-use Rattle.kiss_file.specs.Lawful.{IsLawfulRow}
+use Rattle.kiss_file.specs.LawfulFile.{IsLawfulRow}
 use Rattle.kiss_file.specs.Machine.{Conflicting, IsRowAt, given_bit, output_bit}
 use Rattle.kiss_file.specs.Laws.Machine.{output_bit_not_said, output_bit_said}
 use Rattle.state_rows.specs.Columns.{IsAtPlace}
 use Rattle.state_rows.specs.Least.{IsMetBy}
 use Rattle.state_rows.specs.Laws.OneCube.{held_by_like}
 use Rattle.state_rows.specs.Laws.Outputs.{gives_where_cares, given_value}
-use Rattle.state_pairs.specs.Aligned.{HoldAllRows}
-use Rattle.state_pairs.specs.Asked.{ApartBelow, IsOfState, MeetsApart}
+use Rattle.state_pairs.specs.AlignedRows.{HoldAllRows}
+use Rattle.state_pairs.specs.RowLabels.{ApartBelow, IsOfState, MeetsApart}
 use Rattle.state_pairs.specs.Pairs.{AgreeInBit, DifferInBit, IsFoundInBits}
 use Rattle.state_pairs.specs.Table.{IsTable}
 use Rattle.state_pairs.specs.Laws.Asking.{lawful_row}

@@ -6,7 +6,7 @@ use Rattle.cubes.specs.Cube.{HoldsNumber, Meets}
 use Rattle.kiss_file.specs.declared.file.KissFile.{KissFile}
 use Rattle.kiss_file.specs.declared.file.KissRow.{KissRow}
 use Rattle.state_rows.specs.declared.bundles.RowBundle.{RowBundle}
-use Rattle.state_pairs.specs.Asked.{AreOpenAt, IsLabelAt, IsOpenAt, IsOfState}
+use Rattle.state_pairs.specs.RowLabels.{AreOpenAt, IsLabelAt, IsOpenAt, IsOfState}
 use Rattle.state_pairs.specs.MarkedRows.{AreLeft}
 use Rattle.state_rows.specs.Columns.{IsAtPlace}
 

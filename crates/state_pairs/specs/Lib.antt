@@ -1,10 +1,10 @@
 pub mod Table
-pub mod Staying
+pub mod NextStates
 pub mod Pairs
-pub mod Asked
-pub mod Aligned
+pub mod RowLabels
+pub mod AlignedRows
 pub mod MarkedRows
 pub mod AddedPairs
 pub mod SeenPairs
-pub mod Merging
+pub mod MergedStates
 pub mod Laws

@@ -6,7 +6,7 @@ use Rattle.kiss_file.specs.declared.file.KissFile.{KissFile}
 use Rattle.kiss_file.specs.declared.file.KissRow.{KissRow}
 use Rattle.state_rows.specs.Columns.{IsAtPlace}
 use Rattle.state_rows.specs.Least.{IsMetBy}
-use Rattle.state_pairs.specs.Asked.{AreApartAt}
+use Rattle.state_pairs.specs.RowLabels.{AreApartAt}
 
 -- some row with one of these numbers differs from the row at the symbol with that number
 abbrev pub IsApartIn : (KissRow → Option ℕ) → List KissRow → List ℕ → KissRow → ℕ → Type 0

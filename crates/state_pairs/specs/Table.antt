@@ -1,7 +1,7 @@
 -- The files that have machines.
 use Rattle.std.specs.Prelude.{◌≤◌, ◌<◌, All, length}
 use Rattle.kiss_file.specs.declared.file.KissFile.{KissFile}
-use Rattle.kiss_file.specs.Lawful.{IsLawfulRow}
+use Rattle.kiss_file.specs.LawfulFile.{IsLawfulRow}
 
 -- the counts are within the limits, and each row and the reset state fit the counts; the number of rows is not limited
 pub record IsTable (F : KissFile) : Type 0 where

@@ -6,14 +6,15 @@
 //! Symbols are never enumerated: only rows that share a symbol are compared, and what rows leave open is found by
 //! halving cubes.
 //!
-//! `specs/Table` says which files these are, `specs/Asked` what the rows of two states say of a part, `specs/Aligned`
-//! and `specs/MarkedRows` which rows a search goes through, `specs/AddedPairs` which pairs rows name, and
-//! `specs/Merging` what becomes of a partition. `specs/Pairs` and `specs/Staying` speak of next states at all symbols.
+//! `specs/Table` says which files these are, `specs/RowLabels` what the rows of two states say of a part,
+//! `specs/AlignedRows` and `specs/MarkedRows` which rows a search goes through, `specs/AddedPairs` which pairs rows
+//! name, and `specs/MergedStates` what becomes of a partition. `specs/Pairs` and `specs/NextStates` speak of next
+//! states at all symbols.
 #![tactic(auto)]
 
-mod aligned;
-mod merging;
-mod naming;
+mod aligned_rows;
+mod merged_states;
+mod named_pairs;
 mod open_parts;
 mod pair_list;
 mod placed_outputs;
@@ -22,7 +23,7 @@ mod row_pairs;
 mod rows;
 mod search;
 
-pub use aligned::AlignedRows;
+pub use aligned_rows::AlignedRows;
 pub use pair_list::PairList;
 pub use question::{NextState, OutputBit, OutputWord, Question, WordBits, given};
 pub use row_pairs::{is_settled, least_of_both, lesser};

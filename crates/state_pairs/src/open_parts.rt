@@ -4,8 +4,8 @@
 //! input that some row depends on.
 ghost use Rattle.std.specs.Prelude.{ℕ, ◌≡◌, ◌<◌, ◌≤◌, ◌^◌, ◌↔◌, IfNone, IfSome, IsSome, IsTrue, length};
 ghost use Rattle.cubes.specs.Cube.{HoldsNumber, Meets};
-ghost use Rattle.kiss_file.specs.Lawful.{IsLawfulRow};
-ghost use Rattle.state_pairs.specs.Asked.{IsAloneAt, AreOpenAt, DifferBothOpen, DifferOpen, IsOpenAt, SaysAlone};
+ghost use Rattle.kiss_file.specs.LawfulFile.{IsLawfulRow};
+ghost use Rattle.state_pairs.specs.RowLabels.{IsAloneAt, AreOpenAt, DifferBothOpen, DifferOpen, IsOpenAt, SaysAlone};
 ghost use Rattle.state_rows.specs.Least.{IsMetBy};
 
 use crate::RowsByState;
@@ -30,9 +30,14 @@ impl RowsByState {
         requires s { search.now.s < length self.now.states }
         requires t { search.now.t < length self.now.states }
         requires known { length self.now.states ≤ Q.states search.now.question.now }
-        ensures some { IfSome result (DifferOpen (Q.said search.now.question.now) (Q.unsaid search.now.question.now) self.now search.now.s search.now.t) }
+        ensures some { IfSome result
+            (DifferOpen (Q.said search.now.question.now)
+            (Q.unsaid search.now.question.now) self.now search.now.s search.now.t) }
         ensures within { IfSome result (λ x. x < 2 ^ self.now.inputs) }
-        ensures met { (y : ℕ) → DifferOpen (Q.said search.now.question.now) (Q.unsaid search.now.question.now) self.now search.now.s search.now.t y → IsMetBy result search.now.least y }
+        ensures met { (y : ℕ)
+            → DifferOpen (Q.said search.now.question.now)
+            (Q.unsaid search.now.question.now) self.now search.now.s search.now.t y
+            → IsMetBy result search.now.least y }
     {
         let first = self.first_alone(search);
         if is_settled(first, search.least) {
@@ -56,9 +61,14 @@ impl RowsByState {
         requires s { search.now.s < length self.now.states }
         requires t { search.now.t < length self.now.states }
         requires known { length self.now.states ≤ Q.states search.now.question.now }
-        ensures some { IfSome result (DifferBothOpen (Q.said search.now.question.now) (Q.unsaid search.now.question.now) self.now search.now.s search.now.t) }
+        ensures some { IfSome result
+            (DifferBothOpen (Q.said search.now.question.now)
+            (Q.unsaid search.now.question.now) self.now search.now.s search.now.t) }
         ensures within { IfSome result (λ x. x < 2 ^ self.now.inputs) }
-        ensures met { (y : ℕ) → DifferBothOpen (Q.said search.now.question.now) (Q.unsaid search.now.question.now) self.now search.now.s search.now.t y → IsMetBy result search.now.least y }
+        ensures met { (y : ℕ)
+            → DifferBothOpen (Q.said search.now.question.now)
+            (Q.unsaid search.now.question.now) self.now search.now.s search.now.t y
+            → IsMetBy result search.now.least y }
     {
         if search.question.unsaid(search.s) == search.question.unsaid(search.t) {
             return None;
@@ -72,9 +82,13 @@ impl RowsByState {
         requires s { search.now.s < length self.now.states }
         requires t { search.now.t < length self.now.states }
         requires known { length self.now.states ≤ Q.states search.now.question.now }
-        ensures some { IfSome result (SaysAlone (Q.said search.now.question.now) self.now search.now.s search.now.t (Q.unsaid search.now.question.now search.now.t)) }
+        ensures some { IfSome result
+            (SaysAlone (Q.said search.now.question.now) self.now search.now.s search.now.t
+            (Q.unsaid search.now.question.now search.now.t)) }
         ensures within { IfSome result (λ x. x < 2 ^ self.now.inputs) }
-        ensures met { (y : ℕ) → SaysAlone (Q.said search.now.question.now) self.now search.now.s search.now.t (Q.unsaid search.now.question.now search.now.t) y → IsMetBy result search.now.least y }
+        ensures met { (y : ℕ)
+            → SaysAlone (Q.said search.now.question.now) self.now search.now.s search.now.t
+            (Q.unsaid search.now.question.now search.now.t) y → IsMetBy result search.now.least y }
     {
         let mut found = None;
         for number in self.numbers_of(search.s) {
@@ -92,9 +106,13 @@ impl RowsByState {
         requires t { search.now.t < length self.now.states }
         requires known { length self.now.states ≤ Q.states search.now.question.now }
         requires row { IsLawfulRow self.now.inputs self.now.outputs (length self.now.states) row.now }
-        ensures some { IfSome result (IsAloneAt (Q.said search.now.question.now) self.now search.now.t (Q.unsaid search.now.question.now search.now.t) row.now) }
+        ensures some { IfSome result
+            (IsAloneAt (Q.said search.now.question.now) self.now search.now.t
+            (Q.unsaid search.now.question.now search.now.t) row.now) }
         ensures within { IfSome result (λ x. x < 2 ^ self.now.inputs) }
-        ensures met { (y : ℕ) → IsAloneAt (Q.said search.now.question.now) self.now search.now.t (Q.unsaid search.now.question.now search.now.t) row.now y → IsMetBy result search.now.least y }
+        ensures met { (y : ℕ)
+            → IsAloneAt (Q.said search.now.question.now) self.now search.now.t
+            (Q.unsaid search.now.question.now search.now.t) row.now y → IsMetBy result search.now.least y }
     {
         let alone = Search {
             question: search.question,
@@ -120,9 +138,13 @@ impl RowsByState {
         requires t { search.now.t < length self.now.states }
         requires known { length self.now.states ≤ Q.states search.now.question.now }
         requires width { cube.width ≡ self.now.inputs }
-        ensures some { IfSome result (λ x. HoldsNumber cube x × AreOpenAt (Q.said search.now.question.now) self.now search.now.s search.now.t x) }
+        ensures some { IfSome result
+            (λ x. HoldsNumber cube x
+            × AreOpenAt (Q.said search.now.question.now) self.now search.now.s search.now.t x) }
         ensures within { IfSome result (λ x. x < 2 ^ self.now.inputs) }
-        ensures met { (y : ℕ) → HoldsNumber cube y → AreOpenAt (Q.said search.now.question.now) self.now search.now.s search.now.t y → IsMetBy result search.now.least y }
+        ensures met { (y : ℕ) → HoldsNumber cube y
+            → AreOpenAt (Q.said search.now.question.now) self.now search.now.s search.now.t y
+            → IsMetBy result search.now.least y }
     {
         let Some(said) = self.said_within(search, &cube) else {
             return Some(cube.value);
@@ -143,8 +165,12 @@ impl RowsByState {
         requires width { cube.now.width ≡ self.now.inputs }
         ensures width { IfSome result (λ found. found.width ≡ self.now.inputs) }
         ensures meets { IfSome result (Meets cube.now) }
-        ensures some { IfSome result (λ found. (y : ℕ) → HoldsNumber found y → AreOpenAt (Q.said search.now.question.now) self.now search.now.s search.now.t y → ⊥) }
-        ensures none { IfNone result ((y : ℕ) → HoldsNumber cube.now y → AreOpenAt (Q.said search.now.question.now) self.now search.now.s search.now.t y) }
+        ensures some { IfSome result
+            (λ found. (y : ℕ) → HoldsNumber found y
+            → AreOpenAt (Q.said search.now.question.now) self.now search.now.s search.now.t y → ⊥) }
+        ensures none { IfNone result
+            ((y : ℕ) → HoldsNumber cube.now y
+            → AreOpenAt (Q.said search.now.question.now) self.now search.now.s search.now.t y) }
     {
         match self.said_in(search.question, search.s, cube) {
             Some(found) => Some(found),
@@ -159,7 +185,8 @@ impl RowsByState {
         requires width { cube.now.width ≡ self.now.inputs }
         ensures width { IfSome result (λ found. found.width ≡ self.now.inputs) }
         ensures meets { IfSome result (Meets cube.now) }
-        ensures some { IfSome result (λ found. (y : ℕ) → HoldsNumber found y → IsOpenAt (Q.said question.now) self.now s y → ⊥) }
+        ensures some { IfSome result
+            (λ found. (y : ℕ) → HoldsNumber found y → IsOpenAt (Q.said question.now) self.now s y → ⊥) }
         ensures none { IfNone result ((y : ℕ) → HoldsNumber cube.now y → IsOpenAt (Q.said question.now) self.now s y) }
     {
         for number in self.numbers_of(s) {

@@ -150,7 +150,7 @@ impl OutputBit {
 impl Question for OutputBit {
     ghost use Rattle.std.specs.Prelude.{option_map};
     ghost use Rattle.kiss_file.specs.Machine.{given_bit};
-    ghost use Rattle.state_pairs.specs.Asked.{bit_label};
+    ghost use Rattle.state_pairs.specs.RowLabels.{bit_label};
 
     ghost states = { λ _. 65536 };
 

@@ -4,8 +4,17 @@
 //! row by row, and others by the rows that share a symbol.
 ghost use Rattle.std.specs.Prelude.{ℕ, ◌≡◌, ◌<◌, ◌≤◌, ◌^◌, ◌↔◌, All, IfSome, IsSome, IsTrue, length, false, true};
 ghost use Rattle.cubes.specs.Cube.{HoldsNumber};
-ghost use Rattle.kiss_file.specs.Lawful.{IsLawfulRow};
-ghost use Rattle.state_pairs.specs.Asked.{AllSay, ApartBelow, HaveOneLabel, MeetsApart, AreApartAt, IsApartAt, SayApart, SayTwo};
+ghost use Rattle.kiss_file.specs.LawfulFile.{IsLawfulRow};
+ghost use Rattle.state_pairs.specs.RowLabels.{
+  AllSay,
+  ApartBelow,
+  HaveOneLabel,
+  MeetsApart,
+  AreApartAt,
+  IsApartAt,
+  SayApart,
+  SayTwo,
+};
 ghost use Rattle.state_rows.specs.Least.{IsMetBy, lesser_of};
 ghost use Rattle.state_rows.specs.Bundles.{IsBundle, IsFit};
 ghost use Rattle.state_pairs.specs.MarkedRows.{IsSearchedIn};
@@ -88,7 +97,8 @@ impl RowsByState {
         requires one { HaveOneLabel (Q.said search.now.question.now) self.now }
         ensures some { IfSome result (SayTwo (Q.said search.now.question.now) self.now search.now.s search.now.t) }
         ensures within { IfSome result (λ x. x < 2 ^ self.now.inputs) }
-        ensures met { (y : ℕ) → SayTwo (Q.said search.now.question.now) self.now search.now.s search.now.t y → IsMetBy result search.now.least y }
+        ensures met { (y : ℕ) → SayTwo (Q.said search.now.question.now) self.now search.now.s search.now.t y
+            → IsMetBy result search.now.least y }
     {
         if let Some(rows) = self.aligned_rows(search) {
             let found = self.first_by_rows(search, rows.first, rows.second);
@@ -127,9 +137,11 @@ impl RowsByState {
         requires second { All (λ i. i < length self.now.rows) second.now }
         requires count { length first.now ≡ length second.now }
         requires known { length self.now.states ≤ Q.states search.now.question.now }
-        ensures some { IfSome result (ApartBelow (Q.said search.now.question.now) self.now.rows first.now second.now (length first.now)) }
+        ensures some { IfSome result
+            (ApartBelow (Q.said search.now.question.now) self.now.rows first.now second.now (length first.now)) }
         ensures within { IfSome result (λ x. x < 2 ^ self.now.inputs) }
-        ensures met { MeetsApart (Q.said search.now.question.now) self.now.rows first.now second.now (length first.now) result search.now.least }
+        ensures met { MeetsApart (Q.said search.now.question.now) self.now.rows first.now second.now
+            (length first.now) result search.now.least }
     {
         let mut found = None;
         for i in 0..first.len() {
@@ -151,7 +163,8 @@ impl RowsByState {
         requires known { length self.now.states ≤ Q.states search.now.question.now }
         ensures some { IfSome result (SayTwo (Q.said search.now.question.now) self.now search.now.s search.now.t) }
         ensures within { IfSome result (λ x. x < 2 ^ self.now.inputs) }
-        ensures met { (y : ℕ) → SayTwo (Q.said search.now.question.now) self.now search.now.s search.now.t y → IsMetBy result search.now.least y }
+        ensures met { (y : ℕ) → SayTwo (Q.said search.now.question.now) self.now search.now.s search.now.t y
+            → IsMetBy result search.now.least y }
     {
         if self.numbers_of(search.s).len() <= self.numbers_of(search.t).len() {
             return self.first_by_pairs(search);
@@ -172,7 +185,8 @@ impl RowsByState {
         requires known { length self.now.states ≤ Q.states search.now.question.now }
         ensures some { IfSome result (SayTwo (Q.said search.now.question.now) self.now search.now.s search.now.t) }
         ensures within { IfSome result (λ x. x < 2 ^ self.now.inputs) }
-        ensures met { (y : ℕ) → SayTwo (Q.said search.now.question.now) self.now search.now.s search.now.t y → IsMetBy result search.now.least y }
+        ensures met { (y : ℕ) → SayTwo (Q.said search.now.question.now) self.now search.now.s search.now.t y
+            → IsMetBy result search.now.least y }
     {
         let mut found = None;
         for number in self.numbers_of(search.s) {
@@ -191,7 +205,8 @@ impl RowsByState {
         requires row { IsLawfulRow self.now.inputs self.now.outputs (length self.now.states) row.now }
         ensures some { IfSome result (IsApartAt (Q.said search.now.question.now) self.now search.now.t row.now) }
         ensures within { IfSome result (λ x. x < 2 ^ self.now.inputs) }
-        ensures met { (y : ℕ) → IsApartAt (Q.said search.now.question.now) self.now search.now.t row.now y → IsMetBy result search.now.least y }
+        ensures met { (y : ℕ) → IsApartAt (Q.said search.now.question.now) self.now search.now.t row.now y
+            → IsMetBy result search.now.least y }
     {
         let mut found = None;
         for bundle in self.bundles_of(search.t) {
@@ -215,7 +230,8 @@ impl RowsByState {
         requires row { IsLawfulRow self.now.inputs self.now.outputs (length self.now.states) row.now }
         requires bundle { IsBundle self.now.rows bundle.now }
         requires fit { All (IsFit row.now.cube.width) self.now.rows }
-        ensures { IsSearchedIn (Q.said search.now.question.now) self.now bundle.now.numbers row.now search.now.least result }
+        ensures { IsSearchedIn
+            (Q.said search.now.question.now) self.now bundle.now.numbers row.now search.now.least result }
     {
         let numbers = bundle.numbers.as_slice();
         let mut marks = bundle.meeting(&row.cube);

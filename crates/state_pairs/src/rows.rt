@@ -1,13 +1,13 @@
 //! The rows of a file, arranged by state.
 ghost use Rattle.std.specs.Prelude.{ℕ, ◌≡◌, ◌<◌, ◌≤◌, All, Contains, IfOk, Some, length, slice_get};
-ghost use Rattle.kiss_file.specs.Lawful.{IsLawfulRow};
+ghost use Rattle.kiss_file.specs.LawfulFile.{IsLawfulRow};
 ghost use Rattle.kiss_file.specs.Machine.{Conflicting};
 ghost use Rattle.kiss_file.specs.Names.{AreDistinct};
 ghost use Rattle.kiss_file.specs.declared.file.KissRow.{KissRow};
 ghost use Rattle.state_rows.specs.declared.bundles.RowBundle.{RowBundle};
 ghost use Rattle.state_rows.specs.Bundles.{IsBundle, IsFit, IsInBundles, ListBundles};
 ghost use Rattle.state_rows.specs.Places.{ArePlaces, IsNumberOf};
-ghost use Rattle.state_pairs.specs.Staying.{NeverLeaves};
+ghost use Rattle.state_pairs.specs.NextStates.{NeverLeaves};
 ghost use Rattle.state_pairs.specs.Table.{IsTable};
 
 use hs_list::Items;
@@ -127,7 +127,8 @@ impl RowsByState {
         requires { s < length self.now.states }
         ensures inside { All (λ i. i < length self.now.rows) result.now }
         ensures own { (i : ℕ) → Contains result.now i → IsNumberOf self.now s i }
-        ensures each { (i : ℕ) (row : KissRow) → slice_get self.now.rows i ≡ Some row → row.from ≡ s → Contains result.now i }
+        ensures each { (i : ℕ) (row : KissRow) → slice_get self.now.rows i ≡ Some row → row.from ≡ s
+            → Contains result.now i }
         ensures table { IsTable self.now }
         ensures no_conflict { Conflicting self.now → ⊥ }
     {
@@ -139,7 +140,8 @@ impl RowsByState {
         requires { s < length self.now.states }
         ensures right { (bundle : RowBundle) → Contains result.now bundle → IsBundle self.now.rows bundle }
         ensures own { (i : ℕ) → IsInBundles result.now i → IsNumberOf self.now s i }
-        ensures each { (i : ℕ) (row : KissRow) → slice_get self.now.rows i ≡ Some row → row.from ≡ s → IsInBundles result.now i }
+        ensures each { (i : ℕ) (row : KissRow) → slice_get self.now.rows i ≡ Some row → row.from ≡ s
+            → IsInBundles result.now i }
         ensures fit { All (IsFit self.now.inputs) self.now.rows }
     {
         self.bundles[s].as_slice()

@@ -11,14 +11,14 @@ use Rattle.cubes.specs.Cube.{Meets}
 use Rattle.kiss_file.specs.declared.fill.Fill.{Fill}
 use Rattle.kiss_file.specs.declared.file.KissFile.{KissFile}
 use Rattle.kiss_file.specs.declared.file.KissRow.{KissRow}
-use Rattle.kiss_file.specs.Lawful.{IsLawfulRow}
+use Rattle.kiss_file.specs.LawfulFile.{IsLawfulRow}
 use Rattle.kiss_file.specs.Machine.{Accepted, Conflicting, GiveBoth, IsRowAt, NameTwo, Specified, answers}
 use Rattle.kiss_file.specs.Names.{AreDistinct}
 use Rattle.machine_table.specs.Table.{IsTable}
 use Rattle.partition.specs.Laws.Least.{least_of-same}
-use Rattle.partition.specs.Inside.{least_of}
-use Rattle.state_reduce.specs.Alike.{Alike, AreUnlike, IsEquivalence, IsWord}
-use Rattle.state_reduce.specs.Inner.Named.{AreAllNamed, currents_of, kept_of, nexts_of}
+use Rattle.partition.specs.NestedBlocks.{least_of}
+use Rattle.state_reduce.specs.AlikeStates.{Alike, AreUnlike, IsEquivalence, IsWord}
+use Rattle.state_reduce.specs.Inner.BlockNames.{AreAllNamed, currents_of, kept_of, nexts_of}
 use Rattle.state_reduce.specs.Quotient.{AnswersAsMembers, IsQuotient, block_name, block_names, block_number, row_of_blocks}
 use Rattle.state_reduce.proofs.Appearing.{place_at}
 use Rattle.state_reduce.proofs.Lawfully.{all_names, mapped, some_mapped}

@@ -12,16 +12,16 @@ use Rattle.cubes.specs.Laws.Ends.{least_held}
 use Rattle.cubes.specs.Laws.Numbers.{length-symbol_of}
 use Rattle.kiss_file.specs.declared.file.KissFile.{KissFile}
 use Rattle.kiss_file.specs.declared.file.KissRow.{KissRow}
-use Rattle.kiss_file.specs.Lawful.{AreNumbered, IsLawfulRow}
+use Rattle.kiss_file.specs.LawfulFile.{AreNumbered, IsLawfulRow}
 use Rattle.kiss_file.specs.Machine.{Conflicting, IsRowAt, next, rows_at}
 use Rattle.kiss_file.specs.Names.{name_of}
 use Rattle.kiss_file.specs.Laws.Machine.{next_said}
 use Rattle.machine_table.specs.Table.{IsTable}
 use Rattle.pair_operators.specs.Pair.{Closed}
 use Rattle.partition.specs.Laws.Least.{least_of-same}
-use Rattle.partition.specs.Inside.{least_of}
+use Rattle.partition.specs.NestedBlocks.{least_of}
 use Rattle.partition.specs.Partition.{Together}
-use Rattle.state_reduce.specs.Inner.Named.{AreAllNamed, currents_of, kept_of, nexts_of}
+use Rattle.state_reduce.specs.Inner.BlockNames.{AreAllNamed, currents_of, kept_of, nexts_of}
 use Rattle.state_reduce.specs.Quotient.{block_name}
 use Rattle.state_reduce.proofs.Names.{once_has}
 use Rattle.state_reduce.proofs.Numbers.{least_again, least_below, least_together}

@@ -6,16 +6,16 @@ use Rattle.std.proofs.lemmas.Bool.{cases_Bool, cases_eq, eq-eqb, eqb-true, false
 use Rattle.std.proofs.lemmas.List.Elements.{All-head, All-tail}
 use Rattle.kiss_file.specs.declared.file.KissFile.{KissFile}
 use Rattle.kiss_file.specs.declared.file.KissRow.{KissRow}
-use Rattle.kiss_file.specs.Lawful.{IsLawfulRow}
+use Rattle.kiss_file.specs.LawfulFile.{IsLawfulRow}
 use Rattle.kiss_file.specs.Machine.{answers, given_bit, next, out, output_bit, rows_at}
 use Rattle.kiss_file.specs.Names.{AreDistinct}
 use Rattle.machine_table.specs.Table.{IsTable}
-use Rattle.pair_operators.specs.Consistent.{Consistent}
+use Rattle.pair_operators.specs.Consistency.{Consistent}
 use Rattle.pair_operators.specs.Pair.{Closed}
-use Rattle.partition.specs.Inside.{least_of}
+use Rattle.partition.specs.NestedBlocks.{least_of}
 use Rattle.partition.specs.Partition.{Together}
-use Rattle.state_reduce.specs.Alike.{IsWord}
-use Rattle.state_reduce.specs.Inner.Named.{AreAllNamed, kept_of}
+use Rattle.state_reduce.specs.AlikeStates.{IsWord}
+use Rattle.state_reduce.specs.Inner.BlockNames.{AreAllNamed, kept_of}
 use Rattle.state_reduce.specs.Quotient.{AnswersAsMembers, IsQuotient, block_number, row_of_blocks}
 use Rattle.state_reduce.proofs.Numbers.{least_again, least_below, least_together, number_one, number_same, together_same}
 

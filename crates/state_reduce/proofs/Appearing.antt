@@ -7,7 +7,7 @@ use Rattle.std.proofs.lemmas.List.{get_or-map, length-map, take-append-drop, tak
 use Rattle.std.proofs.lemmas.List.Elements.{Contains-get_or}
 use Rattle.std.proofs.lemmas.Option.{slice_get-get_or}
 use Rattle.list_facts.specs.Laws.Members.{Contains-map}
-use Rattle.kiss2.specs.Inner.Judging.{once_after}
+use Rattle.kiss2.specs.Inner.ReaderState.{once_after}
 use Rattle.kiss_file.specs.Names.{AreDistinct}
 use Rattle.kiss2.specs.Standing.{each_once}
 use Rattle.kiss2.specs.Laws.Finding.{contained_from_test}

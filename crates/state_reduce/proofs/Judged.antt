@@ -5,12 +5,12 @@ use Rattle.cubes.specs.Symbol.{symbol_of}
 use Rattle.cubes.specs.Laws.Numbers.{length-symbol_of}
 use Rattle.kiss_file.specs.declared.file.KissFile.{KissFile}
 use Rattle.kiss_file.specs.Machine.{next, out}
-use Rattle.pair_operators.specs.Consistent.{Consistent}
+use Rattle.pair_operators.specs.Consistency.{Consistent}
 use Rattle.pair_operators.specs.Pair.{Closed}
 use Rattle.partition.specs.Partition.{Together}
-use Rattle.state_reduce.specs.declared.judging.Demand.TheVariants.{NextStates, Outputs}
-use Rattle.state_reduce.specs.Inner.Demanded.{IsMetByAll}
-use Rattle.machine_table.specs.Staying.{NeverLeaves}
+use Rattle.state_reduce.specs.declared.demands.Demand.TheVariants.{NextStates, Outputs}
+use Rattle.state_reduce.specs.Inner.Demands.{IsMetByAll}
+use Rattle.machine_table.specs.NextStates.{NeverLeaves}
 use Rattle.state_reduce.specs.Laws.Alike.{at_symbol}
 use Rattle.state_reduce.proofs.Rounds.{together_turned}
 

@@ -8,11 +8,11 @@ use Rattle.std.proofs.lemmas.List.Elements.{All-append, All-contains, All-filter
 use Rattle.list_facts.specs.Laws.Members.{Contains-none}
 use Rattle.kiss_file.specs.declared.file.KissFile.{KissFile}
 use Rattle.kiss_file.specs.declared.file.KissRow.{KissRow}
-use Rattle.kiss_file.specs.Lawful.{AreGiven, AreNumbered, IsLawful, IsLawfulRow, appearances}
+use Rattle.kiss_file.specs.LawfulFile.{AreGiven, AreNumbered, IsLawful, IsLawfulRow, appearances}
 use Rattle.kiss_file.specs.Names.{AreDistinct, IsPlainName}
 use Rattle.machine_table.specs.Table.{IsTable}
-use Rattle.partition.specs.Inside.{least_of}
-use Rattle.state_reduce.specs.Inner.Named.{AreAllNamed, currents_of, kept_of, nexts_of}
+use Rattle.partition.specs.NestedBlocks.{least_of}
+use Rattle.state_reduce.specs.Inner.BlockNames.{AreAllNamed, currents_of, kept_of, nexts_of}
 use Rattle.state_reduce.specs.Quotient.{IsQuotient, block_name, block_names, block_number, row_of_blocks}
 use Rattle.state_reduce.proofs.Answered.{given_mapped}
 use Rattle.state_reduce.proofs.Appearing.{distinct_once, each_place, in_order, place}

@@ -2,11 +2,11 @@
 use Rattle.std.proofs.Common.{◌≡◌, ℕ, ◌+◌, ◌<◌, ◌≤◌, inl, inr, List, length, sym, ◌∙◌, subst, arith}
 use Rattle.std.proofs.lemmas.Bool.{cases_eq}
 use Rattle.kiss_file.specs.declared.file.KissFile.{KissFile}
-use Rattle.partition.specs.Inside.{least_of}
+use Rattle.partition.specs.NestedBlocks.{least_of}
 use Rattle.partition.specs.Partition.{Together}
-use Rattle.state_reduce.specs.declared.judging.Demand.{Demand}
-use Rattle.state_reduce.specs.declared.judging.Demand.TheVariants.{NextStates, Outputs}
-use Rattle.state_reduce.specs.Inner.Demanded.{IsMet, IsMetBehind, IsMetByAll}
+use Rattle.state_reduce.specs.declared.demands.Demand.{Demand}
+use Rattle.state_reduce.specs.declared.demands.Demand.TheVariants.{NextStates, Outputs}
+use Rattle.state_reduce.specs.Inner.Demands.{IsMet, IsMetBehind, IsMetByAll}
 use Rattle.state_reduce.proofs.Numbers.{least_again, least_below, least_together}
 
 -- by way of a third state

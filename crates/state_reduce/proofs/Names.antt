@@ -12,15 +12,15 @@ use Rattle.std.proofs.lemmas.Slice.Eq.{bytes_eq-Decides}
 use Rattle.list_facts.specs.Laws.Everywhere.{all_given}
 use Rattle.kiss_file.specs.declared.file.KissFile.{KissFile}
 use Rattle.kiss_file.specs.declared.file.KissRow.{KissRow}
-use Rattle.kiss_file.specs.Lawful.{IsLawfulRow}
+use Rattle.kiss_file.specs.LawfulFile.{IsLawfulRow}
 use Rattle.kiss_file.specs.Names.{AreDistinct}
 use Rattle.kiss2.specs.Standing.{each_once}
 use Rattle.kiss2.specs.Laws.Finding.{contained_from_test, contained_test}
 use Rattle.kiss2.specs.Laws.Once.{among, among-each_once, each_once-append, no_more, once-each_once}
 use Rattle.machine_table.specs.Table.{IsTable}
 use Rattle.partition.specs.Laws.Least.{least_of-le}
-use Rattle.partition.specs.Inside.{least_of}
-use Rattle.state_reduce.specs.Inner.Named.{currents_of, kept_of, nexts_of}
+use Rattle.partition.specs.NestedBlocks.{least_of}
+use Rattle.state_reduce.specs.Inner.BlockNames.{currents_of, kept_of, nexts_of}
 use Rattle.state_reduce.specs.Quotient.{block_name, block_names}
 
 -- a name, each once, is one of the names

@@ -10,9 +10,9 @@ use Rattle.std.proofs.lemmas.Slice.Eq.{bytes_eq-Decides}
 use Rattle.kiss_file.specs.declared.file.KissFile.{KissFile}
 use Rattle.kiss_file.specs.Names.{AreDistinct, name_of}
 use Rattle.kiss2.specs.Laws.SameRecord.{number_once}
-use Rattle.partition.specs.Inside.{least_of}
+use Rattle.partition.specs.NestedBlocks.{least_of}
 use Rattle.partition.specs.Partition.{Together}
-use Rattle.state_reduce.specs.Inner.Named.{AreAllNamed}
+use Rattle.state_reduce.specs.Inner.BlockNames.{AreAllNamed}
 use Rattle.state_reduce.specs.Quotient.{block_name, block_names, block_number}
 use Rattle.partition.specs.Laws.Least.{least_of-le, least_of-same}
 

@@ -9,7 +9,7 @@ use Rattle.std.proofs.lemmas.Option.{get_or_from_slice_get, same_Some}
 use Rattle.list_facts.specs.Laws.Members.{Contains-cons, Contains-filter, Contains-from_filter, Contains-from_map, Contains-here, Contains-map, Contains-none, Contains-there}
 use Rattle.kiss_file.specs.declared.file.KissFile.{KissFile}
 use Rattle.kiss_file.specs.declared.file.KissRow.{KissRow}
-use Rattle.kiss_file.specs.Lawful.{AreNumbered, IsLawfulRow}
+use Rattle.kiss_file.specs.LawfulFile.{AreNumbered, IsLawfulRow}
 use Rattle.kiss_file.specs.Machine.{answers, given_bit, next, out, rows_at}
 use Rattle.kiss_file.specs.Names.{AreDistinct, name_of}
 use Rattle.kiss2.specs.Standing.{each_once}
@@ -17,11 +17,11 @@ use Rattle.kiss2.specs.Laws.Finding.{contained_test}
 use Rattle.kiss2.specs.Laws.Once.{among, each_once-append}
 use Rattle.machine_table.specs.Table.{IsTable}
 use Rattle.partition.specs.Laws.Least.{least_of-same}
-use Rattle.partition.specs.Inside.{least_of}
+use Rattle.partition.specs.NestedBlocks.{least_of}
 use Rattle.partition.specs.Partition.{IsPartition, blocks_of}
 use Rattle.partition.specs.Laws.Labels.{block_stands, label-lt-blocks_of}
-use Rattle.state_reduce.specs.Alike.{Alike, IsEquivalence, IsWord}
-use Rattle.state_reduce.specs.Inner.Named.{AreAllNamed, currents_of, kept_of, nexts_of}
+use Rattle.state_reduce.specs.AlikeStates.{Alike, IsEquivalence, IsWord}
+use Rattle.state_reduce.specs.Inner.BlockNames.{AreAllNamed, currents_of, kept_of, nexts_of}
 use Rattle.state_reduce.specs.Quotient.{AreBlocksInOrder, HasRow, IsQuotient, block_name, block_names, block_number}
 use Rattle.state_reduce.proofs.Accepting.{block_at}
 use Rattle.state_reduce.proofs.Appearing.{at_some_place, get_left, get_middle, once_front, place_at}

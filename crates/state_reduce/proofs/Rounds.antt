@@ -6,11 +6,11 @@ use Rattle.cubes.specs.Laws.Numbers.{length-symbol_of}
 use Rattle.kiss_file.specs.declared.file.KissFile.{KissFile}
 use Rattle.kiss_file.specs.Machine.{answers, next, out}
 use Rattle.partition.specs.Partition.{Le, Together}
-use Rattle.state_reduce.specs.Alike.{IsEquivalence, IsWord}
-use Rattle.machine_table.specs.Staying.{NeverLeaves}
+use Rattle.state_reduce.specs.AlikeStates.{IsEquivalence, IsWord}
+use Rattle.machine_table.specs.NextStates.{NeverLeaves}
 use Rattle.state_reduce.specs.Laws.Alike.{alike_agree, alike_next, at_symbol}
-use Rattle.state_reduce.specs.Inner.Refining.{AgreeAlways, IsRound, StayTogether}
-use Rattle.partition.specs.Splitting.{IsSplitBy}
+use Rattle.state_reduce.specs.Inner.Refinement.{AgreeAlways, IsRound, StayTogether}
+use Rattle.partition.specs.RelationBlocks.{IsSplitBy}
 
 -- both relations are symmetric and transitive
 pub agree_turned : (F : KissFile) (s t : ℕ) → AgreeAlways F s t → AgreeAlways F t s

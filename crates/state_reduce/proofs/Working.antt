@@ -1,15 +1,15 @@
 -- The machine that a job works on answers as that of its file.
 use Rattle.std.proofs.Common.{◌≡◌, ℕ, ◌<◌, Bool, true, false, List, length, ap, ◌∙◌}
 use Rattle.kiss_file.specs.declared.file.KissFile.{KissFile}
-use Rattle.kiss_file.specs.Lawful.{IsLawful}
+use Rattle.kiss_file.specs.LawfulFile.{IsLawful}
 use Rattle.kiss_file.specs.Machine.{Conflicting, answers}
 use Rattle.kiss_file.specs.Laws.Machine.{next_is_a_state}
-use Rattle.machine_table.specs.Staying.{NeverLeaves}
+use Rattle.machine_table.specs.NextStates.{NeverLeaves}
 use Rattle.machine_table.specs.Table.{IsTable}
 use Rattle.state_pairs.specs.Laws.Lawful.{table_of_lawful}
 use Rattle.pair_operators.specs.Pair.{Closed}
 use Rattle.state_reduce.specs.WorkMachine.{ClassesAnswerAlike}
-use Rattle.state_reduce.specs.Inner.Named.{AreAllNamed}
+use Rattle.state_reduce.specs.Inner.BlockNames.{AreAllNamed}
 use Rattle.state_reduce.proofs.AllNamed.{all_named}
 use Rattle.state_reduce.proofs.Answered.{answers_as_members}
 use Rattle.state_reduce.specs.Laws.Unrefused.{alike_closed, alike_consistent}

@@ -1,12 +1,12 @@
 -- The machine that a job works on, from the file and from the classes of its alike states.
 use Rattle.std.proofs.Common.{◌≡◌, ◌≢◌, ℕ, true, false, List, Option, Some, None, refl, sym, ap, ◌∙◌, subst}
 use Rattle.kiss_file.specs.declared.file.KissFile.{KissFile}
-use Rattle.kiss_file.specs.Lawful.{IsLawful}
+use Rattle.kiss_file.specs.LawfulFile.{IsLawful}
 use Rattle.kiss_file.specs.Laws.Machine.{next_is_a_state}
-use Rattle.state_reduce.specs.declared.judging.QuotientFail.{QuotientFail}
-use Rattle.state_reduce.specs.declared.judging.QuotientFail.TheVariants as quotients
+use Rattle.state_reduce.specs.declared.demands.QuotientFail.{QuotientFail}
+use Rattle.state_reduce.specs.declared.demands.QuotientFail.TheVariants as quotients
 use Rattle.state_reduce.specs.declared.work.WorkMachine.{WorkMachine}
-use Rattle.state_reduce.specs.Alike.{IsEquivalence}
+use Rattle.state_reduce.specs.AlikeStates.{IsEquivalence}
 use Rattle.state_reduce.specs.Cause as causes
 use Rattle.state_reduce.specs.Quotient.{AreBlocksInOrder, IsQuotient, block_number}
 use Rattle.state_reduce.specs.Work.{AreClasses, AreWorkNames, IsWork}

@@ -1,14 +1,14 @@
 -- Why a partition has no quotient.
 use Rattle.std.specs.Prelude.{◌≡◌, ◌<◌, ◌⊎◌, ℕ, List}
 use Rattle.kiss_file.specs.declared.file.KissFile.{KissFile}
-use Rattle.machine_table.specs.Staying.{NeverLeaves}
+use Rattle.machine_table.specs.NextStates.{NeverLeaves}
 use Rattle.machine_table.specs.Pairs.{AgreeAt, AtEachSymbol, GoInto, IsFirstWithout}
-use Rattle.pair_operators.specs.Consistent.{Consistent}
+use Rattle.pair_operators.specs.Consistency.{Consistent}
 use Rattle.pair_operators.specs.Pair.{Closed}
 use Rattle.partition.specs.Partition.{Together}
-use Rattle.state_reduce.specs.Alike.{IsEquivalence}
-use Rattle.state_reduce.specs.declared.judging.QuotientFail.{QuotientFail}
-use Rattle.state_reduce.specs.declared.judging.QuotientFail.TheVariants.{NotClosed, NotConsistent, NoMemory}
+use Rattle.state_reduce.specs.AlikeStates.{IsEquivalence}
+use Rattle.state_reduce.specs.declared.demands.QuotientFail.{QuotientFail}
+use Rattle.state_reduce.specs.declared.demands.QuotientFail.TheVariants.{NotClosed, NotConsistent, NoMemory}
 
 -- s < t are the first two states of a block for which P fails at some symbol, by s and then by t, and x is the
 -- least such symbol

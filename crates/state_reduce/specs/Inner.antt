@@ -1,4 +1,4 @@
 -- What private functions and proofs need; no public contract cites it.
-pub mod Refining
-pub mod Demanded
-pub mod Named
+pub mod Refinement
+pub mod Demands
+pub mod BlockNames

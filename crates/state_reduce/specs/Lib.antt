@@ -1,4 +1,4 @@
-pub mod Alike
+pub mod AlikeStates
 pub mod Quotient
 pub mod WorkMachine
 pub mod Work

@@ -7,9 +7,9 @@ use Rattle.kiss_file.specs.declared.file.KissRow.{KissRow}
 use Rattle.kiss_file.specs.Machine.{answers}
 use Rattle.kiss_file.specs.Names.{name_of}
 use Rattle.kiss2.specs.Standing.{each_once}
-use Rattle.partition.specs.Inside.{least_of}
+use Rattle.partition.specs.NestedBlocks.{least_of}
 use Rattle.partition.specs.Partition.{blocks_of}
-use Rattle.state_reduce.specs.Alike.{IsWord}
+use Rattle.state_reduce.specs.AlikeStates.{IsWord}
 
 -- the rows that are kept: those whose current state is the least of its block
 abbrev pub kept_rows : KissFile → List ℕ → List KissRow

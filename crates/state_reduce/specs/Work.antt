@@ -2,7 +2,7 @@
 use Rattle.std.specs.Prelude.{◌≡◌, Bool, true, false, ℕ, IsNone, List, Option, None, Some}
 use Rattle.state_reduce.specs.declared.work.WorkMachine.{WorkMachine}
 use Rattle.kiss_file.specs.declared.file.KissFile.{KissFile}
-use Rattle.state_reduce.specs.Alike.{IsEquivalence}
+use Rattle.state_reduce.specs.AlikeStates.{IsEquivalence}
 use Rattle.state_reduce.specs.WorkMachine.{IsWorkMachine}
 
 -- the classes are the partition of the file's states into alike states; without `--reduce` there are none

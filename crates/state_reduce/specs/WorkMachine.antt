@@ -2,9 +2,9 @@
 -- Hartmanis and Stearns, the reduced machine).
 use Rattle.std.specs.Prelude.{◌≡◌, ◌<◌, ℕ, Bool, true, false, List, length}
 use Rattle.kiss_file.specs.declared.file.KissFile.{KissFile}
-use Rattle.kiss_file.specs.Lawful.{IsLawful}
+use Rattle.kiss_file.specs.LawfulFile.{IsLawful}
 use Rattle.kiss_file.specs.Machine.{Conflicting, answers}
-use Rattle.state_reduce.specs.Alike.{IsEquivalence, IsWord}
+use Rattle.state_reduce.specs.AlikeStates.{IsEquivalence, IsWord}
 use Rattle.state_reduce.specs.Quotient.{AreBlocksInOrder, IsQuotient, block_number}
 
 -- W is the machine of the classes of alike states, in the order of their least states, and the class of a state is the

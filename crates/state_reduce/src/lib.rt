@@ -1,7 +1,7 @@
 //! States that no word distinguishes, and the machine of their blocks.
 //!
 //! [`equivalence`] gives the partition of a machine's states in which two states are together exactly where
-//! they are alike: the machine answers every word alike from both (`specs/Alike`). The code refines a
+//! they are alike: the machine answers every word alike from both (`specs/AlikeStates`). The code refines a
 //! partition, first by the outputs and then by the blocks of the next states, until nothing changes. States
 //! that are together then answer every word alike, and no round separates alike states.
 //!
@@ -15,14 +15,14 @@
 //! classes of alike states (`specs/WorkMachine`, `specs/Work`). There is only one (`specs/Laws`).
 #![tactic(auto)]
 
-mod judging;
+mod block_machine;
+mod demands;
 mod laws;
-mod merging;
-mod refining;
+mod refinement;
 mod work;
 
-pub use judging::QuotientFail;
+pub use block_machine::quotient;
+pub use demands::QuotientFail;
 pub use laws::{alike_has_quotient, classes_answer_alike};
-pub use merging::quotient;
-pub use refining::equivalence;
+pub use refinement::equivalence;
 pub use work::{WorkMachine, state_name, work_machine};

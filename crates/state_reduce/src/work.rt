@@ -1,10 +1,10 @@
 //! The machine that a command works on.
 
 ghost use Rattle.std.specs.Prelude.{◌≡◌, ◌<◌, Bool, IfOk, Some, length, slice_get, true};
-ghost use Rattle.kiss_file.specs.Lawful.{IsLawful};
+ghost use Rattle.kiss_file.specs.LawfulFile.{IsLawful};
 ghost use Rattle.kiss_file.specs.Machine.{Accepted};
 ghost use Rattle.machine_table.specs.Table.{IsTable};
-ghost use Rattle.state_reduce.specs.Alike.{IsEquivalence};
+ghost use Rattle.state_reduce.specs.AlikeStates.{IsEquivalence};
 ghost use Rattle.state_reduce.specs.Quotient.{AreBlocksInOrder, IsQuotient};
 ghost use Rattle.state_reduce.specs.Work.{IsWork};
 

@@ -7,7 +7,21 @@ ghost use Rattle.std.specs.Int.{bit_at};
 ghost use Rattle.cubes.specs.Cube.{Meets};
 ghost use Rattle.kiss_file.specs.declared.file.KissRow.{KissRow};
 ghost use Rattle.state_rows.specs.Conflict.{Contradicts};
-ghost use Rattle.state_rows.specs.Bundles.{NamesNoOther, AreBundles, AreFit, ArePatterns, IsBundle, IsComparable, IsFit, ListBundles, MarksRows, cube_pattern, next_pattern, output_pattern, pattern_of};
+ghost use Rattle.state_rows.specs.Bundles.{
+  NamesNoOther,
+  AreBundles,
+  AreFit,
+  ArePatterns,
+  IsBundle,
+  IsComparable,
+  IsFit,
+  ListBundles,
+  MarksRows,
+  cube_pattern,
+  next_pattern,
+  output_pattern,
+  pattern_of,
+};
 ghost use Rattle.state_rows.specs.Columns.{IsAtPlace};
 ghost use Rattle.state_rows.specs.Places.{ArePlaces};
 
@@ -163,14 +177,16 @@ pub fn bundles_of_states(
 impl RowBundle {
     /// Marks the rows that share a symbol with the cube.
     pub fn meeting(&self, cube: &Cube) -> u64
-        ensures { (rows : List KissRow) → IsBundle rows self.now → All (IsFit cube.now.width) rows → MarksRows rows self.now.numbers (λ row. Meets cube.now row.cube) result }
+        ensures { (rows : List KissRow) → IsBundle rows self.now → All (IsFit cube.now.width) rows
+            → MarksRows rows self.now.numbers (λ row. Meets cube.now row.cube) result }
     {
         self.cubes.agreeing(pattern_of_cube(cube))
     }
 
     /// Marks the rows that contradict the row.
     pub(crate) fn contradicting(&self, row: &KissRow) -> u64
-        ensures { (rows : List KissRow) → IsComparable rows row.now self.now → MarksRows rows self.now.numbers (λ other. Contradicts other row.now) result }
+        ensures { (rows : List KissRow) → IsComparable rows row.now self.now
+            → MarksRows rows self.now.numbers (λ other. Contradicts other row.now) result }
     {
         let meeting = self.meeting(&row.cube);
         if meeting == 0 {
@@ -183,7 +199,8 @@ impl RowBundle {
 
     /// Marks rows that name no other next state.
     pub fn naming_no_other(&self, next: u16) -> u64
-        ensures { (rows : List KissRow) → IsBundle rows self.now → AreFit rows → (k : ℕ) (row : KissRow) → IsAtPlace rows self.now.numbers k row → bit_at result k ≡ 1 → NamesNoOther next row }
+        ensures { (rows : List KissRow) → IsBundle rows self.now → AreFit rows → (k : ℕ) (row : KissRow)
+            → IsAtPlace rows self.now.numbers k row → bit_at result k ≡ 1 → NamesNoOther next row }
     {
         self.nexts.agreeing(pattern_of_next(Some(next)))
     }

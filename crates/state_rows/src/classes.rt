@@ -11,7 +11,8 @@ use std::alloc::{AllocError, Global};
 
 /// Whether the rows with these numbers have the same cube.
 fn have_one_cube(rows: &[KissRow], first: usize, second: usize) -> bool
-    ensures { IsTrue result → (row other : KissRow) → slice_get rows.now first ≡ Some row → slice_get rows.now second ≡ Some other → HaveOneCube row other }
+    ensures { IsTrue result → (row other : KissRow) → slice_get rows.now first ≡ Some row
+        → slice_get rows.now second ≡ Some other → HaveOneCube row other }
 {
     match (rows.get(first), rows.get(second)) {
         (Some(row), Some(other)) => {
@@ -58,7 +59,9 @@ pub fn leaders_of_states(
 ) -> Result<Vec<usize>, AllocError>
     ensures size { IfOk result (λ leaders. length leaders.items ≡ length places.now) }
     ensures inside { IfOk result (λ leaders. All (λ leader. leader < length places.now) leaders.items) }
-    ensures cubes { IfOk result (λ leaders. (s : ℕ) → s < length places.now → HaveSameCubes rows.now (places_of places.now (slice_index leaders.items s)) (places_of places.now s)) }
+    ensures cubes { IfOk result
+        (λ leaders. (s : ℕ) → s < length places.now
+        → HaveSameCubes rows.now (places_of places.now (slice_index leaders.items s)) (places_of places.now s)) }
 {
     let mut leaders = Vec::with_capacity(alloc, places.len())?;
     for s in 0..places.len() {

@@ -3,7 +3,17 @@
 //! A column holds the next state that each of the states names at one place of its list. Of places with equal
 //! columns one is kept, so that a question about next states is asked once for each different column.
 ghost use Rattle.std.specs.Prelude.{ℕ, ◌≡◌, ◌<◌, ◌↔◌, All, Contains, IfOk, IsTrue, false, length, slice_index};
-ghost use Rattle.state_rows.specs.Columns.{AreColumns, AreKept, ArePicked, HaveSameCubes, IsAtPlace, IsKept, IsLedBy, NameOne, RepresentColumns};
+ghost use Rattle.state_rows.specs.Columns.{
+  AreColumns,
+  AreKept,
+  ArePicked,
+  HaveSameCubes,
+  IsAtPlace,
+  IsKept,
+  IsLedBy,
+  NameOne,
+  RepresentColumns,
+};
 ghost use Rattle.state_rows.specs.Places.{ListRows, places_of};
 
 use crate::places::list_of;
@@ -128,7 +138,8 @@ fn kept_among(
 ) -> Result<Vec<usize>, AllocError>
     requires { All (λ s. s < length places.now) states.now }
     ensures within { IfOk result (λ kept. (j : ℕ) → Contains kept.items j → Contains order.now j) }
-    ensures each { IfOk result (λ kept. (k : ℕ) → Contains order.now k → IsKept rows.now places.now states.now kept.items k) }
+    ensures each { IfOk result
+        (λ kept. (k : ℕ) → Contains order.now k → IsKept rows.now places.now states.now kept.items k) }
 {
     let mut kept = Vec::new(alloc);
     for place in order {
@@ -193,7 +204,8 @@ pub fn columns_of_states(
     requires rows { ListRows rows.now (length places.now) places.now }
     requires size { length leaders.now ≡ length places.now }
     requires inside { All (λ leader. leader < length places.now) leaders.now }
-    requires alike { (s : ℕ) → s < length places.now → HaveSameCubes rows.now (places_of places.now (slice_index leaders.now s)) (places_of places.now s) }
+    requires alike { (s : ℕ) → s < length places.now
+        → HaveSameCubes rows.now (places_of places.now (slice_index leaders.now s)) (places_of places.now s) }
     ensures { IfOk result (λ columns. AreColumns rows.now places.now leaders.now columns.items) }
 {
     let kept = kept_of_leaders(alloc, rows, places, leaders)?;

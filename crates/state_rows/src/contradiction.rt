@@ -34,7 +34,8 @@ fn below(number: usize, bound: usize) -> Option<usize>
 /// passed over.
 fn first_in(bundle: &RowBundle, number: usize, row: &KissRow) -> Option<usize>
     ensures below { IfSome result (λ i. i < number) }
-    ensures found { (rows : List KissRow) → IsComparable rows row.now bundle.now → IsFirstAgainst rows (Contains bundle.now.numbers) number row.now result }
+    ensures found { (rows : List KissRow) → IsComparable rows row.now bundle.now
+        → IsFirstAgainst rows (Contains bundle.now.numbers) number row.now result }
 {
     let numbers = bundle.numbers.as_slice();
     below(*numbers.first()?, number)?;
@@ -47,7 +48,9 @@ fn first_in(bundle: &RowBundle, number: usize, row: &KissRow) -> Option<usize>
 /// The first number below `number` in any of the bundles whose row contradicts the row.
 fn first_against(bundles: &[RowBundle], number: usize, row: &KissRow) -> Option<usize>
     ensures below { IfSome result (λ i. i < number) }
-    ensures found { (rows : List KissRow) → ((bundle : RowBundle) → Contains bundles.now bundle → IsComparable rows row.now bundle) → IsFirstAgainst rows (IsInBundles bundles.now) number row.now result }
+    ensures found { (rows : List KissRow)
+        → ((bundle : RowBundle) → Contains bundles.now bundle → IsComparable rows row.now bundle)
+        → IsFirstAgainst rows (IsInBundles bundles.now) number row.now result }
 {
     let mut first = None;
     for bundle in bundles {

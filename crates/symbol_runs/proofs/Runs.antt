@@ -3,10 +3,10 @@ use Rattle.std.proofs.Common.{ℕ, List, [], ◌∷◌, Option, Result, length, 
 use Rattle.answers.specs.declared.refusals.Refusal.{Refusal}
 use Rattle.answers.specs.declared.refusals.Refusal.TheVariants as refusals
 use Rattle.answers.specs.Cause.{CallsForNone}
-use Rattle.answers.specs.Judged.{IsJudged, IsStop}
+use Rattle.answers.specs.Outcome.{IsJudged, IsStop}
 use Rattle.answers.specs.Laws.Causes.{Within, judged_within, none_first, none_within}
 use Rattle.net_core.specs.declared.Network.{Network}
-use Rattle.net_sim.specs.declared.failing.SimFail.TheVariants as fails
+use Rattle.net_sim.specs.declared.causes.SimFail.TheVariants as fails
 use Rattle.net_sim.specs.Run.{IsRun, IsRunCause}
 use Rattle.symbol_runs.specs.Causes.{BadStartRow, BadSymbolRow, NoStart, UnknownStartRow}
 use Rattle.symbol_runs.specs.Starts.{HasStart}

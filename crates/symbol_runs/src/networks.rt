@@ -1,9 +1,9 @@
 //! The answers of a network, and the judgement of its start.
 
 ghost use Rattle.std.specs.Prelude.{◌<◌, ◌^◌, IfErr, IfOk, length};
-ghost use Rattle.answers.specs.Judged.{IsJudged};
+ghost use Rattle.answers.specs.Outcome.{IsJudged};
 ghost use Rattle.net_core.specs.Order.{IsOrderOf};
-ghost use Rattle.net_core.specs.Sound.{Sound};
+ghost use Rattle.net_core.specs.SoundNetwork.{Sound};
 ghost use Rattle.net_sim.specs.Run.{IsRun, IsRunCause};
 ghost use Rattle.symbol_runs.specs.Causes.{BadSymbolRow, NoStart};
 ghost use Rattle.symbol_runs.specs.Inner.Runs.{NoRun};
@@ -42,7 +42,8 @@ pub fn sim(
     requires order { IsOrderOf net.now order.now }
     requires start { HasStart net.now start.now }
     requires short { length symbols.now < 2 ^ 32 }
-    ensures { IsJudged (BadSymbolRow (length net.now.inputs) symbols.now) (λ text. IsRun net.now start.now symbols.now text.items) result }
+    ensures { IsJudged (BadSymbolRow (length net.now.inputs) symbols.now)
+        (λ text. IsRun net.now start.now symbols.now text.items) result }
 {
     ran(alloc, net, order, start, symbols)
 }
@@ -58,7 +59,8 @@ fn ran(
     requires sound { Sound net.now }
     requires order { IsOrderOf net.now order.now }
     requires short { length symbols.now < 2 ^ 32 }
-    ensures { IsJudged (NoRun net.now start.now symbols.now) (λ text. IsRun net.now start.now symbols.now text.items) result }
+    ensures { IsJudged (NoRun net.now start.now symbols.now)
+        (λ text. IsRun net.now start.now symbols.now text.items) result }
 {
     match run_from(alloc, net, order, start, symbols) {
         Ok(text) => Ok(text),

@@ -15,8 +15,8 @@ ghost use Rattle.std.specs.Prelude.{◌<◌, ◌^◌, length};
 mod forms;
 mod lines;
 mod networks;
-mod plain;
-mod reading;
+mod plain_run;
+mod readers;
 
 use anyhow::{Error, bail};
 use bench_cases::{Case, case_of};
@@ -64,8 +64,8 @@ fn worked(alloc: Global, case: Case<'_>, text: &[u8]) -> Result<(usize, usize), 
         counts = match case.work {
             "cut" => lines::cut(alloc, text)?,
             "lists" => lines::cut_to_lists(alloc, text)?,
-            "read" if case.subject == "kiss2" => reading::read_kiss2(alloc, text)?,
-            "read" => reading::read_blif(alloc, text)?,
+            "read" if case.subject == "kiss2" => readers::read_kiss2(alloc, text)?,
+            "read" => readers::read_blif(alloc, text)?,
             _ => bail!("no such work"),
         };
     }

@@ -2,10 +2,10 @@
 
 ghost use Rattle.std.specs.Prelude.{◌<◌, ◌^◌, length};
 ghost use Rattle.net_core.specs.Order.{IsOrderOf};
-ghost use Rattle.net_core.specs.Sound.{Sound};
+ghost use Rattle.net_core.specs.SoundNetwork.{Sound};
 
 use crate::forms::{form_of, text_of};
-use crate::plain::count_ones;
+use crate::plain_run::count_ones;
 use anyhow::{Error, bail};
 use bench_cases::Case;
 use blif_in::read_ordered;

@@ -8,7 +8,7 @@ use Rattle.blif_out.specs.declared.header.LatchNote.{LatchNote}
 use Rattle.decomposition.specs.Decomposition.{PrintsCodes}
 use Rattle.decomposition.specs.OwnPairs.{HasOwnPair, OwnPairs, ReadsLatch}
 use Rattle.state_reduce.specs.Work.{AreClasses}
-use Rattle.dependence.specs.Permits.{AgreeOn}
+use Rattle.dependence.specs.SufficientBits.{AgreeOn}
 use Rattle.kiss_file.specs.declared.file.KissFile.{KissFile}
 use Rattle.net_core.specs.declared.Gate.{Gate}
 use Rattle.net_core.specs.declared.Latch.{Latch}
@@ -19,7 +19,7 @@ use Rattle.state_codes.specs.declared.Codes.{Codes}
 use Rattle.state_codes.specs.Agreement.{CodesAgreeAt}
 use Rattle.state_codes.specs.declared.split.Kind.{Kind}
 use Rattle.state_codes.specs.declared.split.Part.{Part}
-use Rattle.state_reduce.specs.Alike.{Alike, IsEquivalence}
+use Rattle.state_reduce.specs.AlikeStates.{Alike, IsEquivalence}
 use Rattle.state_reduce.specs.Quotient.{block_number}
 use Rattle.state_reduce.specs.WorkMachine.{IsWorkMachine}
 use Rattle.text_laws.proofs.Lists.{same_items}

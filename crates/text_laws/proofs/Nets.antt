@@ -5,7 +5,7 @@ use Rattle.std.proofs.lemmas.Option.{same_Some, slice_get_within}
 use Rattle.list_facts.specs.Laws.Places.{item_at}
 use Rattle.dependence.specs.declared.sets.ReadSet.{ReadSet}
 use Rattle.dependence.specs.declared.sets.Reads.{Reads}
-use Rattle.dependence.specs.Permits.{next_value, output_value}
+use Rattle.dependence.specs.SufficientBits.{next_value, output_value}
 use Rattle.kiss_file.specs.declared.file.KissFile.{KissFile}
 use Rattle.net_core.specs.declared.Gate.{Gate}
 use Rattle.net_core.specs.declared.Latch.{Latch}
@@ -15,7 +15,7 @@ use Rattle.net_core.specs.declared.Start.{Start}
 use Rattle.net_core.specs.declared.Start.TheVariants.{Zero, One, Free, Unknown}
 use Rattle.net_core.specs.Step.{AreStarts, bit_of_start}
 use Rattle.realise.specs.Codes.{code_of}
-use Rattle.realise.specs.Realised.{HasGate, IsRealised, name_at}
+use Rattle.realise.specs.CodeNetwork.{HasGate, IsRealised, name_at}
 use Rattle.text_laws.specs.Rows.{EqualButForRows, HasSameSignals}
 use Rattle.text_laws.proofs.Lists.{zip_at}
 

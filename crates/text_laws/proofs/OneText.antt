@@ -9,7 +9,7 @@ use Rattle.net_core.specs.Laws.Determined.{denotes_one}
 use Rattle.net_sim.specs.Run.{IsRun}
 use Rattle.net_sim.specs.Symbols.{IsSymbolFile, SaysSymbol}
 use Rattle.net_sim.proofs.Exclusive.{run_once}
-use Rattle.realise.specs.Carries.{AnswersAs}
+use Rattle.realise.specs.CarriedMachine.{AnswersAs}
 use Rattle.blif_out.specs.declared.networks.HeadedNetwork.{HeadedNetwork}
 use Rattle.decomposition.specs.Decomposition.{IsDecomposed}
 use Rattle.text_laws.specs.OneText.{GiveOneText}

@@ -5,7 +5,7 @@ use Rattle.list_facts.specs.Laws.Members.{among_or_not}
 use Rattle.dependence.specs.declared.sets.ReadSet.{ReadSet}
 use Rattle.dependence.specs.declared.sets.Reads.{Reads}
 use Rattle.dependence.specs.Candidates.{IsBitOfCode, IsCandidate}
-use Rattle.dependence.specs.Permits.{next_value, output_value}
+use Rattle.dependence.specs.SufficientBits.{next_value, output_value}
 use Rattle.dependence.specs.ReadRule.{Beside, IsReadRule}
 use Rattle.dependence.specs.Reads.{AreReads, IsReadSet}
 use Rattle.dependence.specs.Laws.Judged.{permits_more}

@@ -14,10 +14,10 @@ use Rattle.dependence.specs.declared.sets.Reads.{Reads}
 use Rattle.kiss_file.specs.declared.file.KissFile.{KissFile}
 use Rattle.net_core.specs.declared.Network.{Network}
 use Rattle.net_core.specs.declared.SignalNames.{SignalNames}
-use Rattle.realise.specs.Realised.{IsRealised}
+use Rattle.realise.specs.CodeNetwork.{IsRealised}
 use Rattle.split_texts.specs.Laws.Names.{names_once}
 use Rattle.split_texts.specs.Splits.{AreParts}
-use Rattle.split_texts.specs.Written.{IsOfKind}
+use Rattle.split_texts.specs.SplitText.{IsOfKind}
 use Rattle.split_texts.specs.Laws.Kinds.{parts_once}
 use Rattle.state_codes.specs.declared.Codes.{Codes}
 use Rattle.state_codes.specs.declared.split.Kind.{Kind}

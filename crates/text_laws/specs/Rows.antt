@@ -12,7 +12,7 @@ use Rattle.kiss_file.specs.declared.file.KissFile.{KissFile}
 use Rattle.net_core.specs.declared.Gate.{Gate}
 use Rattle.net_core.specs.declared.Network.{Network}
 use Rattle.shift_texts.specs.ShiftText.{IsShiftNetwork, IsShiftText}
-use Rattle.split_texts.specs.Written.{IsOfKind, IsWritten}
+use Rattle.split_texts.specs.SplitText.{IsOfKind, IsWritten}
 use Rattle.state_codes.specs.declared.split.Kind.{Kind}
 
 -- two gates read the same signals in the same order and drive the same signal, and give the same value where a row

@@ -33,7 +33,12 @@
 #![tactic(auto)]
 
 ghost use Rattle.text_laws.specs.OneText.{GiveOneText};
-ghost use Rattle.text_laws.specs.Rows.{NetworksDifferInRows, RegistersDifferInRows, RowsAloneDiffer, ShiftRowsAloneDiffer};
+ghost use Rattle.text_laws.specs.Rows.{
+  NetworksDifferInRows,
+  RegistersDifferInRows,
+  RowsAloneDiffer,
+  ShiftRowsAloneDiffer,
+};
 
 /// Two networks of one decomposition have one header, and are equal but for the rows of their gates.
 pub fn networks_differ_in_rows()

@@ -33,7 +33,7 @@ mod line_texts;
 mod machines;
 mod plain_gaps;
 mod plain_words;
-mod printed;
+mod printed_lines;
 mod shelves;
 mod word_lists;
 mod words;
@@ -85,7 +85,7 @@ impl Asked {
             Asked::Cubes => cubes_and_gaps::put_answer(alloc, call, words, answer),
             Asked::Kiss => kiss_texts::put_answer(alloc, call, words, answer),
             Asked::Jobs => jobs::put_answer(alloc, call, words, answer),
-            Asked::Lines => printed::put_answer(alloc, call, words, answer),
+            Asked::Lines => printed_lines::put_answer(alloc, call, words, answer),
             Asked::Machines => machines::put_answer(alloc, call, words, answer),
         }
     }

@@ -8,7 +8,7 @@ use Rattle.answers.specs.declared.refusals.Refusal.TheVariants.{NoMemory}
 use Rattle.answers.specs.declared.reports.Report.{Report}
 use Rattle.answers.specs.declared.reports.Report.TheVariants.{Evidence, Network, Whole}
 use Rattle.answers.specs.Cause.{CallsForNone, Cause, FirstOf}
-use Rattle.answers.specs.Judged.{IsJudged, IsReported, IsStop}
+use Rattle.answers.specs.Outcome.{IsJudged, IsReported, IsStop}
 use Rattle.answers.specs.Refusal.{answer_of}
 
 -- ---- one answer

@@ -2,8 +2,8 @@
 use Rattle.std.specs.Prelude.{ℕ, ◌<◌, All, AllPairs, List, length}
 use Rattle.kiss_file.specs.declared.file.KissFile.{KissFile}
 use Rattle.partition.specs.Partition.{Le, Together}
-use Rattle.partition.specs.Before.{Before}
-use Rattle.closed_lattice.specs.Closed.{HasPrincipal, HoldsSome, IsClosedPartition}
+use Rattle.partition.specs.Order.{Before}
+use Rattle.closed_lattice.specs.ClosedPartitions.{HasPrincipal, HoldsSome, IsClosedPartition}
 
 -- the list has the least closed partition of each two of the first states that are together in top
 abbrev pub HavePrincipals : KissFile → List ℕ → ℕ → List (List ℕ) → Type 0

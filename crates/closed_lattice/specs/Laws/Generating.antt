@@ -8,14 +8,14 @@ use Rattle.kiss_file.specs.declared.file.KissFile.{KissFile}
 use Rattle.pair_operators.specs.Laws.Pairs.{joins_pair, zero_pairs}
 use Rattle.partition.specs.Partition.{IsPartition, IsStateCount, IsZero, Together, Le, zero_of}
 use Rattle.partition.specs.MeetAndJoin.{IsJoin}
-use Rattle.partition.specs.Inside.{least_of}
+use Rattle.partition.specs.NestedBlocks.{least_of}
 use Rattle.partition.specs.Laws.Chains.{join_is_least, together_itself, together_turned, together_on}
 use Rattle.partition.specs.Laws.Extremes.{zero_of_is_zero, zero_of_is_partition}
 use Rattle.partition.specs.Laws.Labels.{same_labels}
 use Rattle.partition.specs.Laws.World.{join_fits}
 use Rattle.partition.specs.Laws.Least.{least_of-le, least_of-same, least_holds}
-use Rattle.closed_lattice.specs.Closed.{HasPrincipal, IsClosedPartition, IsPrincipal}
-use Rattle.machine_table.specs.Staying.{NeverLeaves}
+use Rattle.closed_lattice.specs.ClosedPartitions.{HasPrincipal, IsClosedPartition, IsPrincipal}
+use Rattle.machine_table.specs.NextStates.{NeverLeaves}
 
 -- zero, as the world of joins has it
 abbrev pub IsZeroOf : KissFile → List ℕ → Type 0

@@ -7,7 +7,7 @@ use Rattle.hs_lattice.specs.Laws.Outcomes.{evidence_as, lists_as}
 use Rattle.kiss_file.specs.declared.file.KissFile.{KissFile}
 use Rattle.partition.specs.Partition.{zero_of}
 use Rattle.partition.specs.MeetAndJoin.{IsJoin}
-use Rattle.partition.specs.Before.{Before}
+use Rattle.partition.specs.Order.{Before}
 use Rattle.closed_lattice.specs.Laws.Generating.{IsMade, IsZeroOf}
 
 -- the joins of generators in the world of partitions of n states

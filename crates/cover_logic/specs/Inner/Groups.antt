@@ -3,7 +3,7 @@ use Rattle.std.specs.Prelude.{◌≡◌, ℕ, ◌+◌, ◌<◌, ◌≤◌, ◌�
 use Rattle.std.specs.Int.{bit_at}
 use Rattle.cover_logic.specs.declared.bundles.Entry.{Entry}
 use Rattle.cover_terms.specs.declared.term.Term.{Term}
-use Rattle.cover_logic.specs.declared.waiting.Group.{Group}
+use Rattle.cover_logic.specs.declared.waiting_terms.Group.{Group}
 use Rattle.cover_terms.specs.Pair.{refines}
 
 -- the term is that of an entry at a live place

@@ -4,8 +4,8 @@ use Rattle.cubes.specs.declared.cube.Cube.{Cube}
 use Rattle.cubes.specs.Cube.{HoldsNumber, Meets}
 use Rattle.cubes.specs.Symbol.{bit}
 use Rattle.kiss_file.specs.declared.file.KissFile.{KissFile}
-use Rattle.machine_table.specs.declared.covering.Piece.{Piece}
-use Rattle.machine_table.specs.Covering.{IsHeldByPiece, IsPiece}
+use Rattle.machine_table.specs.declared.pieces.Piece.{Piece}
+use Rattle.machine_table.specs.Pieces.{IsHeldByPiece, IsPiece}
 use Rattle.cover_split.specs.Cover.{block_at}
 use Rattle.cover_split.specs.declared.joint.Joint.{Joint}
 use Rattle.cover_split.specs.declared.joint.Division.{Division}

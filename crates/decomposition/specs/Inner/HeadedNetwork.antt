@@ -8,7 +8,7 @@ use Rattle.state_codes.specs.declared.Codes.{Codes}
 use Rattle.state_codes.specs.declared.split.Split.{Split}
 use Rattle.state_reduce.specs.declared.work.WorkMachine.{WorkMachine}
 use Rattle.decomposition.specs.declared.network.SplitNetwork.{SplitNetwork}
-use Rattle.decomposition.specs.Inner.Headed.{IsHeaderOf}
+use Rattle.decomposition.specs.Inner.Header.{IsHeaderOf}
 use Rattle.decomposition.specs.Network.{IsNetworkOf}
 
 -- the network of the split, for some names of the file's signals

@@ -3,7 +3,7 @@ use Rattle.std.specs.Prelude.{◌≡◌, ℕ, ◌+◌, ◌*◌, ◌<◌, Contain
 use Rattle.kiss_file.specs.declared.file.KissFile.{KissFile}
 use Rattle.state_pairs.specs.Pairs.{HaveOneBit}
 use Rattle.dependence.specs.Bit.{GiveTheSame}
-use Rattle.dependence.specs.Permits.{InWord, next_value}
+use Rattle.dependence.specs.SufficientBits.{InWord, next_value}
 
 -- the words of the two states of some pair differ at the bit
 pub record DifferInPair (words : List ℕ) (pairs : List (ℕ × ℕ)) (i : ℕ) : Type 0 where

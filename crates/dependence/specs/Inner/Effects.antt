@@ -11,7 +11,7 @@ use Rattle.dependence.specs.declared.bit.Bit.TheVariants.{Latch, Output}
 use Rattle.dependence.specs.Bit.{IsBit, value_of}
 use Rattle.dependence.specs.Inputs.{DifferAlone}
 use Rattle.dependence.specs.Effects.{ActsBy, MattersAt}
-use Rattle.dependence.specs.Said.{row_value}
+use Rattle.dependence.specs.RowBits.{row_value}
 
 -- both are given, and they differ
 abbrev pub AreGivenApart : Option Bool → Option Bool → Type 0

@@ -5,7 +5,7 @@ use Rattle.state_codes.specs.declared.split.Part.{Part}
 use Rattle.state_codes.specs.declared.Codes.{Codes}
 use Rattle.dependence.specs.declared.sets.ReadSet.{ReadSet}
 use Rattle.dependence.specs.Candidates.{IsBitOfCode, IsCandidate}
-use Rattle.dependence.specs.Permits.{next_value, output_value}
+use Rattle.dependence.specs.SufficientBits.{next_value, output_value}
 use Rattle.dependence.specs.Reads.{IsReadSet}
 
 -- the read sets of the latches below count

@@ -7,9 +7,9 @@ use Rattle.cubes.specs.Symbol.{number_of, symbol_of}
 use Rattle.cubes.specs.Laws.Numbers.{length-symbol_of, number_below, symbol_of-number_of}
 use Rattle.kiss_file.specs.declared.file.KissFile.{KissFile}
 use Rattle.machine_table.specs.Pairs.{AtEachSymbol}
-use Rattle.dependence.specs.Permits.{AgreeOn, InWord, PermitsValue}
+use Rattle.dependence.specs.SufficientBits.{AgreeOn, InWord, PermitsValue}
 use Rattle.dependence.specs.Bit.{GiveTheSame}
-use Rattle.dependence.specs.Inner.Asking.{IsFirstLike}
+use Rattle.dependence.specs.Inner.LikeStates.{IsFirstLike}
 
 -- the same bits of a set, by one mask
 pub agree_from_masks : (words : List ℕ) (set s t : ℕ) → bit_and (get_or words s 0) set ≡ bit_and (get_or words t 0) set → AgreeOn words (InWord set) s t

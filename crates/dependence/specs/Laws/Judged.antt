@@ -2,9 +2,9 @@
 use Rattle.std.proofs.Common.{◌≢◌, ℕ, ◌+◌, ◌^◌, ◌<◌, Bool, List, inl, inr, sym, subst, arith}
 use Rattle.std.proofs.lemmas.Bool.{cases_eq, cases_order}
 use Rattle.kiss_file.specs.declared.file.KissFile.{KissFile}
-use Rattle.dependence.specs.Permits.{InWord, PermitsValue}
+use Rattle.dependence.specs.SufficientBits.{InWord, PermitsValue}
 use Rattle.dependence.specs.ReadRule.{Beside, IsReadRule, Without}
-use Rattle.dependence.specs.Inner.Judging.{AreJudgedFrom, IsBitDecided}
+use Rattle.dependence.specs.Inner.Judgement.{AreJudgedFrom, IsBitDecided}
 use Rattle.dependence.specs.Laws.Words.{bit_within}
 
 -- a greater set permits what a smaller one permits

@@ -7,14 +7,14 @@ use Rattle.cubes.specs.Cube.{HoldsNumber}
 use Rattle.kiss_file.specs.declared.file.KissFile.{KissFile}
 use Rattle.kiss_file.specs.declared.file.KissRow.{KissRow}
 use Rattle.kiss_file.specs.Machine.{given_bit}
-use Rattle.machine_table.specs.declared.missing.Missing.{Missing}
-use Rattle.machine_table.specs.declared.missing.Missing.TheVariants.{Next, Output as MissingOutput}
-use Rattle.machine_table.specs.Covering.{IsRightRow}
-use Rattle.machine_table.specs.Said.{Says, place_of}
+use Rattle.machine_table.specs.declared.open_part.Missing.{Missing}
+use Rattle.machine_table.specs.declared.open_part.Missing.TheVariants.{Next, Output as MissingOutput}
+use Rattle.machine_table.specs.Pieces.{IsRightRow}
+use Rattle.machine_table.specs.OpenEntries.{Says, place_of}
 use Rattle.dependence.specs.declared.bit.Bit.{Bit}
 use Rattle.dependence.specs.declared.bit.Bit.TheVariants.{Latch, Output}
 use Rattle.dependence.specs.Bit.{IsBit, value_of}
-use Rattle.dependence.specs.Said.{row_value}
+use Rattle.dependence.specs.RowBits.{row_value}
 
 -- the part of which a gate tells
 abbrev pub part_of : Bit → Missing

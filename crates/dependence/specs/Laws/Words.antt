@@ -4,7 +4,7 @@ use Rattle.std.proofs.lemmas.Bool.{cases_eq, cases_lt}
 use Rattle.std.proofs.lemmas.Nat.Bits.{bit_at_and, bit_at_above, bit_at_set_same, bit_at_set_other, bit_at_clear_same, bit_at_clear_other}
 use Rattle.std.specs.Int.{bit_at, bit_not}
 use Rattle.std.proofs.Common.{w64}
-use Rattle.dependence.specs.Permits.{InWord}
+use Rattle.dependence.specs.SufficientBits.{InWord}
 use Rattle.dependence.specs.ReadRule.{Without}
 
 -- the word with a bit

@@ -2,7 +2,7 @@
 use Rattle.std.specs.Prelude.{◌≡◌, ℕ, List, [], ◌∷◌}
 use Rattle.kiss_file.specs.declared.file.KissFile.{KissFile}
 use Rattle.partition.specs.Partition.{blocks_of}
-use Rattle.partition.specs.Inside.{IsComplement, IsLargestSize}
+use Rattle.partition.specs.NestedBlocks.{IsComplement, IsLargestSize}
 use Rattle.state_codes.specs.declared.split.Part.{Part}
 use Rattle.feedback_split.specs.Carrier.{IsCarrierGrowth, IsGreatestCarrier}
 

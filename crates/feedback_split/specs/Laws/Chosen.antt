@@ -7,7 +7,7 @@ use Rattle.pair_operators.specs.Extremes.{IsLow}
 use Rattle.pair_operators.specs.Growth.{pairs_of}
 use Rattle.pair_operators.specs.Laws.Extremes.{low_once}
 use Rattle.pair_operators.specs.Laws.Growth.{grown_once}
-use Rattle.partition.specs.Inside.{IsComplement}
+use Rattle.partition.specs.NestedBlocks.{IsComplement}
 use Rattle.partition.specs.Partition.{IsHold, Together, zero_of}
 use Rattle.partition.specs.Laws.Extremes.{zero_of_is_partition, zero_of_is_zero}
 use Rattle.partition.specs.Laws.Labels.{same_labels}

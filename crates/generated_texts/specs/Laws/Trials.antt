@@ -7,8 +7,8 @@ use Rattle.answers.specs.declared.refusals.Refusal.{Refusal}
 use Rattle.answers.specs.declared.refusals.Refusal.TheVariants.{CodeTooLong}
 use Rattle.answers.specs.Laws.Causes.{HasOneAnswer, IsOf, one_of}
 use Rattle.kiss_file.specs.declared.file.KissFile.{KissFile}
-use Rattle.machine_gen.specs.MachineOf.{AreSizes}
-use Rattle.machine_gen.specs.Parallel.{AreParallel, by_first, by_second}
+use Rattle.machine_gen.specs.WordMachine.{AreSizes}
+use Rattle.machine_gen.specs.ParallelParts.{AreParallel, by_first, by_second}
 use Rattle.machine_gen.specs.Words.{word}
 use Rattle.machine_gen.proofs.OneMachine.{one_machine}
 use Rattle.machine_gen.proofs.Sides.{sides}
@@ -21,7 +21,7 @@ use Rattle.split_texts.specs.Laws.Codes.{length_once}
 use Rattle.state_codes.specs.declared.split.Kind.TheVariants.{Parallel}
 use Rattle.state_codes.specs.declared.split.Part.{Part}
 use Rattle.state_codes.specs.Code.{IsLength}
-use Rattle.generated_texts.specs.Generated.{IsGenerated}
+use Rattle.generated_texts.specs.SeedMachine.{IsGenerated}
 use Rattle.generated_texts.specs.Trial.{LongCodeRow}
 
 -- ---- the machine of the numbers

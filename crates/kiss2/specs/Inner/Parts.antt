@@ -3,7 +3,7 @@ use Rattle.std.specs.Prelude.{ℕ, List, [], ◌∷◌, ◌++◌, codes, length,
 use Rattle.std.specs.Fmt.{decimal}
 use Rattle.kiss_file.specs.declared.file.KissFile.{KissFile}
 use Rattle.kiss_file.specs.Names.{name_of}
-use Rattle.kiss2.specs.Written.{fields_of_row, given_line, states_standing}
+use Rattle.kiss2.specs.KissText.{fields_of_row, given_line, states_standing}
 
 -- the numbers of inputs and outputs, and their names
 abbrev pub head_lines : KissFile → List (List (List ℕ))

@@ -10,7 +10,7 @@ use Rattle.std.proofs.lemmas.List.{length_push}
 use Rattle.std.proofs.lemmas.Slice.Eq.{bytes_eq-Decides}
 use Rattle.hs_io.specs.declared.lines.Line.{Line}
 use Rattle.kiss2.specs.Faults.{has_twice}
-use Rattle.kiss2.specs.Inner.Judging.{names_on, names_seen, once_after}
+use Rattle.kiss2.specs.Inner.ReaderState.{names_on, names_seen, once_after}
 use Rattle.kiss_file.specs.Names.{AreDistinct}
 use Rattle.kiss2.specs.Standing.{each_once, names_in_column, row_lines, state_names}
 use Rattle.kiss2.specs.Words.{current_field, is_name, next_field}

@@ -7,7 +7,7 @@ use Rattle.std.proofs.lemmas.List.Elements.{All-append, All-get_or, All-map, All
 use Rattle.list_facts.specs.Laws.Everywhere.{all_given}
 use Rattle.kiss_file.specs.declared.file.KissFile.{KissFile}
 use Rattle.kiss_file.specs.declared.file.KissRow.{KissRow}
-use Rattle.kiss_file.specs.Lawful.{AreGiven, AreNumbered, IsLawful, IsLawfulRow, appearances, given_names}
+use Rattle.kiss_file.specs.LawfulFile.{AreGiven, AreNumbered, IsLawful, IsLawfulRow, appearances, given_names}
 use Rattle.kiss_file.specs.Names.{AreDistinct, IsPlainName}
 use Rattle.kiss_file.specs.NumberedNames.{numbered_names}
 use Rattle.kiss_file.specs.Laws.NumberedNames.{length-numbered_names, numbered_names-distinct, numbered_names-plain}

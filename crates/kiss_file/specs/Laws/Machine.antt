@@ -11,7 +11,7 @@ use Rattle.cubes.specs.Cube.{holds}
 use Rattle.cubes.specs.Laws.Deciding.{held_from_test, test_from_held}
 use Rattle.kiss_file.specs.declared.file.KissFile.{KissFile}
 use Rattle.kiss_file.specs.declared.file.KissRow.{KissRow}
-use Rattle.kiss_file.specs.Lawful.{IsLawfulRow}
+use Rattle.kiss_file.specs.LawfulFile.{IsLawfulRow}
 use Rattle.kiss_file.specs.Machine.{given_bit, next, output_bit, out, IsRowAt, Conflicting, NextIsAState, RowsDecide}
 
 -- ---- the first value that some item gives

@@ -1,9 +1,9 @@
 -- Candidates that are chosen one after another, given by their ascending list.
 use Rattle.std.specs.Prelude.{◌≡◌, ◌⊎◌, ◌↔◌, ℕ, ◌+◌, ◌≤◌, Contains, List, [], ◌∷◌, length}
-use Rattle.dependence.specs.Permits.{InWord}
+use Rattle.dependence.specs.SufficientBits.{InWord}
 use Rattle.least_codes.specs.declared.choice.Question.{Question}
 use Rattle.least_codes.specs.declared.choice.Choice.{Choice}
-use Rattle.least_codes.specs.Inner.Apart.{TellsApart}
+use Rattle.least_codes.specs.Inner.StatePairs.{TellsApart}
 use Rattle.least_codes.specs.LeastReads.{AreBitsOf, ListBefore}
 
 -- numbers from `from` on, each less than the next

@@ -1,11 +1,11 @@
 -- Where symbols lead two states.
 use Rattle.std.specs.Prelude.{◌≡◌, ◌↔◌, ◌⊎◌, ℕ, ◌<◌, All, Contains, List, length}
 use Rattle.kiss_file.specs.declared.file.KissFile.{KissFile}
-use Rattle.machine_table.specs.Covering.{IsImage}
+use Rattle.machine_table.specs.Pieces.{IsImage}
 use Rattle.machine_table.specs.Pairs.{HaveOneBit}
 use Rattle.least_codes.specs.declared.two_states.TwoStates.{TwoStates}
 use Rattle.least_codes.specs.declared.table.Images.{Images}
-use Rattle.least_codes.specs.Inner.Apart.{IsPair}
+use Rattle.least_codes.specs.Inner.StatePairs.{IsPair}
 
 -- the pair is of two of n states, and so are its images
 pub record IsInside (n : ℕ) (row : Images) : Type 0 where

@@ -14,7 +14,7 @@ use Rattle.state_codes.specs.declared.Codes.{Codes}
 use Rattle.state_codes.specs.Laws.Codes.{codes_are_one}
 use Rattle.state_codes.specs.Code.{need}
 use Rattle.state_codes.specs.Split.{others, own_part}
-use Rattle.dependence.specs.Permits.{InWord}
+use Rattle.dependence.specs.SufficientBits.{InWord}
 use Rattle.least_codes.specs.Cost.{IsCost}
 use Rattle.least_codes.specs.Laws.{GivenCodesAreLeast, LeastCodeIsOne, LeastReadsAreOne, LeastSplitIsOne}
 use Rattle.least_codes.specs.LeastCode.{IsLeastCode, TextsBefore}

@@ -3,7 +3,7 @@ use Rattle.std.specs.Prelude.{ℕ, ◌≡◌, ◌<◌, IfSome, false, length, tr
 use Rattle.cubes.specs.Symbol.{bit, symbol_of}
 use Rattle.kiss_file.specs.declared.file.KissFile.{KissFile}
 use Rattle.kiss_file.specs.Machine.{next, output_bit}
-use Rattle.machine_table.specs.declared.walking.Gathered.{Gathered}
+use Rattle.machine_table.specs.declared.walk.Gathered.{Gathered}
 
 -- some outputs are known and stand in the word, which has 0 at the others
 pub record IsGathered (F : KissFile) (s x known word : ℕ) : Type 0 where

@@ -5,9 +5,9 @@ use Rattle.cubes.specs.declared.cube.Cube.{Cube}
 use Rattle.kiss_file.specs.declared.file.KissFile.{KissFile}
 use Rattle.kiss_file.specs.declared.file.KissRow.{KissRow}
 use Rattle.kiss_file.specs.Machine.{given_bit}
-use Rattle.machine_table.specs.declared.missing.Missing.{Missing}
-use Rattle.machine_table.specs.Said.{IsSaid, Says, place_of}
-use Rattle.state_pairs.specs.Asked.{IsOfState}
+use Rattle.machine_table.specs.declared.open_part.Missing.{Missing}
+use Rattle.machine_table.specs.OpenEntries.{IsSaid, Says, place_of}
+use Rattle.state_pairs.specs.RowLabels.{IsOfState}
 use Rattle.state_rows.specs.Places.{IsNumberOf}
 
 -- at each symbol each part at the first places is given

@@ -3,7 +3,7 @@ use Rattle.std.specs.Prelude.{ℕ, ◌≡◌, ◌<◌, ◌^◌, length, IfSome, 
 use Rattle.cubes.specs.Symbol.{symbol_of, lowest_bits}
 use Rattle.kiss_file.specs.declared.file.KissFile.{KissFile}
 use Rattle.kiss_file.specs.Machine.{next, out}
-use Rattle.machine_table.specs.declared.walking.MetStep.{MetStep}
+use Rattle.machine_table.specs.declared.walk.MetStep.{MetStep}
 
 -- the next state at the symbol with that number, and the number that encodes the outputs there
 pub record IsStep (F : KissFile) (s x goes word : ℕ) : Type 0 where

@@ -1,8 +1,8 @@
 -- The places of parts.
 use Rattle.std.proofs.Common.{◌≡◌, refl, arith, ap}
-use Rattle.machine_table.specs.declared.missing.Missing.{Missing}
-use Rattle.machine_table.specs.declared.missing.Missing.TheVariants.{Next, Output}
-use Rattle.machine_table.specs.Said.{place_of}
+use Rattle.machine_table.specs.declared.open_part.Missing.{Missing}
+use Rattle.machine_table.specs.declared.open_part.Missing.TheVariants.{Next, Output}
+use Rattle.machine_table.specs.OpenEntries.{place_of}
 
 -- a place is that of one part
 pub one_part : (part other : Missing) → place_of part ≡ place_of other → part ≡ other

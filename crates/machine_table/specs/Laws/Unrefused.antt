@@ -6,12 +6,12 @@ use Rattle.kiss_file.specs.declared.fill.Fill.{Fill}
 use Rattle.kiss_file.specs.declared.fill.Fill.TheVariants.{Refuse, Hold}
 use Rattle.kiss_file.specs.declared.file.KissFile.{KissFile}
 use Rattle.kiss_file.specs.Machine.{Accepted, IsSpecifiedAt, Specified}
-use Rattle.machine_table.specs.declared.building.BuildFail.{BuildFail}
-use Rattle.machine_table.specs.declared.building.BuildFail.TheVariants.{Conflict, Unspecified, NoMemory}
-use Rattle.machine_table.specs.declared.missing.Missing.{Missing}
-use Rattle.machine_table.specs.declared.missing.Missing.TheVariants.{Next, Output}
+use Rattle.machine_table.specs.declared.builder.BuildFail.{BuildFail}
+use Rattle.machine_table.specs.declared.builder.BuildFail.TheVariants.{Conflict, Unspecified, NoMemory}
+use Rattle.machine_table.specs.declared.open_part.Missing.{Missing}
+use Rattle.machine_table.specs.declared.open_part.Missing.TheVariants.{Next, Output}
 use Rattle.machine_table.specs.Cause.{Caused}
-use Rattle.machine_table.specs.Said.{IsFirstOpen, IsSaid}
+use Rattle.machine_table.specs.OpenEntries.{IsFirstOpen, IsSaid}
 use Rattle.machine_table.specs.Laws.Conflicts.{conflicting_at}
 
 -- of a specified file each entry is said

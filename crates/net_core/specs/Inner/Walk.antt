@@ -1,11 +1,11 @@
 -- Gates by their places, and the state of a walk from gate to gate.
 use Rattle.std.specs.Prelude.{◌≡◌, ℕ, ◌+◌, ◌-◌, ◌<◌, ◌≤◌, ◌==◌, ⊤, List, [], ◌∷◌, length, map, count_by, slice_index, slice_index_or, slice_set, All, Contains}
-use Rattle.net_core.specs.declared.ordering.NumberedGate.{NumberedGate}
-use Rattle.net_core.specs.declared.walking.Walk.{Walk}
-use Rattle.net_core.specs.declared.walking.Look.{Look}
-use Rattle.net_core.specs.declared.walking.Look.TheVariants.{Whole, Settled, New, Open}
-use Rattle.net_core.specs.declared.walking.Stop.{Stop}
-use Rattle.net_core.specs.declared.walking.Stop.TheVariants.{Cycle, NoMemory}
+use Rattle.net_core.specs.declared.gate_order.NumberedGate.{NumberedGate}
+use Rattle.net_core.specs.declared.walk.Walk.{Walk}
+use Rattle.net_core.specs.declared.walk.Look.{Look}
+use Rattle.net_core.specs.declared.walk.Look.TheVariants.{Whole, Settled, New, Open}
+use Rattle.net_core.specs.declared.walk.Stop.{Stop}
+use Rattle.net_core.specs.declared.walk.Stop.TheVariants.{Cycle, NoMemory}
 
 -- the signals that a gate reads
 abbrev pub read_by : List (List ℕ) → ℕ → List ℕ

@@ -2,7 +2,7 @@
 use Rattle.std.proofs.Common.{◌≡◌, [], ◌∷◌, sym, ◌∙◌, ap, subst}
 use Rattle.net_core.specs.declared.Network.{Network}
 use Rattle.net_core.specs.Blif.{BlifOnce}
-use Rattle.net_core.specs.Denotes.{DenotesOnce}
+use Rattle.net_core.specs.Denotation.{DenotesOnce}
 use Rattle.net_core.specs.Step.{NetAnswers, AnswersAreDetermined}
 
 pub same_network : (N M : Network) → N.inputs ≡ M.inputs → N.outputs ≡ M.outputs → N.latches ≡ M.latches → N.gates ≡ M.gates → N ≡ M

@@ -2,7 +2,7 @@
 use Rattle.std.proofs.Common.{◌≡◌, ◌+◌, ◌++◌, length, length-append, map, arith}
 use Rattle.std.proofs.lemmas.List.{length-map}
 use Rattle.net_core.specs.declared.Network.{Network}
-use Rattle.net_core.specs.Sound.{driven_by, drivers_of}
+use Rattle.net_core.specs.SoundNetwork.{driven_by, drivers_of}
 
 -- each input, latch and gate drives one name
 pub count_drivers : (N : Network) → length (drivers_of N) ≡ (length N.inputs + length N.latches) + length N.gates

@@ -5,8 +5,8 @@ use Rattle.std.proofs.lemmas.List.Elements.{Contains-append_cases, Contains-appe
 use Rattle.std.proofs.lemmas.List.Sorted.{IsPermutation-refl}
 use Rattle.net_core.specs.declared.Gate.{Gate}
 use Rattle.net_core.specs.declared.Network.{Network}
-use Rattle.net_core.specs.Flat.{FlatIsSound, GivenIsAStep, IsFlat, base_of}
-use Rattle.net_core.specs.Sound.{IsOrdered, driven_by, drivers_of}
+use Rattle.net_core.specs.FlatNetwork.{FlatIsSound, GivenIsAStep, IsFlat, base_of}
+use Rattle.net_core.specs.SoundNetwork.{IsOrdered, driven_by, drivers_of}
 use Rattle.net_core.specs.Laws.Members.{times-append, times-some}
 use Rattle.net_core.specs.Laws.Valuations.{sound_one}
 

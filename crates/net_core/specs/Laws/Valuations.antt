@@ -5,7 +5,7 @@ use Rattle.std.specs.Str.{bytes_eq}
 use Rattle.net_core.specs.declared.Gate.{Gate}
 use Rattle.net_core.specs.declared.Network.{Network}
 use Rattle.net_core.specs.Step.{gate_value, IsValuation}
-use Rattle.net_core.specs.Sound.{driven_by, drivers_of, IsOrdered, Sound, SoundIsDetermined}
+use Rattle.net_core.specs.SoundNetwork.{driven_by, drivers_of, IsOrdered, Sound, SoundIsDetermined}
 use Rattle.net_core.specs.Laws.Members.{Agree, is_same_name, map_same, times, times-append, times-cons, times-some}
 use Rattle.std.proofs.lemmas.List.{length-map, map-append}
 use Rattle.std.proofs.lemmas.Simd.{map-map}

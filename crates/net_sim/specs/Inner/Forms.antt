@@ -4,12 +4,12 @@ use Rattle.std.specs.List.{list_any}
 use Rattle.cubes.specs.declared.cube.Cube.{Cube}
 use Rattle.cubes.specs.Cube.{holds}
 use Rattle.cubes.specs.Symbol.{bit, symbol_of}
-use Rattle.net_core.specs.declared.ordering.NumberedGate.{NumberedGate}
+use Rattle.net_core.specs.declared.gate_order.NumberedGate.{NumberedGate}
 use Rattle.net_core.specs.Step.{row_holds}
 use Rattle.net_sim.specs.declared.forms.GateForm.{GateForm}
 use Rattle.net_sim.specs.declared.forms.GateForm.TheVariants.{Small, Table, Cubes, Wide, Rows}
-use Rattle.net_sim.specs.declared.small.SmallGate.{SmallGate}
-use Rattle.net_sim.specs.Inner.Evaluated.{value_for}
+use Rattle.net_sim.specs.declared.small_gates.SmallGate.{SmallGate}
+use Rattle.net_sim.specs.Inner.GateValues.{value_for}
 use Rattle.net_sim.specs.Inner.Pieces.{IsWide}
 
 -- the table has at each number the value of the gate for the bits of this number

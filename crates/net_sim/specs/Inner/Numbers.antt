@@ -6,7 +6,7 @@ use Rattle.hs_io.specs.Lines.{is_skipped}
 use Rattle.net_sim.specs.declared.symbols.SymbolFail.{SymbolFail}
 use Rattle.net_sim.specs.declared.symbols.SymbolFail.TheVariants.{NoMemory, Refused}
 use Rattle.net_sim.specs.Symbols.{IsRefusedLine, SaysSymbol, SayWord}
-use Rattle.net_sim.specs.Inner.Ran.{HasTaken}
+use Rattle.net_sim.specs.Inner.RunProgress.{HasTaken}
 
 -- the line is skipped and the list stayed as it was, or the number of the line's symbol was appended
 abbrev pub AddedLine : ℕ → Line → List ℕ → List ℕ → Type 0

@@ -4,7 +4,7 @@ use Rattle.std.specs.List.{list_any}
 use Rattle.cubes.specs.declared.cube.Cube.{Cube}
 use Rattle.cubes.specs.Cube.{holds}
 use Rattle.cubes.specs.Symbol.{number_of, symbol_of}
-use Rattle.net_core.specs.declared.ordering.NumberedGate.{NumberedGate}
+use Rattle.net_core.specs.declared.gate_order.NumberedGate.{NumberedGate}
 use Rattle.net_core.specs.Step.{row_holds}
 
 -- each cube holds its piece of the bits, and there are no other bits

@@ -19,7 +19,7 @@ use Rattle.net_core.specs.Blif.{Blif}
 use Rattle.net_core.specs.Laws.Determined.{blif_one}
 use Rattle.operands.specs.Causes.{Conflicts, LeavesOpen, Never, NoMachineOf, NoNetworkOf, OfFile, OfMachine, OfNetwork, SaysNoMachine, SaysNoNetwork}
 use Rattle.kiss2.proofs.Exact.{machine_or_fault, one_file}
-use Rattle.operands.specs.Loading.{IsShortText, Lengthy}
+use Rattle.operands.specs.OperandText.{IsShortText, Lengthy}
 
 -- ---- the answers
 pub lengthy_is_of : (name bytes : List ℕ) → IsOf answers.TooLong (Lengthy name bytes)

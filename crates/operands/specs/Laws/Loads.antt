@@ -3,7 +3,7 @@ use Rattle.std.specs.Prelude.{◌≡◌, ℕ, List, Option}
 use Rattle.std.proofs.Common.{sym, subst}
 use Rattle.answers.specs.declared.refusals.Refusal.{Refusal}
 use Rattle.operands.specs.Load.{IsStopAt}
-use Rattle.operands.specs.Loading.{IsText, Lengthy}
+use Rattle.operands.specs.OperandText.{IsText, Lengthy}
 
 -- the text of an operand, lent by another name of it
 pub text_of_load : (holds : List ℕ → Option (List ℕ)) (name file text bytes : List ℕ) → IsText (holds name) text → name ≡ file → bytes ≡ text → IsText (holds file) bytes

@@ -1,8 +1,8 @@
 -- For private functions and proofs alone: numbers that tell states apart.
 use Rattle.std.specs.Prelude.{ℕ, ◌≡◌, ◌+◌, ◌*◌, ◌%◌, ◌<◌, ◌^◌, List, length, slice_index}
 use Rattle.kiss_file.specs.declared.file.KissFile.{KissFile}
-use Rattle.pair_operators.specs.declared.asked.Keys.{Keys}
-use Rattle.pair_operators.specs.Going.{Goes}
+use Rattle.pair_operators.specs.declared.next_columns.Keys.{Keys}
+use Rattle.pair_operators.specs.NextBlocks.{Goes}
 
 -- the number of a state after one more label
 abbrev pub mixed : ℕ → ℕ → ℕ

@@ -4,13 +4,13 @@ use Rattle.cubes.specs.Symbol.{number_of, symbol_of}
 use Rattle.cubes.specs.Laws.Numbers.{length-symbol_of, number_below, symbol_of-number_of}
 use Rattle.kiss_file.specs.declared.file.KissFile.{KissFile}
 use Rattle.kiss_file.specs.Machine.{next}
-use Rattle.machine_table.specs.Covering.{IsImage}
-use Rattle.machine_table.specs.Merging.{MergesImages}
-use Rattle.machine_table.specs.Staying.{NeverLeaves}
+use Rattle.machine_table.specs.Pieces.{IsImage}
+use Rattle.machine_table.specs.MergedStates.{MergesImages}
+use Rattle.machine_table.specs.NextStates.{NeverLeaves}
 use Rattle.partition.specs.Partition.{Together, Le}
 use Rattle.partition.specs.Laws.Chains.{together_turned}
 use Rattle.pair_operators.specs.Pair.{Pair}
-use Rattle.pair_operators.specs.Going.{Goes}
+use Rattle.pair_operators.specs.NextBlocks.{Goes}
 
 -- at each symbol
 pub goes_each : (F : KissFile) (q : List ℕ) (s t : ℕ) → Goes F q s t → (x : List Bool) → length x ≡ F.inputs → Together q (next F s x) (next F t x)

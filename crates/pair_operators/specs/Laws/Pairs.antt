@@ -2,7 +2,7 @@
 use Rattle.std.proofs.Common.{◌≡◌, ℕ, ◌<◌, Bool, List, [], ◌∷◌, length, refl, subst, inl, inr, arith}
 use Rattle.kiss_file.specs.declared.file.KissFile.{KissFile}
 use Rattle.kiss_file.specs.Machine.{next}
-use Rattle.machine_table.specs.Staying.{NeverLeaves}
+use Rattle.machine_table.specs.NextStates.{NeverLeaves}
 use Rattle.partition.specs.Partition.{IsPartition, Together, Le, IsZero, IsOne}
 use Rattle.partition.specs.MeetAndJoin.{IsMeet, IsJoin, Leads, Chain}
 use Rattle.partition.specs.Laws.Chains.{chain_none, chain_link, chain_on}

@@ -3,7 +3,7 @@ use Rattle.std.specs.Prelude.{ℕ, ◌+◌, ◌<◌, ◌≤◌, ◌↔◌, All, 
 use Rattle.std.specs.List.Sorted.{IsPermutation}
 use Rattle.kiss_file.specs.declared.file.KissFile.{KissFile}
 use Rattle.partition.specs.Partition.{IsOne, IsPartition, IsZero, Together, blocks_of, zero_of}
-use Rattle.partition.specs.Before.{Before}
+use Rattle.partition.specs.Order.{Before}
 use Rattle.closed_lattice.specs.Limits.{HoldsApart, IsGreatestGrown}
 use Rattle.parallel_split.specs.Choice.{SeparatesTo}
 

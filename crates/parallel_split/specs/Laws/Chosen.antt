@@ -5,11 +5,11 @@ use Rattle.std.proofs.lemmas.List.Elements.{All-head, All-tail}
 use Rattle.std.proofs.lemmas.List.Sorted.{Contains-permutation, IsPermutation-sym}
 use Rattle.kiss_file.specs.declared.file.KissFile.{KissFile}
 use Rattle.partition.specs.Partition.{IsZero, Together, zero_of}
-use Rattle.partition.specs.Before.{Before, IsSmaller}
+use Rattle.partition.specs.Order.{Before, IsSmaller}
 use Rattle.partition.specs.MeetAndJoin.{IsMeet}
 use Rattle.pair_operators.specs.Laws.Growth.{grown_once}
 use Rattle.pair_operators.specs.Growth.{pairs_of}
-use Rattle.closed_lattice.specs.Closed.{IsPrincipal}
+use Rattle.closed_lattice.specs.ClosedPartitions.{IsPrincipal}
 use Rattle.closed_lattice.specs.Limits.{HoldsApart}
 use Rattle.closed_lattice.specs.Laws.Generating.{principals_are_one}
 use Rattle.state_codes.specs.declared.split.Part.{Part}

@@ -3,7 +3,7 @@ use Rattle.std.proofs.Common.{◌≡◌, ℕ, zero, suc, ◌+◌, ◌-◌, ◌<�
 use Rattle.std.proofs.lemmas.List.{take_all}
 use Rattle.std.proofs.lemmas.Bool.{cases_eq, cases_lt}
 use Rattle.partition.specs.Partition.{blocks_of, IsNumbered, IsPartition, IsZero, Together, Le, zero_of}
-use Rattle.partition.specs.Inside.{least_of}
+use Rattle.partition.specs.NestedBlocks.{least_of}
 use Rattle.partition.specs.Laws.Extremes.{zero_of_below, zero_of_is_zero, zero_of_is_partition}
 use Rattle.partition.specs.Laws.Labels.{blocks_of-take-more, blocks_of-take-suc, label-lt-blocks_of-take, block_stands, new_label}
 use Rattle.partition.specs.Laws.Least.{least_holds, least_of-le}

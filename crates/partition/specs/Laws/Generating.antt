@@ -5,7 +5,7 @@ use Rattle.std.specs.List.{AllByRecursion}
 use Rattle.std.proofs.lemmas.Bool.{cases_eq, cases_lt}
 use Rattle.hs_lattice.specs.JoinWorld.{IsJoinOf, IsGenerated, HaveJoins}
 use Rattle.hs_lattice.specs.Laws.{IsGenerated-has}
-use Rattle.partition.specs.Inside.{least_of}
+use Rattle.partition.specs.NestedBlocks.{least_of}
 use Rattle.partition.specs.Laws.Chains.{join_is_least}
 use Rattle.partition.specs.Laws.Extremes.{zero_of_below, zero_of_is_partition}
 use Rattle.partition.specs.Laws.Labels.{IsPartition-of, same_labels}

@@ -3,13 +3,13 @@ use Rattle.std.proofs.Common.{◌≡◌, ℕ, ◌<◌, inl, inr, max, min, List,
 use Rattle.std.proofs.lemmas.Bool.{cases_eq}
 use Rattle.std.proofs.lemmas.Grind.{get_or_default_zero}
 use Rattle.std.proofs.lemmas.List.{get_or-map, length-map}
-use Rattle.partition.specs.Inner.Relabelled.{relabelled}
+use Rattle.partition.specs.Inner.RemovedLabel.{relabelled}
 use Rattle.partition.specs.Laws.Chains.{together_turned}
 use Rattle.partition.specs.Laws.Extremes.{zero_of_is_partition, zero_of_is_zero}
 use Rattle.partition.specs.Laws.Labels.{IsPartition-of}
 use Rattle.partition.specs.Laws.Merging.{merged_held}
 use Rattle.partition.specs.Laws.Relabelling.{merged_already, put_together}
-use Rattle.partition.specs.Merging.{IsMerged}
+use Rattle.partition.specs.MergedBlocks.{IsMerged}
 use Rattle.partition.specs.Partition.{IsHold, IsPartition, IsStateCount, Le, Together, zero_of}
 
 -- two blocks can be put together

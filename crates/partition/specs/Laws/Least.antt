@@ -4,7 +4,7 @@ use Rattle.std.proofs.lemmas.Bool.{cases_lt, eq-eqb, eqb-true, ne_eqb, false≢t
 use Rattle.std.proofs.lemmas.List.Sums.{position_or_len_is, passes_at_first, fails_before_first}
 use Rattle.std.specs.List.{position_or_len}
 use Rattle.partition.specs.Partition.{Together}
-use Rattle.partition.specs.Inside.{least_of}
+use Rattle.partition.specs.NestedBlocks.{least_of}
 
 -- no state of a block is below its least
 pub least_of-le : (q : List ℕ) (s t : ℕ) → get_or q t 0 ≡ get_or q s 0 → least_of q s ≤ t

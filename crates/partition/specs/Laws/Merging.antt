@@ -1,7 +1,7 @@
 -- Two blocks put together give the least partition above that holds the two states together.
 use Rattle.std.proofs.Common.{ℕ, ◌<◌, List, length, sym, ◌∙◌, refl, inl, inr}
 use Rattle.partition.specs.Partition.{Together, Le}
-use Rattle.partition.specs.Merging.{IsMerged}
+use Rattle.partition.specs.MergedBlocks.{IsMerged}
 
 pub merged_above : (p r : List ℕ) (s t : ℕ) → IsMerged p s t r → Le p r
 merged_above p r s t is u v held = (is.together u v).1 (inl held)

@@ -3,7 +3,7 @@ use Rattle.std.proofs.Common.{◌≡◌, ℕ, zero, suc, ◌<◌, ◌≤◌, ◌
 use Rattle.std.proofs.lemmas.List.{ext_get_or}
 use Rattle.std.proofs.lemmas.Bool.{cases_eq, cases_order}
 use Rattle.partition.specs.Partition.{blocks_of}
-use Rattle.partition.specs.Before.{Before, IsSmaller}
+use Rattle.partition.specs.Order.{Before, IsSmaller}
 
 -- s is the first state at which the labels differ
 record IsDifference (p q : List ℕ) (s : ℕ) : Type 0 where

@@ -5,8 +5,8 @@ use Rattle.std.proofs.lemmas.Bool.Decides.{nat_tests}
 use Rattle.std.proofs.lemmas.List.{take_all}
 use Rattle.std.proofs.lemmas.Grind.{get_or_default_zero}
 use Rattle.partition.specs.Partition.{blocks_of, IsNumbered, IsPartition, Together}
-use Rattle.partition.specs.Merging.{IsMerged}
-use Rattle.partition.specs.Inner.Relabelled.{relabelled}
+use Rattle.partition.specs.MergedBlocks.{IsMerged}
+use Rattle.partition.specs.Inner.RemovedLabel.{relabelled}
 use Rattle.partition.specs.Laws.Labels.{blocks_of-take-suc, label-lt-blocks_of}
 
 -- how many labels are left of so many

@@ -2,8 +2,8 @@
 use Rattle.std.proofs.Common.{◌≡◌, ℕ, ◌+◌, ◌<◌, ◌≤◌, ◌⊎◌, ◌∙◌, List, take, length, get_or, sym, subst, refl, inl, inr, arith}
 use Rattle.std.proofs.lemmas.Bool.{cases_eq}
 use Rattle.partition.specs.Partition.{blocks_of, IsPartition, IsZero, Together}
-use Rattle.partition.specs.Merging.{IsMerged}
-use Rattle.partition.specs.Splitting.{AreRelated, IsSearched, IsSplitBy, IsSplitUpTo}
+use Rattle.partition.specs.MergedBlocks.{IsMerged}
+use Rattle.partition.specs.RelationBlocks.{AreRelated, IsSearched, IsSplitBy, IsSplitUpTo}
 use Rattle.partition.specs.Laws.Labels.{IsPartition-of, block_stands, blocks_of-take-more}
 use Rattle.partition.specs.Laws.Chains.{together_turned}
 use Rattle.partition.specs.Laws.Merging.{merged_above, merged_held}

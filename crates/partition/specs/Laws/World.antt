@@ -3,7 +3,7 @@ use Rattle.std.specs.Prelude.{◌≡◌, ℕ, ◌⊎◌, List}
 use Rattle.std.proofs.Common.{sym, ◌∙◌, subst}
 use Rattle.partition.specs.Partition.{IsPartition, IsStateCount, zero_of}
 use Rattle.partition.specs.MeetAndJoin.{IsJoin}
-use Rattle.partition.specs.Before.{Before}
+use Rattle.partition.specs.Order.{Before}
 use Rattle.partition.specs.Laws.Labels.{IsPartition-of}
 use Rattle.partition.specs.Laws.Precedence.{before_irreflexive, before_transitive, before_total}
 use Rattle.partition.specs.Laws.Extremes.{zero_of_is_zero, zero_of_is_partition}

@@ -4,11 +4,11 @@ ghost use Rattle.std.specs.Prelude.{◌≡◌, ℕ, ◌<◌, length, IfOk};
 ghost use Rattle.std.specs.Bool.{OnFalse};
 ghost use Rattle.partition.specs.Partition.{IsPartition};
 ghost use Rattle.partition.specs.MeetAndJoin.{IsMeet, IsJoin, IsGreatestBelow, IsLeastAbove};
-ghost use Rattle.partition.specs.Merging.{IsMerged};
+ghost use Rattle.partition.specs.MergedBlocks.{IsMerged};
 ghost use Rattle.partition.specs.Inner.Rows.{Has, JoinsStates};
 
 use super::BitPart;
-use super::gathering::gathered_rows;
+use super::joined_rows::gathered_rows;
 use super::rows::{row_count, word_count};
 use crate::Partition;
 use crate::states::StateSet;

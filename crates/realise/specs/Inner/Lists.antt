@@ -3,7 +3,7 @@ use Rattle.std.specs.Prelude.{ℕ, List, Option, slice_index}
 use Rattle.std.specs.Option.{option_map}
 use Rattle.dependence.specs.declared.bit.Bit.{Bit}
 use Rattle.dependence.specs.declared.sets.ReadSet.{ReadSet}
-use Rattle.dependence.specs.Said.{row_value}
+use Rattle.dependence.specs.RowBits.{row_value}
 use Rattle.gate_rows.specs.declared.demands.Demand.{Demand}
 use Rattle.gate_rows.specs.Demands.{demand_at}
 use Rattle.gate_rows.specs.Columns.{column_count}

@@ -9,7 +9,7 @@ use Rattle.std.proofs.lemmas.List.{append_cancel_left}
 use Rattle.std.proofs.lemmas.List.FromFn.{get_or-map-range_with_len, length-map-range_with_len}
 use Rattle.list_facts.specs.Laws.Members.{Contains-here, Contains-there}
 use Rattle.kiss_file.specs.declared.file.KissFile.{KissFile}
-use Rattle.kiss_file.specs.Lawful.{AreGiven, IsLawful, given_names}
+use Rattle.kiss_file.specs.LawfulFile.{AreGiven, IsLawful, given_names}
 use Rattle.kiss_file.specs.Names.{AreDistinct}
 use Rattle.net_core.specs.declared.SignalNames.{SignalNames}
 use Rattle.net_core.specs.Laws.Members.{same_name, times, times-append, times-cons}

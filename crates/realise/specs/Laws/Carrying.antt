@@ -3,10 +3,10 @@ use Rattle.std.proofs.Common.{◌≡◌, ℕ, ◌<◌, Bool, All, List, [], ◌�
 use Rattle.std.proofs.lemmas.List.Elements.{All-head, All-tail}
 use Rattle.kiss_file.specs.declared.file.KissFile.{KissFile}
 use Rattle.kiss_file.specs.Machine.{answers, next, out}
-use Rattle.machine_table.specs.Staying.{NeverLeaves}
+use Rattle.machine_table.specs.NextStates.{NeverLeaves}
 use Rattle.net_core.specs.declared.Network.{Network}
 use Rattle.net_core.specs.Step.{NetAnswers}
-use Rattle.realise.specs.Carries.{CarriedAnswers, Carries}
+use Rattle.realise.specs.CarriedMachine.{CarriedAnswers, Carries}
 use Rattle.realise.specs.Codes.{code_of}
 
 -- so it is from each state on, word by word

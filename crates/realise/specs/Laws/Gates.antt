@@ -7,13 +7,13 @@ use Rattle.list_facts.specs.Laws.Everywhere.{all_at}
 use Rattle.list_facts.specs.Laws.Places.{item_at}
 use Rattle.dependence.specs.declared.sets.ReadSet.{ReadSet}
 use Rattle.dependence.specs.declared.sets.Reads.{Reads}
-use Rattle.dependence.specs.Permits.{next_value, output_value}
+use Rattle.dependence.specs.SufficientBits.{next_value, output_value}
 use Rattle.kiss_file.specs.declared.file.KissFile.{KissFile}
 use Rattle.net_core.specs.declared.Gate.{Gate}
 use Rattle.net_core.specs.declared.Network.{Network}
 use Rattle.net_core.specs.declared.SignalNames.{SignalNames}
-use Rattle.net_core.specs.Sound.{driven_by}
-use Rattle.realise.specs.Realised.{AreCounted, AreEnough, HasGate, IsGateFor, IsRealised, IsWithin, name_at}
+use Rattle.net_core.specs.SoundNetwork.{driven_by}
+use Rattle.realise.specs.CodeNetwork.{AreCounted, AreEnough, HasGate, IsGateFor, IsRealised, IsWithin, name_at}
 
 -- a gate of some read set, value and name
 pub record IsSomeGate (F : KissFile) (bits : ℕ) (words : List ℕ) (names : SignalNames) (gate : Gate) : Type 0 where

@@ -3,7 +3,7 @@ use Rattle.std.specs.Prelude.{◌≡◌, ℕ, ◌+◌, ◌≤◌, List, [], ◌�
 use Rattle.std.specs.List.{range_with_len}
 use Rattle.kiss_file.specs.declared.file.KissFile.{KissFile}
 use Rattle.partition.specs.Partition.{IsOne, IsPartition, IsZero, Lt, blocks_of, zero_of}
-use Rattle.partition.specs.Inside.{IsInside}
+use Rattle.partition.specs.NestedBlocks.{IsInside}
 use Rattle.closed_lattice.specs.Limits.{IsGreatestGrown}
 use Rattle.state_codes.specs.declared.split.Part.{Part}
 use Rattle.state_codes.specs.Kinds.{IsOwnCarrier}

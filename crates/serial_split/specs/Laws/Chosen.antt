@@ -5,10 +5,10 @@ use Rattle.std.proofs.lemmas.List.Elements.{All-head, All-tail}
 use Rattle.std.proofs.lemmas.Option.{none-some, same_Some}
 use Rattle.kiss_file.specs.declared.file.KissFile.{KissFile}
 use Rattle.partition.specs.Partition.{IsZero, Lt, zero_of}
-use Rattle.partition.specs.Inside.{IsComplement, IsInside}
+use Rattle.partition.specs.NestedBlocks.{IsComplement, IsInside}
 use Rattle.pair_operators.specs.Laws.Growth.{grown_once}
 use Rattle.pair_operators.specs.Growth.{pairs_of}
-use Rattle.closed_lattice.specs.Closed.{IsPrincipal}
+use Rattle.closed_lattice.specs.ClosedPartitions.{IsPrincipal}
 use Rattle.closed_lattice.specs.Laws.Generating.{principals_are_one}
 use Rattle.state_codes.specs.declared.split.Part.{Part}
 use Rattle.state_codes.specs.Kinds.{IsOwnCarrier}

@@ -1,10 +1,10 @@
 -- What the gate of an output reads, and the classes that it rests on.
 use Rattle.std.specs.Prelude.{◌≡◌, ℕ, ◌*◌, ◌<◌, ◌↔◌, All, List, length, map, slice_index}
-use Rattle.dependence.specs.Listed.{AreListed}
-use Rattle.dependence.specs.Permits.{InWord}
+use Rattle.dependence.specs.BitLists.{AreListed}
+use Rattle.dependence.specs.SufficientBits.{InWord}
 use Rattle.kiss_file.specs.declared.file.KissFile.{KissFile}
-use Rattle.shift_real.specs.declared.reading.OutputReading.{OutputReading}
-use Rattle.shift_real.specs.Inner.Reading.{FlipMatters, MattersAmong}
+use Rattle.shift_real.specs.declared.output_reads.OutputReading.{OutputReading}
+use Rattle.shift_real.specs.Inner.OutputReads.{FlipMatters, MattersAmong}
 use Rattle.shift_real.specs.Inner.Tables.{AreFirsts}
 
 -- the classes are those of the states of the table, and the set lists the latches and the inputs that matter by

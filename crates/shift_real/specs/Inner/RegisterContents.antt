@@ -2,7 +2,7 @@
 use Rattle.std.specs.Prelude.{◌*◌, ◌≤◌}
 use Rattle.kiss_file.specs.declared.file.KissFile.{KissFile}
 use Rattle.shift_real.specs.declared.starts.RegisterContents.{RegisterContents}
-use Rattle.shift_real.specs.Definite.{IsOrder}
+use Rattle.shift_real.specs.DefiniteMachine.{IsOrder}
 use Rattle.shift_real.specs.Inner.Contents.{AreContents}
 
 -- the contents of as many symbols as the order, which have few bits

@@ -4,7 +4,7 @@ use Rattle.std.proofs.lemmas.Bool.{cases_lt}
 use Rattle.std.proofs.lemmas.Option.{slice_get-get_or}
 use Rattle.kiss_file.specs.declared.file.KissFile.{KissFile}
 use Rattle.shift_real.specs.declared.contents.Content.{Content}
-use Rattle.shift_real.specs.Definite.{AreFirstApart, IsOrder}
+use Rattle.shift_real.specs.DefiniteMachine.{AreFirstApart, IsOrder}
 use Rattle.shift_real.specs.Inner.Contents.{AreContents}
 use Rattle.shift_real.specs.Register.{HasShortOrder, IsNotReached, word_number}
 use Rattle.shift_real.specs.Start.{WritesStart}

@@ -3,7 +3,7 @@ use Rattle.std.specs.Prelude.{◌*◌, ℕ}
 use Rattle.kiss_file.specs.declared.file.KissFile.{KissFile}
 use Rattle.net_core.specs.declared.Network.{Network}
 use Rattle.net_core.specs.declared.SignalNames.{SignalNames}
-use Rattle.net_core.specs.Sound.{Sound}
+use Rattle.net_core.specs.SoundNetwork.{Sound}
 use Rattle.realise.specs.Names.{AreNames}
 use Rattle.shift_real.specs.ShiftNetwork.{AnswersAs, IsRegister, StepsAlong}
 

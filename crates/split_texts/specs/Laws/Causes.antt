@@ -16,7 +16,7 @@ use Rattle.state_codes.specs.declared.split.Kind.{Kind}
 use Rattle.state_codes.specs.declared.split.Part.{Part}
 use Rattle.state_codes.specs.Fault.{AreApart}
 use Rattle.split_texts.specs.Causes.{HasLongCode, HasNoCode, HasNoText, IsNotWritten, LeavesTogether, OfParts}
-use Rattle.split_texts.specs.Written.{AreCodes}
+use Rattle.split_texts.specs.SplitText.{AreCodes}
 use Rattle.split_texts.specs.Laws.Codes.{length_of_codes, length_once}
 
 -- ---- one answer

@@ -7,7 +7,7 @@ use Rattle.std.proofs.lemmas.List.FromFn.{get_or-range_with_len, length-range_wi
 use Rattle.std.proofs.lemmas.Option.{none-some, same_Some, slice_get-get_or, slice_get_within}
 use Rattle.list_facts.specs.Laws.Everywhere.{all_at}
 use Rattle.list_facts.specs.Laws.Members.{Contains-filter}
-use Rattle.closed_lattice.specs.Closed.{IsClosedPartition}
+use Rattle.closed_lattice.specs.ClosedPartitions.{IsClosedPartition}
 use Rattle.decomposition.specs.Flow.{Flows, TogetherInReads}
 use Rattle.feedback_split.specs.Carrier.{Suffices}
 use Rattle.feedback_split.specs.Kind.{IsFeedback}
@@ -15,7 +15,7 @@ use Rattle.kiss_file.specs.declared.file.KissFile.{KissFile}
 use Rattle.kiss_file.specs.Machine.{next}
 use Rattle.least_codes.proofs.Reading.{parts_tell_all}
 use Rattle.least_codes.specs.Kind.{IsLeastSplit}
-use Rattle.machine_table.specs.Staying.{NeverLeaves}
+use Rattle.machine_table.specs.NextStates.{NeverLeaves}
 use Rattle.parallel_split.specs.Kind.{IsParallel}
 use Rattle.partition.specs.Partition.{IsPartition, Together}
 use Rattle.partition.specs.Laws.Chains.{together_itself}

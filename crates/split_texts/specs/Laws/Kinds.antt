@@ -8,7 +8,7 @@ use Rattle.decomposition.specs.Flow.{Flows}
 use Rattle.feedback_split.specs.Laws.Chosen as feedbacks
 use Rattle.kiss_file.specs.declared.file.KissFile.{KissFile}
 use Rattle.least_codes.specs.Laws.Chosen.{least_split_is_one}
-use Rattle.machine_table.specs.Staying.{NeverLeaves}
+use Rattle.machine_table.specs.NextStates.{NeverLeaves}
 use Rattle.net_core.specs.declared.Network.{Network}
 use Rattle.parallel_split.specs.Laws.Chosen as parallels
 use Rattle.operands.specs.PartFaults.{BadParts}
@@ -23,8 +23,8 @@ use Rattle.state_codes.specs.Code.{IsCode}
 use Rattle.state_codes.specs.Fault.{AreApart}
 use Rattle.state_codes.specs.Kinds.{PartsMeetInZero}
 use Rattle.state_codes.specs.Split.{IsPart, given_parts}
-use Rattle.split_texts.specs.Given.{AreGivenParts}
-use Rattle.split_texts.specs.Inner.ByRule.{ReadByRule}
+use Rattle.split_texts.specs.GivenParts.{AreGivenParts}
+use Rattle.split_texts.specs.Inner.RuleReads.{ReadByRule}
 use Rattle.split_texts.specs.Kinds.{KindRow, row_of}
 use Rattle.split_texts.specs.LeastNetwork.{HasOtherCount}
 use Rattle.split_texts.specs.Splits.{AreParts}

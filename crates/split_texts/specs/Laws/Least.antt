@@ -17,7 +17,7 @@ use Rattle.state_codes.specs.declared.Codes.{Codes}
 use Rattle.state_codes.specs.declared.split.Part.{Part}
 use Rattle.state_codes.specs.Code.{IsCode}
 use Rattle.state_codes.specs.Laws.Codes.{codes_are_one}
-use Rattle.split_texts.specs.Inner.ByRule.{ReadByRule}
+use Rattle.split_texts.specs.Inner.RuleReads.{ReadByRule}
 use Rattle.split_texts.specs.LeastNetwork.{HasOtherCount, IsLeastNetwork}
 
 pub other_count_is_of : (W : KissFile) → IsOf answers.StateCount (HasOtherCount W)

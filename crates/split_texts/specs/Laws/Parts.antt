@@ -3,7 +3,7 @@ use Rattle.std.proofs.Common.{◌≡◌, ℕ, ◌+◌, ◌<◌, ◌≤◌, ◌==
 use Rattle.std.proofs.lemmas.List.Splits.{length-slice_split}
 use Rattle.operands.specs.PartTexts.{ArePartTexts, texts_of_parts}
 use Rattle.operands.specs.Laws.Parts.{parts_are_counted}
-use Rattle.split_texts.specs.Given.{HasFewParts}
+use Rattle.split_texts.specs.GivenParts.{HasFewParts}
 
 -- at most 255 slashes make few parts
 pub few_parts : (text : List ℕ) → count_by (λ byte. byte == 47) text ≤ 255 → HasFewParts text

@@ -8,7 +8,7 @@ use Rattle.std.proofs.lemmas.Option.{slice_get-get_or, get_or_from_slice_get, sl
 use Rattle.std.specs.Int.{bit_at}
 use Rattle.std.specs.List.{All, slice_get}
 use Rattle.partition.specs.Partition.{Together, blocks_of}
-use Rattle.partition.specs.Inside.{IsInside}
+use Rattle.partition.specs.NestedBlocks.{IsInside}
 use Rattle.partition.specs.Laws.Labels.{label-lt-blocks_of, block_stands}
 use Rattle.state_codes.specs.declared.split.Part.{Part}
 use Rattle.state_codes.specs.declared.Codes.{Codes}

@@ -7,7 +7,7 @@ use Rattle.partition.specs.Partition.{IsPartition, Le, Together, zero_of}
 use Rattle.partition.specs.Laws.Extremes.{zero_of_below, zero_of_is_partition, zero_of_is_zero}
 use Rattle.partition.specs.Laws.Labels.{IsPartition-of}
 use Rattle.partition.specs.Laws.Least.{least_of-le, least_of-same}
-use Rattle.partition.specs.Inside.{least_of, blocks_below, IsComplement, IsInside}
+use Rattle.partition.specs.NestedBlocks.{least_of, blocks_below, IsComplement, IsInside}
 
 -- the least state of a block has its label
 least_of-label : (q : List ℕ) (s : ℕ) → s < length q → get_or q (least_of q s) 0 ≡ get_or q s 0

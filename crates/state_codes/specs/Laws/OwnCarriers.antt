@@ -2,7 +2,7 @@
 use Rattle.std.proofs.Common.{◌≡◌, ℕ, zero, suc, ◌+◌, ◌<◌, ◌≤◌, ◌==◌, ◌&&◌, Bool, true, false, cond, List, length, get_or, replicate, refl, sym, ap, ◌∙◌, subst, arith}
 use Rattle.std.proofs.lemmas.List.{get_or-replicate}
 use Rattle.std.proofs.lemmas.List.Sums.{fails_before_first}
-use Rattle.partition.specs.Inside.{IsInside, blocks_below, least_of}
+use Rattle.partition.specs.NestedBlocks.{IsInside, blocks_below, least_of}
 use Rattle.partition.specs.Laws.Extremes.{blocks_of-one_of, one_of_is_partition}
 use Rattle.partition.specs.Partition.{IsPartition, IsStateCount, blocks_of}
 use Rattle.state_codes.specs.declared.split.Part.{Part}

@@ -5,7 +5,7 @@ use Rattle.std.proofs.lemmas.List.{take_at, drop_at, append-nil, take_more, leng
 use Rattle.std.proofs.lemmas.List.Elements.{All-nil, All-cons, All-head, All-tail, All-append, All-take, All-drop}
 use Rattle.std.specs.List.{All, slice_get}
 use Rattle.partition.specs.Partition.{blocks_of}
-use Rattle.partition.specs.Inside.{IsInside}
+use Rattle.partition.specs.NestedBlocks.{IsInside}
 use Rattle.state_codes.specs.declared.split.Part.{Part}
 use Rattle.state_codes.specs.Code.{Place, label_places, part_places, places_of, AreInside, need}
 use Rattle.state_codes.specs.Laws.InnerLabels.{inside_once}

@@ -7,7 +7,7 @@ use Rattle.cubes.specs.Cube.{Holds, HoldsNumber}
 use Rattle.cubes.specs.Symbol.{symbol_of}
 use Rattle.kiss_file.specs.declared.file.KissFile.{KissFile}
 use Rattle.kiss_file.specs.declared.file.KissRow.{KissRow}
-use Rattle.kiss_file.specs.Lawful.{IsLawfulRow}
+use Rattle.kiss_file.specs.LawfulFile.{IsLawfulRow}
 use Rattle.kiss_file.specs.Machine.{IsRowAt}
 use Rattle.state_rows.specs.Places.{IsNumberOf}
 use Rattle.state_pairs.specs.Table.{IsTable}

@@ -6,7 +6,7 @@ use Rattle.cubes.specs.Cube.{HoldsNumber}
 use Rattle.cubes.specs.Laws.Held.{held_from_mask, mask_from_held}
 use Rattle.kiss_file.specs.declared.file.KissFile.{KissFile}
 use Rattle.kiss_file.specs.declared.file.KissRow.{KissRow}
-use Rattle.state_pairs.specs.Asked.{DifferAt, DifferOpen, NoneIsOpen, IsLabelAt, IsOpenAt}
+use Rattle.state_pairs.specs.RowLabels.{DifferAt, DifferOpen, NoneIsOpen, IsLabelAt, IsOpenAt}
 use Rattle.state_rows.specs.Least.{IsMetBy}
 use Rattle.state_pairs.specs.Pairs.{AtEachSymbol, IsFirstWithout}
 use Rattle.state_pairs.specs.Table.{IsTable}

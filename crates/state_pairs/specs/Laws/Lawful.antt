@@ -2,7 +2,7 @@
 use Rattle.std.proofs.Common.{ℕ, ◌<◌, ◌≤◌, ◌^◌, All, IfSome, Option, None, Some, arith, get_or, length}
 use Rattle.kiss_file.specs.declared.file.KissFile.{KissFile}
 use Rattle.kiss_file.specs.declared.file.KissRow.{KissRow}
-use Rattle.kiss_file.specs.Lawful.{IsLawful, IsLawfulRow}
+use Rattle.kiss_file.specs.LawfulFile.{IsLawful, IsLawfulRow}
 use Rattle.state_pairs.specs.Table.{IsTable}
 use Rattle.state_rows.specs.Bundles.{IsFit}
 

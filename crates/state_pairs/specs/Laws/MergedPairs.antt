@@ -9,14 +9,14 @@ use Rattle.kiss_file.specs.Machine.{Conflicting}
 use Rattle.state_pairs.specs.Pairs.{IsImage}
 use Rattle.state_pairs.specs.AddedPairs.{AddsPairs, AreNamed, BelowCount, IsFound, IsListedPair, IsOpenImage, IsPairAt}
 use Rattle.state_pairs.specs.SeenPairs.{AreStates}
-use Rattle.state_pairs.specs.Merging.{MergesPairs}
-use Rattle.state_pairs.specs.Staying.{NeverLeaves}
+use Rattle.state_pairs.specs.MergedStates.{MergesPairs}
+use Rattle.state_pairs.specs.NextStates.{NeverLeaves}
 use Rattle.state_pairs.specs.Table.{IsTable}
 use Rattle.state_pairs.specs.Laws.AddedPairs.{below_more, none_below}
 use Rattle.state_pairs.specs.Laws.NamedPairs.{image_from_named, image_from_open}
 use Rattle.state_pairs.specs.Laws.Staying.{never_leaves}
 use Rattle.partition.specs.Partition.{IsOne, IsPartition, Le, Together, blocks_of}
-use Rattle.partition.specs.Merging.{IsMerged}
+use Rattle.partition.specs.MergedBlocks.{IsMerged}
 use Rattle.partition.specs.Laws.Labels.{IsPartition-of, label-lt-blocks_of}
 use Rattle.partition.specs.Laws.Merging.{merged_above, merged_held, merged_least}
 

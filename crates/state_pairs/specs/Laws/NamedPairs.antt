@@ -12,8 +12,8 @@ use Rattle.kiss_file.specs.Machine.{Conflicting, Specified}
 use Rattle.kiss_file.specs.Laws.Machine.{next_not_said, next_said}
 use Rattle.state_pairs.specs.Pairs.{IsImage}
 use Rattle.state_pairs.specs.AddedPairs.{AreNamed, AreNamedAtPlaces, AreNamedBy, IsNamedBeside, IsOpenImage, OfSomeRow, to_of}
-use Rattle.state_pairs.specs.Asked.{AllSay, HaveOneLabel, IsOpenAt, IsOfState}
-use Rattle.state_pairs.specs.Aligned.{AreAligned}
+use Rattle.state_pairs.specs.RowLabels.{AllSay, HaveOneLabel, IsOpenAt, IsOfState}
+use Rattle.state_pairs.specs.AlignedRows.{AreAligned}
 use Rattle.state_pairs.specs.Table.{IsTable}
 use Rattle.state_rows.specs.Laws.OneCube.{held_by_like}
 use Rattle.state_pairs.specs.Laws.Asking.{lawful_row, number_of_row}

@@ -9,7 +9,7 @@ use Rattle.kiss_file.specs.declared.file.KissRow.{KissRow}
 use Rattle.kiss_file.specs.Machine.{Conflicting, Specified, next}
 use Rattle.kiss_file.specs.Laws.Machine.{next_not_said, next_said}
 use Rattle.partition.specs.Partition.{Together}
-use Rattle.state_pairs.specs.Asked.{HaveOneLabel, NoneIsOpen, IsLabelAt, IsOpenAt}
+use Rattle.state_pairs.specs.RowLabels.{HaveOneLabel, NoneIsOpen, IsLabelAt, IsOpenAt}
 use Rattle.state_pairs.specs.Pairs.{GoInto}
 use Rattle.state_pairs.specs.Table.{IsTable}
 use Rattle.state_pairs.specs.Laws.Asking.{lawful_row, number_of_row}

@@ -6,7 +6,7 @@ use Rattle.cubes.specs.Symbol.{symbol_of}
 use Rattle.kiss_file.specs.declared.file.KissFile.{KissFile}
 use Rattle.kiss_file.specs.declared.file.KissRow.{KissRow}
 use Rattle.kiss_file.specs.Machine.{IsRowAt}
-use Rattle.state_pairs.specs.Asked.{IsAloneAt, IsApartAt, IsOfState, IsSearched, MeetsWanted, SayTwo, SaysAlone}
+use Rattle.state_pairs.specs.RowLabels.{IsAloneAt, IsApartAt, IsOfState, IsSearched, MeetsWanted, SayTwo, SaysAlone}
 use Rattle.state_rows.specs.Least.{IsMetBy, lesser_of}
 use Rattle.state_rows.specs.Places.{IsNumberOf}
 use Rattle.state_pairs.specs.Table.{IsTable}

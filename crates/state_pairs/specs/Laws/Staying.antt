@@ -4,7 +4,7 @@ use Rattle.cubes.specs.Symbol.{number_of, symbol_of}
 use Rattle.cubes.specs.Laws.Numbers.{symbol_of-number_of}
 use Rattle.kiss_file.specs.declared.file.KissFile.{KissFile}
 use Rattle.kiss_file.specs.Machine.{Conflicting, next}
-use Rattle.state_pairs.specs.Staying.{NeverLeaves}
+use Rattle.state_pairs.specs.NextStates.{NeverLeaves}
 use Rattle.state_pairs.specs.Table.{IsTable}
 use Rattle.state_pairs.specs.Laws.NextLabels.{next_in_states}
 

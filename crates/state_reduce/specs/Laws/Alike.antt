@@ -6,7 +6,7 @@ use Rattle.cubes.specs.Laws.Numbers.{length-symbol_of, number_below, symbol_of-n
 use Rattle.kiss_file.specs.declared.file.KissFile.{KissFile}
 use Rattle.kiss_file.specs.Machine.{next}
 use Rattle.machine_table.specs.Pairs.{AgreeAt, AtEachSymbol}
-use Rattle.state_reduce.specs.Alike.{Alike, IsWord}
+use Rattle.state_reduce.specs.AlikeStates.{Alike, IsWord}
 
 -- the first answers are equal, and the others
 first_of : (a b : List Bool) (more others : List (List Bool)) → a ∷ more ≡ b ∷ others → a ≡ b

@@ -4,13 +4,13 @@ use Rattle.cubes.specs.Symbol.{symbol_of}
 use Rattle.cubes.specs.Laws.Numbers.{length-symbol_of}
 use Rattle.kiss_file.specs.declared.file.KissFile.{KissFile}
 use Rattle.kiss_file.specs.Machine.{next, out}
-use Rattle.machine_table.specs.Staying.{NeverLeaves}
-use Rattle.pair_operators.specs.Consistent.{Consistent}
+use Rattle.machine_table.specs.NextStates.{NeverLeaves}
+use Rattle.pair_operators.specs.Consistency.{Consistent}
 use Rattle.pair_operators.specs.Pair.{Closed}
 use Rattle.partition.specs.Partition.{Together}
-use Rattle.state_reduce.specs.declared.judging.QuotientFail.{QuotientFail}
-use Rattle.state_reduce.specs.declared.judging.QuotientFail.TheVariants.{NotClosed, NotConsistent, NoMemory}
-use Rattle.state_reduce.specs.Alike.{Alike, IsEquivalence}
+use Rattle.state_reduce.specs.declared.demands.QuotientFail.{QuotientFail}
+use Rattle.state_reduce.specs.declared.demands.QuotientFail.TheVariants.{NotClosed, NotConsistent, NoMemory}
+use Rattle.state_reduce.specs.AlikeStates.{Alike, IsEquivalence}
 use Rattle.state_reduce.specs.Cause.{Caused}
 use Rattle.state_reduce.specs.Laws.Alike.{alike_agree, alike_next, at_symbol}
 

@@ -4,7 +4,7 @@ use Rattle.kiss_file.specs.declared.file.KissFile.{KissFile}
 use Rattle.kiss_file.specs.declared.file.KissRow.{KissRow}
 use Rattle.partition.specs.Partition.{Together}
 use Rattle.partition.specs.Laws.Labels.{same_labels}
-use Rattle.state_reduce.specs.Alike.{IsEquivalence}
+use Rattle.state_reduce.specs.AlikeStates.{IsEquivalence}
 use Rattle.state_reduce.specs.Quotient.{IsQuotient}
 use Rattle.state_reduce.specs.WorkMachine.{IsWorkMachine}
 use Rattle.state_reduce.specs.Work.{IsWorkOf}

@@ -1,7 +1,7 @@
 use Rattle.std.proofs.Common.{◌≡◌, ℕ, Bool, true, false, cond, List, sym, ◌∙◌, ap, subst}
 use Rattle.std.specs.Str.{bytes_eq}
 use Rattle.net_core.specs.Statements.{Statement, Row}
-use Rattle.blif_in.specs.Inner.Measuring.{AreMeasurable}
+use Rattle.blif_in.specs.Inner.ShortFields.{AreMeasurable}
 use Rattle.blif_in.proofs.Names.{measurable_tail}
 use Rattle.blif_in.proofs.statement.statement_by.Goals as goal
 

@@ -1,6 +1,6 @@
 use Rattle.std.proofs.Common.{sym, ap, subst, ◌∙◌}
 use Rattle.net_core.specs.Statements.{statement_of}
-use Rattle.blif_in.specs.Inner.Measuring.{AreMeasurable}
+use Rattle.blif_in.specs.Inner.ShortFields.{AreMeasurable}
 use Rattle.blif_in.proofs.Names.{first_and_rest}
 use Rattle.blif_in.proofs.statement.statement_of.Goals as goal
 

@@ -1,6 +1,6 @@
 use Rattle.std.proofs.Common.{ℕ, List, [], subst, sym}
 use Rattle.std.proofs.lemmas.Result.{IfOk-weaker}
-use Rattle.net_core.specs.Denotes.{Denotes}
+use Rattle.net_core.specs.Denotation.{Denotes}
 use Rattle.blif_out.specs.Design.{plain_design}
 use Rattle.blif_out.specs.Head.{Head}
 use Rattle.blif_out.proofs.Designs.{plain_design_is_lawful}

@@ -1,5 +1,5 @@
 use Rattle.std.proofs.Common.{length}
-use Rattle.closed_lattice.specs.Closed.{IsPrincipal}
+use Rattle.closed_lattice.specs.ClosedPartitions.{IsPrincipal}
 use Rattle.pair_operators.specs.Laws.Growth.{row_taken}
 use Rattle.closed_lattice.proofs.growth.grow.Goals as goal
 

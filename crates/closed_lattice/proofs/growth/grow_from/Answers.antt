@@ -1,5 +1,5 @@
 use Rattle.std.proofs.Common.{ℕ, List, length}
-use Rattle.closed_lattice.specs.Closed.{IsPrincipal}
+use Rattle.closed_lattice.specs.ClosedPartitions.{IsPrincipal}
 use Rattle.pair_operators.specs.Laws.Growth.{pair_taken}
 use Rattle.closed_lattice.proofs.Passing.{settled_taken}
 use Rattle.closed_lattice.proofs.growth.grow_from.Goals as goal

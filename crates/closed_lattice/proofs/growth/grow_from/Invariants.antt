@@ -1,8 +1,8 @@
 use Rattle.std.proofs.Common.{◌+◌, ◌-◌, map}
 use Rattle.std.specs.List.{range_with_len}
-use Rattle.closed_lattice.specs.Closed.{IsPrincipal}
-use Rattle.closed_lattice.specs.Inner.Growing.{IsSettled}
-use Rattle.closed_lattice.specs.Kept.{ArePrincipalsOf}
+use Rattle.closed_lattice.specs.ClosedPartitions.{IsPrincipal}
+use Rattle.closed_lattice.specs.Inner.Growth.{IsSettled}
+use Rattle.closed_lattice.specs.KnownPrincipals.{ArePrincipalsOf}
 use Rattle.pair_operators.specs.Growth.{GrowsOver}
 use Rattle.closed_lattice.proofs.growth.grow_from.Given as goal
 

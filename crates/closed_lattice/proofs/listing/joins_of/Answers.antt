@@ -2,11 +2,11 @@ use Rattle.std.proofs.Common.{All, AllPairs, ℕ, List, ◌≡◌, ◌<◌, ◌�
 use Rattle.hs_lattice.specs.Laws.Outcomes.{whole-from_four, more-from}
 use Rattle.hs_lattice.specs.JoinWorld.{HaveJoins}
 use Rattle.kiss_file.specs.declared.file.KissFile.{KissFile}
-use Rattle.machine_table.specs.Staying.{NeverLeaves}
-use Rattle.partition.specs.Before.{Before}
+use Rattle.machine_table.specs.NextStates.{NeverLeaves}
+use Rattle.partition.specs.Order.{Before}
 use Rattle.partition.specs.MeetAndJoin.{IsJoin}
 use Rattle.partition.specs.Partition.{IsPartition}
-use Rattle.closed_lattice.specs.Closed.{IsClosedPartition}
+use Rattle.closed_lattice.specs.ClosedPartitions.{IsClosedPartition}
 use Rattle.closed_lattice.specs.Inner.Generators.{AreGenerators}
 use Rattle.closed_lattice.specs.Laws.Generating.{IsMade, IsZeroOf, closed_made, made_closed, states_counted}
 use Rattle.closed_lattice.specs.Laws.Listed.{listed, evident, unevident}

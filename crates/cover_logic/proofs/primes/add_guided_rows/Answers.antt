@@ -1,7 +1,7 @@
 use Rattle.std.proofs.lemmas.Result.{IfOk-from_err}
 use Rattle.std.proofs.Math.Nat.{lt_of_le_of_lt}
 use Rattle.std.proofs.Common.{◌≡◌, [], ◌∷◌, ◌++◌}
-use Rattle.cover_logic.specs.Inner.Waiting.{IsWaiting}
+use Rattle.cover_logic.specs.Inner.WaitingTerms.{IsWaiting}
 use Rattle.cover_logic.proofs.PrimeRows.{primes_none, primes_more, primes_all, gone_from}
 use Rattle.cover_logic.proofs.primes.add_guided_rows.Goals as goal
 

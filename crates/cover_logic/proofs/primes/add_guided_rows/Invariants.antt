@@ -1,6 +1,6 @@
 use Rattle.cover_logic.specs.Inner.Groups.{all_live}
 use Rattle.cover_logic.specs.Inner.Index.{terms_of}
-use Rattle.cover_logic.specs.Inner.Waiting.{IsWaiting}
+use Rattle.cover_logic.specs.Inner.WaitingTerms.{IsWaiting}
 use Rattle.cover_logic.proofs.PrimeRows.{ArePrimes}
 use Rattle.cover_logic.proofs.primes.add_guided_rows.Given as goal
 

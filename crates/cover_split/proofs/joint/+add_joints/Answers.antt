@@ -1,5 +1,5 @@
 use Rattle.std.proofs.Common.{ℕ, ◌^◌, List, refl, subst, sym, ap, arith}
-use Rattle.machine_table.specs.declared.covering.Piece.{Piece}
+use Rattle.machine_table.specs.declared.pieces.Piece.{Piece}
 use Rattle.cover_split.specs.declared.joint.Joint.{Joint}
 use Rattle.cover_split.specs.Inner.Joints.{AreListsMet, IsSettled, IsTargetOf}
 use Rattle.cover_split.proofs.JointLemmas.{joints_of_halves, one_joint, spread_lists, widths_of}

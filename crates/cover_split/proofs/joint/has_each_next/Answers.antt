@@ -2,7 +2,7 @@ use Rattle.std.proofs.Common.{List, Contains, refl, subst, sym, ◌∙◌}
 use Rattle.std.proofs.lemmas.Bool.{false≢true}
 use Rattle.std.proofs.lemmas.List.{take_all}
 use Rattle.std.proofs.lemmas.List.Elements.{All-get_or, All-more}
-use Rattle.machine_table.specs.declared.covering.Piece.{Piece}
+use Rattle.machine_table.specs.declared.pieces.Piece.{Piece}
 use Rattle.cover_split.specs.Inner.Joints.{HasEachNext}
 use Rattle.cover_split.proofs.joint.has_each_next.Goals as goal
 

@@ -1,6 +1,6 @@
 use Rattle.std.proofs.Common.{ℕ, List, All, subst, sym, arith}
-use Rattle.machine_table.specs.declared.covering.Piece.{Piece}
-use Rattle.machine_table.specs.Covering.{IsHeldByPiece, IsPiece}
+use Rattle.machine_table.specs.declared.pieces.Piece.{Piece}
+use Rattle.machine_table.specs.Pieces.{IsHeldByPiece, IsPiece}
 use Rattle.cover_split.proofs.JointLemmas.{AreListsForBelow, all_lists_for, lists_for_more, no_lists_for}
 use Rattle.cover_split.proofs.joint.pieces_of_states.Goals as goal
 

@@ -1,6 +1,6 @@
 use Rattle.std.proofs.Common.{ℕ, ◌≡◌, ◌<◌, ◌-◌, ◌^◌, List, Some, Contains, get_or, length, slice_get, refl, subst, sym, ap, ◌∙◌, arith}
 use Rattle.std.proofs.lemmas.Option.{slice_get_read}
-use Rattle.machine_table.specs.declared.covering.Piece.{Piece}
+use Rattle.machine_table.specs.declared.pieces.Piece.{Piece}
 use Rattle.cover_split.specs.Laws.Pairs.{length-pairs_of}
 use Rattle.cover_split.proofs.RowLemmas.{goes_among, pair_row, place_inside}
 use Rattle.cover_split.proofs.rows.row_of.Goals as goal

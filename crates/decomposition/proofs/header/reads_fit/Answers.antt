@@ -1,7 +1,7 @@
 use Rattle.std.proofs.Common.{◌<◌, ◌^◌, All, subst}
 use Rattle.std.proofs.lemmas.List.{take_all}
 use Rattle.std.proofs.lemmas.List.Elements.{All-more}
-use Rattle.decomposition.specs.Inner.Headed.{HasSmallReads}
+use Rattle.decomposition.specs.Inner.Header.{HasSmallReads}
 use Rattle.decomposition.proofs.header.reads_fit.Goals as goal
 
 pub loop-part-preserved : goal.loop-part-preserved

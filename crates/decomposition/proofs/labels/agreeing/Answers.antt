@@ -1,6 +1,6 @@
 use Rattle.std.proofs.Common.{◌≡◌}
 use Rattle.std.proofs.lemmas.Result.{IfOk-weaker}
-use Rattle.dependence.specs.Permits.{InWord}
+use Rattle.dependence.specs.SufficientBits.{InWord}
 use Rattle.decomposition.specs.Notes.{IsPartitionOn}
 use Rattle.decomposition.proofs.Labelling.{own_count, partition_same}
 use Rattle.decomposition.proofs.labels.agreeing.Goals as goal

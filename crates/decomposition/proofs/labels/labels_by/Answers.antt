@@ -1,5 +1,5 @@
 use Rattle.std.proofs.Common.{◌≡◌, ℕ, length, refl, subst, arith}
-use Rattle.decomposition.specs.Inner.Labelled.{AreLabelled}
+use Rattle.decomposition.specs.Inner.Labels.{AreLabelled}
 use Rattle.decomposition.proofs.Labelling.{block_small, labelled_all, labelled_more}
 use Rattle.decomposition.proofs.labels.labels_by.Goals as goal
 

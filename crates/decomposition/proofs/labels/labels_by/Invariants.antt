@@ -1,5 +1,5 @@
 -- The labels of the words so far.
-use Rattle.decomposition.specs.Inner.Labelled.{AreLabelled}
+use Rattle.decomposition.specs.Inner.Labels.{AreLabelled}
 use Rattle.decomposition.proofs.labels.labels_by.Given as goal
 
 abbrev pub invariant-loop-word : goal.invariant-loop-word

@@ -2,7 +2,7 @@ use Rattle.std.proofs.Common.{◌↔◌, ◌+◌, ℕ, get_or, take, sym, subst,
 use Rattle.std.proofs.lemmas.List.Elements.{Contains-get_or}
 use Rattle.std.specs.Int.RustNames.{bit_xor}
 use Rattle.dependence.specs.Inner.Differences.{DifferInPair}
-use Rattle.dependence.specs.Permits.{InWord}
+use Rattle.dependence.specs.SufficientBits.{InWord}
 use Rattle.dependence.proofs.Differing.{pair_more}
 use Rattle.dependence.proofs.differences.bits_apart.Goals as goal
 

@@ -1,7 +1,7 @@
 use Rattle.std.proofs.Common.{◌≡◌, ◌<◌, All, IfSome, List, length, sym, subst}
 use Rattle.std.proofs.lemmas.List.Sorted.{All-permutation}
 use Rattle.kiss_file.specs.declared.file.KissRow.{KissRow}
-use Rattle.machine_table.specs.Covering.{IsRightRow}
+use Rattle.machine_table.specs.Pieces.{IsRightRow}
 use Rattle.dependence.specs.Inner.Effects.{Adds, ShowAcross}
 use Rattle.dependence.proofs.Gathered.{nexts_within, said_reordered, state_added, widths_of}
 use Rattle.dependence.proofs.effects.add_effects.Goals as goal

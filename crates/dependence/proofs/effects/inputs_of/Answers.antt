@@ -2,7 +2,7 @@ use Rattle.std.proofs.Common.{◌≡◌, ◌∙◌, ◌⊎◌, ◌↔◌, ℕ, �
 use Rattle.std.proofs.lemmas.Bool.{false≢true}
 use Rattle.dependence.specs.Effects.{ActsBy}
 use Rattle.dependence.specs.declared.effects.Effect.{Effect}
-use Rattle.dependence.specs.Permits.{InWord}
+use Rattle.dependence.specs.SufficientBits.{InWord}
 use Rattle.dependence.proofs.Adding.{acts_from, acts_there, acts_within}
 use Rattle.dependence.specs.Laws.Words.{set_more, set_same}
 use Rattle.dependence.proofs.effects.inputs_of.Goals as goal

@@ -1,5 +1,5 @@
 use Rattle.std.proofs.Common.{◌↔◌, ℕ, ◌<◌}
-use Rattle.dependence.specs.Permits.{InWord}
+use Rattle.dependence.specs.SufficientBits.{InWord}
 use Rattle.dependence.specs.Effects.{ActsBy}
 use Rattle.dependence.proofs.effects.inputs_of.Given as goal
 

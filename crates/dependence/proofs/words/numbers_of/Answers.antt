@@ -1,7 +1,7 @@
 use Rattle.std.proofs.Common.{ℕ, ◌+◌, List, ◌∙◌, sym, subst}
 use Rattle.std.proofs.lemmas.Bool.{true≢false}
-use Rattle.dependence.specs.Listed.{AreListed}
-use Rattle.dependence.specs.Permits.{InWord}
+use Rattle.dependence.specs.BitLists.{AreListed}
+use Rattle.dependence.specs.SufficientBits.{InWord}
 use Rattle.dependence.proofs.Listed.{listed_past, listed_with}
 use Rattle.dependence.proofs.words.numbers_of.Goals as goal
 use Rattle.dependence.proofs.words.numbers_of.Goals.{then-has_bit+in_ok-push, else-has_bit}

@@ -1,4 +1,4 @@
-use Rattle.dependence.specs.Listed.{AreListed}
+use Rattle.dependence.specs.BitLists.{AreListed}
 use Rattle.dependence.proofs.words.numbers_of.Given as goal
 
 abbrev pub invariant-loop-c : goal.invariant-loop-c

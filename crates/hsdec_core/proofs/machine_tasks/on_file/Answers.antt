@@ -1,10 +1,10 @@
 use Rattle.std.proofs.Common.{IfOk, refl, subst, length}
 use Rattle.answers.specs.declared.numbers.Answer.TheVariants as answers
-use Rattle.answers.specs.Judged.{IsJudged}
+use Rattle.answers.specs.Outcome.{IsJudged}
 use Rattle.blif_out.specs.NetworkText.{CanBeText}
 use Rattle.cover_texts.specs.Flaws.{BadCoverRow}
 use Rattle.cover_texts.specs.Laws.Causes.{bad_cover_is_of}
-use Rattle.cover_texts.specs.Written.{IsCoverNetwork}
+use Rattle.cover_texts.specs.CoverText.{IsCoverNetwork}
 use Rattle.hsdec_core.specs.declared.tasks.FileTask.TheVariants.{Check, Cover, High, Low, Reduce}
 use Rattle.hsdec_core.specs.Clocks.{HasCoverLatches}
 use Rattle.hsdec_core.specs.Judgement.{file_cause}

@@ -1,6 +1,6 @@
 use Rattle.std.proofs.Common.{ap, refl, ◌∙◌, subst}
 use Rattle.answers.specs.declared.numbers.Answer.TheVariants as answers
-use Rattle.answers.specs.Judged.{IsJudged}
+use Rattle.answers.specs.Outcome.{IsJudged}
 use Rattle.blif_out.specs.NetworkText.{CanBeHeaded}
 use Rattle.hsdec_core.specs.declared.tasks.WorkTask.TheVariants.{Compare, Decompose, Definite, Shift}
 use Rattle.hsdec_core.specs.Clocks.{HasRegisterLatches, HasSplitLatches}
@@ -14,7 +14,7 @@ use Rattle.machine_reports.specs.Causes.{NotDefiniteRow}
 use Rattle.machine_reports.specs.DefiniteText.{IsChainText}
 use Rattle.machine_reports.specs.Laws.Causes.{not_definite_is_of}
 use Rattle.split_texts.specs.Causes.{IsNotWritten}
-use Rattle.split_texts.specs.Written.{IsOfKind}
+use Rattle.split_texts.specs.SplitText.{IsOfKind}
 use Rattle.shift_texts.specs.Causes.{RefusesShift}
 use Rattle.shift_texts.specs.ShiftText.{IsShiftNetwork}
 

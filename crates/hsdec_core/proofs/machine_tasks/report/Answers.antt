@@ -1,5 +1,5 @@
 use Rattle.std.proofs.Common.{refl, ap, ◌∙◌, subst}
-use Rattle.answers.specs.Judged.{IsReported}
+use Rattle.answers.specs.Outcome.{IsReported}
 use Rattle.hsdec_core.specs.declared.tasks.MachineTask.TheVariants.{Listing, OfFile, OfWork}
 use Rattle.hsdec_core.specs.Judgement.{list_cause, own_cause}
 use Rattle.hsdec_core.specs.Promise.{IsListEvidence, IsListing, IsReport, IsShown}

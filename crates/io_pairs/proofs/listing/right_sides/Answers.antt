@@ -1,8 +1,8 @@
 use Rattle.std.proofs.Common.{◌≡◌, ℕ, ◌≤◌, All, AllPairs, List, length, sym, subst}
 use Rattle.hs_lattice.specs.Laws.Outcomes.{more-from, whole-from_four}
-use Rattle.partition.specs.Before.{Before}
+use Rattle.partition.specs.Order.{Before}
 use Rattle.partition.specs.Partition.{IsPartition}
-use Rattle.io_pairs.specs.Inner.Collected.{AreRights, HaveRights}
+use Rattle.io_pairs.specs.Inner.RightSides.{AreRights, HaveRights}
 use Rattle.io_pairs.specs.Inner.Families.{functions_of}
 use Rattle.io_pairs.proofs.Listed.{listed, evident, unevident}
 use Rattle.io_pairs.proofs.listing.right_sides.Goals as goal

@@ -1,5 +1,5 @@
 use Rattle.std.proofs.Common.{map}
-use Rattle.io_pairs.specs.Inner.Collected.{HaveLefts}
+use Rattle.io_pairs.specs.Inner.RightSides.{HaveLefts}
 use Rattle.io_pairs.specs.Inner.Families.{functions_of}
 use Rattle.io_pairs.specs.Sides.{sides_of}
 use Rattle.io_pairs.proofs.listing.with_lefts.Given as goal

@@ -1,6 +1,6 @@
 use Rattle.std.proofs.Common.{ℕ, length}
 use Rattle.hs_io.specs.Lines.{lines_of}
-use Rattle.kiss2.specs.Inner.Reading.{HasCome}
+use Rattle.kiss2.specs.Inner.ReaderPlace.{HasCome}
 use Rattle.kiss2.proofs.reader.judge_lines.Given as goal
 
 abbrev pub invariant-loop : goal.invariant-loop

@@ -1,7 +1,7 @@
 use Rattle.std.proofs.Common.{◌≡◌, ◌∷◌, [], length, take, ap, sym, ◌∙◌, subst, arith}
 use Rattle.std.proofs.lemmas.Result.{err_from_is_err_and}
 use Rattle.hs_io.specs.Lines.{lines_of}
-use Rattle.kiss2.specs.Inner.Reading.{HasCome}
+use Rattle.kiss2.specs.Inner.ReaderPlace.{HasCome}
 use Rattle.kiss2.proofs.Ending.{all_read, ended_here, fault_here, goes_on, short_here}
 use Rattle.kiss2.proofs.reader.judge_next.Goals as goal
 

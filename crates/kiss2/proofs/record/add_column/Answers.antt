@@ -1,6 +1,6 @@
 use Rattle.std.proofs.Common.{◌≡◌, ◌+◌, ◌++◌, [], ◌∷◌, length, take, sym, ◌∙◌, ap, subst, arith}
 use Rattle.std.proofs.lemmas.List.{take_more}
-use Rattle.kiss2.specs.Inner.Judging.{once_after}
+use Rattle.kiss2.specs.Inner.ReaderState.{once_after}
 use Rattle.kiss2.specs.Standing.{names_in_column}
 use Rattle.kiss2.proofs.Building.{column_few, row_added}
 use Rattle.kiss2.proofs.record.add_column.Goals as goal

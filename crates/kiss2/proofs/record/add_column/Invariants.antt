@@ -1,5 +1,5 @@
 use Rattle.std.proofs.Common.{◌≡◌, take}
-use Rattle.kiss2.specs.Inner.Judging.{once_after}
+use Rattle.kiss2.specs.Inner.ReaderState.{once_after}
 use Rattle.kiss2.specs.Standing.{names_in_column}
 use Rattle.kiss2.proofs.record.add_column.Given as goal
 

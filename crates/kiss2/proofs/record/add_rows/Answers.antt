@@ -1,7 +1,7 @@
 use Rattle.std.proofs.Common.{◌≡◌, ◌+◌, ◌++◌, [], ◌∷◌, take, ap, sym, ◌∙◌, subst}
 use Rattle.std.specs.List.{AllZip}
 use Rattle.std.proofs.lemmas.List.{take_more}
-use Rattle.kiss2.specs.Inner.Good.{IsGoodRow, IsKnownRow}
+use Rattle.kiss2.specs.Inner.FaultlessLines.{IsGoodRow, IsKnownRow}
 use Rattle.kiss2.specs.Kiss.{IsRowOf}
 use Rattle.kiss2.proofs.Building.{zip_push}
 use Rattle.kiss2.proofs.record.add_rows.Goals as goal

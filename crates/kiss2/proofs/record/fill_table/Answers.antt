@@ -4,9 +4,9 @@ use Rattle.std.specs.Option.{IfNone, IfSome}
 use Rattle.std.proofs.lemmas.List.Elements.{All-weaker}
 use Rattle.hs_io.specs.declared.lines.Line.{Line}
 use Rattle.kiss_file.specs.declared.file.KissRow.{KissRow}
-use Rattle.kiss2.specs.declared.said.Said.{Said}
-use Rattle.kiss2.specs.Inner.Good.{IsGoodRow, IsKnownRow}
-use Rattle.kiss2.specs.Inner.Judging.{Keeps, names_in_columns, once_after}
+use Rattle.kiss2.specs.declared.standing.Said.{Said}
+use Rattle.kiss2.specs.Inner.FaultlessLines.{IsGoodRow, IsKnownRow}
+use Rattle.kiss2.specs.Inner.ReaderState.{Keeps, names_in_columns, once_after}
 use Rattle.kiss2.specs.Kiss.{IsRowOf, closing_fault}
 use Rattle.kiss2.specs.Standing.{inputs_said, names_in_column, row_lines, state_names}
 use Rattle.kiss2.proofs.Building.{columns, columns_named, once_after-longer}

@@ -2,9 +2,9 @@ use Rattle.std.proofs.Common.{◌∙◌, subst, sym, refl, arith}
 use Rattle.std.proofs.lemmas.Bool.{true≢false}
 use Rattle.std.proofs.lemmas.List.{take_all}
 use Rattle.std.proofs.lemmas.List.Elements.{All-more}
-use Rattle.dependence.specs.Permits.{AgreeOn, InWord}
+use Rattle.dependence.specs.SufficientBits.{AgreeOn, InWord}
 use Rattle.least_codes.specs.declared.two_states.TwoStates.{TwoStates}
-use Rattle.least_codes.specs.Inner.Apart.{TellsApart}
+use Rattle.least_codes.specs.Inner.StatePairs.{TellsApart}
 use Rattle.least_codes.proofs.choice.tells_apart.Goals as goal
 
 pub returns-then-not-differ_on : goal.returns-then-not-differ_on

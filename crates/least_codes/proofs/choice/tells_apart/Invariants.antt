@@ -1,6 +1,6 @@
 use Rattle.std.proofs.Common.{take}
-use Rattle.dependence.specs.Permits.{InWord}
-use Rattle.least_codes.specs.Inner.Apart.{TellsApart}
+use Rattle.dependence.specs.SufficientBits.{InWord}
+use Rattle.least_codes.specs.Inner.StatePairs.{TellsApart}
 use Rattle.least_codes.proofs.choice.tells_apart.Given as goal
 
 abbrev pub invariant-loop-pair : goal.invariant-loop-pair

@@ -1,8 +1,8 @@
 use Rattle.std.proofs.Common.{List, ℕ, sym, subst, arith}
-use Rattle.dependence.specs.Permits.{InWord, PermitsValue}
+use Rattle.dependence.specs.SufficientBits.{InWord, PermitsValue}
 use Rattle.dependence.specs.Laws.Words.{bit_within}
 use Rattle.dependence.specs.Bit.{value_of}
-use Rattle.least_codes.specs.Inner.Apart.{AreToldApart}
+use Rattle.least_codes.specs.Inner.StatePairs.{AreToldApart}
 use Rattle.least_codes.specs.LeastReads.{IsLeastReadSet}
 use Rattle.least_codes.proofs.LeastSets.{set_from_choice}
 use Rattle.least_codes.proofs.Telling.{tells_from_permits}

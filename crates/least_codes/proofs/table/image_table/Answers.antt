@@ -1,6 +1,6 @@
 use Rattle.std.proofs.Common.{◌+◌, List, length, subst, sym, take, refl}
 use Rattle.least_codes.specs.declared.two_states.TwoStates.{TwoStates}
-use Rattle.least_codes.specs.Inner.Apart.{ArePairs}
+use Rattle.least_codes.specs.Inner.StatePairs.{ArePairs}
 use Rattle.least_codes.specs.Inner.Table.{IsTableOf}
 use Rattle.least_codes.proofs.Rows.{row_of, table_all, table_more}
 use Rattle.least_codes.proofs.table.image_table.Goals as goal

@@ -1,6 +1,6 @@
 use Rattle.std.proofs.Common.{◌+◌, List, sym, subst}
 use Rattle.least_codes.specs.declared.two_states.TwoStates.{TwoStates}
-use Rattle.least_codes.specs.Inner.Apart.{ArePairsUpTo}
+use Rattle.least_codes.specs.Inner.StatePairs.{ArePairsUpTo}
 use Rattle.least_codes.proofs.Pairs.{pairs_done, pairs_more}
 use Rattle.least_codes.proofs.two_states.add_pairs.Goals as goal
 

@@ -1,4 +1,4 @@
-use Rattle.least_codes.specs.Inner.Apart.{ArePairsUpTo}
+use Rattle.least_codes.specs.Inner.StatePairs.{ArePairsUpTo}
 use Rattle.least_codes.proofs.two_states.add_pairs.Given as goal
 
 abbrev pub invariant-loop-s : goal.invariant-loop-s

@@ -1,4 +1,4 @@
-use Rattle.least_codes.specs.Inner.Apart.{ArePairs}
+use Rattle.least_codes.specs.Inner.StatePairs.{ArePairs}
 use Rattle.least_codes.proofs.two_states.all_pairs.Given as goal
 
 abbrev pub invariant-loop-t : goal.invariant-loop-t

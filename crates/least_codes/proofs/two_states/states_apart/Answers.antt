@@ -2,7 +2,7 @@ use Rattle.std.proofs.Common.{◌+◌, ◌∙◌, List, [], subst, sym, ap, take
 use Rattle.std.proofs.lemmas.Bool.{true≢false}
 use Rattle.least_codes.specs.declared.two_states.TwoStates.{TwoStates}
 use Rattle.dependence.specs.Bit.{value_of}
-use Rattle.least_codes.specs.Inner.Apart.{AreApartOf, ArePairs}
+use Rattle.least_codes.specs.Inner.StatePairs.{AreApartOf, ArePairs}
 use Rattle.least_codes.proofs.Pairs.{apart_all, apart_differ, apart_none, apart_same}
 use Rattle.least_codes.proofs.two_states.states_apart.Goals as goal
 use Rattle.least_codes.proofs.two_states.states_apart.Goals.{then-not-gives_the_same+in_ok-push, else-not-gives_the_same}

@@ -1,6 +1,6 @@
 use Rattle.std.proofs.Common.{◌≡◌, ℕ, ◌+◌, ◌*◌, ◌^◌, ◌<◌, ap, subst, ◌∙◌, arith}
 use Rattle.machine_gen.specs.declared.rows.Place.{Place}
-use Rattle.machine_gen.specs.Inner.Drawing.{IsRowOfPlace, next_of}
+use Rattle.machine_gen.specs.Inner.Draws.{IsRowOfPlace, next_of}
 use Rattle.machine_gen.specs.Words.{word}
 use Rattle.machine_gen.proofs.Numbered.{AreRowsBelow, rows-more, rows_whole}
 use Rattle.machine_gen.proofs.Stepping.{first_there, from_fits, next_fits, next_is, second_there}

@@ -1,7 +1,7 @@
 use Rattle.std.proofs.Common.{◌≡◌, sym, ◌∙◌}
 use Rattle.std.proofs.lemmas.Result.{IfOk-weaker}
-use Rattle.kiss2.specs.Written.{kiss_text}
-use Rattle.state_reduce.specs.declared.judging.QuotientFail.TheVariants.{NotClosed, NotConsistent, NoMemory}
+use Rattle.kiss2.specs.KissText.{kiss_text}
+use Rattle.state_reduce.specs.declared.demands.QuotientFail.TheVariants.{NotClosed, NotConsistent, NoMemory}
 use Rattle.machine_reports.proofs.Reducing.{alike_of, never_refused, right_reduced}
 use Rattle.machine_reports.specs.ReducedText.{IsReducedText}
 use Rattle.machine_reports.proofs.classes.reduce.Goals as goal

@@ -1,12 +1,12 @@
 use Rattle.answers.specs.Laws.Causes.{one_of}
 use Rattle.answers.specs.declared.numbers.Answer.TheVariants as answers
-use Rattle.closed_lattice.specs.Closed.{IsClosedPartition}
+use Rattle.closed_lattice.specs.ClosedPartitions.{IsClosedPartition}
 use Rattle.mm_lattice.specs.MmPairs.{IsMmPair}
 use Rattle.partition.specs.Sides.{RightBefore}
 use Rattle.output_consistent.specs.Outputs.{IsClosedAndConsistent}
 use Rattle.operands.specs.PartFaults.{BadPart}
 use Rattle.operands.specs.Laws.Parts.{bad_part_is_of}
-use Rattle.partition.specs.Before.{Before}
+use Rattle.partition.specs.Order.{Before}
 use Rattle.machine_reports.specs.Laws.Causes.{definite_has_one_answer, input_pairs_have_one_answer, list_has_one_answer, output_pairs_have_one_answer}
 use Rattle.machine_reports.proofs.laws.commands_have_one_answer.Goals as goal
 

@@ -1,5 +1,5 @@
 use Rattle.std.proofs.Common.{subst}
-use Rattle.machine_table.specs.Said.{place_of}
+use Rattle.machine_table.specs.OpenEntries.{place_of}
 use Rattle.machine_table.specs.Inner.OpenSymbol.{IsFirstAmong, IsFirstOf}
 use Rattle.machine_table.proofs.OpenParts.{with_earlier, with_first, with_later, with_none}
 use Rattle.machine_table.proofs.open_entry.earlier.Goals as goal

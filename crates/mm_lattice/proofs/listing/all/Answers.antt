@@ -3,7 +3,7 @@ use Rattle.std.proofs.lemmas.List.{length-map}
 use Rattle.kiss_file.specs.declared.file.KissFile.{KissFile}
 use Rattle.partition.specs.Partition.{IsPartition}
 use Rattle.partition.specs.Sides.{Sides}
-use Rattle.mm_lattice.specs.Inner.Collected.{AreRights, HaveRights}
+use Rattle.mm_lattice.specs.Inner.RightSides.{AreRights, HaveRights}
 use Rattle.mm_lattice.specs.Sides.{sides_of}
 use Rattle.mm_lattice.proofs.Listed.{paired, paired_evidence, right_evidence, rights_fit}
 use Rattle.mm_lattice.proofs.listing.all.Goals as goal

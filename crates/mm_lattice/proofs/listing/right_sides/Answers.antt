@@ -1,6 +1,6 @@
 use Rattle.std.proofs.Common.{ℕ, ◌≤◌, All, AllPairs, List, length, sym}
 use Rattle.hs_lattice.specs.Laws.Outcomes.{more-from, whole-from_four}
-use Rattle.partition.specs.Before.{Before}
+use Rattle.partition.specs.Order.{Before}
 use Rattle.partition.specs.Laws.Labels.{IsPartition-of}
 use Rattle.partition.specs.Partition.{IsPartition, IsStateCount}
 use Rattle.mm_lattice.proofs.Listed.{listed, evident, unevident}

@@ -1,5 +1,5 @@
 use Rattle.std.proofs.Common.{map}
-use Rattle.mm_lattice.specs.Inner.Collected.{HaveLefts}
+use Rattle.mm_lattice.specs.Inner.RightSides.{HaveLefts}
 use Rattle.mm_lattice.specs.Sides.{sides_of}
 use Rattle.mm_lattice.proofs.listing.with_lefts_by_pairs.Given as goal
 

@@ -1,5 +1,5 @@
 use Rattle.std.proofs.Common.{◌≡◌, ◌<◌, ◌⊎◌, List, ℕ, inl, inr, length, subst, sym, arith}
-use Rattle.machine_table.specs.Merging.{MergesImages}
+use Rattle.machine_table.specs.MergedStates.{MergesImages}
 use Rattle.partition.specs.Partition.{IsPartition}
 use Rattle.pair_operators.specs.Laws.Growth.{pair_taken}
 use Rattle.mm_lattice.specs.Generators.{IsRightOf}

@@ -1,6 +1,6 @@
 use Rattle.std.proofs.Common.{◌≡◌, ℕ, ◌<◌, false, get_or, length}
 use Rattle.cubes.specs.Symbol.{symbol_of}
-use Rattle.net_sim.specs.Inner.Evaluated.{value_for}
+use Rattle.net_sim.specs.Inner.GateValues.{value_for}
 use Rattle.net_sim.proofs.forms.table_of.Given as goal
 
 abbrev pub invariant-loop-number : goal.invariant-loop-number

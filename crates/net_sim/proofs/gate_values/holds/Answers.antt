@@ -1,6 +1,6 @@
 use Rattle.std.proofs.Common.{sym, ◌∙◌, false, get_or}
 use Rattle.std.proofs.lemmas.List.{length-map}
-use Rattle.net_sim.specs.Inner.Evaluated.{bits_at}
+use Rattle.net_sim.specs.Inner.GateValues.{bits_at}
 use Rattle.net_sim.proofs.Rows.{row_holds_other}
 use Rattle.net_sim.proofs.gate_values.holds.Goals as goal
 

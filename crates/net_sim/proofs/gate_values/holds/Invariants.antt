@@ -1,6 +1,6 @@
 use Rattle.std.proofs.Common.{◌≡◌, drop}
 use Rattle.net_core.specs.Step.{row_holds}
-use Rattle.net_sim.specs.Inner.Evaluated.{bits_at}
+use Rattle.net_sim.specs.Inner.GateValues.{bits_at}
 use Rattle.net_sim.proofs.gate_values.holds.Given as goal
 
 abbrev pub invariant-loop-place : goal.invariant-loop-place

@@ -1,7 +1,7 @@
 use Rattle.std.proofs.Common.{◌<◌, ◌+◌, ◌*◌, ℕ, false, get_or, length, length-take, take, refl, sym, ◌∙◌, ap, arith}
 use Rattle.cubes.specs.Symbol.{number_of}
 use mir.Val.{bool_byte}
-use Rattle.net_sim.specs.Inner.Evaluated.{bits_at}
+use Rattle.net_sim.specs.Inner.GateValues.{bits_at}
 use Rattle.net_sim.proofs.Binary.{bit_at_most, number_push, room_for_bit}
 use Rattle.net_sim.proofs.FormValues.{bits_more, count_bits}
 use Rattle.net_sim.proofs.gate_values.number_at.Goals as goal

@@ -1,6 +1,6 @@
 use Rattle.std.proofs.Common.{◌<◌, ℕ, Bool, List, false, get_or, length, sym, ◌∙◌, ap, subst}
 use Rattle.cubes.specs.Symbol.{number_of}
-use Rattle.net_sim.specs.Inner.Evaluated.{bits_at}
+use Rattle.net_sim.specs.Inner.GateValues.{bits_at}
 use Rattle.net_sim.specs.Inner.Forms.{IsForm}
 use Rattle.net_sim.proofs.FormValues.{bits_of_number, number_within, place_within, value_there}
 use Rattle.net_sim.proofs.SmallGates.{value_of_small}

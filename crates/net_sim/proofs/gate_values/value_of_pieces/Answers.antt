@@ -1,5 +1,5 @@
 use Rattle.std.proofs.Common.{Bool, List, ℕ, not, if◌then◌else◌, sym, ◌∙◌, ap, subst}
-use Rattle.net_sim.specs.Inner.Evaluated.{bits_at}
+use Rattle.net_sim.specs.Inner.GateValues.{bits_at}
 use Rattle.net_sim.specs.Inner.Pieces.{AreNumbersOf}
 use Rattle.net_sim.proofs.WideRows.{below_there, held_there}
 use Rattle.net_sim.proofs.gate_values.value_of_pieces.Goals as goal

@@ -1,7 +1,7 @@
 use Rattle.std.proofs.Common.{◌≡◌, ◌+◌, ◌<◌, min, All, Bool, List, ℕ, length, length-drop, length-set, set, take, take_all, drop, sym, ◌∙◌, ap, subst, arith}
 use Rattle.std.proofs.lemmas.List.Elements.{All-drop, All-take}
 use Rattle.cubes.specs.Symbol.{number_of}
-use Rattle.net_sim.specs.Inner.Evaluated.{bits_at}
+use Rattle.net_sim.specs.Inner.GateValues.{bits_at}
 use Rattle.net_sim.specs.Inner.Pieces.{AreNumbersOf, HaveNumbered}
 use Rattle.net_sim.proofs.FormValues.{count_bits}
 use Rattle.net_sim.proofs.WideRows.{bits_dropped, bits_taken, drop_least, numbered_done, numbered_more, take_least, taken_set}

@@ -1,9 +1,9 @@
 use Rattle.std.proofs.Common.{◌<◌, ◌+◌, ℕ, List, length, sym, subst, arith}
 use Rattle.kiss_file.specs.declared.file.KissFile.{KissFile}
-use Rattle.partition.specs.Splitting.{IsSplitUpTo}
+use Rattle.partition.specs.RelationBlocks.{IsSplitUpTo}
 use Rattle.partition.specs.Laws.Labels.{IsPartition-of}
 use Rattle.partition.specs.Laws.Splitting.{split_none, split_joined, split_alone, split_all}
-use Rattle.output_consistent.specs.Inner.Agreeing.{AgreeInEach}
+use Rattle.output_consistent.specs.Inner.Agreement.{AgreeInEach}
 use Rattle.output_consistent.proofs.Splitting.{agree_on, agree_turned, output_split}
 use Rattle.output_consistent.proofs.bits.bit_partition.Goals as goal
 use Rattle.output_consistent.proofs.bits.bit_partition.Goals.{in-Some, in_default}

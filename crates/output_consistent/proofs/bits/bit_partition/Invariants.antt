@@ -1,6 +1,6 @@
 use Rattle.std.proofs.Common.{length}
-use Rattle.partition.specs.Splitting.{IsSplitUpTo}
-use Rattle.output_consistent.specs.Inner.Agreeing.{AgreeInEach}
+use Rattle.partition.specs.RelationBlocks.{IsSplitUpTo}
+use Rattle.output_consistent.specs.Inner.Agreement.{AgreeInEach}
 use Rattle.output_consistent.proofs.bits.bit_partition.Given as goal
 
 abbrev pub invariant-loop-s : goal.invariant-loop-s

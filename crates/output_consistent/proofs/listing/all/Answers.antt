@@ -2,14 +2,14 @@ use Rattle.std.proofs.Common.{◌≡◌, ℕ, ◌<◌, ◌≤◌, All, AllPairs,
 use Rattle.hs_lattice.specs.Laws.Outcomes.{whole-from_four, more-from}
 use Rattle.hs_lattice.specs.JoinWorld.{HaveJoins}
 use Rattle.kiss_file.specs.declared.file.KissFile.{KissFile}
-use Rattle.machine_table.specs.Staying.{NeverLeaves}
-use Rattle.partition.specs.Before.{Before}
+use Rattle.machine_table.specs.NextStates.{NeverLeaves}
+use Rattle.partition.specs.Order.{Before}
 use Rattle.partition.specs.MeetAndJoin.{IsJoin}
 use Rattle.partition.specs.Partition.{IsPartition, Together}
-use Rattle.closed_lattice.specs.Closed.{HasPrincipal, IsPrincipalWithin}
+use Rattle.closed_lattice.specs.ClosedPartitions.{HasPrincipal, IsPrincipalWithin}
 use Rattle.closed_lattice.specs.Laws.Generating.{IsMade, IsZeroOf, states_counted}
 use Rattle.closed_lattice.specs.Laws.Listed.{listed, evident, unevident}
-use Rattle.state_reduce.specs.Alike.{IsEquivalence}
+use Rattle.state_reduce.specs.AlikeStates.{IsEquivalence}
 use Rattle.output_consistent.specs.Outputs.{IsClosedAndConsistent}
 use Rattle.output_consistent.proofs.Listed.{consistent_made, made_consistent, principals_consistent}
 use Rattle.output_consistent.proofs.listing.all.Goals as goal

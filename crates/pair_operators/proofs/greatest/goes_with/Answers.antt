@@ -1,9 +1,9 @@
 use Rattle.std.proofs.Common.{◌+◌, ℕ, List, length, sym, subst, ◌∙◌, arith}
 use Rattle.std.proofs.lemmas.Bool.{true≢false}
 use Rattle.kiss_file.specs.declared.file.KissFile.{KissFile}
-use Rattle.partition.specs.Splitting.{IsSearched}
+use Rattle.partition.specs.RelationBlocks.{IsSearched}
 use Rattle.partition.specs.Laws.Splitting.{searched_first, searched_later}
-use Rattle.pair_operators.specs.Going.{Goes}
+use Rattle.pair_operators.specs.NextBlocks.{Goes}
 use Rattle.pair_operators.specs.Laws.Going.{goes_on}
 use Rattle.pair_operators.proofs.greatest.goes_with.Goals as goal
 use Rattle.pair_operators.proofs.greatest.goes_with.Goals.{then-from-blocks+else-go_together, else-from-blocks}

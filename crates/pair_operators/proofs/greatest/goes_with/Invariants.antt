@@ -1,5 +1,5 @@
-use Rattle.partition.specs.Splitting.{IsSearched}
-use Rattle.pair_operators.specs.Going.{Goes}
+use Rattle.partition.specs.RelationBlocks.{IsSearched}
+use Rattle.pair_operators.specs.NextBlocks.{Goes}
 use Rattle.pair_operators.proofs.greatest.goes_with.Given as goal
 
 abbrev pub invariant-loop-t : goal.invariant-loop-t

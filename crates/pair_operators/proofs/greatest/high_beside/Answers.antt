@@ -1,11 +1,11 @@
 use Rattle.std.proofs.Common.{◌<◌, ◌+◌, ◌≡◌, ◌∙◌, ℕ, List, ap, length, sym, subst, arith}
 use Rattle.std.proofs.lemmas.Result.{IfOk-from_err, err_from_is_err_and}
 use Rattle.kiss_file.specs.declared.file.KissFile.{KissFile}
-use Rattle.partition.specs.Splitting.{IsSplitUpTo}
+use Rattle.partition.specs.RelationBlocks.{IsSplitUpTo}
 use Rattle.partition.specs.Laws.Labels.{IsPartition-of}
 use Rattle.partition.specs.Laws.Splitting.{split_none, split_joined, split_alone, split_all}
-use Rattle.pair_operators.specs.Asked.{AreAsked}
-use Rattle.pair_operators.specs.Going.{Goes}
+use Rattle.pair_operators.specs.NextColumns.{AreAsked}
+use Rattle.pair_operators.specs.NextBlocks.{Goes}
 use Rattle.pair_operators.specs.Inner.Keys.{AreKeys}
 use Rattle.pair_operators.proofs.Classes.{high_all}
 use Rattle.pair_operators.specs.Laws.Going.{goes_on, goes_turned}

@@ -1,7 +1,7 @@
 use Rattle.std.proofs.Common.{length}
-use Rattle.partition.specs.Splitting.{IsSplitUpTo}
-use Rattle.pair_operators.specs.Asked.{AreAsked}
-use Rattle.pair_operators.specs.Going.{Goes}
+use Rattle.partition.specs.RelationBlocks.{IsSplitUpTo}
+use Rattle.pair_operators.specs.NextColumns.{AreAsked}
+use Rattle.pair_operators.specs.NextBlocks.{Goes}
 use Rattle.pair_operators.specs.Inner.Keys.{AreKeys}
 use Rattle.pair_operators.proofs.greatest.high_beside.Given as goal
 

@@ -1,7 +1,7 @@
 use Rattle.std.proofs.Common.{ℕ, List, length, refl, sym, subst, ◌∙◌, arith}
 use Rattle.std.proofs.lemmas.Bool.{true≢false}
 use Rattle.kiss_file.specs.declared.file.KissFile.{KissFile}
-use Rattle.pair_operators.specs.Going.{Goes}
+use Rattle.pair_operators.specs.NextBlocks.{Goes}
 use Rattle.pair_operators.proofs.Firsts.{FirstsGo, firsts_from_pair, firsts_more, pair_from_firsts}
 use Rattle.pair_operators.proofs.pairs.is_pair.Goals as goal
 

@@ -1,6 +1,6 @@
 use Rattle.std.proofs.Common.{◌-◌}
 use Rattle.partition.specs.Partition.{blocks_of}
-use Rattle.closed_lattice.specs.Kept.{ArePrincipalsOf}
+use Rattle.closed_lattice.specs.KnownPrincipals.{ArePrincipalsOf}
 use Rattle.parallel_split.specs.Inner.Members.{AreMembers}
 use Rattle.parallel_split.proofs.members.members.Given as goal
 

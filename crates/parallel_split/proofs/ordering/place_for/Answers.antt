@@ -2,7 +2,7 @@ use Rattle.std.proofs.Common.{◌≡◌, ℕ, ◌<◌, ◌≤◌, inl, inr, All,
 use Rattle.std.proofs.lemmas.Bool.{cases_eq, false≢true}
 use Rattle.std.proofs.lemmas.List.Elements.{at_read}
 use Rattle.partition.specs.Partition.{IsPartition}
-use Rattle.partition.specs.Before.{Before}
+use Rattle.partition.specs.Order.{Before}
 use Rattle.partition.specs.Laws.World.{before_chains, before_decides}
 use Rattle.parallel_split.proofs.ordering.place_for.Goals as goal
 

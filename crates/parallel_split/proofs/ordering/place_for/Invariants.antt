@@ -1,5 +1,5 @@
 use Rattle.std.proofs.Common.{ℕ, ◌<◌, List, length, get_or}
-use Rattle.partition.specs.Before.{Before}
+use Rattle.partition.specs.Order.{Before}
 use Rattle.parallel_split.proofs.ordering.place_for.Given as goal
 
 abbrev pub invariant-loop-place : goal.invariant-loop-place

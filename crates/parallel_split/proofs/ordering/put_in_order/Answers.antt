@@ -3,7 +3,7 @@ use Rattle.std.specs.List.{insert}
 use Rattle.std.proofs.lemmas.List.Sorted.{IsPermutation-insert, IsPermutation-to_front, IsPermutation-trans}
 use Rattle.hs_lattice.specs.Laws.Insert.{AllPairs-insert}
 use Rattle.hs_lattice.specs.Places.{IsInsertionPlace}
-use Rattle.partition.specs.Before.{Before}
+use Rattle.partition.specs.Order.{Before}
 use Rattle.parallel_split.proofs.ordering.put_in_order.Goals as goal
 
 pub returns : goal.returns

@@ -1,6 +1,6 @@
 use Rattle.std.proofs.lemmas.Result.{IfOk-weaker}
 use Rattle.partition.specs.Partition.{blocks_of}
-use Rattle.partition.specs.Inside.{IsInside, IsComplement, IsLargestSize}
+use Rattle.partition.specs.NestedBlocks.{IsInside, IsComplement, IsLargestSize}
 use Rattle.partition.specs.Laws.Labels.{IsPartition-of}
 use Rattle.partition.proofs.Sizes.{inside_zero_is_complement, complement_counts}
 use Rattle.partition.proofs.Partition.complement.Goals as goal

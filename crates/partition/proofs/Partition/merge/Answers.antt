@@ -1,7 +1,7 @@
 use Rattle.std.proofs.Common.{◌≡◌, ℕ, List, length, ◌-◌, sym, ap, subst, ◌∙◌, arith}
 use Rattle.std.proofs.lemmas.List.{with_items_is}
 use Rattle.partition.specs.Partition.{blocks_of, IsPartition}
-use Rattle.partition.specs.Merging.{IsMerged}
+use Rattle.partition.specs.MergedBlocks.{IsMerged}
 use Rattle.partition.specs.Laws.Labels.{label-lt-blocks_of, IsPartition-of}
 use Rattle.partition.specs.Laws.Relabelling.{put_together}
 use Rattle.partition.proofs.Partition.merge.Goals as goal

@@ -1,5 +1,5 @@
 use Rattle.std.proofs.Common.{◌≡◌, ℕ, ◌<◌, ◌≤◌, get_or}
-use Rattle.partition.specs.Inner.Relabelled.{relabelled}
+use Rattle.partition.specs.Inner.RemovedLabel.{relabelled}
 use Rattle.partition.proofs.blocks.relabel.Given as goal
 
 abbrev pub invariant-loop-label : goal.invariant-loop-label

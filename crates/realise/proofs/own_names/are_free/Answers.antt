@@ -1,6 +1,6 @@
 use Rattle.std.proofs.Common.{List, ℕ, ◌∙◌, ap, not}
 use Rattle.std.specs.List.{list_any}
-use Rattle.realise.specs.Inner.Free.{is_given}
+use Rattle.realise.specs.Inner.FreeNames.{is_given}
 use Rattle.realise.proofs.Free.{test_is}
 use Rattle.realise.proofs.own_names.are_free.Goals as goal
 

@@ -1,6 +1,6 @@
 use Rattle.std.proofs.Common.{◌-◌}
 use Rattle.partition.specs.Partition.{blocks_of}
-use Rattle.closed_lattice.specs.Kept.{ArePrincipalsOf}
+use Rattle.closed_lattice.specs.KnownPrincipals.{ArePrincipalsOf}
 use Rattle.serial_split.specs.Inner.Chain.{IsChain}
 use Rattle.serial_split.proofs.chain.chain.Given as goal
 

@@ -2,7 +2,7 @@ use Rattle.std.proofs.Common.{◌≡◌, ◌+◌, ◌≤◌, ℕ, Bool, true, fa
 use Rattle.std.proofs.lemmas.Bool.{false≢true}
 use Rattle.partition.specs.Partition.{IsPartition, blocks_of}
 use Rattle.shift_real.specs.Chain.{AreTogetherAfter, IsChain}
-use Rattle.shift_real.specs.Inner.Rising.{IsRising}
+use Rattle.shift_real.specs.Inner.RisingChain.{IsRising}
 use Rattle.shift_real.proofs.RisingMembers.{chain_whole, few_first, few_more, few_whole, fewer, rising_first, rising_more}
 use Rattle.shift_real.proofs.chains.chain.Goals as goal
 

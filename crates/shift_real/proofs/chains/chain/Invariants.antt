@@ -1,7 +1,7 @@
 -- The chain so far, and M of its last member, beside the symbols that were asked.
-use Rattle.pair_operators.specs.Asked.{AreAsked}
+use Rattle.pair_operators.specs.NextColumns.{AreAsked}
 use Rattle.partition.specs.Partition.{blocks_of}
-use Rattle.shift_real.specs.Inner.Rising.{IsRisingTo}
+use Rattle.shift_real.specs.Inner.RisingChain.{IsRisingTo}
 use Rattle.shift_real.proofs.chains.chain.Given as goal
 
 abbrev pub invariant-rising : goal.invariant-rising

@@ -1,5 +1,5 @@
 use Rattle.std.proofs.Common.{ℕ, List, length, sym, subst, arith}
-use Rattle.shift_real.specs.Inner.Reading.{AreEffectsAfter}
+use Rattle.shift_real.specs.Inner.OutputReads.{AreEffectsAfter}
 use Rattle.shift_real.specs.Inner.Latches.{AddsOutputGates}
 use Rattle.dependence.specs.declared.effects.Effect.{Effect}
 use Rattle.shift_real.proofs.GateLists.{gates_more}

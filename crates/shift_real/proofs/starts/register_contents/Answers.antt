@@ -1,5 +1,5 @@
 use Rattle.std.proofs.Common.{subst}
-use Rattle.shift_real.specs.Definite.{IsOrderCause}
+use Rattle.shift_real.specs.DefiniteMachine.{IsOrderCause}
 use Rattle.shift_real.specs.Laws.StartContent.{none_apart, short_bits}
 use Rattle.shift_real.proofs.starts.register_contents.Goals as goal
 

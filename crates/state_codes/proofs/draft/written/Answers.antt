@@ -3,7 +3,7 @@ use Rattle.std.proofs.lemmas.List.{get_or_read, take_all}
 use Rattle.std.proofs.lemmas.Option.{slice_get_read}
 use Rattle.std.specs.List.{slice_get}
 use Rattle.partition.specs.Partition.{blocks_of}
-use Rattle.partition.specs.Inside.{IsInside}
+use Rattle.partition.specs.NestedBlocks.{IsInside}
 use Rattle.state_codes.specs.declared.split.Part.{Part}
 use Rattle.state_codes.specs.Split.{IsPart}
 use Rattle.state_codes.specs.Code.{need, Place, label_places, places_of, IsLaidOut}

@@ -1,5 +1,5 @@
 use Rattle.std.proofs.Common.{◌≡◌, sym, ◌∙◌}
-use Rattle.state_reduce.specs.declared.judging.QuotientFail.TheVariants.{NotClosed, NotConsistent, NoMemory}
+use Rattle.state_reduce.specs.declared.demands.QuotientFail.TheVariants.{NotClosed, NotConsistent, NoMemory}
 use Rattle.state_reduce.proofs.Works.{quotient_unrefused}
 use Rattle.state_reduce.proofs.work.file_of_classes.Goals as goal
 

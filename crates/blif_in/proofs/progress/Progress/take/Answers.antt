@@ -1,7 +1,7 @@
 use Rattle.std.proofs.Common.{◌≡◌, sym, subst}
 use Rattle.std.specs.Option.{option_map, option_or}
-use Rattle.blif_in.specs.Inner.Judging.{Stands}
-use Rattle.blif_in.specs.Inner.Progressing.{clock_at}
+use Rattle.blif_in.specs.Inner.Standing.{Stands}
+use Rattle.blif_in.specs.Inner.Progress.{clock_at}
 use Rattle.blif_in.proofs.Progressing.{read_more}
 use Rattle.blif_in.proofs.progress.Progress.take.Goals as goal
 

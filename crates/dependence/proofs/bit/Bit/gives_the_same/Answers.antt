@@ -1,7 +1,7 @@
 use Rattle.std.proofs.Common.{◌↔◌, ℕ, List, Bool, IsTrue, sym, subst}
 use Rattle.dependence.specs.declared.bit.Bit.{Bit}
 use Rattle.dependence.specs.Bit.{GiveTheSame, value_of}
-use Rattle.dependence.specs.Permits.{next_value, output_value}
+use Rattle.dependence.specs.SufficientBits.{next_value, output_value}
 use Rattle.dependence.specs.Laws.Agreeing.{each_same, same_each}
 use Rattle.dependence.proofs.bit.Bit.gives_the_same.Goals as goal
 

@@ -1,7 +1,7 @@
 use Rattle.std.proofs.Common.{◌↔◌, ℕ, List, Contains, Some, set, sym, subst, arith}
-use Rattle.machine_table.specs.Covering.{IsImage}
+use Rattle.machine_table.specs.Pieces.{IsImage}
 use Rattle.dependence.specs.Inner.Differences.{AreFound, DifferInPair, IsDifference}
-use Rattle.dependence.specs.Permits.{InWord}
+use Rattle.dependence.specs.SufficientBits.{InWord}
 use Rattle.dependence.proofs.Differing.{difference_from, found_more, image_inside}
 use Rattle.dependence.proofs.differences.Differences.latches.Goals as goal
 

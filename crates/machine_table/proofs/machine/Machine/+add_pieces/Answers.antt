@@ -1,6 +1,6 @@
 use Rattle.std.proofs.Common.{◌≡◌, List, [], ◌∷◌, ◌++◌, subst, sym}
-use Rattle.machine_table.specs.declared.covering.Piece.{Piece}
-use Rattle.machine_table.specs.Inner.Settled.{AddsPieces}
+use Rattle.machine_table.specs.declared.pieces.Piece.{Piece}
+use Rattle.machine_table.specs.Inner.SettledCubes.{AddsPieces}
 use Rattle.machine_table.proofs.SettledCubes.{one_piece, pieces_of_halves}
 use Rattle.machine_table.proofs.machine.Machine.+add_pieces.Goals as goal
 

@@ -1,6 +1,6 @@
 use Rattle.std.proofs.Common.{ℕ, IfSome, Option, inl, inr, subst, sym}
 use Rattle.kiss_file.specs.declared.file.KissFile.{KissFile}
-use Rattle.state_pairs.specs.Asked.{DifferAt, DifferOpen, HaveOneLabel, SayTwo}
+use Rattle.state_pairs.specs.RowLabels.{DifferAt, DifferOpen, HaveOneLabel, SayTwo}
 use Rattle.state_rows.specs.Least.{IsMetBy}
 use Rattle.state_pairs.specs.Laws.Labels.{never_open}
 use Rattle.state_rows.specs.Laws.Least.{if_some_map, lesser_either, met_either}

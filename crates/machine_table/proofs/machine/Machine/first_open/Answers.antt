@@ -1,6 +1,6 @@
 use Rattle.std.proofs.Common.{ℕ, ◌≡◌, ◌+◌, sym, subst, inl, inr, arith}
 use Rattle.std.proofs.lemmas.Bool.{cases_lt}
-use Rattle.machine_table.specs.Said.{IsSaid}
+use Rattle.machine_table.specs.OpenEntries.{IsSaid}
 use Rattle.machine_table.specs.Inner.OpenSymbol.{IsFirstAmong}
 use Rattle.machine_table.proofs.OpenParts.{first_of_file}
 use Rattle.machine_table.proofs.machine.Machine.first_open.Goals as goal

@@ -1,7 +1,7 @@
 use Rattle.std.proofs.Common.{ℕ, ◌↔◌, List, sym, subst}
 use Rattle.cubes.specs.declared.cube.Cube.{Cube}
 use Rattle.cubes.specs.Gap.{IsHeld}
-use Rattle.machine_table.specs.Said.{IsSaid}
+use Rattle.machine_table.specs.OpenEntries.{IsSaid}
 use Rattle.machine_table.proofs.OpenCubes.{first_from_gap}
 use Rattle.machine_table.proofs.machine.Machine.first_open_of.Goals as goal
 

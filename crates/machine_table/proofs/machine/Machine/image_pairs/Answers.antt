@@ -3,8 +3,8 @@ use Rattle.std.proofs.lemmas.Result.{IfOk-weaker}
 use Rattle.kiss_file.specs.declared.file.KissFile.{KissFile}
 use Rattle.state_pairs.specs.Pairs.{IsImage}
 use Rattle.state_pairs.specs.AddedPairs.{AreNamedAtPlaces, to_of}
-use Rattle.state_pairs.specs.Aligned.{AreAligned}
-use Rattle.state_pairs.specs.Asked.{AllSay}
+use Rattle.state_pairs.specs.AlignedRows.{AreAligned}
+use Rattle.state_pairs.specs.RowLabels.{AllSay}
 use Rattle.state_pairs.specs.Laws.NamedPairs.{image_is_named, named_by_places, one_next}
 use Rattle.machine_table.proofs.machine.Machine.image_pairs.Goals as goal
 

@@ -2,8 +2,8 @@ use Rattle.std.proofs.Common.{ℕ, IfNone, IfSome, Option, subst, sym, inl, inr}
 use Rattle.kiss_file.specs.declared.file.KissFile.{KissFile}
 use Rattle.kiss_file.specs.Machine.{Conflicting, Specified}
 use Rattle.machine_table.specs.declared.open_entry.Entry.{Entry}
-use Rattle.machine_table.specs.declared.missing.Missing.{Missing}
-use Rattle.machine_table.specs.Said.{IsEntry, IsFirstOpen, IsSaid}
+use Rattle.machine_table.specs.declared.open_part.Missing.{Missing}
+use Rattle.machine_table.specs.OpenEntries.{IsEntry, IsFirstOpen, IsSaid}
 use Rattle.machine_table.proofs.Specified.{specified}
 use Rattle.machine_table.proofs.machine.Machine.judge_open.Goals as goal
 

@@ -3,7 +3,7 @@ use Rattle.kiss_file.specs.Machine.{Conflicting}
 use Rattle.kiss_file.specs.Names.{AreDistinct}
 use Rattle.std.proofs.Common.{subst}
 use Rattle.state_pairs.specs.Table.{IsTable}
-use Rattle.state_pairs.specs.Staying.{NeverLeaves}
+use Rattle.state_pairs.specs.NextStates.{NeverLeaves}
 use Rattle.machine_table.proofs.machine.Machine.keeps_its_states.Goals as goal
 
 pub returns-clause-table : goal.returns-clause-table

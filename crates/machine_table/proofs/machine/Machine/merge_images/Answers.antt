@@ -4,7 +4,7 @@ use Rattle.partition.specs.Partition.{IsPartition}
 use Rattle.partition.specs.Laws.Labels.{IsPartition-of}
 use Rattle.state_pairs.specs.Pairs.{IsImage}
 use Rattle.state_pairs.specs.AddedPairs.{AreNamed, IsOpenImage}
-use Rattle.state_pairs.specs.Merging.{MergesPairs}
+use Rattle.state_pairs.specs.MergedStates.{MergesPairs}
 use Rattle.state_pairs.specs.SeenPairs.{AreStates}
 use Rattle.state_pairs.specs.Laws.AddedPairs.{on_ok}
 use Rattle.state_pairs.specs.Laws.MergedPairs.{merges_as, merges_then, open_are_states}

@@ -1,5 +1,5 @@
 use Rattle.std.proofs.Common.{◌≡◌, sym, ◌∙◌}
-use Rattle.machine_table.specs.declared.building.BuildFail.TheVariants.{Conflict, Unspecified, NoMemory}
+use Rattle.machine_table.specs.declared.builder.BuildFail.TheVariants.{Conflict, Unspecified, NoMemory}
 use Rattle.machine_table.specs.Laws.Unrefused.{build_unrefused}
 use Rattle.machine_table.proofs.machine.Machine.of_accepted.Goals as goal
 

@@ -1,6 +1,6 @@
 use Rattle.std.proofs.Common.{List, All, subst, sym}
-use Rattle.machine_table.specs.declared.covering.Piece.{Piece}
-use Rattle.machine_table.specs.Covering.{IsPiece}
+use Rattle.machine_table.specs.declared.pieces.Piece.{Piece}
+use Rattle.machine_table.specs.Pieces.{IsPiece}
 use Rattle.machine_table.proofs.SettledCubes.{no_pieces}
 use Rattle.machine_table.proofs.machine.Machine.pieces.Goals as goal
 

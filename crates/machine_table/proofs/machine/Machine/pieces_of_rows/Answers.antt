@@ -5,9 +5,9 @@ use Rattle.cubes.specs.Cube.{HoldsNumber}
 use Rattle.cubes.specs.Symbol.{symbol_of}
 use Rattle.cubes.specs.Laws.Numbers.{length-symbol_of}
 use Rattle.kiss_file.specs.declared.file.KissRow.{KissRow}
-use Rattle.machine_table.specs.declared.covering.Piece.{Piece}
-use Rattle.machine_table.specs.Covering.{IsHeldByPiece, IsPiece}
-use Rattle.state_pairs.specs.Asked.{IsOfState}
+use Rattle.machine_table.specs.declared.pieces.Piece.{Piece}
+use Rattle.machine_table.specs.Pieces.{IsHeldByPiece, IsPiece}
+use Rattle.state_pairs.specs.RowLabels.{IsOfState}
 use Rattle.state_pairs.specs.Laws.Asking.{looked_at, of_each_row}
 use Rattle.machine_table.proofs.RowPieces.{row_is_piece}
 use Rattle.machine_table.proofs.SettledCubes.{held_by_last, held_still, no_pieces}

@@ -1,7 +1,7 @@
 use Rattle.std.proofs.Common.{ℕ, ◌≡◌, ◌<◌, All, Some, get_or, slice_get}
 use Rattle.cubes.specs.Cube.{HoldsNumber}
 use Rattle.kiss_file.specs.declared.file.KissRow.{KissRow}
-use Rattle.machine_table.specs.Covering.{IsHeldByPiece, IsPiece}
+use Rattle.machine_table.specs.Pieces.{IsHeldByPiece, IsPiece}
 use Rattle.machine_table.proofs.machine.Machine.pieces_of_rows.Given as goal
 
 abbrev pub invariant-loop-number : goal.invariant-loop-number

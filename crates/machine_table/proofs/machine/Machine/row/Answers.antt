@@ -1,6 +1,6 @@
 use Rattle.std.proofs.Common.{◌≡◌, ◌<◌, Some, length, slice_get, sym, subst}
 use Rattle.kiss_file.specs.declared.file.KissFile.{KissFile}
-use Rattle.kiss_file.specs.Lawful.{IsLawfulRow}
+use Rattle.kiss_file.specs.LawfulFile.{IsLawfulRow}
 use Rattle.machine_table.proofs.machine.Machine.row.Goals as goal
 
 pub row-requires : goal.row-requires

@@ -1,6 +1,6 @@
 use Rattle.std.proofs.Common.{◌≡◌, length, subst}
 use Rattle.kiss_file.specs.declared.file.KissFile.{KissFile}
-use Rattle.state_pairs.specs.Staying.{NeverLeaves}
+use Rattle.state_pairs.specs.NextStates.{NeverLeaves}
 use Rattle.machine_table.proofs.machine.Machine.states.Goals as goal
 
 pub returns-clause-count : goal.returns-clause-count

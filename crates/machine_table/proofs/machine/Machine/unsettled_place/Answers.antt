@@ -1,6 +1,6 @@
 use Rattle.std.proofs.Common.{ℕ, ◌≡◌, slice_get, Some, subst, sym, arith}
 use Rattle.kiss_file.specs.declared.file.KissRow.{KissRow}
-use Rattle.machine_table.specs.Inner.Settled.{IsAllOrNone}
+use Rattle.machine_table.specs.Inner.SettledCubes.{IsAllOrNone}
 use Rattle.state_pairs.specs.Laws.Asking.{looked_at, number_of_row}
 use Rattle.machine_table.proofs.machine.Machine.unsettled_place.Goals as goal
 

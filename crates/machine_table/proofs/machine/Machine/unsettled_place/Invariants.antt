@@ -1,6 +1,6 @@
 use Rattle.std.proofs.Common.{ℕ, ◌≡◌, ◌<◌, Some, get_or, slice_get}
 use Rattle.kiss_file.specs.declared.file.KissRow.{KissRow}
-use Rattle.machine_table.specs.Inner.Settled.{IsAllOrNone}
+use Rattle.machine_table.specs.Inner.SettledCubes.{IsAllOrNone}
 use Rattle.machine_table.proofs.machine.Machine.unsettled_place.Given as goal
 
 abbrev pub invariant-loop-number : goal.invariant-loop-number

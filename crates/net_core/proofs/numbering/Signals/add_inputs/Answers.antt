@@ -1,6 +1,6 @@
 use Rattle.std.proofs.Common.{◌++◌, List, ℕ, take, sym, ◌∙◌, ap, subst, arith}
 use Rattle.std.proofs.lemmas.List.{map-id}
-use Rattle.net_core.specs.Inner.Told.{TellsAgain}
+use Rattle.net_core.specs.Inner.Failures.{TellsAgain}
 use Rattle.net_core.proofs.Numbered.{again_at, at_exit}
 use Rattle.net_core.proofs.numbering.Signals.add_inputs.Goals as goal
 

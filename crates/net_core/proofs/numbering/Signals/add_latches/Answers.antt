@@ -1,5 +1,5 @@
 use Rattle.std.proofs.Common.{◌++◌, map, arith}
-use Rattle.net_core.specs.Inner.Told.{TellsAgain}
+use Rattle.net_core.specs.Inner.Failures.{TellsAgain}
 use Rattle.net_core.proofs.Numbered.{again_at, at_exit}
 use Rattle.net_core.proofs.numbering.Signals.add_latches.Goals as goal
 

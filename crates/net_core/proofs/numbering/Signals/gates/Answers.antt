@@ -1,8 +1,8 @@
 use Rattle.std.proofs.Common.{◌+◌, List, take, sym, subst, arith}
 use Rattle.std.specs.List.{AllZip, flat_map}
-use Rattle.net_core.specs.declared.ordering.NumberedGate.{NumberedGate}
+use Rattle.net_core.specs.declared.gate_order.NumberedGate.{NumberedGate}
 use Rattle.net_core.specs.Order.{IsNumbered}
-use Rattle.net_core.specs.Inner.Told.{TellsOutside}
+use Rattle.net_core.specs.Inner.Failures.{TellsOutside}
 use Rattle.net_core.proofs.Numbered.{at_exit, gate_more, gate_outside}
 use Rattle.net_core.proofs.numbering.Signals.gates.Goals as goal
 

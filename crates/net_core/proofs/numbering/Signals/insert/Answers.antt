@@ -4,7 +4,7 @@ use Rattle.std.specs.BTreeMap.{UpdatesBy}
 use Rattle.std.specs.Cmp.Lexicographic.{slice_cmp}
 use Rattle.std.specs.Str.{bytes_eq}
 use Rattle.net_core.specs.Causes.{AreOnce}
-use Rattle.net_core.specs.Inner.Keyed.{AreKeyed}
+use Rattle.net_core.specs.Inner.NameNumbers.{AreKeyed}
 use Rattle.net_core.specs.Laws.Counted.{once_push}
 use Rattle.net_core.proofs.Keyed.{front_taken, keyed_after, keyed_same}
 use Rattle.net_core.proofs.numbering.Signals.insert.Goals as goal

@@ -1,5 +1,5 @@
 use Rattle.std.proofs.Common.{◌+◌, List, ℕ, take, map, sym, subst, arith}
-use Rattle.net_core.specs.Inner.Told.{TellsOutside}
+use Rattle.net_core.specs.Inner.Failures.{TellsOutside}
 use Rattle.net_core.specs.Order.{AreAt}
 use Rattle.net_core.proofs.Numbered.{all_stand, at_exit, at_more, outside_at}
 use Rattle.net_core.proofs.numbering.Signals.latch_inputs.Goals as goal

@@ -1,6 +1,6 @@
 use Rattle.std.proofs.Common.{◌+◌, ◌++◌, ◌∷◌, [], List, ℕ, All, Contains, take, sym, subst, arith}
 use Rattle.std.proofs.lemmas.List.{map-id}
-use Rattle.net_core.specs.Inner.Told.{TellsOutside}
+use Rattle.net_core.specs.Inner.Failures.{TellsOutside}
 use Rattle.net_core.specs.Order.{AreAt}
 use Rattle.net_core.proofs.Numbered.{all_stand, at_exit, at_more, outside_at}
 use Rattle.net_core.proofs.numbering.Signals.numbers.Goals as goal

@@ -1,8 +1,8 @@
 use Rattle.std.proofs.Common.{◌≡◌, ◌++◌, List, ℕ, map, ◌∙◌, ap, subst}
 use Rattle.std.proofs.lemmas.List.{append_assoc}
 use Rattle.net_core.specs.declared.Latch.{Latch}
-use Rattle.net_core.specs.Inner.Told.{TellsAgain}
-use Rattle.net_core.specs.Sound.{driven_by, drivers_of}
+use Rattle.net_core.specs.Inner.Failures.{TellsAgain}
+use Rattle.net_core.specs.SoundNetwork.{driven_by, drivers_of}
 use Rattle.net_core.proofs.Numbered.{again_more, at_exit}
 use Rattle.net_core.proofs.numbering.Signals.of.Goals as goal
 

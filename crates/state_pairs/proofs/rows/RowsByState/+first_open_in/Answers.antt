@@ -4,7 +4,7 @@ use Rattle.cubes.specs.Cube.{HoldsNumber}
 use Rattle.cubes.specs.Symbol.{bit}
 use Rattle.cubes.specs.Laws.Ends.{least_held, value_le}
 use Rattle.cubes.specs.Laws.Parts.{half_from_whole, whole_from_half}
-use Rattle.state_pairs.specs.Asked.{AreOpenAt}
+use Rattle.state_pairs.specs.RowLabels.{AreOpenAt}
 use Rattle.state_rows.specs.Least.{IsMetBy}
 use Rattle.cubes.specs.Laws.SharedCubes.{value_below}
 use Rattle.state_rows.specs.Laws.Least.{if_some_map, lesser_has, met_left, met_right}

@@ -1,6 +1,6 @@
 use Rattle.std.proofs.Common.{◌+◌, get_or}
 use Rattle.std.proofs.lemmas.List.Elements.{Contains-get_or}
-use Rattle.state_pairs.specs.Asked.{IsAloneAt, IsSearched, SaysAlone}
+use Rattle.state_pairs.specs.RowLabels.{IsAloneAt, IsSearched, SaysAlone}
 use Rattle.state_pairs.specs.Laws.Sought.{alone_wanted, alone_of_row, meets_all, row_of, searched_more}
 use Rattle.state_rows.specs.Laws.Least.{if_some_map}
 use Rattle.state_pairs.proofs.rows.RowsByState.first_alone.Goals.{After-lesser-found}

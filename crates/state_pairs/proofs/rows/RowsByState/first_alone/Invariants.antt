@@ -1,4 +1,4 @@
-use Rattle.state_pairs.specs.Asked.{IsAloneAt, IsSearched, SaysAlone}
+use Rattle.state_pairs.specs.RowLabels.{IsAloneAt, IsSearched, SaysAlone}
 use Rattle.state_pairs.proofs.rows.RowsByState.first_alone.Given as goal
 
 abbrev pub invariant-loop-number : goal.invariant-loop-number

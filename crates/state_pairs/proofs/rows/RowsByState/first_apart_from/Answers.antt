@@ -1,5 +1,5 @@
 use Rattle.std.proofs.Common.{ℕ, ◌<◌, ◌+◌, ◌^◌, All, Contains, sym, subst}
-use Rattle.state_pairs.specs.Asked.{IsApartAt}
+use Rattle.state_pairs.specs.RowLabels.{IsApartAt}
 use Rattle.state_rows.specs.Least.{lesser_of}
 use Rattle.state_pairs.specs.MarkedRows.{IsApartIn, MeetsEach}
 use Rattle.state_rows.specs.Bundles.{IsFit}

@@ -1,4 +1,4 @@
-use Rattle.state_pairs.specs.Asked.{SayTwo}
+use Rattle.state_pairs.specs.RowLabels.{SayTwo}
 use Rattle.state_pairs.specs.Laws.Sought.{two_turned}
 use Rattle.state_rows.specs.Laws.Least.{if_some_map}
 use Rattle.state_pairs.proofs.rows.RowsByState.first_by_fewer.Goals as goal

@@ -1,6 +1,6 @@
 use Rattle.std.proofs.Common.{◌+◌, get_or}
 use Rattle.std.proofs.lemmas.List.Elements.{Contains-get_or}
-use Rattle.state_pairs.specs.Asked.{IsApartAt, IsSearched, SayTwo}
+use Rattle.state_pairs.specs.RowLabels.{IsApartAt, IsSearched, SayTwo}
 use Rattle.state_pairs.specs.Laws.Sought.{apart_wanted, meets_all, row_of, searched_more, two_of_row}
 use Rattle.state_rows.specs.Laws.Least.{if_some_map}
 use Rattle.state_pairs.proofs.rows.RowsByState.first_by_pairs.Goals.{After-lesser-found}

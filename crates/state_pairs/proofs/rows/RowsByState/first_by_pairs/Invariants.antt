@@ -1,4 +1,4 @@
-use Rattle.state_pairs.specs.Asked.{IsApartAt, IsSearched, SayTwo}
+use Rattle.state_pairs.specs.RowLabels.{IsApartAt, IsSearched, SayTwo}
 use Rattle.state_pairs.proofs.rows.RowsByState.first_by_pairs.Given as goal
 
 abbrev pub invariant-loop-number : goal.invariant-loop-number

@@ -1,6 +1,6 @@
 use Rattle.std.proofs.Common.{ℕ, ◌<◌, ◌+◌, ◌^◌, IfSome, Option, length, subst, sym, arith}
 use Rattle.kiss_file.specs.declared.file.KissRow.{KissRow}
-use Rattle.state_pairs.specs.Asked.{ApartBelow, AreApartAt, MeetsApart}
+use Rattle.state_pairs.specs.RowLabels.{ApartBelow, AreApartAt, MeetsApart}
 use Rattle.state_rows.specs.Least.{IsMetBy, lesser_of}
 use Rattle.state_pairs.proofs.AlikeRows.{pair_more}
 use Rattle.state_rows.specs.Laws.Least.{if_some_map, lesser_has, met_least, met_left, met_right, met_settled}

@@ -1,5 +1,5 @@
 use Rattle.std.proofs.Common.{◌<◌, ◌^◌, IfSome, length}
-use Rattle.state_pairs.specs.Asked.{ApartBelow, MeetsApart}
+use Rattle.state_pairs.specs.RowLabels.{ApartBelow, MeetsApart}
 use Rattle.state_pairs.proofs.rows.RowsByState.first_by_rows.Given as goal
 
 abbrev pub invariant-loop-i : goal.invariant-loop-i

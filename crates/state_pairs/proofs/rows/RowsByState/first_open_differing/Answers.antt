@@ -1,5 +1,5 @@
 use Rattle.std.proofs.Common.{ℕ, IfSome, Option, inl, inr, subst, sym}
-use Rattle.state_pairs.specs.Asked.{DifferBothOpen, DifferOpen, SaysAlone}
+use Rattle.state_pairs.specs.RowLabels.{DifferBothOpen, DifferOpen, SaysAlone}
 use Rattle.state_rows.specs.Least.{IsMetBy}
 use Rattle.state_rows.specs.Laws.Least.{if_some_map, lesser_has, met_left, met_right}
 use Rattle.state_pairs.proofs.rows.RowsByState.first_open_differing.Goals.{After-lesser-either}

@@ -1,5 +1,5 @@
 use Rattle.std.proofs.Common.{IfSome, length}
-use Rattle.state_pairs.specs.Asked.{ApartBelow, SayTwo}
+use Rattle.state_pairs.specs.RowLabels.{ApartBelow, SayTwo}
 use Rattle.state_pairs.proofs.AlikeRows.{met_by_places, two_from_places}
 use Rattle.state_rows.specs.Laws.Least.{if_some_map}
 use Rattle.state_pairs.proofs.rows.RowsByState.first_said.Goals.{After-first_by_rows-found}

@@ -3,7 +3,7 @@ use Rattle.std.proofs.lemmas.List.{take_rest}
 use Rattle.partition.specs.Partition.{Together}
 use Rattle.state_pairs.specs.AddedPairs.{AddsPairs, IsListedPair, IsNamedBeside}
 use Rattle.state_pairs.specs.SeenPairs.{AreStates}
-use Rattle.state_pairs.specs.Merging.{MergesPairs}
+use Rattle.state_pairs.specs.MergedStates.{MergesPairs}
 use Rattle.state_pairs.specs.Laws.MergedPairs.{all_known, merges_added, new_are_states}
 use Rattle.state_pairs.proofs.rows.RowsByState.merge_beside.Goals.{After-as_slice, After-merge_pairs}
 use Rattle.state_pairs.proofs.rows.RowsByState.merge_beside.Goals as goal

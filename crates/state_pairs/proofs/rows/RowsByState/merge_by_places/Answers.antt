@@ -1,6 +1,6 @@
 use Rattle.std.proofs.Common.{ℕ, ◌≡◌, ◌<◌, length, ◌∙◌, sym, subst, arith}
 use Rattle.state_pairs.specs.AddedPairs.{AreNamedAtPlaces, AreNamedBy, AtBothPlaces, BelowCount, IsFound}
-use Rattle.state_pairs.specs.Merging.{MergesPairs}
+use Rattle.state_pairs.specs.MergedStates.{MergesPairs}
 use Rattle.state_pairs.specs.Laws.AddedPairs.{at_these_places}
 use Rattle.state_pairs.specs.Laws.MergedPairs.{merges_as, merges_below_none, merges_more, merges_rest}
 use Rattle.state_pairs.proofs.rows.RowsByState.merge_by_places.Goals as goal

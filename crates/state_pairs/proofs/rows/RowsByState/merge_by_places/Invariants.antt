@@ -1,5 +1,5 @@
 use Rattle.state_pairs.specs.AddedPairs.{AtBothPlaces, BelowCount}
-use Rattle.state_pairs.specs.Merging.{MergesPairs}
+use Rattle.state_pairs.specs.MergedStates.{MergesPairs}
 use Rattle.state_pairs.proofs.rows.RowsByState.merge_by_places.Given as goal
 
 abbrev pub invariant-loop-i : goal.invariant-loop-i

@@ -3,7 +3,7 @@ use Rattle.std.proofs.lemmas.List.Elements.{Contains-get_or}
 use Rattle.partition.specs.Laws.Labels.{IsPartition-of}
 use Rattle.state_pairs.specs.AddedPairs.{AreNamed, AtPlace, BelowCount, IsNamedBeside, OfSomeRow}
 use Rattle.state_pairs.specs.SeenPairs.{AreStates}
-use Rattle.state_pairs.specs.Merging.{MergesPairs}
+use Rattle.state_pairs.specs.MergedStates.{MergesPairs}
 use Rattle.state_pairs.specs.Laws.AddedPairs.{at_some_row, at_this_place}
 use Rattle.state_pairs.specs.Laws.MergedPairs.{merges_as, merges_below_none, merges_more, merges_rest, named_are_states}
 use Rattle.state_pairs.specs.Laws.NamedPairs.{named_by_rows}

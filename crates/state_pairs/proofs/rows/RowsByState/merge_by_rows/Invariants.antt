@@ -1,6 +1,6 @@
 use Rattle.std.proofs.Common.{ℕ, ◌≡◌, Contains, length}
 use Rattle.state_pairs.specs.AddedPairs.{AtPlace, BelowCount, IsNamedBeside}
-use Rattle.state_pairs.specs.Merging.{MergesPairs}
+use Rattle.state_pairs.specs.MergedStates.{MergesPairs}
 use Rattle.partition.specs.Partition.{Together}
 use Rattle.state_pairs.proofs.rows.RowsByState.merge_by_rows.Given as goal
 

@@ -1,6 +1,6 @@
 use Rattle.std.proofs.Common.{subst}
 use Rattle.kiss_file.specs.declared.file.KissFile.{KissFile}
-use Rattle.state_pairs.specs.Staying.{NeverLeaves}
+use Rattle.state_pairs.specs.NextStates.{NeverLeaves}
 use Rattle.state_pairs.specs.Laws.Staying.{never_leaves}
 use Rattle.state_pairs.proofs.rows.RowsByState.states.Goals as goal
 

@@ -1,7 +1,0 @@
-use Rattle.std.proofs.Common.{Bool, take}
-use Rattle.comparisons.specs.Inner.Made.{HasKindLines}
-use Rattle.state_reduce.specs.Work.{IsWork}
-use Rattle.comparisons.proofs.comparing.kind_lines.Given as goal
-
-abbrev pub invariant-loop-kind : goal.invariant-loop-kind
-invariant-loop-kind l = (reduce : Bool) → IsWork reduce l.file l.work → HasKindLines reduce l.file (take l.kind-index l.compared) l.text.items

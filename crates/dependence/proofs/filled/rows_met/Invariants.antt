@@ -1,6 +1,0 @@
-use Rattle.std.proofs.Common.{take}
-use Rattle.dependence.specs.Inner.Filled.{AreThoseMet}
-use Rattle.dependence.proofs.filled.rows_met.Given as goal
-
-abbrev pub invariant-loop-row : goal.invariant-loop-row
-invariant-loop-row l = AreThoseMet (take l.row-index l.rows) l.cube l.met.items

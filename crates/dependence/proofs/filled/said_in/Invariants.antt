@@ -1,6 +1,0 @@
-use Rattle.std.proofs.Common.{take}
-use Rattle.dependence.specs.Inner.Filled.{SayNothing}
-use Rattle.dependence.proofs.filled.said_in.Given as goal
-
-abbrev pub invariant-loop-row : goal.invariant-loop-row
-invariant-loop-row l = SayNothing (take l.row-index l.rows) l.cube l.part

@@ -1,0 +1,40 @@
+use Rattle.std.proofs.Common.{ℕ, List, Bool, length, refl, sym, ◌∙◌, arith}
+use Rattle.std.proofs.lemmas.Bool.{true≢false}
+use Rattle.dependence.specs.Bit.{value_of}
+use Rattle.dependence.specs.Laws.Agreeing.{FirstGives, FirstsGive, first_itself, firsts_more, permits_from_firsts, same_from_permits}
+use Rattle.dependence.proofs.Firsts.{firsts_none}
+use Rattle.dependence.proofs.sufficient_bits.permits_gate.Goals as goal
+use Rattle.dependence.proofs.sufficient_bits.permits_gate.Goals.{else-first-s-via-then-first-s+else-not-gives_the_same, else-first-s-via-else-first-s}
+
+pub returns-then-not-gives_the_same : goal.returns-then-not-gives_the_same
+returns-then-not-gives_the_same c = (
+  (λ is. absurd (true≢false (sym is))),
+  (λ permits.
+      let same = same_from_permits c.args.m.now c.args.words.now c.args.set (value_of c.args.m.now c.args.words.now c.args.gate) c.loop-s.s c.first_like-first.result permits (omega arith) c.first_like-first.ensures.first in
+      absurd (true≢false (sym (c.gives_the_same.ensures.1 same) ∙ c.if-not-gives_the_same.true))),
+)
+
+pub loop-s-init : goal.loop-s-init
+loop-s-init c = record { give = λ s within. absurd (omega (arith, within)); firsts = firsts_none c.args.words.now c.args.set 509 }
+
+pub loop-s-preserved : goal.loop-s-preserved
+loop-s-preserved c =
+    let value : ℕ → List Bool → Bool = value_of c.args.m.now c.args.words.now c.args.gate in
+    let here : FirstGives c.args.m.now c.args.words.now c.args.set value c.loop-s.s = elim c.else-first-s.branch [
+      | else-first-s-via-then-first-s+else-not-gives_the_same w ↦ record {
+        first = c.first_like-first.result;
+        is = c.first_like-first.ensures.first;
+        same = w.gives_the_same.ensures.0 w.if-not-gives_the_same.false;
+      }
+      | else-first-s-via-else-first-s w ↦ first_itself c.args.m.now c.args.words.now c.args.set value c.loop-s.s c.first_like-first.result c.first_like-first.ensures.first w.if-first-s.false
+    ] in
+    record {
+      give = firsts_more c.args.m.now c.args.words.now c.args.set value c.loop-s.s c.loop-s.invariant.give here;
+      firsts = c.first_like-first.ensures.firsts;
+    }
+
+pub returns : goal.returns
+returns c =
+    let value : ℕ → List Bool → Bool = value_of c.args.m.now c.args.words.now c.args.gate in
+    let all : FirstsGive c.args.m.now c.args.words.now c.args.set value (length c.args.m.now.states) = λ s within. c.loop-s.invariant.give s (omega arith) in
+    ((λ is. permits_from_firsts c.args.m.now c.args.words.now c.args.set value all), (λ permits. refl))

@@ -1,5 +1,0 @@
-use Rattle.job_words.proofs.Commands.{built_job}
-use Rattle.job_words.proofs.judging.job.Goals as goal
-
-pub returns-clause-built : goal.returns-clause-built
-returns-clause-built c = built_job _ _ c.judge.result c.built_forms.ensures c.judge.ensures.job

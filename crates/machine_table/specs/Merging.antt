@@ -1,2 +1,0 @@
--- The next states of two states, merged in a partition of the states.
-pub use Rattle.state_pairs.specs.Merging.{MergesImages, MergesPairs}

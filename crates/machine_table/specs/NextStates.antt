@@ -1,0 +1,2 @@
+-- A machine never leaves its states.
+pub use Rattle.state_pairs.specs.NextStates.{NeverLeaves}

@@ -1,2 +1,0 @@
--- A machine never leaves its states.
-pub use Rattle.state_pairs.specs.Staying.{NeverLeaves}

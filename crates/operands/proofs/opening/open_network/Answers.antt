@@ -1,9 +1,0 @@
-use Rattle.operands.specs.Laws.Loads.{text_of_load}
-use Rattle.operands.proofs.Opened.{net_opened_of_read}
-use Rattle.operands.proofs.opening.open_network.Goals as goal
-
-pub returns-clause-opened : goal.returns-clause-opened
-returns-clause-opened g c =
-    net_opened_of_read c.args.job.now (g.F.Shelf.holds c.args.shelf.now) _ c.as_slice.result.now c.read_network.result
-    (text_of_load (g.F.Shelf.holds c.args.shelf.now) c.bytes.result.now c.args.job.now.file c.in_ok-text.text c.as_slice.result.now c.in_ok-text.ensures.loaded c.bytes.ensures c.as_slice.ensures)
-    c.read_network.ensures

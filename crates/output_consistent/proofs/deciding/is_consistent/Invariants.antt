@@ -1,5 +1,0 @@
-use Rattle.output_consistent.proofs.Agreeing.{FirstsAgree}
-use Rattle.output_consistent.proofs.deciding.is_consistent.Given as goal
-
-abbrev pub invariant-loop-s : goal.invariant-loop-s
-invariant-loop-s l = FirstsAgree l.m l.p l.s

@@ -1,5 +1,0 @@
-use Rattle.pair_operators.specs.Inner.Keys.{AreKeys}
-use Rattle.pair_operators.proofs.asked.AskedSymbols.keys.Given as goal
-
-abbrev pub invariant-loop-column : goal.invariant-loop-column
-invariant-loop-column l = AreKeys l.m l.q l.keys

@@ -1,6 +1,0 @@
--- The filled rows of the states so far.
-use Rattle.realise.specs.Inner.Filled.{AreFilledBelow}
-use Rattle.realise.proofs.filled.state_rows.Given as goal
-
-abbrev pub invariant-loop-state : goal.invariant-loop-state
-invariant-loop-state l = AreFilledBelow l.m l.state l.filled.items

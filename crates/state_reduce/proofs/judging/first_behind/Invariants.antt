@@ -1,5 +1,0 @@
-use Rattle.state_reduce.specs.Inner.Demanded.{IsMetBehind}
-use Rattle.state_reduce.proofs.judging.first_behind.Given as goal
-
-abbrev pub invariant-loop-t : goal.invariant-loop-t
-invariant-loop-t l = IsMetBehind l.demand l.m l.p l.s l.t

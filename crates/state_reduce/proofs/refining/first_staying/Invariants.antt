@@ -1,6 +1,0 @@
-use Rattle.partition.specs.Splitting.{IsSearched}
-use Rattle.state_reduce.specs.Inner.Refining.{StayTogether}
-use Rattle.state_reduce.proofs.refining.first_staying.Given as goal
-
-abbrev pub invariant-loop-t : goal.invariant-loop-t
-invariant-loop-t l = IsSearched (StayTogether l.m l.p) l.so_far l.s l.t l.blocks
