@@ -4,7 +4,7 @@
 # one-hot coding of the same table that Yosys makes. ABC proves each network equal to that of `code`. Given files of KISS2
 # as words, it makes the rows of these machines instead. `--program PATH` names a program that is built already.
 #
-# Needs the packages berkeley-abc and yosys. It takes about five minutes, most of them for the 60 states.
+# Needs the packages berkeley-abc and yosys. It takes a minute and a half.
 set -eu
 . "$(dirname "$0")/networks.sh"
 need_tools berkeley-abc yosys awk
