@@ -2,6 +2,7 @@
 ghost use Rattle.std.specs.Prelude.{ℕ, ◌≡◌, ◌<◌, ◌↔◌, IfNone, IfOk, IfSome, IsTrue, OnOk, length};
 ghost use Rattle.pair_operators.specs.NextColumns.{AreAsked};
 ghost use Rattle.pair_operators.specs.Extremes.{IsHigh};
+ghost use Rattle.pair_operators.specs.Pair.{Closed, Pair};
 ghost use Rattle.partition.specs.Partition.{IsPartition};
 ghost use Rattle.partition.specs.RelationBlocks.{AreRelated};
 ghost use Rattle.pair_operators.specs.NextBlocks.{Goes};
@@ -23,8 +24,7 @@ pub fn high(alloc: Global, m: &Machine, q: &Partition) -> Result<Partition, Allo
 /// M(q), asking first the symbols that told states apart in earlier calls.
 ///
 /// Two states are together in it exactly where they go together: at each symbol, to states that are together in
-/// q. A state is compared with the least states of the blocks so far, and joins the block of the first that it
-/// goes with. Symbols that tell apart states that no symbol asked so far does are kept for later calls.
+/// q. Symbols that tell apart states that no symbol asked so far does are kept for later calls.
 pub fn high_beside(
     alloc: Global,
     m: &Machine,
@@ -36,10 +36,46 @@ pub fn high_beside(
     ensures asked { OnOk result (AreAsked m.now asked.new) }
     ensures high { IfOk result (IsHigh m.now q.now) }
 {
+    let zero = Partition::zero(alloc, m.states())?;
+    high_from(alloc, m, asked, &zero, q)
+}
+
+/// M(q) like [`high_beside`], for a closed q: it is below M(q), so of each block only the least state is compared.
+pub fn high_above(
+    alloc: Global,
+    m: &Machine,
+    asked: &mut AskedSymbols,
+    q: &Partition,
+) -> Result<Partition, AllocError>
+    requires states { length q.now ≡ length m.now.states }
+    requires closed { Closed m.now q.now }
+    requires asked { AreAsked m.now asked.old }
+    ensures asked { OnOk result (AreAsked m.now asked.new) }
+    ensures high { IfOk result (IsHigh m.now q.now) }
+{
+    high_from(alloc, m, asked, q, q)
+}
+
+/// M(q), where states that are together in `known` are known to go together. The least state of a block of `known` is
+/// compared with the least states of the blocks so far, and joins the block of the first that it goes with.
+fn high_from(
+    alloc: Global,
+    m: &Machine,
+    asked: &mut AskedSymbols,
+    known: &Partition,
+    q: &Partition,
+) -> Result<Partition, AllocError>
+    requires size { length known.now ≡ length m.now.states }
+    requires states { length q.now ≡ length m.now.states }
+    requires pair { Pair m.now known.now q.now }
+    requires asked { AreAsked m.now asked.old }
+    ensures asked { OnOk result (AreAsked m.now asked.new) }
+    ensures high { IfOk result (IsHigh m.now q.now) }
+{
     let mut keys = asked.keys(alloc, m, q)?;
     let mut p = Partition::zero(alloc, m.states())?;
     for s in 0..m.states() {
-        if let Some(first) = goes_with(m, &p, q, &keys, s) {
+        if let Some(first) = joins(m, &p, known, q, &keys, s) {
             p.merge(first, s);
         }
         if let Some(other) = alike_by_keys(&p, &keys, s) {
@@ -47,6 +83,34 @@ pub fn high_beside(
         }
     }
     Ok(p)
+}
+
+/// A state below s that goes together with s at each symbol: the least of its block in `known`, if that is not s, or
+/// else the first that is the least of its block in p.
+fn joins(
+    m: &Machine,
+    p: &Partition,
+    known: &Partition,
+    q: &Partition,
+    keys: &Keys,
+    s: usize,
+) -> Option<usize>
+    requires s { s < length m.now.states }
+    requires left { IsPartition (length m.now.states) p.now }
+    requires size { length known.now ≡ length m.now.states }
+    requires right { length q.now ≡ length m.now.states }
+    requires pair { Pair m.now known.now q.now }
+    requires keys { AreKeys m.now q.now keys.now }
+    requires related { AreRelated (Goes m.now q.now) p.now }
+    ensures below { IfSome result (λ first. first < s) }
+    ensures goes { IfSome result (λ first. Goes m.now q.now first s) }
+    ensures none { IfNone result ((t : ℕ) → t < s → ¬ Goes m.now q.now t s) }
+{
+    let least = known.least_of(s);
+    if least < s {
+        return Some(least);
+    }
+    goes_with(m, p, q, keys, s)
 }
 
 /// Whether the two states go, at each symbol, to states that are together in q. If their numbers differ, no symbol

@@ -3,7 +3,7 @@ use Rattle.partition.specs.RelationBlocks.{IsSplitUpTo}
 use Rattle.pair_operators.specs.NextColumns.{AreAsked}
 use Rattle.pair_operators.specs.NextBlocks.{Goes}
 use Rattle.pair_operators.specs.Inner.Keys.{AreKeys}
-use Rattle.pair_operators.proofs.greatest.high_beside.Given as goal
+use Rattle.pair_operators.proofs.greatest.high_from.Given as goal
 
 abbrev pub invariant-loop-s : goal.invariant-loop-s
 invariant-loop-s l = record {
