@@ -1,9 +1,10 @@
 use Rattle.std.proofs.Common.{◌≡◌, ◌+◌, ◌≤◌, ℕ, Bool, true, false, not, List, length, refl, sym, ◌∙◌, subst, arith}
 use Rattle.std.proofs.lemmas.Bool.{false≢true}
 use Rattle.partition.specs.Partition.{IsPartition, blocks_of}
+use Rattle.pair_operators.specs.Laws.Pairs.{pair_monotone}
 use Rattle.shift_real.specs.Chain.{AreTogetherAfter, IsChain}
 use Rattle.shift_real.specs.Inner.RisingChain.{IsRising}
-use Rattle.shift_real.proofs.RisingMembers.{chain_whole, few_first, few_more, few_whole, fewer, rising_first, rising_more}
+use Rattle.shift_real.proofs.RisingMembers.{chain_whole, few_first, few_more, few_whole, fewer, last_below, rising_first, rising_more}
 use Rattle.shift_real.proofs.chains.chain.Goals as goal
 
 from_not : (b : Bool) → not b ≡ false → b ≡ true
@@ -58,3 +59,9 @@ pub returns-clause-few : goal.returns-clause-few
 returns-clause-few c =
     subst (λ (list : List (List ℕ)). length list ≤ length c.args.m.now.states) (sym c.in_ok-push-2.ensures.ok)
     (few_whole c.args.m.now c.rising.members c.rising.last c.rising.next c.states.ensures.inside c.rising.invariant.chain (let some = c.states.ensures.some in let count = c.states.ensures.count in omega (arith, some, count)))
+
+-- the chain rises, so each member is closed
+pub high_above-requires-clause-closed : goal.high_above-requires-clause-closed
+high_above-requires-clause-closed c =
+    pair_monotone c.args.m.now c.rising.next c.rising.last c.rising.next c.rising.next (λ s t held. held)
+    (last_below c.args.m.now c.rising.members c.rising.last c.rising.next c.states.ensures.inside c.rising.invariant.chain) c.rising.invariant.chain.high.pair
