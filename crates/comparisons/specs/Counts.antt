@@ -29,7 +29,7 @@ reads_by signal outputs gate = if bytes_eq gate.output signal then count_by (λ 
 abbrev pub reads_of : List Gate → List ℕ → List (List ℕ) → ℕ
 reads_of gates signal outputs = sum (map (reads_by signal outputs) gates)
 
--- over the latches, the latch outputs that the gate of the latch lists; the least code makes this number least
+-- over the latches, the latch outputs that the gate of the latch lists
 abbrev pub latch_reads : Network → ℕ
 latch_reads N = sum (map (λ latch. reads_of N.gates latch.input (outputs_of N.latches)) N.latches)
 
