@@ -3,4 +3,5 @@ pub mod Noted
 pub mod Alike
 pub mod Once
 pub mod Reasons
+pub mod OneReason
 pub mod Texts

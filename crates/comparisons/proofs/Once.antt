@@ -12,9 +12,8 @@ use Rattle.net_core.specs.declared.Latch.{Latch}
 use Rattle.net_core.specs.declared.Network.{Network}
 use Rattle.shift_real.specs.DefiniteMachine.{IsOrder}
 use Rattle.shift_real.specs.Laws.StartContent.{order_once}
-use Rattle.shift_texts.specs.declared.registers.OrderedRegister.{OrderedRegister}
-use Rattle.shift_texts.specs.ShiftText.{IsOrderedRegister, with_comments}
 use Rattle.state_reduce.specs.Laws.Works.{one_work}
+use Rattle.state_reduce.specs.Work.{OnWork}
 use Rattle.text_laws.proofs.Registers.{registers_differ_in_rows}
 use Rattle.text_laws.proofs.Texts.{networks_differ_in_rows}
 use Rattle.text_laws.specs.Rows.{EqualButForRows}
@@ -46,21 +45,17 @@ counts_are_one kind reduce F parts others counts more one two =
     one.counted two.counted
 
 -- ---- registers
--- one file has registers of one order
-same_order : (reduce : Bool) (F : KissFile) (made also : OrderedRegister) → IsOrderedRegister reduce F made → IsOrderedRegister reduce F also → made.order ≡ also.order
-same_order reduce F made also (W, names, one) (V, more, two) =
-    order_once W made.order also.order one.order (subst (λ (machine : KissFile). IsOrder machine also.order) (one_work reduce F V W two.work one.work) two.order)
-
--- and they are equal except for the rows of their gates
-same_register : (reduce : Bool) (F : KissFile) (made also : OrderedRegister) → IsOrderedRegister reduce F made → IsOrderedRegister reduce F also → EqualButForRows made.network also.network
-same_register reduce F made also (W, names, one) (V, more, two) =
-    (registers_differ_in_rows reduce F (with_comments made) (with_comments also) (W, made.order, names, one) (V, also.order, more, two)).1
+-- a command works on one machine, which has one order
+same_order : (reduce : Bool) (F : KissFile) (order other : ℕ) → OnWork reduce F (λ W. IsOrder W order) → OnWork reduce F (λ W. IsOrder W other) → order ≡ other
+same_order reduce F order other (W, work, one) (V, also_work, two) =
+    order_once W order other one (subst (λ (machine : KissFile). IsOrder machine other) (one_work reduce F V W also_work work) two)
 
 pub register_counts_are_one : RegisterCountsAreOne
 register_counts_are_one reduce F order other counts more one two = (
-  one.order_is ∙ same_order reduce F one.register two.register one.of_file two.of_file ∙ sym two.order_is,
-  same_counts one.register.network two.register.network counts more (same_register reduce F one.register two.register one.of_file two.of_file) one.counted two.counted
-      (one.across ∙ sym two.across),
+  same_order reduce F order other one.order_is two.order_is,
+  same_counts one.is_written.0.network two.is_written.0.network counts more
+      (registers_differ_in_rows reduce F one.is_written.0 two.is_written.0 one.is_written.1 two.is_written.1).1
+      one.counted two.counted (one.across ∙ sym two.across),
 )
 
 -- ---- counts or a reason

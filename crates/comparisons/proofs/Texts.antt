@@ -1,5 +1,5 @@
 -- From a network that is made, or a refusal, to the line, and from lines to the text.
-use Rattle.std.proofs.Common.{◌≡◌, ◌≢◌, ◌⊎◌, ℕ, ◌+◌, ◌<◌, ◌≤◌, inl, inr, Bool, IsSome, List, [], ◌∷◌, ◌++◌, Option, None, Some, length, take, get_or, refl, sym, ap, ◌∙◌, subst}
+use Rattle.std.proofs.Common.{◌≡◌, ◌≢◌, ◌⊎◌, ℕ, ◌+◌, ◌<◌, ◌≤◌, inl, inr, Bool, IsSome, List, [], ◌∷◌, ◌++◌, Option, None, Some, length, take, get_or, sym, ap, ◌∙◌, subst}
 use Rattle.std.specs.List.{AllZip, flat_map}
 use Rattle.std.specs.Option.{option_map}
 use Rattle.std.proofs.lemmas.Grind.{flat_map-append}
@@ -62,21 +62,23 @@ kind_counted kind reduce F made line none ready of_kind (parts, counts, counted,
 
 pub register_counted : (reduce : Bool) (F : KissFile) (made : OrderedRegister) (line : List ℕ) → CallsForNone (RefusesShift reduce F) → CanBeText (with_comments made) → IsOrderedRegister reduce F made
     → IsMadeRegisterLine made line → IsRegisterLine reduce F line
-register_counted reduce F made line none ready of_file (counts, across, counted, is) =
+register_counted reduce F made line none ready (W, names, is) (counts, across, counted, told) =
     inl (
       made.order,
       counts,
       record {
         fits = none;
-        register = made;
-        of_file = of_file;
         written = shift_comments made.order ++ net_text plain_design made.network;
-        is_written = network_has_text plain_design (shift_comments made.order) made.network ready.comments ready.network (plain_design_is_lawful made.network);
-        order_is = refl;
+        is_written = (
+          with_comments made,
+          (W, made.order, names, is),
+          network_has_text plain_design (shift_comments made.order) made.network ready.comments ready.network (plain_design_is_lawful made.network),
+        );
+        order_is = (W, is.work, is.order);
         across = across;
         counted = counted;
       },
-      is,
+      told,
     )
 
 -- ---- refusals

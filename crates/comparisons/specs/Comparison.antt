@@ -6,19 +6,19 @@ use Rattle.answers.specs.Cause.{CallsForNone, Cause}
 use Rattle.blif_out.specs.declared.networks.HeadedNetwork.{HeadedNetwork}
 use Rattle.blif_out.specs.Design.{plain_design}
 use Rattle.blif_out.specs.Head.{kind_word}
-use Rattle.blif_out.specs.NetworkText.{IsNetworkText}
 use Rattle.comparisons.specs.Counts.{AreCounts, AreReadsAcross}
 use Rattle.comparisons.specs.Lines.{order_line, parts_line, register_word, short_line}
 use Rattle.hs_io.specs.Spelling.{ended}
 use Rattle.hs_texts.specs.declared.comparisons.NetworkCounts.{NetworkCounts}
 use Rattle.kiss_file.specs.declared.file.KissFile.{KissFile}
-use Rattle.shift_texts.specs.declared.registers.OrderedRegister.{OrderedRegister}
+use Rattle.shift_real.specs.DefiniteMachine.{IsOrder}
 use Rattle.shift_texts.specs.Causes.{RefusesShift}
-use Rattle.shift_texts.specs.ShiftText.{IsOrderedRegister, shift_comments}
+use Rattle.shift_texts.specs.ShiftText.{IsShiftText}
 use Rattle.split_texts.specs.Causes.{IsNotWritten}
 use Rattle.split_texts.specs.SplitText.{IsWritten}
 use Rattle.state_codes.specs.declared.split.Kind.{Kind}
 use Rattle.state_codes.specs.declared.split.Kind.TheVariants.{Cascade, Code, Feedback, Least, Parallel, Serial}
+use Rattle.state_reduce.specs.Work.{OnWork}
 
 -- the kinds that are compared, in order: each but the one whose parts are an operand
 abbrev pub compared_kinds : List Kind
@@ -31,25 +31,24 @@ pub record AreCountsOf (made : HeadedNetwork) (parts : ℕ) (counts : NetworkCou
   pub across : AreReadsAcross made.network made.header.latches counts.across
   pub counted : AreCounts made.network counts
 
--- The command of the kind does not refuse the machine, and writes a text. The counts are those of the network that
--- the text is of, and of its header.
+-- Nothing calls for a refusal by the command of the kind, and there is a text as the command promises it. The counts
+-- are those of the network that the text is of, and of its header.
 pub record HasCounts (kind : Kind) (reduce : Bool) (F : KissFile) (parts : ℕ) (counts : NetworkCounts) : Type 0 where
   pub fits : CallsForNone (IsNotWritten kind [] reduce F)
   pub written : List ℕ
   pub is_written : IsWritten plain_design kind [] reduce F written
   pub counted : AreCountsOf is_written.0 parts counts
 
--- `shift` does not refuse the machine, and writes a text whose comments give the order. The counts are those of the
--- network that the text is of. It has no parts, so that no latch is read across.
+-- Nothing calls for a refusal by `shift`, and there is a text as `shift` promises it. The order is that of the machine
+-- that it works on, and the counts are those of the network that the text is of. It has no parts, so that no latch is
+-- read across.
 pub record HasRegisterCounts (reduce : Bool) (F : KissFile) (order : ℕ) (counts : NetworkCounts) : Type 0 where
   pub fits : CallsForNone (RefusesShift reduce F)
-  pub register : OrderedRegister
-  pub of_file : IsOrderedRegister reduce F register
   pub written : List ℕ
-  pub is_written : IsNetworkText plain_design (shift_comments register.order) register.network written
-  pub order_is : order ≡ register.order
+  pub is_written : IsShiftText plain_design reduce F written
+  pub order_is : OnWork reduce F (λ W. IsOrder W order)
   pub across : counts.across ≡ 0
-  pub counted : AreCounts register.network counts
+  pub counted : AreCounts is_written.0.network counts
 
 -- ---- reasons
 -- a refusal that is called for has the line, after this word

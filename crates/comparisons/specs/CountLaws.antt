@@ -38,6 +38,15 @@ abbrev pub NeverBothOfRegister : Type 0
 NeverBothOfRegister =
     (reduce : Bool) (F : KissFile) (order : ℕ) (counts : NetworkCounts) (line : List ℕ) → HasRegisterCounts reduce F order counts → ¬ HasReason (RefusesShift reduce F) register_word line
 
+-- all refusals of a kind have one line, if they have lines
+abbrev pub ReasonsAreOne : Type 0
+ReasonsAreOne = (kind : Kind) (reduce : Bool) (F : KissFile) (line other : List ℕ) → SaysWhy kind reduce F line → SaysWhy kind reduce F other → line ≡ other
+
+-- the same of the refusals of `shift`
+abbrev pub RegisterReasonsAreOne : Type 0
+RegisterReasonsAreOne =
+    (reduce : Bool) (F : KissFile) (line other : List ℕ) → HasReason (RefusesShift reduce F) register_word line → HasReason (RefusesShift reduce F) register_word other → line ≡ other
+
 -- each refusal of a kind without an operand has a line
 abbrev pub RefusalsHaveReasons : Type 0
 RefusalsHaveReasons =

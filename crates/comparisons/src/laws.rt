@@ -4,8 +4,10 @@ ghost use Rattle.comparisons.specs.CountLaws.{
   CountsAreOne,
   NeverBoth,
   NeverBothOfRegister,
+  ReasonsAreOne,
   RefusalsHaveReasons,
   RegisterCountsAreOne,
+  RegisterReasonsAreOne,
   RegisterRefusalsHaveReasons,
 };
 
@@ -19,6 +21,12 @@ pub fn counts_are_one()
 pub fn never_both()
     ensures kinds { NeverBoth }
     ensures register { NeverBothOfRegister }
+{}
+
+/// The machine determines the reason.
+pub fn reasons_are_one()
+    ensures kinds { ReasonsAreOne }
+    ensures register { RegisterReasonsAreOne }
 {}
 
 /// Each refusal of a command has a line.

@@ -9,8 +9,9 @@
 //! `specs/Comparison` what the seven lines are.
 //!
 //! The laws say what a reader may conclude from a line. Parts, order, latches and reads are determined, while rows and
-//! literals are of one good cover of several ([`counts_are_one`]). No line could have been of the other form
-//! ([`never_both`]). Each refusal that can come has a reason ([`refusals_have_reasons`]).
+//! literals are of one good cover of several ([`counts_are_one`]). So is the reason of a line without counts
+//! ([`reasons_are_one`]). No line could have been of the other form ([`never_both`]). Each refusal that can come has a
+//! reason ([`refusals_have_reasons`]).
 #![tactic(auto)]
 
 mod comparison;
@@ -20,5 +21,5 @@ mod network_counts;
 mod worked;
 
 pub use comparison::compare;
-pub use laws::{counts_are_one, never_both, refusals_have_reasons};
+pub use laws::{counts_are_one, never_both, reasons_are_one, refusals_have_reasons};
 pub use worked::{worked_counts, worked_lines};
