@@ -1,0 +1,5 @@
+use Rattle.part_laws.proofs.OneMachine.{part_is_one}
+use Rattle.part_laws.proofs.part_is_one.Goals as goal
+
+pub returns : goal.returns
+returns c = part_is_one

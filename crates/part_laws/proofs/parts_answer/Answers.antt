@@ -1,0 +1,5 @@
+use Rattle.part_laws.proofs.Whole.{parts_answer}
+use Rattle.part_laws.proofs.parts_answer.Goals as goal
+
+pub returns : goal.returns
+returns c = parts_answer

@@ -1,0 +1,4 @@
+pub mod Together
+pub mod Parts
+pub mod OneMachine
+pub mod Worked

@@ -1,0 +1,11 @@
+pub mod Which
+pub mod PartSet
+pub mod Fields
+pub mod Cells
+pub mod PartRows
+pub mod PartMachine
+pub mod CellLists
+pub mod MachineLaws
+pub mod Worked
+pub mod Inner
+pub mod Laws
