@@ -36,7 +36,8 @@ use Rattle.state_codes.specs.declared.Codes.{Codes}
 use Rattle.state_codes.specs.declared.split.Part.{Part}
 use Rattle.part_laws.specs.OneMachine.{PartIsOne}
 use Rattle.part_laws.proofs.Specified.{specified_work}
-use Rattle.part_laws.proofs.Lists.{same_ascending, same_items, zip_once}
+use Rattle.part_laws.proofs.Lists.{zip_once}
+use Rattle.text_laws.proofs.Lists.{same_ascending, same_items}
 
 -- ---- one field
 module _ (Shown : List Bool → Type 0) (v : List Bool) (one other : List (Option Bool)) (first : IsFieldOf Shown v one) (second : IsFieldOf Shown v other) where
