@@ -6,6 +6,7 @@ pub mod Inputs
 pub mod Effects
 pub mod BitLists
 pub mod Reads
+pub mod FilledRows
 pub mod RowBits
 pub mod Inner
 pub mod Laws

@@ -18,8 +18,8 @@ use Rattle.kiss_file.specs.declared.file.KissRow.{KissRow}
 use Rattle.kiss_file.specs.LawfulFile.{IsLawfulRow}
 use Rattle.kiss_file.specs.Machine.{Specified, given_bit}
 use Rattle.net_core.specs.declared.SignalNames.{SignalNames}
-use Rattle.part_machines.specs.declared.which.Which.{Which}
-use Rattle.part_machines.specs.declared.which.Which.TheVariants.{Part as Numbered, Outputs}
+use Rattle.state_codes.specs.declared.which.Which.{Which}
+use Rattle.state_codes.specs.declared.which.Which.TheVariants.{Part as Numbered, Outputs}
 use Rattle.part_machines.specs.Which.{partition_of}
 use Rattle.dependence.specs.Laws.Said.{mapped}
 use Rattle.list_facts.specs.Laws.Everywhere.{all_at}

@@ -18,8 +18,8 @@ use Rattle.kiss_file.specs.declared.file.KissFile.{KissFile}
 use Rattle.net_core.specs.declared.SignalNames.{SignalNames}
 use Rattle.net_core.specs.Laws.Valuations.{map-read_at, parts_of_append, read_at}
 use Rattle.net_core.specs.Laws.Members.{times-append}
-use Rattle.part_machines.specs.declared.which.Which.{Which}
-use Rattle.part_machines.specs.declared.which.Which.TheVariants.{Part as Numbered}
+use Rattle.state_codes.specs.declared.which.Which.{Which}
+use Rattle.state_codes.specs.declared.which.Which.TheVariants.{Part as Numbered}
 use Rattle.part_machines.specs.PartMachine.{HasSignals, input_names}
 use Rattle.part_machines.specs.PartSet.{IsInputOf, IsPartSet, set_of_gate}
 use Rattle.part_machines.specs.Which.{own_bits}

@@ -16,7 +16,7 @@ use Rattle.kiss_file.specs.Laws.Machine.{next_is_a_state}
 use Rattle.kiss_file.specs.Machine.{answers, next, out}
 use Rattle.kiss_file.specs.Names.{name_of}
 use Rattle.net_core.specs.declared.SignalNames.{SignalNames}
-use Rattle.part_machines.specs.declared.which.Which.TheVariants.{Part as Numbered, Outputs}
+use Rattle.state_codes.specs.declared.which.Which.TheVariants.{Part as Numbered, Outputs}
 use Rattle.part_machines.specs.PartMachine.{IsPartOf, least_with, output_names}
 use Rattle.part_machines.specs.Which.{own_bits}
 use Rattle.partition.specs.Laws.Labels.{label-lt-blocks_of}

@@ -4,7 +4,7 @@ use Rattle.dependence.specs.declared.sets.Reads.{Reads}
 use Rattle.kiss_file.specs.declared.file.KissFile.{KissFile}
 use Rattle.kiss_file.specs.Machine.{Specified}
 use Rattle.net_core.specs.declared.SignalNames.{SignalNames}
-use Rattle.part_machines.specs.declared.which.Which.{Which}
+use Rattle.state_codes.specs.declared.which.Which.{Which}
 use Rattle.part_machines.specs.PartMachine.{IsPartOf}
 use Rattle.state_codes.specs.declared.Codes.{Codes}
 use Rattle.state_codes.specs.declared.split.Part.{Part}

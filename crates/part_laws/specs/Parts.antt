@@ -7,7 +7,7 @@ use Rattle.kiss_file.specs.declared.file.KissFile.{KissFile}
 use Rattle.kiss_file.specs.LawfulFile.{IsLawful}
 use Rattle.kiss_file.specs.Machine.{Conflicting, answers}
 use Rattle.net_core.specs.declared.SignalNames.{SignalNames}
-use Rattle.part_machines.specs.declared.which.Which.TheVariants.{Part as Numbered, Outputs}
+use Rattle.state_codes.specs.declared.which.Which.TheVariants.{Part as Numbered, Outputs}
 use Rattle.part_machines.specs.PartMachine.{IsPartOf}
 use Rattle.part_machines.specs.Which.{own_bits, partition_of}
 use Rattle.realise.specs.Names.{AreNames}

@@ -28,8 +28,8 @@ use Rattle.state_codes.specs.declared.split.Part.{Part}
 use Rattle.state_codes.specs.declared.Codes.{Codes}
 use Rattle.state_codes.specs.Agreement.{AgreeOnPart}
 use Rattle.state_codes.specs.Laws.Codes.{part_bits_tell}
-use Rattle.part_machines.specs.declared.which.Which.{Which}
-use Rattle.part_machines.specs.declared.which.Which.TheVariants.{Part as Numbered, Outputs}
+use Rattle.state_codes.specs.declared.which.Which.{Which}
+use Rattle.state_codes.specs.declared.which.Which.TheVariants.{Part as Numbered, Outputs}
 use Rattle.part_machines.specs.MachineLaws.{IsSplitOf}
 use Rattle.part_machines.specs.PartSet.{IsGateOf, IsPartSet, set_of_gate}
 use Rattle.part_machines.specs.Which.{own_bits, partition_of}

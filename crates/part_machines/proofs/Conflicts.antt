@@ -24,8 +24,8 @@ use Rattle.realise.specs.Laws.{EqualReads}
 use Rattle.realise.specs.Rows.{read_values}
 use Rattle.state_codes.specs.declared.split.Part.{Part}
 use Rattle.state_codes.specs.declared.Codes.{Codes}
-use Rattle.part_machines.specs.declared.which.Which.{Which}
-use Rattle.part_machines.specs.declared.which.Which.TheVariants.{Part as Numbered, Outputs}
+use Rattle.state_codes.specs.declared.which.Which.{Which}
+use Rattle.state_codes.specs.declared.which.Which.TheVariants.{Part as Numbered, Outputs}
 use Rattle.part_machines.specs.Cells.{InOneCell}
 use Rattle.part_machines.specs.Fields.{HoldsValues}
 use Rattle.part_machines.specs.Laws.Cells.{cells_apart}

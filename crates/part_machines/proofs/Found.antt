@@ -17,7 +17,7 @@ use Rattle.machine_table.specs.declared.open_part.Missing.{Missing}
 use Rattle.machine_table.specs.Pieces.{IsRightRow}
 use Rattle.machine_table.specs.OpenEntries.{Says, place_of}
 use Rattle.state_codes.specs.declared.Codes.{Codes}
-use Rattle.part_machines.specs.declared.which.Which.{Which}
+use Rattle.state_codes.specs.declared.which.Which.{Which}
 use Rattle.part_machines.specs.Cells.{IsCellField, IsLeastOfCell}
 use Rattle.part_machines.specs.Fields.{HoldsValues}
 use Rattle.part_machines.specs.PartRows.{AreCellRows, ArePartRows, IsPartRow, characters_at, is_taken, rows_once}

@@ -14,7 +14,7 @@ use Rattle.kiss_file.specs.declared.file.KissRow.{KissRow}
 use Rattle.list_facts.specs.Laws.Members.{Contains-cons, Contains-filter, Contains-here, Contains-none, Contains-there}
 use Rattle.partition.specs.Partition.{blocks_of}
 use Rattle.state_codes.specs.declared.Codes.{Codes}
-use Rattle.part_machines.specs.declared.which.Which.{Which}
+use Rattle.state_codes.specs.declared.which.Which.{Which}
 use Rattle.part_machines.specs.PartRows.{IsPartRow, is_same_row, next_number, numbers_of_row, output_count, rows_once}
 
 -- a row that is equal in all fields is made of the same row

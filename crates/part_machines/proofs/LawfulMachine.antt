@@ -13,7 +13,7 @@ use Rattle.partition.specs.Partition.{IsPartition, blocks_of}
 use Rattle.partition.specs.Laws.Labels.{blocks_of-le, label-lt-blocks_of}
 use Rattle.state_codes.specs.declared.Codes.{Codes}
 use Rattle.net_core.specs.declared.SignalNames.{SignalNames}
-use Rattle.part_machines.specs.declared.which.Which.{Which}
+use Rattle.state_codes.specs.declared.which.Which.{Which}
 use Rattle.part_machines.specs.MachineLaws.{HasLawfulNames}
 use Rattle.part_machines.specs.PartMachine.{HasBlocks, HasSignals, input_names, output_names}
 use Rattle.part_machines.specs.PartRows.{ArePartRows, output_count}

@@ -8,7 +8,7 @@ use Rattle.list_facts.specs.Laws.Members.{Contains-cons, Contains-from_filter, C
 use Rattle.machine_table.specs.Pieces.{IsRightRow}
 use Rattle.dependence.specs.declared.sets.ReadSet.{ReadSet}
 use Rattle.state_codes.specs.declared.Codes.{Codes}
-use Rattle.part_machines.specs.declared.which.Which.{Which}
+use Rattle.state_codes.specs.declared.which.Which.{Which}
 use Rattle.part_machines.specs.Cells.{IsCellField, IsLeastOfCell}
 use Rattle.part_machines.specs.PartRows.{AreCellRows, ArePartRows, IsPartRow, is_same_row, is_taken, rows_once}
 

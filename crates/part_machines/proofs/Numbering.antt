@@ -16,7 +16,7 @@ use Rattle.list_facts.specs.Laws.Places.{from_map, get_cases, item_at}
 use Rattle.partition.specs.Partition.{IsNumbered, blocks_of}
 use Rattle.partition.specs.Laws.Labels.{block_stands}
 use Rattle.state_codes.specs.declared.Codes.{Codes}
-use Rattle.part_machines.specs.declared.which.Which.{Which}
+use Rattle.state_codes.specs.declared.which.Which.{Which}
 use Rattle.part_machines.specs.Cells.{values_of}
 use Rattle.part_machines.specs.Laws.Cells.{cell_has_least}
 use Rattle.part_machines.specs.PartRows.{AreCellRows, ArePartRows, IsPartRow, is_taken, output_count}

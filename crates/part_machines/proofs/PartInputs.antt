@@ -10,7 +10,7 @@ use Rattle.kiss_file.specs.declared.file.KissFile.{KissFile}
 use Rattle.list_facts.specs.Laws.Everywhere.{all_at}
 use Rattle.realise.specs.CodeNetwork.{AreEnough, IsWithin}
 use Rattle.state_codes.specs.declared.Codes.{Codes}
-use Rattle.part_machines.specs.declared.which.Which.{Which}
+use Rattle.state_codes.specs.declared.which.Which.{Which}
 use Rattle.part_machines.specs.PartSet.{IsPartSet, set_of_gate}
 
 module _ (W : KissFile) (code : Codes) (sets : Reads) (which : Which) (set : ReadSet) (enough : AreEnough W code.bits code.words sets) (reads : IsPartSet code sets which set) where

@@ -12,8 +12,8 @@ use Rattle.dependence.specs.SufficientBits.{InWord}
 use Rattle.list_facts.specs.Laws.Everywhere.{all_at}
 use Rattle.list_facts.specs.Laws.Members.{Contains-none}
 use Rattle.state_codes.specs.declared.Codes.{Codes}
-use Rattle.part_machines.specs.declared.which.Which.{Which}
-use Rattle.part_machines.specs.declared.which.Which.TheVariants.{Part as Numbered, Outputs}
+use Rattle.state_codes.specs.declared.which.Which.{Which}
+use Rattle.state_codes.specs.declared.which.Which.TheVariants.{Part as Numbered, Outputs}
 use Rattle.part_machines.specs.Inner.Gathered.{HasSetThat, IsSmall}
 use Rattle.part_machines.specs.PartSet.{HasGateThat, IsGateOf, IsPartSet, set_of_gate}
 use Rattle.part_machines.specs.Which.{own_bits}

@@ -16,8 +16,8 @@ use Rattle.machine_table.specs.declared.open_part.Missing.{Missing}
 use Rattle.machine_table.specs.declared.open_part.Missing.TheVariants.{Next, Output}
 use Rattle.machine_table.specs.OpenEntries.{Says, place_of}
 use Rattle.state_codes.specs.declared.Codes.{Codes}
-use Rattle.part_machines.specs.declared.which.Which.{Which}
-use Rattle.part_machines.specs.declared.which.Which.TheVariants.{Part as Numbered, Outputs}
+use Rattle.state_codes.specs.declared.which.Which.{Which}
+use Rattle.state_codes.specs.declared.which.Which.TheVariants.{Part as Numbered, Outputs}
 use Rattle.part_machines.specs.PartRows.{ArePartRows, given_outputs, is_taken, next_block, output_count}
 use Rattle.part_machines.specs.Which.{own_bits}
 use Rattle.part_machines.proofs.Conflicts.{given_same}

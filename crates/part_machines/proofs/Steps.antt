@@ -15,8 +15,8 @@ use Rattle.realise.specs.Laws.{EqualReads}
 use Rattle.realise.specs.Rows.{read_values}
 use Rattle.state_codes.specs.declared.split.Part.{Part}
 use Rattle.state_codes.specs.declared.Codes.{Codes}
-use Rattle.part_machines.specs.declared.which.Which.{Which}
-use Rattle.part_machines.specs.declared.which.Which.TheVariants.{Part as Numbered, Outputs}
+use Rattle.state_codes.specs.declared.which.Which.{Which}
+use Rattle.state_codes.specs.declared.which.Which.TheVariants.{Part as Numbered, Outputs}
 use Rattle.part_machines.specs.MachineLaws.{IsSplitOf}
 use Rattle.part_machines.specs.PartMachine.{FollowsSteps, IsOfMoore, outputs_at}
 use Rattle.part_machines.specs.PartRows.{ArePartRows, output_count}

@@ -18,8 +18,8 @@ use Rattle.realise.specs.Laws.{EqualReads}
 use Rattle.state_codes.specs.declared.split.Part.{Part}
 use Rattle.state_codes.specs.declared.Codes.{Codes}
 use Rattle.state_codes.specs.Split.{IsPart}
-use Rattle.part_machines.specs.declared.which.Which.{Which}
-use Rattle.part_machines.specs.declared.which.Which.TheVariants.{Part as Numbered, Outputs}
+use Rattle.state_codes.specs.declared.which.Which.{Which}
+use Rattle.state_codes.specs.declared.which.Which.TheVariants.{Part as Numbered, Outputs}
 use Rattle.part_machines.specs.MachineLaws.{IsSplitOf}
 use Rattle.part_machines.specs.PartMachine.{HasBlocks, HasSignals, IsPartOf, least_with, state_names}
 use Rattle.part_machines.specs.PartRows.{ArePartRows, output_count}

@@ -14,7 +14,7 @@ use Rattle.state_codes.specs.declared.split.Part.{Part}
 use Rattle.state_codes.specs.declared.Codes.{Codes}
 use Rattle.state_codes.specs.Code.{IsCode}
 use Rattle.state_codes.specs.Split.{IsPart}
-use Rattle.part_machines.specs.declared.which.Which.{Which}
+use Rattle.state_codes.specs.declared.which.Which.{Which}
 use Rattle.part_machines.specs.PartMachine.{HasBlocks, HasSignals, IsPartOf, input_names, output_names}
 use Rattle.part_machines.specs.PartRows.{ArePartRows, output_count}
 use Rattle.part_machines.specs.PartSet.{IsPartSet}

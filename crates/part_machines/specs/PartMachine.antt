@@ -14,8 +14,8 @@ use Rattle.realise.specs.CodeNetwork.{name_at}
 use Rattle.realise.specs.Rows.{read_values}
 use Rattle.state_codes.specs.declared.split.Part.{Part}
 use Rattle.state_codes.specs.declared.Codes.{Codes}
-use Rattle.part_machines.specs.declared.which.Which.{Which}
-use Rattle.part_machines.specs.declared.which.Which.TheVariants.{Part as Numbered, Outputs}
+use Rattle.state_codes.specs.declared.which.Which.{Which}
+use Rattle.state_codes.specs.declared.which.Which.TheVariants.{Part as Numbered, Outputs}
 use Rattle.part_machines.specs.PartRows.{ArePartRows, output_count}
 use Rattle.part_machines.specs.PartSet.{IsPartSet}
 use Rattle.part_machines.specs.Which.{outputs_name, own_bits, partition_of}

@@ -1,40 +1,22 @@
 -- The rows of the machine of a part: cell after cell, those of the cell's least state, on what the part reads.
-use Rattle.std.specs.Prelude.{◌≡◌, ◌==◌, ℕ, ◌+◌, ◌<◌, ◌^◌, All, Bool, List, [], ◌∷◌, ◌++◌, None, Option, Some, filter, length, map, not, option_map, slice_index, slice_index_or}
+use Rattle.std.specs.Prelude.{◌≡◌, ℕ, ◌+◌, Bool, List, [], ◌∷◌, ◌++◌, None, Option, Some, filter, length, map, not, option_map, slice_index, slice_index_or}
 use Rattle.std.specs.List.{AllZip, flat_map, list_any, range_with_len}
 use Rattle.std.specs.Option.{is_some}
 use Rattle.std.specs.Str.{bytes_eq}
 use Rattle.cubes.specs.Cube.{field_of}
 use Rattle.cubes.specs.Symbol.{bit}
 use Rattle.dependence.specs.declared.sets.ReadSet.{ReadSet}
+use Rattle.dependence.specs.FilledRows.{AreFilledRows}
 use Rattle.kiss_file.specs.declared.file.KissFile.{KissFile}
 use Rattle.kiss_file.specs.declared.file.KissRow.{KissRow}
 use Rattle.kiss_file.specs.LawfulFile.{IsLawfulRow}
-use Rattle.kiss_file.specs.Machine.{IsSpecifiedAt, given_bit}
-use Rattle.machine_table.specs.declared.open_part.Missing.{Missing}
-use Rattle.machine_table.specs.Pieces.{IsRightRow, IsSaidBy}
-use Rattle.machine_table.specs.OpenEntries.{place_of}
+use Rattle.kiss_file.specs.Machine.{given_bit}
 use Rattle.partition.specs.Partition.{blocks_of}
 use Rattle.state_codes.specs.declared.Codes.{Codes}
-use Rattle.part_machines.specs.declared.which.Which.{Which}
-use Rattle.part_machines.specs.declared.which.Which.TheVariants.{Part as Numbered, Outputs}
+use Rattle.state_codes.specs.declared.which.Which.{Which}
+use Rattle.state_codes.specs.declared.which.Which.TheVariants.{Part as Numbered, Outputs}
 use Rattle.part_machines.specs.Cells.{AreCells, IsCellField}
 use Rattle.part_machines.specs.Which.{own_bits}
-
--- ---- the rows of one state
--- the rows that the work machine W has for a state, in order
-abbrev pub own_rows : KissFile → ℕ → List KissRow
-own_rows W s = filter (λ row. row.from == s) W.rows
-
--- the rows of the state leave nothing open
-abbrev pub IsSpecifiedState : KissFile → ℕ → Type 0
-IsSpecifiedState W s = (x : List Bool) → length x ≡ W.inputs → IsSpecifiedAt W s x
-
--- the filled rows of a state: right rows that together say each part at each symbol. They are W's own where those leave
--- nothing open.
-pub record AreFilledRows (W : KissFile) (s : ℕ) (rows : List KissRow) : Type 0 where
-  pub right : All (IsRightRow W s) rows
-  pub each : (x : ℕ) (part : Missing) → x < 2 ^ W.inputs → place_of part < W.outputs + 1 → IsSaidBy rows x part
-  pub own : IsSpecifiedState W s → rows ≡ own_rows W s
 
 -- a row that a machine is made of: for a part it names a next state, and for the outputs it gives an output
 abbrev pub is_taken : ℕ → Which → KissRow → Bool

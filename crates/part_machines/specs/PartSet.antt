@@ -6,8 +6,8 @@ use Rattle.dependence.specs.declared.bit.Bit.TheVariants.{Latch, Output}
 use Rattle.dependence.specs.declared.sets.ReadSet.{ReadSet}
 use Rattle.dependence.specs.declared.sets.Reads.{Reads}
 use Rattle.state_codes.specs.declared.Codes.{Codes}
-use Rattle.part_machines.specs.declared.which.Which.{Which}
-use Rattle.part_machines.specs.declared.which.Which.TheVariants.{Part as Numbered, Outputs}
+use Rattle.state_codes.specs.declared.which.Which.{Which}
+use Rattle.state_codes.specs.declared.which.Which.TheVariants.{Part as Numbered, Outputs}
 use Rattle.part_machines.specs.Which.{own_bits}
 
 -- the gate is one of the part: that of one of its latches, or for the outputs that of an output

@@ -2,9 +2,9 @@
 //!
 //! A split writes a machine as one network. Each of its parts is a machine too: its states are the blocks of the
 //! part, its inputs are what the gates of the part read (inputs of the file, and bits of other parts), and its
-//! outputs are its own bits. Another machine of one state gives the outputs. [`Which`] says which of them is meant.
-//! `specs/PartMachine` defines the whole machine (`IsPartOf`). The crate `part_laws` proves that these machines,
-//! stepped together, answer as the machine that was split.
+//! outputs are its own bits. Another machine of one state gives the outputs. `Which` of `state_codes` says which of them
+//! is meant. `specs/PartMachine` defines the whole machine (`IsPartOf`). The crate `part_laws` proves that these
+//! machines, stepped together, answer as the machine that was split.
 //!
 //! The rows of a part come cell by cell. A cell is a block with the values that some state of it has on the bits that
 //! are read. It gets the rows of its least state, narrowed to the inputs that are read, and a field for the bits.
@@ -28,7 +28,6 @@ mod cells;
 mod fields;
 mod laws;
 mod part_inputs;
-mod which;
 mod worked;
 
 pub use cells::{Cell, cells_of, field_of_cell};
@@ -38,5 +37,4 @@ pub use laws::{
     rows_make_the_part,
 };
 pub use part_inputs::inputs_of_part;
-pub use which::Which;
 pub use worked::{worked_cells, worked_fields};

@@ -11,9 +11,8 @@ ghost use Rattle.part_machines.specs.Inner.Gathered.{AreWordsOf, IsSmall, IsWord
 ghost use Rattle.part_machines.specs.PartSet.{HasGateThat, IsPartSet};
 ghost use Rattle.part_machines.specs.Which.{own_bits};
 
-use crate::Which;
 use dependence::{ReadSet, Reads, has_bit, numbers_of, with_bit};
-use state_codes::Codes;
+use state_codes::{Codes, Which};
 use std::alloc::{AllocError, Global};
 
 /// Inputs of the file and bits of the code.

@@ -20,12 +20,14 @@ mod draft;
 mod encoder;
 mod laws;
 mod split;
+mod which;
 
 pub use encoder::encode;
 use hs_list::Items;
 pub use laws::{bits_halve, carrier_bits_tell, codes_are_one, need_is_least, part_bits_tell};
 pub use split::{Kind, Part, PartNumbers, Parts, Split, given, one_part};
 use std::alloc::{AllocError, AllocFailed};
+pub use which::Which;
 
 /// The code of each state, one word for each state.
 pub type CodeWords = Items<u64>;

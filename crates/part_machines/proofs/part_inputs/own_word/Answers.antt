@@ -1,8 +1,8 @@
 use Rattle.std.proofs.Common.{◌≡◌, ◌↔◌, ℕ, Contains, List, length, subst, sym, arith}
 use Rattle.dependence.specs.SufficientBits.{InWord}
 use Rattle.state_codes.specs.declared.Codes.{Codes}
-use Rattle.part_machines.specs.declared.which.Which.{Which}
-use Rattle.part_machines.specs.declared.which.Which.TheVariants.{Part as Numbered}
+use Rattle.state_codes.specs.declared.which.Which.{Which}
+use Rattle.state_codes.specs.declared.which.Which.TheVariants.{Part as Numbered}
 use Rattle.part_machines.specs.Inner.Gathered.{IsWordOfOwner}
 use Rattle.part_machines.specs.Which.{own_bits}
 use Rattle.part_machines.proofs.Blocks.{own_bit, own_from}

@@ -4,8 +4,8 @@ use Rattle.dependence.specs.declared.sets.Reads.{Reads}
 use Rattle.dependence.specs.SufficientBits.{InWord}
 use Rattle.state_codes.specs.declared.Codes.{Codes}
 use Rattle.part_machines.specs.declared.part_inputs.ReadWords.{ReadWords}
-use Rattle.part_machines.specs.declared.which.Which.{Which}
-use Rattle.part_machines.specs.declared.which.Which.TheVariants.{Part as Numbered}
+use Rattle.state_codes.specs.declared.which.Which.{Which}
+use Rattle.state_codes.specs.declared.which.Which.TheVariants.{Part as Numbered}
 use Rattle.part_machines.specs.Inner.Gathered.{AreWordsOf}
 use Rattle.part_machines.specs.PartSet.{HasGateThat}
 use Rattle.part_machines.specs.Which.{own_bits}

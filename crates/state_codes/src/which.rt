@@ -1,4 +1,4 @@
-//! Which machine is meant.
+//! Which machine of a split is meant.
 
 /// One of the machines of a split: that of the part with a number, or that of the outputs.
 #[derive(Clone, Copy, Debug, PartialEq, Eq)]
