@@ -10,9 +10,9 @@ use Rattle.cover_split.specs.Expansion.{IsClosedCover, IsExpansion, IsFirstCopy,
 use Rattle.cover_split.specs.Parts.{IsLongest, IsSplitByBlock}
 use Rattle.cover_split.specs.Refusal.{SpellsBlocks}
 use Rattle.decomposition.specs.Decomposition.{HasGates}
-use Rattle.decomposition.specs.Names.{HasNames}
 use Rattle.decomposition.specs.OwnPairs.{OwnPairs, ReadsLatch}
 use Rattle.decomposition.specs.PartReads.{IsBitOf, IsWithinParts}
+use Rattle.gate_rows.specs.Names.{HasNames}
 use Rattle.kiss_file.specs.declared.file.KissFile.{KissFile}
 use Rattle.kiss_file.specs.Machine.{next, out}
 use Rattle.net_core.specs.declared.Gate.{Gate}

@@ -18,7 +18,7 @@ use Rattle.cover_split.specs.Parts.{IsLongest}
 use Rattle.cover_split.specs.Refusal.{SpellsBlocks}
 use Rattle.cover_texts.specs.CoverText.{IsCoverNetwork, IsNetworkOfPairs}
 use Rattle.decomposition.specs.Decomposition.{IsDecomposed}
-use Rattle.decomposition.specs.Names.{HasNames}
+use Rattle.gate_rows.specs.Names.{HasNames}
 use Rattle.decomposition.specs.OwnPairs.{OwnPairs}
 use Rattle.hsdec_core.specs.Clocks.{HasCoverLatches, HasRegisterLatches, HasSplitLatches, TakesClock, design_of}
 use Rattle.hsdec_core.specs.Inner.HeadedReport.{NamesSignal}

@@ -13,7 +13,7 @@ use Rattle.dependence.specs.declared.sets.ReadSet.{ReadSet}
 use Rattle.cubes.specs.Symbol.{lowest_bits}
 use Rattle.gate_rows.specs.Columns.{input_of}
 use Rattle.gate_rows.specs.Latches.{AreLatches}
-use Rattle.gate_rows.specs.Names.{name_at}
+use Rattle.gate_rows.specs.Names.{HasNames, name_at}
 use Rattle.kiss_file.specs.declared.file.KissFile.{KissFile}
 use Rattle.kiss_file.specs.Machine.{answers, out, output_bit}
 use Rattle.machine_table.specs.NextStates.{NeverLeaves}
@@ -27,6 +27,7 @@ use Rattle.net_core.specs.Step.{AreStarts, Gives, IsValuation, NetAnswers, gate_
 use Rattle.net_core.specs.Laws.Flat.{flat_sound, given_step}
 use Rattle.net_core.specs.Laws.Members.{times, times-append}
 use Rattle.net_core.specs.Laws.Valuations.{FitsGate}
+use Rattle.realise.specs.CarriedMachine.{AnswersAs}
 use Rattle.shift_real.specs.Inner.Positions.{outputs_along}
 use Rattle.shift_real.proofs.Along.{answers_from}
 use Rattle.shift_real.specs.DefiniteMachine.{Definite, IsOrder}
@@ -34,7 +35,7 @@ use Rattle.shift_real.specs.Gates.{IsOutputGate, output_after, taking, values_re
 use Rattle.shift_real.specs.Inner.Latches.{AddsOutputGates, IsOutputGateAt, latch_gate, taken_by}
 use Rattle.shift_real.specs.Inner.ShiftGates.{AreShiftGates, IsShiftNetwork}
 use Rattle.shift_real.specs.Register.{HasShortOrder, latch_values, shifted, state_after}
-use Rattle.shift_real.specs.ShiftNetwork.{AnswersAs, AreNamesFor, HasNames, IsRegister, StartsAtContent, StepsAlong}
+use Rattle.shift_real.specs.ShiftNetwork.{AreNamesFor, IsRegister, StartsAtContent, StepsAlong}
 use Rattle.shift_real.specs.Start.{WritesStart}
 use Rattle.shift_real.specs.Words.{IsWord}
 use Rattle.shift_real.proofs.Blocks.{image_at}
@@ -81,7 +82,7 @@ output_gives F k names b set gate is word x content long = by (output_after F b 
 
 -- ---- the network
 pub record IsBuilt (F : KissFile) (k : ℕ) (names : SignalNames) (N : Network) : Type 0 where
-  pub named : HasNames names N
+  pub named : HasNames N names
   pub gates : AreShiftGates F k names N.gates
 
 module _ (F : KissFile) (k : ℕ) (names : SignalNames) (N : Network) (counted : AreNamesFor F k names) (built : IsBuilt F k names N) where

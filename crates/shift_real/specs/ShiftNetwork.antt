@@ -1,14 +1,14 @@
 -- The network of a shift register.
-use Rattle.std.specs.Prelude.{◌≡◌, ℕ, ◌+◌, ◌*◌, ◌<◌, ◌≤◌, ◌++◌, All, Bool, List, Some, count_by, length, map, slice_get}
+use Rattle.std.specs.Prelude.{◌≡◌, ℕ, ◌+◌, ◌*◌, ◌<◌, ◌≤◌, ◌++◌, Bool, List, Some, count_by, length, map, slice_get}
 use Rattle.std.specs.Str.{bytes_eq}
 use Rattle.dependence.specs.declared.sets.ReadSet.{ReadSet}
-use Rattle.gate_rows.specs.Names.{name_at}
+use Rattle.gate_rows.specs.Names.{HasNames, name_at}
 use Rattle.kiss_file.specs.declared.file.KissFile.{KissFile}
-use Rattle.kiss_file.specs.Machine.{answers, out}
+use Rattle.kiss_file.specs.Machine.{out}
 use Rattle.net_core.specs.declared.Gate.{Gate}
 use Rattle.net_core.specs.declared.Network.{Network}
 use Rattle.net_core.specs.declared.SignalNames.{SignalNames}
-use Rattle.net_core.specs.Step.{AreStarts, NetAnswers, Step}
+use Rattle.net_core.specs.Step.{AreStarts, Step}
 use Rattle.shift_real.specs.Gates.{IsOutputGate, taking}
 use Rattle.shift_real.specs.Register.{IsStartContent, latch_values, shifted, state_after}
 use Rattle.shift_real.specs.Words.{IsWord}
@@ -21,13 +21,6 @@ pub record AreNamesFor (F : KissFile) (k : ℕ) (names : SignalNames) : Type 0 w
   pub latch_inputs : length names.latch_inputs ≡ k * F.inputs
   pub latch_outputs : length names.latch_outputs ≡ k * F.inputs
   pub distinct : (name : List ℕ) → count_by (bytes_eq name) (names.inputs ++ names.outputs ++ names.latch_inputs ++ names.latch_outputs) ≤ 1
-
--- the network has the names, in order
-pub record HasNames (names : SignalNames) (N : Network) : Type 0 where
-  pub inputs : N.inputs ≡ names.inputs
-  pub outputs : N.outputs ≡ names.outputs
-  pub latch_inputs : map (λ latch. latch.input) N.latches ≡ names.latch_inputs
-  pub latch_outputs : map (λ latch. latch.output) N.latches ≡ names.latch_outputs
 
 -- the latches start at the values of the start content
 abbrev pub StartsAtContent : KissFile → ℕ → Network → Type 0
@@ -49,7 +42,7 @@ HasOutputGate F k names N b = (set : ReadSet) × (gate : Gate) × (slice_get N.g
 
 -- the network of the register: its gates are those of the latches and then those of the outputs, and no others
 pub record IsRegister (F : KissFile) (k : ℕ) (names : SignalNames) (N : Network) : Type 0 where
-  pub named : HasNames names N
+  pub named : HasNames N names
   pub starts : StartsAtContent F k N
   pub gate_count : length N.gates ≡ k * F.inputs + F.outputs
   pub shifts : Shifts F k names N
@@ -59,8 +52,3 @@ pub record IsRegister (F : KissFile) (k : ℕ) (names : SignalNames) (N : Networ
 abbrev pub StepsAlong : KissFile → ℕ → Network → Type 0
 StepsAlong F k N =
     (word : List (List Bool)) (x : List Bool) → IsWord F k word → length x ≡ F.inputs → Step N (latch_values word) x (out F (state_after F word) x) (latch_values (shifted word x))
-
--- from its starts the network answers every word as the machine does from its reset state
-abbrev pub AnswersAs : KissFile → Network → Type 0
-AnswersAs F N =
-    (starts : List Bool) × AreStarts N.latches starts × ((word : List (List Bool)) → All (λ x. length x ≡ F.inputs) word → NetAnswers N starts word (answers F F.reset word))

@@ -2,9 +2,10 @@
 
 ghost use Rattle.std.specs.Prelude.{ℕ, IfErr, IfOk, OnOk};
 ghost use Rattle.net_core.specs.SoundNetwork.{Sound};
+ghost use Rattle.realise.specs.CarriedMachine.{AnswersAs};
 ghost use Rattle.shift_real.specs.DefiniteMachine.{IsOrder};
 ghost use Rattle.shift_real.specs.Register.{HasShortOrder};
-ghost use Rattle.shift_real.specs.ShiftNetwork.{AnswersAs, AreNamesFor, IsRegister, StepsAlong};
+ghost use Rattle.shift_real.specs.ShiftNetwork.{AreNamesFor, IsRegister, StepsAlong};
 ghost use Rattle.shift_real.specs.Start.{IsRegisterCause};
 ghost use Rattle.shift_real.specs.Inner.RegisterContents.{AreRegisterContents};
 ghost use Rattle.shift_real.specs.Inner.ShiftGates.{AreShiftGates, IsShiftNetwork};

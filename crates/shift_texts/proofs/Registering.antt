@@ -14,11 +14,12 @@ use Rattle.net_core.specs.declared.Network.{Network}
 use Rattle.net_core.specs.declared.SignalNames.{SignalNames}
 use Rattle.net_core.specs.SoundNetwork.{Sound}
 use Rattle.net_core.specs.Step.{NetAnswers}
+use Rattle.realise.specs.CarriedMachine.{AnswersAs}
 use Rattle.realise.specs.Names.{AreNames}
 use Rattle.realise.specs.Laws.Apart.{names_apart}
 use Rattle.shift_real.specs.DefiniteMachine.{IsOrder}
 use Rattle.shift_real.specs.Register.{HasShortOrder, IsNotReached}
-use Rattle.shift_real.specs.ShiftNetwork.{AnswersAs, AreNamesFor, IsRegister, StepsAlong}
+use Rattle.shift_real.specs.ShiftNetwork.{AreNamesFor, IsRegister, StepsAlong}
 use Rattle.shift_real.specs.Laws.StartContent.{order_once}
 use Rattle.state_reduce.proofs.Working.{classes_answer_alike}
 use Rattle.shift_texts.specs.Causes.{HasNoShortOrder, NeverInReset, RefusesShift}

@@ -12,9 +12,10 @@ use Rattle.hs_io.specs.Spelling.{ended}
 use Rattle.kiss_file.specs.declared.file.KissFile.{KissFile}
 use Rattle.net_core.specs.declared.Network.{Network}
 use Rattle.net_core.specs.declared.SignalNames.{SignalNames}
+use Rattle.realise.specs.CarriedMachine.{AnswersAs}
 use Rattle.realise.specs.Names.{AreNames}
 use Rattle.shift_real.specs.DefiniteMachine.{IsOrder}
-use Rattle.shift_real.specs.ShiftNetwork.{AnswersAs, IsRegister, StepsAlong}
+use Rattle.shift_real.specs.ShiftNetwork.{IsRegister, StepsAlong}
 use Rattle.shift_texts.specs.declared.registers.OrderedRegister.{OrderedRegister}
 
 -- the fields of the two comments: what the text is, and the order

@@ -4,8 +4,9 @@ use Rattle.kiss_file.specs.declared.file.KissFile.{KissFile}
 use Rattle.net_core.specs.declared.Network.{Network}
 use Rattle.net_core.specs.declared.SignalNames.{SignalNames}
 use Rattle.net_core.specs.SoundNetwork.{Sound}
+use Rattle.realise.specs.CarriedMachine.{AnswersAs}
 use Rattle.realise.specs.Names.{AreNames}
-use Rattle.shift_real.specs.ShiftNetwork.{AnswersAs, IsRegister, StepsAlong}
+use Rattle.shift_real.specs.ShiftNetwork.{IsRegister, StepsAlong}
 
 -- N is the register of W for k symbols, with the names of the file
 pub record IsRegisterOf (F W : KissFile) (k : ℕ) (N : Network) : Type 0 where
