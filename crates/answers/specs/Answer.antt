@@ -1,7 +1,7 @@
 -- The answers of the program and their numbers.
 use Rattle.std.specs.Prelude.{ℕ}
 use Rattle.answers.specs.declared.numbers.Answer.{Answer}
-use Rattle.answers.specs.declared.numbers.Answer.TheVariants.{Done, NoSplit, Usage, KissRefused, Conflict, Unspecified, More, PartRefused, CodeTooLong, NetRefused, SymbolRefused, ReadFault, TooLong, WriteFault, NoMemory, StateCount, CoverRefused, NotDefinite, NotReached, TooManyInputs, TooManyOutputs, ClockIsSignal}
+use Rattle.answers.specs.declared.numbers.Answer.TheVariants.{Done, NoSplit, Usage, KissRefused, Conflict, Unspecified, More, PartRefused, CodeTooLong, NetRefused, SymbolRefused, ReadFault, TooLong, WriteFault, NoMemory, StateCount, CoverRefused, NotDefinite, NotReached, TooManyInputs, TooManyOutputs, NoPart, ClockIsSignal}
 
 -- the exit status of an answer
 abbrev pub answer_code : Answer → ℕ
@@ -26,4 +26,5 @@ answer_code NotDefinite = 19
 answer_code NotReached = 20
 answer_code TooManyInputs = 21
 answer_code TooManyOutputs = 22
+answer_code NoPart = 23
 answer_code ClockIsSignal = 24

@@ -5,14 +5,18 @@ use Rattle.answers.specs.declared.numbers.Answer.{Answer}
 use Rattle.answers.specs.declared.numbers.Answer.TheVariants as answers
 use Rattle.answers.specs.declared.refusals.CoverFlaw.{CoverFlaw}
 use Rattle.answers.specs.declared.refusals.CoverFlaw.TheVariants as flaws
+use Rattle.answers.specs.declared.refusals.PartFlaw.{PartFlaw}
+use Rattle.answers.specs.declared.refusals.PartFlaw.TheVariants as part_flaws
 use Rattle.answers.specs.declared.refusals.Refusal.{Refusal}
-use Rattle.answers.specs.declared.refusals.Refusal.TheVariants.{Usage, Unreadable, TooLong, NoMachine, Conflict, Unspecified, More, PartLabel, PartLength, NotApart, NoSplit, CodeTooLong, NoNetwork, BadStart, UnknownStart, BadSymbol, StateCount, BadCover, NotDefinite, NotReached, TooManyInputs, TooManyOutputs, ClockIsSignal, Unwritable, NoMemory}
+use Rattle.answers.specs.declared.refusals.Refusal.TheVariants.{Usage, Unreadable, TooLong, NoMachine, Conflict, Unspecified, More, PartLabel, PartLength, NotApart, NoSplit, CodeTooLong, NoNetwork, BadStart, UnknownStart, BadSymbol, StateCount, BadCover, NotDefinite, NotReached, TooManyInputs, TooManyOutputs, NoPart, ClockIsSignal, Unwritable, NoMemory}
 use Rattle.answers.specs.KissTexts.{kind_text}
 use Rattle.answers.specs.NetTexts.{fault_line}
 use Rattle.blif_out.specs.Head.{kind_word}
-use Rattle.hs_texts.specs.ErrLines.{bad_start_line, cannot_read_line, cannot_write_line, clock_line, code_bits_line, conflict_line, cover_lacks_line, cover_leaves_line, cover_place_line, cover_places_line, cover_trivial_line, cover_within_line, inputs_line, kiss_line, more_line, no_memory_line, no_split_line, not_apart_line, not_definite_line, not_reached_line, outputs_line, part_length_line, part_place_line, start_unknown_line, state_count_line, symbol_line, too_long_line, unspecified_line, usage_line}
+use Rattle.hs_texts.specs.ErrLines.{bad_start_line, cannot_read_line, cannot_write_line, clock_line, code_bits_line, conflict_line, cover_lacks_line, cover_leaves_line, cover_place_line, cover_places_line, cover_trivial_line, cover_within_line, inputs_line, kiss_line, more_line, no_memory_line, no_part_line, no_split_line, not_apart_line, not_definite_line, not_reached_line, outputs_inputs_line, outputs_line, outputs_name_line, part_bits_line, part_inputs_line, part_length_line, part_name_line, part_place_line, start_unknown_line, state_count_line, symbol_line, too_long_line, unspecified_line, usage_line}
 use Rattle.machine_table.specs.declared.open_part.Missing.{Missing}
 use Rattle.machine_table.specs.declared.open_part.Missing.TheVariants.{Next, Output}
+use Rattle.state_codes.specs.declared.which.Which.{Which}
+use Rattle.state_codes.specs.declared.which.Which.TheVariants.{Outputs, Part}
 
 -- the answer of a refusal
 abbrev pub answer_of : Refusal → Answer
@@ -38,6 +42,7 @@ answer_of (NotDefinite state other) = answers.NotDefinite
 answer_of (NotReached reset) = answers.NotReached
 answer_of (TooManyInputs inputs) = answers.TooManyInputs
 answer_of TooManyOutputs = answers.TooManyOutputs
+answer_of (NoPart flaw) = answers.NoPart
 answer_of (ClockIsSignal clock) = answers.ClockIsSignal
 answer_of Unwritable = answers.WriteFault
 answer_of NoMemory = answers.NoMemory
@@ -55,6 +60,23 @@ flaw_line (flaws.Lacks state) = cover_lacks_line state
 flaw_line (flaws.Places found) = cover_places_line found
 flaw_line flaws.Trivial = cover_trivial_line
 flaw_line (flaws.Leaves block symbol) = cover_leaves_line block symbol
+
+-- the line of a machine with too many inputs
+abbrev pub inputs_line_of : Which → ℕ → List ℕ
+inputs_line_of (Part part) inputs = part_inputs_line part inputs
+inputs_line_of Outputs inputs = outputs_inputs_line inputs
+
+-- the line of a machine with a name that is too long
+abbrev pub name_line_of : Which → ℕ → List ℕ
+name_line_of (Part part) bytes = part_name_line part bytes
+name_line_of Outputs bytes = outputs_name_line bytes
+
+-- the line of a part, or of outputs, without a machine
+abbrev pub part_line : PartFlaw → List ℕ
+part_line (part_flaws.Missing part) = no_part_line part
+part_line (part_flaws.NoBits part) = part_bits_line part
+part_line (part_flaws.ManyInputs which inputs) = inputs_line_of which inputs
+part_line (part_flaws.LongName which bytes) = name_line_of which bytes
 
 -- the line of a refusal
 abbrev pub line_of : Refusal → List ℕ
@@ -80,6 +102,7 @@ line_of (NotDefinite state other) = not_definite_line state other
 line_of (NotReached reset) = not_reached_line reset
 line_of (TooManyInputs inputs) = inputs_line inputs
 line_of TooManyOutputs = outputs_line
+line_of (NoPart flaw) = part_line flaw
 line_of (ClockIsSignal clock) = clock_line clock
 line_of Unwritable = cannot_write_line
 line_of NoMemory = no_memory_line

@@ -27,5 +27,5 @@ mod reports;
 pub use delivery::deliver;
 pub use digits::symbol_text;
 pub use numbers::Answer;
-pub use refusals::{CoverFlaw, Refusal};
+pub use refusals::{CoverFlaw, PartFlaw, Refusal};
 pub use reports::{Bytes, Page, Report};

@@ -1,16 +1,17 @@
 //! The answer of a refusal, and its line.
 
 ghost use Rattle.std.specs.Prelude.{◌≡◌, IfOk};
-ghost use Rattle.answers.specs.Refusal.{answer_of, flaw_line, line_of, missing_text};
+ghost use Rattle.answers.specs.Refusal.{answer_of, flaw_line, inputs_line_of, line_of, missing_text, name_line_of, part_line};
 
 use crate::kiss_texts::text_of_kind;
 use crate::net_texts::line_of_fault;
 use crate::numbers::Answer;
-use crate::refusals::{CoverFlaw, Refusal};
+use crate::refusals::{CoverFlaw, PartFlaw, Refusal};
 use blif_out::word_of_kind;
 use hs_texts::err_lines::{self, CANNOT_WRITE, NO_MEMORY};
 use kiss2::KissFault;
 use machine_table::Missing;
+use state_codes::Which;
 use std::alloc::{AllocError, Global};
 
 impl Refusal {
@@ -41,6 +42,7 @@ impl Refusal {
             Refusal::NotReached { .. } => Answer::NotReached,
             Refusal::TooManyInputs { .. } => Answer::TooManyInputs,
             Refusal::TooManyOutputs => Answer::TooManyOutputs,
+            Refusal::NoPart(_) => Answer::NoPart,
             Refusal::ClockIsSignal { .. } => Answer::ClockIsSignal,
             Refusal::Unwritable => Answer::WriteFault,
             Refusal::NoMemory => Answer::NoMemory,
@@ -86,6 +88,7 @@ impl Refusal {
             Refusal::NotReached { reset } => err_lines::not_reached(alloc, reset.bytes()),
             Refusal::TooManyInputs { inputs } => err_lines::inputs(alloc, *inputs),
             Refusal::TooManyOutputs => err_lines::outputs(alloc),
+            Refusal::NoPart(flaw) => line_of_part(alloc, *flaw),
             Refusal::ClockIsSignal { clock } => err_lines::clock(alloc, clock.bytes()),
             Refusal::Unwritable => Vec::from_slice(alloc, CANNOT_WRITE),
             Refusal::NoMemory => Vec::from_slice(alloc, NO_MEMORY),
@@ -142,5 +145,37 @@ fn line_of_flaw(alloc: Global, flaw: &CoverFlaw) -> Result<Vec<u8>, AllocError>
         CoverFlaw::Leaves { block, symbol } => {
             err_lines::cover_leaves(alloc, *block, symbol.as_slice())
         }
+    }
+}
+
+/// The line of a part, or of outputs, without a machine.
+fn line_of_part(alloc: Global, flaw: PartFlaw) -> Result<Vec<u8>, AllocError>
+    ensures { IfOk result (λ line. line.items ≡ part_line flaw) }
+{
+    match flaw {
+        PartFlaw::Missing { part } => err_lines::no_part(alloc, part),
+        PartFlaw::NoBits { part } => err_lines::part_bits(alloc, part),
+        PartFlaw::ManyInputs { which, inputs } => line_of_inputs(alloc, which, inputs),
+        PartFlaw::LongName { which, bytes } => line_of_name(alloc, which, bytes),
+    }
+}
+
+/// The line of a machine with too many inputs.
+fn line_of_inputs(alloc: Global, which: Which, inputs: usize) -> Result<Vec<u8>, AllocError>
+    ensures { IfOk result (λ line. line.items ≡ inputs_line_of which inputs) }
+{
+    match which {
+        Which::Part(part) => err_lines::part_inputs(alloc, part, inputs),
+        Which::Outputs => err_lines::outputs_inputs(alloc, inputs),
+    }
+}
+
+/// The line of a machine with a name that is too long.
+fn line_of_name(alloc: Global, which: Which, bytes: usize) -> Result<Vec<u8>, AllocError>
+    ensures { IfOk result (λ line. line.items ≡ name_line_of which bytes) }
+{
+    match which {
+        Which::Part(part) => err_lines::part_name(alloc, part, bytes),
+        Which::Outputs => err_lines::outputs_name(alloc, bytes),
     }
 }

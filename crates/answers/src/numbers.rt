@@ -48,6 +48,8 @@ pub enum Answer {
     TooManyInputs,
     /// Too many outputs occur.
     TooManyOutputs,
+    /// A split has no such part, or the part has no machine.
+    NoPart,
     /// The clock that is asked for is a signal of the network.
     ClockIsSignal,
 }
@@ -79,6 +81,7 @@ impl Answer {
             Answer::NotReached => 20,
             Answer::TooManyInputs => 21,
             Answer::TooManyOutputs => 22,
+            Answer::NoPart => 23,
             Answer::ClockIsSignal => 24,
         }
     }

@@ -5,7 +5,7 @@ use hs_io::Name;
 use hs_list::Items;
 use kiss2::KissFault;
 use machine_table::Missing;
-use state_codes::Kind;
+use state_codes::{Kind, Which};
 use std::alloc::AllocError;
 
 /// Why a job is not done, with the values that its line shows.
@@ -98,6 +98,8 @@ pub enum Refusal {
     },
     /// More than 256 outputs occur.
     TooManyOutputs,
+    /// There is no machine of a part, or of the outputs.
+    NoPart(PartFlaw),
     /// The clock that is asked for is a signal of the network.
     ClockIsSignal {
         clock: Name,
@@ -123,6 +125,19 @@ pub enum CoverFlaw {
     Trivial,
     /// No block holds the next states of this block for the symbol of these digits.
     Leaves { block: usize, symbol: Items<u8> },
+}
+
+/// Why there is no machine of a part, or of the outputs. Parts are counted from 0.
+#[derive(Clone, Copy)]
+pub enum PartFlaw {
+    /// The split has no part of this number.
+    Missing { part: usize },
+    /// The code of the part has no bits.
+    NoBits { part: usize },
+    /// The machine would have more than 32 inputs.
+    ManyInputs { which: Which, inputs: usize },
+    /// The name of an input or of an output has more than 64 bytes: the length of the first such name.
+    LongName { which: Which, bytes: usize },
 }
 
 impl From<AllocError> for Refusal {

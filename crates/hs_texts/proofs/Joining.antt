@@ -12,11 +12,14 @@ pub pair_more : (text words number rest : List ℕ) → text ++ ((words ++ numbe
 pair_more text words number rest =
     sym (append_assoc text (words ++ number) rest) ∙ ap (λ (t : List ℕ). t ++ rest) (sym (append_assoc text words number))
 
+-- two pairs of words and a number, and words that end the line
+pub two_pairs_and : (words number words' number' rest : List ℕ) → (words ++ number) ++ ((words' ++ number') ++ []) ++ rest ≡ words ++ number ++ words' ++ number' ++ rest
+two_pairs_and words number words' number' rest =
+    ap (λ (t : List ℕ). t ++ rest) (pair_more (words ++ number) words' number' [] ∙ append-nil (words ++ number ++ words' ++ number'))
+
 pub two_pairs : (words number words' number' : List ℕ) → (words ++ number) ++ ((words' ++ number') ++ []) ++ [] ≡ words ++ number ++ words' ++ number'
 two_pairs words number words' number' =
-    append-nil ((words ++ number) ++ ((words' ++ number') ++ []))
-    ∙ pair_more (words ++ number) words' number' []
-    ∙ append-nil (words ++ number ++ words' ++ number')
+    two_pairs_and words number words' number' [] ∙ append-nil (words ++ number ++ words' ++ number')
 
 pub three_pairs : (words number words' number' words'' number'' : List ℕ) → (words ++ number) ++ ((words' ++ number') ++ ((words'' ++ number'') ++ [])) ++ [] ≡ words ++ number ++ words' ++ number' ++ words'' ++ number''
 three_pairs words number words' number' words'' number'' =

@@ -134,6 +134,32 @@ cover_trivial_line = as_line (codes "hsdec: cover is trivial")
 abbrev pub cover_leaves_line : ℕ → List ℕ → List ℕ
 cover_leaves_line block symbol = as_line (codes "hsdec: cover block " ++ decimal block ++ codes " leaves at symbol " ++ symbol)
 
+-- ---- the machines of a split
+-- the line of a part that a split does not have
+abbrev pub no_part_line : ℕ → List ℕ
+no_part_line part = as_line (codes "hsdec: no part " ++ decimal part)
+
+-- the line of a part whose code has no bits
+abbrev pub part_bits_line : ℕ → List ℕ
+part_bits_line part = as_line (codes "hsdec: part " ++ decimal part ++ codes " has no bits")
+
+-- the line of a part whose machine has too many inputs
+abbrev pub part_inputs_line : ℕ → ℕ → List ℕ
+part_inputs_line part inputs = as_line (codes "hsdec: part " ++ decimal part ++ codes " has " ++ decimal inputs ++ codes " inputs")
+
+-- the line of outputs whose machine has too many inputs
+abbrev pub outputs_inputs_line : ℕ → List ℕ
+outputs_inputs_line inputs = as_line (codes "hsdec: outputs have " ++ decimal inputs ++ codes " inputs")
+
+-- the line of a part whose machine has a name that is too long
+abbrev pub part_name_line : ℕ → ℕ → List ℕ
+part_name_line part bytes =
+    as_line (codes "hsdec: part " ++ decimal part ++ codes " has a name of " ++ decimal bytes ++ codes " bytes")
+
+-- the line of outputs whose machine has a name that is too long
+abbrev pub outputs_name_line : ℕ → List ℕ
+outputs_name_line bytes = as_line (codes "hsdec: outputs have a name of " ++ decimal bytes ++ codes " bytes")
+
 -- ---- networks
 -- the line of a clock that is a signal of the network
 abbrev pub clock_line : List ℕ → List ℕ

@@ -36,6 +36,12 @@ ghost use Rattle.hs_texts.specs.ErrLines.{
   cover_places_line,
   cover_trivial_line,
   cover_leaves_line,
+  no_part_line,
+  part_bits_line,
+  part_inputs_line,
+  outputs_inputs_line,
+  part_name_line,
+  outputs_name_line,
   clock_line,
 };
 
@@ -337,6 +343,67 @@ pub fn cover_leaves(alloc: Global, block: usize, symbol: &[u8]) -> Result<Vec<u8
             b" leaves at symbol ",
             symbol,
         ],
+    )
+}
+
+/// The line of a part that a split does not have.
+pub fn no_part(alloc: Global, part: usize) -> Result<Vec<u8>, AllocError>
+    ensures { IfOk result (λ line. line.items ≡ no_part_line part) }
+{
+    numbered_line(alloc, &[(b"hsdec: no part ", part as u64)], b"")
+}
+
+/// The line of a part whose code has no bits.
+pub fn part_bits(alloc: Global, part: usize) -> Result<Vec<u8>, AllocError>
+    ensures { IfOk result (λ line. line.items ≡ part_bits_line part) }
+{
+    numbered_line(alloc, &[(b"hsdec: part ", part as u64)], b" has no bits")
+}
+
+/// The line of a part whose machine has too many inputs, with their number.
+pub fn part_inputs(alloc: Global, part: usize, inputs: usize) -> Result<Vec<u8>, AllocError>
+    ensures { IfOk result (λ line. line.items ≡ part_inputs_line part inputs) }
+{
+    numbered_line(
+        alloc,
+        &[(b"hsdec: part ", part as u64), (b" has ", inputs as u64)],
+        b" inputs",
+    )
+}
+
+/// The line of outputs whose machine has too many inputs, with their number.
+pub fn outputs_inputs(alloc: Global, inputs: usize) -> Result<Vec<u8>, AllocError>
+    ensures { IfOk result (λ line. line.items ≡ outputs_inputs_line inputs) }
+{
+    numbered_line(
+        alloc,
+        &[(b"hsdec: outputs have ", inputs as u64)],
+        b" inputs",
+    )
+}
+
+/// The line of a part whose machine has a name that is too long, with its length.
+pub fn part_name(alloc: Global, part: usize, bytes: usize) -> Result<Vec<u8>, AllocError>
+    ensures { IfOk result (λ line. line.items ≡ part_name_line part bytes) }
+{
+    numbered_line(
+        alloc,
+        &[
+            (b"hsdec: part ", part as u64),
+            (b" has a name of ", bytes as u64),
+        ],
+        b" bytes",
+    )
+}
+
+/// The line of outputs whose machine has a name that is too long, with its length.
+pub fn outputs_name(alloc: Global, bytes: usize) -> Result<Vec<u8>, AllocError>
+    ensures { IfOk result (λ line. line.items ≡ outputs_name_line bytes) }
+{
+    numbered_line(
+        alloc,
+        &[(b"hsdec: outputs have a name of ", bytes as u64)],
+        b" bytes",
     )
 }
 
