@@ -1,10 +1,11 @@
 -- The network of a machine, a split and its codes, with the notes of its latches.
-use Rattle.std.specs.Prelude.{◌≡◌, List, length}
+use Rattle.std.specs.Prelude.{◌≡◌, All, List, length}
 use Rattle.blif_out.specs.declared.header.LatchNote.{LatchNote}
 use Rattle.blif_out.specs.Order.{HasKnownStarts, HasRowsInOrder}
 use Rattle.dependence.specs.declared.sets.Reads.{Reads}
 use Rattle.dependence.specs.Reads.{AreReads}
 use Rattle.kiss_file.specs.declared.file.KissFile.{KissFile}
+use Rattle.machine_table.specs.NextStates.{NeverLeaves}
 use Rattle.net_core.specs.declared.Network.{Network}
 use Rattle.net_core.specs.declared.SignalNames.{SignalNames}
 use Rattle.net_core.specs.SoundNetwork.{Sound}
@@ -12,6 +13,10 @@ use Rattle.realise.specs.CarriedMachine.{Carries}
 use Rattle.realise.specs.CodeNetwork.{AreEnough, IsRealised}
 use Rattle.state_codes.specs.declared.Codes.{Codes}
 use Rattle.state_codes.specs.declared.split.Part.{Part}
+use Rattle.state_codes.specs.Agreement.{AreDistinct}
+use Rattle.state_codes.specs.Code.{IsCode}
+use Rattle.state_codes.specs.Split.{IsPart}
+use Rattle.decomposition.specs.Flow.{Flows}
 use Rattle.decomposition.specs.Irredundance.{AreIrredundant}
 use Rattle.decomposition.specs.Notes.{AreNotes}
 use Rattle.decomposition.specs.OwnPairs.{OwnPairs}
@@ -34,3 +39,9 @@ pub record IsNetworkOf (W : KissFile) (parts : List Part) (codes : Codes) (names
   pub carries : Carries W N codes.words
   pub pairs : OwnPairs W N codes.words notes
   pub within : IsWithinParts W N codes.words notes parts
+
+-- what the gates read by the rule is enough for what they give, where information flows as the parts say
+abbrev pub ReadsAreEnough : Type 0
+ReadsAreEnough =
+    (W : KissFile) (parts : List Part) (codes : Codes) (sets : Reads) → NeverLeaves W → All (IsPart (length W.states)) parts → Flows W parts
+    → IsCode (length W.states) parts codes → AreDistinct (length W.states) codes.words → AreReads W parts codes sets → AreEnough W codes.bits codes.words sets

@@ -22,5 +22,5 @@ mod network;
 mod notes;
 
 pub use headed_networks::headed_network;
-pub use laws::{flow_permits, own_pairs_permit};
+pub use laws::{flow_permits, own_pairs_permit, reads_are_enough};
 pub use network::{SplitNetwork, network_of_split};

@@ -1,0 +1,4 @@
+pub mod SplitMachine
+pub mod PartText
+pub mod PartCauses
+pub mod Laws
