@@ -9,7 +9,7 @@ use Rattle.job_words.specs.declared.jobs.JobFail.{JobFail}
 use Rattle.job_words.specs.declared.table.CommandOption.{CommandOption}
 use Rattle.job_words.specs.declared.table.CommandOption.TheVariants.{Limit, Reduce, Start, Fill, Names, Clock, Model}
 use Rattle.job_words.specs.declared.table.OperandKind.{OperandKind}
-use Rattle.job_words.specs.declared.table.OperandKind.TheVariants.{File, Net, Part, Parts, Symbols, Cover, Seed, A, B, K}
+use Rattle.job_words.specs.declared.table.OperandKind.TheVariants.{File, Net, Part, Parts, Symbols, Cover, Split, J, Seed, A, B, K}
 use Rattle.std.specs.Str.{bytes_eq}
 use Rattle.job_words.specs.Command.{command_word}
 use Rattle.job_words.specs.Item.{Item, Operand, Chosen, Lacking, Unknown, items_of}
@@ -32,6 +32,8 @@ with_operand-keeps Part word job = record { command = refl; limit = refl; hold =
 with_operand-keeps Parts word job = record { command = refl; limit = refl; hold = refl; clock = refl; model = refl }
 with_operand-keeps Symbols word job = record { command = refl; limit = refl; hold = refl; clock = refl; model = refl }
 with_operand-keeps Cover word job = record { command = refl; limit = refl; hold = refl; clock = refl; model = refl }
+with_operand-keeps Split word job = record { command = refl; limit = refl; hold = refl; clock = refl; model = refl }
+with_operand-keeps J word job = record { command = refl; limit = refl; hold = refl; clock = refl; model = refl }
 with_operand-keeps Seed word job = record { command = refl; limit = refl; hold = refl; clock = refl; model = refl }
 with_operand-keeps A word job = record { command = refl; limit = refl; hold = refl; clock = refl; model = refl }
 with_operand-keeps B word job = record { command = refl; limit = refl; hold = refl; clock = refl; model = refl }

@@ -86,7 +86,7 @@ TakesNumbers row = MakesMachine row.command → row.operands ≡ numbers
 
 built_numbers : AllByRecursion TakesNumbers built
 built_numbers =
-    (λ e. absurd e, (λ e. absurd e, (λ e. absurd e, (λ e. absurd e, (λ e. absurd e, (λ e. absurd e, (λ e. absurd e, (λ e. absurd e, (λ e. absurd e, (λ e. absurd e, (λ e. absurd e, (λ e. absurd e, (λ e. absurd e, (λ e. absurd e, (λ e. absurd e, (λ e. refl, (λ e. refl, (λ e. absurd e, (λ e. absurd e, (λ e. absurd e, (λ e. absurd e, (λ e. absurd e, (λ e. absurd e, (λ e. absurd e, tt))))))))))))))))))))))))
+    (λ e. absurd e, (λ e. absurd e, (λ e. absurd e, (λ e. absurd e, (λ e. absurd e, (λ e. absurd e, (λ e. absurd e, (λ e. absurd e, (λ e. absurd e, (λ e. absurd e, (λ e. absurd e, (λ e. absurd e, (λ e. absurd e, (λ e. absurd e, (λ e. absurd e, (λ e. refl, (λ e. refl, (λ e. absurd e, (λ e. absurd e, (λ e. absurd e, (λ e. absurd e, (λ e. absurd e, (λ e. absurd e, (λ e. absurd e, (λ e. absurd e, tt)))))))))))))))))))))))))
 
 -- the sizes of each job of `gen` and `trial`
 pub sizes_are_sizes : SizesAreSizes

@@ -1,16 +1,18 @@
--- The operand PARTS of a job of `assign` has at most 255 slashes.
-use Rattle.std.proofs.Common.{◌≡◌, ℕ, zero, suc, ◌==◌, true, not, List, [], ◌∷◌, Option, Some, None, refl, sym, ◌∙◌, subst, length, slice_get, count_by, arith}
+-- The operand PARTS of a job has at most 255 slashes.
+use Rattle.std.proofs.Common.{◌≡◌, ℕ, zero, suc, ◌==◌, true, not, List, [], ◌∷◌, Option, Some, None, refl, sym, subst, inl, inr, length, slice_get, count_by, arith}
 use Rattle.std.specs.Prelude.{⊤}
 use Rattle.std.specs.List.{AllByRecursion}
 use Rattle.std.proofs.lemmas.Bool.{leb-true}
+use Rattle.job_words.specs.declared.command.Command.{Command}
 use Rattle.job_words.specs.declared.command.Command.TheVariants as commands
 use Rattle.job_words.specs.declared.jobs.Job.{Job}
 use Rattle.job_words.specs.declared.table.CommandOption.{CommandOption}
 use Rattle.job_words.specs.declared.table.CommandOption.TheVariants.{Limit, Reduce, Start, Fill, Names, Clock, Model}
 use Rattle.job_words.specs.declared.table.OperandKind.{OperandKind}
-use Rattle.job_words.specs.declared.table.OperandKind.TheVariants.{File, Net, Part, Parts, Symbols, Cover, Seed, A, B, K}
+use Rattle.job_words.specs.declared.table.OperandKind.TheVariants.{File, Net, Part, Parts, Symbols, Cover, Split, J, Seed, A, B, K}
 use Rattle.job_words.specs.Item.{Item, Operand, Chosen, Lacking, Unknown, items_of}
-use Rattle.job_words.specs.Job.{HasFewSlashes, PartsAreFew, fits_kind, fits_place, job_of, operands_in, refusal, with_kind, with_option}
+use Rattle.job_words.specs.Job.{HasFewSlashes, PartsAreFew, TakesParts, fits_kind, fits_place, job_of, operands_in, refusal, with_kind, with_option}
+use Rattle.job_words.specs.SplitWords.{has_few_slashes, is_split_word}
 use Rattle.job_words.specs.Table.{Row, built}
 use Rattle.job_words.proofs.Commands.{row_of_job}
 use Rattle.job_words.proofs.Judged.{judged-keeps, operand_fits}
@@ -35,6 +37,9 @@ few_of Part word job counted fits few = absurd counted
 few_of Parts word job counted fits few = leb-true (count_by (λ c. c == 47) word) 255 fits
 few_of Symbols word job counted fits few = absurd counted
 few_of Cover word job counted fits few = absurd counted
+few_of Split word job counted fits few =
+    leb-true (count_by (λ c. c == 47) word) 255 (both (is_split_word word) (has_few_slashes word) fits).1
+few_of J word job counted fits few = few
 few_of Seed word job counted fits few = few
 few_of A word job counted fits few = few
 few_of B word job counted fits few = few
@@ -61,24 +66,41 @@ keeps_few row before (Chosen option word) counted few e = subst HasFewSlashes (s
 keeps_few row before (Lacking option) counted few e = few
 keeps_few row before Unknown counted few e = few
 
--- of the commands that are built `assign` counts its slashes
+-- the commands that are built and take PARTS count its slashes
+abbrev IsOfParts : Command → Type 0
+IsOfParts commands.Assign = ⊤
+IsOfParts commands.Part = ⊤
+IsOfParts _ = ⊥
+
+is_of_parts : (command : Command) → TakesParts command → IsOfParts command
+is_of_parts command = elim [
+  | inl e ↦ subst IsOfParts (sym e) tt
+  | inr e ↦ subst IsOfParts (sym e) tt
+]
+
 abbrev CountsSlashes : Row → Type 0
-CountsSlashes row = row.command ≡ commands.Assign → AreCounted row
+CountsSlashes row = IsOfParts row.command → AreCounted row
 
 counted_parts : (i : ℕ) → IsCounted (slice_get (File ∷ Parts ∷ []) i)
 counted_parts zero = tt
 counted_parts (suc zero) = tt
 counted_parts (suc (suc i)) = tt
 
+counted_split : (i : ℕ) → IsCounted (slice_get (File ∷ Split ∷ J ∷ []) i)
+counted_split zero = tt
+counted_split (suc zero) = tt
+counted_split (suc (suc zero)) = tt
+counted_split (suc (suc (suc i))) = tt
+
 built_counted : AllByRecursion CountsSlashes built
 built_counted =
-    (λ e. cc, (λ e. cc, (λ e. cc, (λ e. cc, (λ e. cc, (λ e. cc, (λ e. cc, (λ e. cc, (λ e. counted_parts, (λ e. cc, (λ e. cc, (λ e. cc, (λ e. cc, (λ e. cc, (λ e. cc, (λ e. cc, (λ e. cc, (λ e. cc, (λ e. cc, (λ e. cc, (λ e. cc, (λ e. cc, (λ e. cc, (λ e. cc, tt))))))))))))))))))))))))
+    (λ e. absurd e, (λ e. absurd e, (λ e. absurd e, (λ e. absurd e, (λ e. absurd e, (λ e. absurd e, (λ e. absurd e, (λ e. absurd e, (λ e. counted_parts, (λ e. absurd e, (λ e. absurd e, (λ e. absurd e, (λ e. absurd e, (λ e. absurd e, (λ e. absurd e, (λ e. absurd e, (λ e. absurd e, (λ e. absurd e, (λ e. absurd e, (λ e. absurd e, (λ e. absurd e, (λ e. absurd e, (λ e. absurd e, (λ e. absurd e, (λ e. counted_split, tt)))))))))))))))))))))))))
 
--- the slashes of each job of `assign`
+-- the slashes of each job
 pub parts_are_few : PartsAreFew
-parts_are_few words job e assign =
+parts_are_few words job e takes =
     let found = row_of_job CountsSlashes built words job built_counted e in
-    let counted : AreCounted found.row = found.has (sym found.command_is ∙ assign) in
+    let counted : AreCounted found.row = found.has (subst IsOfParts found.command_is (is_of_parts job.command takes)) in
     let is =
     judged-keeps (λ before. HasFewSlashes (job_of found.row before).second) found.row [] 2 (items_of found.words) job (λ before item. keeps_few found.row before item counted) (omega arith) found.judged_is in
     subst (λ (j : Job). HasFewSlashes j.second) is.job_is is.holds

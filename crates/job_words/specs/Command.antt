@@ -1,7 +1,7 @@
 -- The words of the commands.
 use Rattle.std.specs.Prelude.{ℕ, List, codes}
 use Rattle.job_words.specs.declared.command.Command.{Command}
-use Rattle.job_words.specs.declared.command.Command.TheVariants.{Check, Reduce, Closed, Output, Pairs, Low, High, Code, Assign, Parallel, Serial, Cascade, Feedback, Walk, Sim, Gen, Trial, Least, Cover, Definite, Shift, Ispairs, Sopairs, Compare}
+use Rattle.job_words.specs.declared.command.Command.TheVariants.{Check, Reduce, Closed, Output, Pairs, Low, High, Code, Assign, Parallel, Serial, Cascade, Feedback, Walk, Sim, Gen, Trial, Least, Cover, Definite, Shift, Ispairs, Sopairs, Compare, Part}
 
 -- the word of a command
 abbrev pub command_word : Command → List ℕ
@@ -29,3 +29,4 @@ command_word Shift = codes "shift"
 command_word Ispairs = codes "ispairs"
 command_word Sopairs = codes "sopairs"
 command_word Compare = codes "compare"
+command_word Part = codes "part"

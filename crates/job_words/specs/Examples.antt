@@ -135,3 +135,35 @@ pub record TakesNames : Type 0 where
   pub names_twice : job_of_line "closed f --names --names" ≡ Err 4
   pub no_names : job_of_line "ispairs f --names" ≡ Err 3
   pub compare : job_of_line "compare f --reduce" ≡ Ok (record (empty_job commands.Compare) { file = codes "f"; reduce = true })
+
+-- `part` takes a split, by the word of its kind or by partitions, and which of its machines is asked for
+pub record TakesSplits : Type 0 where
+  pub zeros : job_of_line "part f serial 007" ≡ Ok (record (empty_job commands.Part) { file = codes "f"; second = codes "serial"; part = Some 7 })
+  pub outputs : job_of_line "part f --fill hold least outputs --reduce"
+      ≡ Ok (record (empty_job commands.Part) { file = codes "f"; second = codes "least"; hold = true; reduce = true })
+  pub given : job_of_line "part f 0,1/1,1 0" ≡ Ok (record (empty_job commands.Part) { file = codes "f"; second = codes "0,1/1,1"; part = Some 0 })
+  pub most : job_of_line "part f cascade 999" ≡ Ok (record (empty_job commands.Part) { file = codes "f"; second = codes "cascade"; part = Some 999 })
+  pub code : job_of_line "part f code 10" ≡ Ok (record (empty_job commands.Part) { file = codes "f"; second = codes "code"; part = Some 10 })
+  pub parallel : job_of_line "part f parallel 2" ≡ Ok (record (empty_job commands.Part) { file = codes "f"; second = codes "parallel"; part = Some 2 })
+  pub feedback : job_of_line "part f feedback 1" ≡ Ok (record (empty_job commands.Part) { file = codes "f"; second = codes "feedback"; part = Some 1 })
+  pub last_digit : job_of_line "part f 9 3" ≡ Ok (record (empty_job commands.Part) { file = codes "f"; second = codes "9"; part = Some 3 })
+  pub misspelt : job_of_line "part f searial 0" ≡ Err 3
+  pub longer : job_of_line "part f serials 0" ≡ Err 3
+  pub assign : job_of_line "part f assign 0" ≡ Err 3
+  pub cover : job_of_line "part f cover 0" ≡ Err 3
+  pub shift : job_of_line "part f shift 0" ≡ Err 3
+  pub no_label : job_of_line "part f /0,1 0" ≡ Err 3
+  pub no_digit : job_of_line "part f :0 0" ≡ Err 3
+  pub pieces : JobOf (codes "part" ∷ codes "f" ∷ (48 ∷ slashes 255) ∷ codes "5" ∷ [])
+      ≡ Ok (record (empty_job commands.Part) { file = codes "f"; second = 48 ∷ slashes 255; part = Some 5 })
+  pub more_pieces : JobOf (codes "part" ∷ codes "f" ∷ (48 ∷ slashes 256) ∷ codes "5" ∷ []) ≡ Err 3
+  pub four_digits : job_of_line "part f code 0007" ≡ Err 4
+  pub plus : job_of_line "part f code +7" ≡ Err 4
+  pub minus : job_of_line "part f code -7" ≡ Err 4
+  pub output : job_of_line "part f code output" ≡ Err 4
+  pub no_number : job_of_line "part f code serial" ≡ Err 4
+  pub empty_part : job_of_line "part f code " ≡ Err 4
+  pub lacks_part : job_of_line "part f code" ≡ Err 4
+  pub lacks_split : job_of_line "part f --reduce" ≡ Err 4
+  pub clock : job_of_line "part f code 0 --clock c" ≡ Err 5
+  pub names : job_of_line "part f code --names 0" ≡ Err 4

@@ -9,26 +9,29 @@ use Rattle.job_words.specs.declared.jobs.Job.{Job}
 use Rattle.job_words.specs.declared.table.CommandOption.{CommandOption}
 use Rattle.job_words.specs.declared.table.CommandOption.TheVariants.{Limit, Reduce, Start, Fill, Names, Clock, Model}
 use Rattle.job_words.specs.declared.table.OperandKind.{OperandKind}
-use Rattle.job_words.specs.declared.table.OperandKind.TheVariants.{File, Net, Part, Parts, Symbols, Cover, Seed, A, B, K}
+use Rattle.job_words.specs.declared.table.OperandKind.TheVariants.{File, Net, Part, Parts, Symbols, Cover, Split, J, Seed, A, B, K}
 use Rattle.job_words.specs.Command.{command_word}
 use Rattle.job_words.specs.Item.{Item, Operand, Chosen, Lacking, Unknown, items_of, width_of}
 use Rattle.job_words.specs.Name.{is_clock_name, is_model_name}
 use Rattle.job_words.specs.Number.{is_number, is_within, value_of}
+use Rattle.job_words.specs.SplitWords.{has_few_slashes, is_part_word, is_split_word, part_of}
 use Rattle.job_words.specs.Table.{Row, built}
 
 -- a job of a command before any operand or option
 abbrev pub empty_job : Command → Job
 empty_job command =
-    record { command = command; file = []; second = []; limit = 1000; reduce = false; start = None; seed = 0; a = 0; b = 0; k = 0; hold = false; names = false; clock = None; model = None }
+    record { command = command; file = []; second = []; limit = 1000; reduce = false; start = None; seed = 0; a = 0; b = 0; k = 0; part = None; hold = false; names = false; clock = None; model = None }
 
 -- a word is allowed as an operand of a kind, in a job that has the operands before it
 abbrev pub fits_kind : OperandKind → Job → List ℕ → Bool
 fits_kind File job word = true
 fits_kind Net job word = true
 fits_kind Part job word = true
-fits_kind Parts job word = nat_le (count_by (λ c. c == 47) word) 255
+fits_kind Parts job word = has_few_slashes word
 fits_kind Symbols job word = true
 fits_kind Cover job word = true
+fits_kind Split job word = is_split_word word && has_few_slashes word
+fits_kind J job word = is_part_word word
 fits_kind Seed job word = is_number word
 fits_kind A job word = is_within 2 128 word
 fits_kind B job word = is_within 2 128 word && nat_le (job.a * value_of word) 256
@@ -42,6 +45,8 @@ with_operand Part word job = record job { second = word }
 with_operand Parts word job = record job { second = word }
 with_operand Symbols word job = record job { second = word }
 with_operand Cover word job = record job { second = word }
+with_operand Split word job = record job { second = word }
+with_operand J word job = record job { part = part_of word }
 with_operand Seed word job = record job { seed = value_of word }
 with_operand A word job = record job { a = value_of word }
 with_operand B word job = record job { b = value_of word }
@@ -167,9 +172,13 @@ LimitsAreLimits = (words : List (List ℕ)) (job : Job) → JobOf words ≡ Ok j
 abbrev pub HasFewSlashes : List ℕ → Type 0
 HasFewSlashes text = count_by (λ c. c == 47) text ≤ 255
 
--- so the operand PARTS of `assign` has at most 256 pieces
+-- the commands whose second operand may be PARTS
+abbrev pub TakesParts : Command → Type 0
+TakesParts command = (command ≡ commands.Assign) ⊎ (command ≡ commands.Part)
+
+-- so PARTS has at most 256 pieces
 abbrev pub PartsAreFew : Type 0
-PartsAreFew = (words : List (List ℕ)) (job : Job) → JobOf words ≡ Ok job → job.command ≡ commands.Assign → HasFewSlashes job.second
+PartsAreFew = (words : List (List ℕ)) (job : Job) → JobOf words ≡ Ok job → TakesParts job.command → HasFewSlashes job.second
 
 -- the numbers of a job that makes a machine are in their ranges
 pub record HasSizes (job : Job) : Type 0 where

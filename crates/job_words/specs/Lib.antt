@@ -5,4 +5,5 @@ pub mod Item
 pub mod Job
 pub mod Name
 pub mod Number
+pub mod SplitWords
 pub mod Table

@@ -5,7 +5,7 @@ use Rattle.job_words.specs.declared.command.Command.TheVariants as commands
 use Rattle.job_words.specs.declared.table.CommandOption.{CommandOption}
 use Rattle.job_words.specs.declared.table.Form.{Form}
 use Rattle.job_words.specs.declared.table.OperandKind.{OperandKind}
-use Rattle.job_words.specs.declared.table.OperandKind.TheVariants.{Cover, File, Net, Part, Parts, Symbols, Seed, A, B, K}
+use Rattle.job_words.specs.declared.table.OperandKind.TheVariants.{Cover, File, J, Net, Part, Parts, Split, Symbols, Seed, A, B, K}
 use Rattle.job_words.specs.declared.table.CommandOption.TheVariants.{Clock, Fill, Limit, Model, Names, Reduce, Start}
 
 pub record Row : Type 0 where
@@ -47,6 +47,7 @@ built =
     ∷ row commands.Ispairs (File ∷ []) (Limit ∷ Fill ∷ [])
     ∷ row commands.Sopairs (File ∷ []) (Limit ∷ Fill ∷ [])
     ∷ row commands.Compare (File ∷ []) (Reduce ∷ Fill ∷ [])
+    ∷ row commands.Part (File ∷ Split ∷ J ∷ []) (Reduce ∷ Fill ∷ [])
     ∷ []
 
 -- the commands of rows

@@ -54,6 +54,8 @@ pub enum Command {
     Sopairs,
     /// Prints for each kind of network its counts, or why there is none.
     Compare,
+    /// Prints one of the smaller machines of a split.
+    Part,
 }
 
 impl Command {
@@ -86,6 +88,7 @@ impl Command {
             Command::Ispairs => b"ispairs",
             Command::Sopairs => b"sopairs",
             Command::Compare => b"compare",
+            Command::Part => b"part",
         }
     }
 }

@@ -113,6 +113,7 @@ impl Draft {
                 a: 0,
                 b: 0,
                 k: 0,
+                part: None,
                 hold: false,
                 names: false,
                 clock: None,

@@ -1,12 +1,13 @@
 //! The fields of a job from its words.
 
-ghost use Rattle.std.specs.Prelude.{◌≡◌, ◌≢◌, true, false, ◌==◌, OnOk, count_by};
+ghost use Rattle.std.specs.Prelude.{◌≡◌, ◌≢◌, true, false, OnOk};
 ghost use Rattle.job_words.specs.Inner.Operands.{IsPut};
 ghost use Rattle.job_words.specs.Job.{fits_kind, fits_option, with_operand, with_option};
 
 use crate::draft::Refusal;
 use crate::names::{is_clock_name, is_model_name};
 use crate::numbers::{number, number_within};
+use crate::splits::{has_few_slashes, is_split, names_outputs};
 use crate::{CommandOption, Job, OperandKind};
 use hs_io::Name;
 use std::alloc::Global;
@@ -28,12 +29,29 @@ pub fn put_operand(
         OperandKind::Part | OperandKind::Symbols | OperandKind::Cover => job.second = Name::new(
             alloc, word,
         )?,
-        OperandKind::Parts if slashes(word) > 255 => return Err(Refusal::Word),
-        OperandKind::Parts => job.second = Name::new(alloc, word)?,
+        OperandKind::Parts if !has_few_slashes(word) => return Err(Refusal::Word),
+        OperandKind::Split if !is_split(word) => return Err(Refusal::Word),
+        OperandKind::Parts | OperandKind::Split => job.second = Name::new(alloc, word)?,
+        OperandKind::J => return put_j(word, job),
         OperandKind::Seed => return put_seed(word, job),
         OperandKind::A => return put_a(word, job),
         OperandKind::B => return put_b(word, job),
         OperandKind::K => return put_k(word, job),
+    }
+    Ok(())
+}
+
+/// Puts the operand J into a job.
+fn put_j(word: &[u8], job: &mut Job) -> Result<(), Refusal>
+    ensures { IsPut OperandKind.J word.now job.old job.new result }
+{
+    if names_outputs(word) {
+        job.part = None;
+        return Ok(());
+    }
+    match number(word) {
+        Some(part) if word.len() <= 3 => job.part = Some(part),
+        _ => return Err(Refusal::Word),
     }
     Ok(())
 }
@@ -112,11 +130,4 @@ pub fn put_option(
         CommandOption::Model => job.model = Some(Name::new(alloc, word)?),
     }
     Ok(())
-}
-
-/// The number of slashes of a word.
-fn slashes(word: &[u8]) -> usize
-    ensures { result ≡ count_by (λ c. c == 47) word.now }
-{
-    word.iter().filter(|byte| **byte == b'/').count()
 }

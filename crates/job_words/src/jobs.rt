@@ -15,7 +15,7 @@ pub struct Job {
     pub command: Command,
     /// The operand FILE or NET.
     pub file: Name,
-    /// The operand PART, PARTS, SYMBOLS or COVER.
+    /// The operand PART, PARTS, SYMBOLS, COVER or SPLIT.
     pub second: Name,
     /// The greatest number of members of a listing.
     pub limit: usize,
@@ -31,6 +31,8 @@ pub struct Job {
     pub b: u16,
     /// The operand K.
     pub k: u8,
+    /// The operand J: the number of a part, or `None` for the outputs.
+    pub part: Option<u32>,
     /// Whether open entries are filled, by `--fill hold`.
     pub hold: bool,
     /// Whether partitions are printed by the names of their states.

@@ -7,6 +7,7 @@ ghost use Rattle.job_words.specs.Examples.{
   TakesNames,
   TakesOptions,
   TakesSizes,
+  TakesSplits,
 };
 ghost use Rattle.job_words.specs.Job.{LimitsAreLimits, NamesAreNames, PartsAreFew, SizesAreSizes};
 
@@ -18,9 +19,10 @@ pub fn judged_lines()
     ensures symbols { ReadsSymbols }
     ensures sizes { TakesSizes }
     ensures names { TakesNames }
+    ensures splits { TakesSplits }
 {}
 
-/// The operand PARTS of `assign` has at most 255 slashes.
+/// The operand PARTS of `assign` and of `part` has at most 255 slashes.
 pub fn parts_are_few()
     ensures { PartsAreFew }
 {}

@@ -6,6 +6,7 @@
 //! - `specs/Table` has the rows of the commands that are built, each with its operands and its options.
 //! - `specs/Item` separates operands from options with the words that they take.
 //! - `specs/Job` says which item is refused after which others, and what job the items give.
+//! - `specs/SplitWords` says which words name a split, and a machine of it.
 //! - `specs/Examples` has small cases of all this, which [`judged_lines`] states.
 //!
 //! [`judge`] does the same by a table that is handed in.
@@ -27,6 +28,7 @@ mod jobs;
 mod laws;
 mod names;
 mod numbers;
+mod splits;
 mod table;
 mod words;
 

@@ -20,6 +20,10 @@ pub enum OperandKind {
     Symbols,
     /// The blocks of a cover.
     Cover,
+    /// A kind of split by its word, or partitions.
+    Split,
+    /// The number of a part, or `outputs`.
+    J,
     /// The number that a generator starts from.
     Seed,
     /// The number of states of the first factor of a generated machine.
@@ -74,7 +78,7 @@ const OF_NETWORKS: &[CommandOption] = &[
 ];
 
 /// The commands that are built.
-const BUILT: [Form; 24] = [
+const BUILT: [Form; 25] = [
     Form {
         command: Command::Check,
         operands: &[OperandKind::File],
@@ -213,6 +217,11 @@ const BUILT: [Form; 24] = [
     Form {
         command: Command::Compare,
         operands: &[OperandKind::File],
+        options: &[CommandOption::Reduce, CommandOption::Fill],
+    },
+    Form {
+        command: Command::Part,
+        operands: &[OperandKind::File, OperandKind::Split, OperandKind::J],
         options: &[CommandOption::Reduce, CommandOption::Fill],
     },
 ];
