@@ -31,6 +31,7 @@ group_of commands.Shift = Code
 group_of commands.Ispairs = Look
 group_of commands.Sopairs = Look
 group_of commands.Compare = Split
+group_of commands.Part = Split
 
 -- the heading of a group
 abbrev pub heading_of : Group → List ℕ

@@ -8,7 +8,7 @@ use Rattle.job_words.specs.declared.command.Command.{Command}
 use Rattle.job_words.specs.declared.table.CommandOption.{CommandOption}
 use Rattle.job_words.specs.declared.table.CommandOption.TheVariants.{Limit, Reduce, Start, Fill, Names, Clock, Model}
 use Rattle.job_words.specs.declared.table.OperandKind.{OperandKind}
-use Rattle.job_words.specs.declared.table.OperandKind.TheVariants.{File, Net, Part, Parts, Symbols, Cover, Seed, A, B, K}
+use Rattle.job_words.specs.declared.table.OperandKind.TheVariants as kinds
 use Rattle.job_words.specs.Command.{command_word}
 use Rattle.job_words.specs.Job.{row_named}
 use Rattle.job_words.specs.Table.{Row, built}
@@ -102,8 +102,10 @@ answers_text =
     ∷ codes "      can help"
     ∷ codes "  21  the machine has more than 8 inputs"
     ∷ codes "  22  more than 256 outputs occur"
+    ∷ codes "  23  the split has no such part, or the part no bits; or the machine would have"
+    ∷ codes "      more than 32 inputs, or a name of more than 64 bytes"
     ∷ codes "  24  the clock is the name of a signal of the network: another name will do"
-    ∷ codes "  6, 16 and 23 are not used"
+    ∷ codes "  6 and 16 are not used"
     ∷ []
     )
 
@@ -115,7 +117,7 @@ help_page_of rows groups operands options =
 
 -- the page about the program: every command that is built, in its group, and their operands and options
 unfoldable pub help_page : List ℕ
-help_page = help_page_of built (Look ∷ Split ∷ Code ∷ Run ∷ Make ∷ []) (File ∷ Net ∷ Symbols ∷ Part ∷ Parts ∷ Cover ∷ Seed ∷ A ∷ B ∷ K ∷ []) (Limit ∷ Reduce ∷ Start ∷ Fill ∷ Names ∷ Clock ∷ Model ∷ [])
+help_page = help_page_of built (Look ∷ Split ∷ Code ∷ Run ∷ Make ∷ []) (kinds.File ∷ kinds.Net ∷ kinds.Symbols ∷ kinds.Part ∷ kinds.Parts ∷ kinds.Cover ∷ kinds.Split ∷ kinds.J ∷ kinds.Seed ∷ kinds.A ∷ kinds.B ∷ kinds.K ∷ []) (Limit ∷ Reduce ∷ Start ∷ Fill ∷ Names ∷ Clock ∷ Model ∷ [])
 
 -- the page of the version
 abbrev pub version_page : List ℕ

@@ -5,7 +5,7 @@ use Rattle.job_words.specs.declared.command.Command.TheVariants as commands
 use Rattle.job_words.specs.declared.table.CommandOption.{CommandOption}
 use Rattle.job_words.specs.declared.table.CommandOption.TheVariants.{Limit, Reduce, Start, Fill, Names, Clock, Model}
 use Rattle.job_words.specs.declared.table.OperandKind.{OperandKind}
-use Rattle.job_words.specs.declared.table.OperandKind.TheVariants.{File, Net, Part, Parts, Symbols, Cover, Seed, A, B, K}
+use Rattle.job_words.specs.declared.table.OperandKind.TheVariants.{File, Net, Part, Parts, Symbols, Cover, Split, J, Seed, A, B, K}
 
 -- what a command does
 abbrev pub phrase_of : Command → List ℕ
@@ -33,6 +33,7 @@ phrase_of commands.Shift = codes "writes a definite machine as a shift register"
 phrase_of commands.Ispairs = codes "lists the Mm pairs of inputs and states"
 phrase_of commands.Sopairs = codes "lists the Mm pairs of states and outputs"
 phrase_of commands.Compare = codes "counts the network of each kind, or says why there is none"
+phrase_of commands.Part = codes "prints one of the smaller machines of a split as KISS2"
 
 -- the words of an example of each command
 abbrev pub example_of : Command → List ℕ
@@ -60,6 +61,7 @@ example_of commands.Shift = codes "shift shift3.kiss"
 example_of commands.Ispairs = codes "ispairs modulo4.kiss --limit 100"
 example_of commands.Sopairs = codes "sopairs modulo4.kiss --limit 100"
 example_of commands.Compare = codes "compare modulo4.kiss"
+example_of commands.Part = codes "part modulo4.kiss serial 1"
 
 -- the words that make the file of an example before it; the files of the other examples are in the folder examples
 abbrev pub making_of : Command → Option (List ℕ)
@@ -74,6 +76,8 @@ operand_word Part = codes "PART"
 operand_word Parts = codes "PARTS"
 operand_word Symbols = codes "SYMBOLS"
 operand_word Cover = codes "COVER"
+operand_word Split = codes "SPLIT"
+operand_word J = codes "J"
 operand_word Seed = codes "SEED"
 operand_word A = codes "A"
 operand_word B = codes "B"
@@ -87,6 +91,8 @@ operand_note Part = codes "  PART         the block of each state in order, coun
 operand_note Parts = codes "  PARTS        partitions joined by slashes, as 0,1,0,1/0,0,1,1"
 operand_note Symbols = codes "  SYMBOLS      a line for each symbol, a 0 or 1 for each input; - is standard input"
 operand_note Cover = codes "  COVER        blocks of states, counted from 0, joined by slashes, as 0,1/0,2/1,2"
+operand_note Split = codes "  SPLIT        code, parallel, serial, cascade, feedback, least, or as 0,1,0,1/0,0,1,1"
+operand_note J = codes "  J            the number of a part, of one to three digits, from 0; or outputs"
 operand_note Seed = codes "  SEED         the number that the machine is made from, of one to nine digits"
 operand_note A = codes "  A            how many states its first factor has, from 2 to 128"
 operand_note B = codes "  B            how many its second factor has, from 2 to 128; A times B is at most 256"

@@ -38,7 +38,8 @@ pub fn command_group(command: Command) -> Group
         | Command::Serial
         | Command::Cascade
         | Command::Feedback
-        | Command::Compare => Group::Split,
+        | Command::Compare
+        | Command::Part => Group::Split,
         Command::Code | Command::Assign | Command::Least | Command::Cover | Command::Shift =>
             Group::Code,
         Command::Walk | Command::Sim => Group::Run,

@@ -60,6 +60,8 @@ const OPERANDS: &[OperandKind] = &[
     OperandKind::Part,
     OperandKind::Parts,
     OperandKind::Cover,
+    OperandKind::Split,
+    OperandKind::J,
     OperandKind::Seed,
     OperandKind::A,
     OperandKind::B,
@@ -104,8 +106,10 @@ Exit status, and what to do:
       can help
   21  the machine has more than 8 inputs
   22  more than 256 outputs occur
+  23  the split has no such part, or the part no bits; or the machine would have
+      more than 32 inputs, or a name of more than 64 bytes
   24  the clock is the name of a signal of the network: another name will do
-  6, 16 and 23 are not used
+  6 and 16 are not used
 ";
 
 /// The page that the words ask for: `--help` or `--version` alone, or `--help` with a command.

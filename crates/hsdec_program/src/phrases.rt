@@ -47,6 +47,7 @@ pub fn phrase(command: Command) -> &'static [u8]
         Command::Ispairs => b"lists the Mm pairs of inputs and states",
         Command::Sopairs => b"lists the Mm pairs of states and outputs",
         Command::Compare => b"counts the network of each kind, or says why there is none",
+        Command::Part => b"prints one of the smaller machines of a split as KISS2",
     }
 }
 
@@ -79,6 +80,7 @@ pub fn example(command: Command) -> &'static [u8]
         Command::Ispairs => b"ispairs modulo4.kiss --limit 100",
         Command::Sopairs => b"sopairs modulo4.kiss --limit 100",
         Command::Compare => b"compare modulo4.kiss",
+        Command::Part => b"part modulo4.kiss serial 1",
     }
 }
 
@@ -103,6 +105,8 @@ pub fn operand_name(kind: OperandKind) -> &'static [u8]
         OperandKind::Parts => b"PARTS",
         OperandKind::Symbols => b"SYMBOLS",
         OperandKind::Cover => b"COVER",
+        OperandKind::Split => b"SPLIT",
+        OperandKind::J => b"J",
         OperandKind::Seed => b"SEED",
         OperandKind::A => b"A",
         OperandKind::B => b"B",
@@ -124,6 +128,10 @@ pub fn operand_text(kind: OperandKind) -> &'static [u8]
             b"  SYMBOLS      a line for each symbol, a 0 or 1 for each input; - is standard input",
         OperandKind::Cover =>
             b"  COVER        blocks of states, counted from 0, joined by slashes, as 0,1/0,2/1,2",
+        OperandKind::Split =>
+            b"  SPLIT        code, parallel, serial, cascade, feedback, least, or as 0,1,0,1/0,0,1,1",
+        OperandKind::J =>
+            b"  J            the number of a part, of one to three digits, from 0; or outputs",
         OperandKind::Seed =>
             b"  SEED         the number that the machine is made from, of one to nine digits",
         OperandKind::A => b"  A            how many states its first factor has, from 2 to 128",
