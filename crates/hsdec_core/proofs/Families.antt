@@ -16,11 +16,12 @@ use Rattle.hsdec_core.specs.declared.tasks.ListTask.TheVariants.{Closed, InputPa
 use Rattle.hsdec_core.specs.declared.tasks.MachineTask.{MachineTask}
 use Rattle.hsdec_core.specs.declared.tasks.MachineTask.TheVariants.{Listing, OfFile, OfWork}
 use Rattle.hsdec_core.specs.declared.tasks.WorkTask.{WorkTask}
-use Rattle.hsdec_core.specs.declared.tasks.WorkTask.TheVariants.{Compare, Decompose, Definite, Shift}
+use Rattle.hsdec_core.specs.declared.tasks.WorkTask.TheVariants.{Compare, Decompose, Definite, Part, Shift}
 use Rattle.operands.specs.Laws.Causes.{never_has_one}
 use Rattle.hsdec_core.specs.Clocks.{HasCoverLatches, HasRegisterLatches, HasSplitLatches, TakesClock}
 use Rattle.hsdec_core.specs.Inner.JobOutcome.{IsPlain}
 use Rattle.hsdec_core.specs.Judgement.{file_cause, list_cause, own_cause, work_cause}
+use Rattle.hsdec_core.specs.SplitOperands.{split_kind, which_of}
 use Rattle.hsdec_core.proofs.Clocks.{takes_clock_is_of}
 use Rattle.io_pairs.specs.Inputs.{IsInMmPair}
 use Rattle.io_pairs.specs.Outputs.{IsOutMmPair}
@@ -32,6 +33,8 @@ use Rattle.partition.specs.Sides.{RightBefore}
 use Rattle.output_consistent.specs.Outputs.{IsClosedAndConsistent}
 use Rattle.operands.specs.PartFaults.{BadPart}
 use Rattle.operands.specs.Laws.Parts.{bad_part_is_of, bad_parts_is_of}
+use Rattle.part_texts.specs.PartCauses.{HasNoPart}
+use Rattle.part_texts.specs.Laws.Causes.{lacks_bits_is_of, lacks_part_is_of, long_name_is_of, many_inputs_is_of, part_has_one_answer}
 use Rattle.partition.specs.Order.{Before}
 use Rattle.shift_texts.specs.Causes.{RefusesShift}
 use Rattle.shift_texts.specs.Laws.Causes.{has_long_register_is_of, keeps_apart_is_of, never_in_reset_is_of, shift_has_one_answer}
@@ -42,6 +45,7 @@ use Rattle.split_texts.specs.Causes.{HasLongCode, IsNotWritten, LeavesTogether}
 use Rattle.split_texts.specs.Laws.Causes.{has_long_code_is_of, leaves_together_is_of, not_written_one, of_parts_is_of}
 use Rattle.state_codes.specs.declared.split.Kind.{Kind}
 use Rattle.state_codes.specs.declared.split.Kind.TheVariants as kinds
+use Rattle.state_codes.specs.declared.which.Which.{Which}
 
 list_have_one : (listed : ListTask) (limit : ℕ) (F : KissFile) → HasOneAnswer (list_cause listed limit F)
 list_have_one Closed limit F = list_has_one_answer Before (IsClosedPartition F) limit
@@ -66,6 +70,7 @@ work_have_one : (task : WorkTask) (job : Job) (F : KissFile) → HasOneAnswer (w
 work_have_one Definite job F = definite_has_one_answer job.reduce F
 work_have_one Compare job F = never_has_one
 work_have_one Shift job F = with_clock_one job (HasRegisterLatches job.reduce) F (RefusesShift job.reduce F) (shift_has_one_answer job.reduce F)
+work_have_one Part job F = part_has_one_answer (split_kind job.second) job.second (which_of job.part) job.reduce F
 work_have_one (Decompose kind) job F =
     with_clock_one job (HasSplitLatches kind job.second job.reduce) F (IsNotWritten kind job.second job.reduce F) (not_written_one kind job.second job.reduce F)
 
@@ -97,6 +102,16 @@ not_written_plain kind text reduce F refusal (W, work, inr (_, inr (_, inl h))) 
 not_written_plain kind text reduce F refusal (W, work, inr (_, inr (_, inr (_, inl h)))) =
     subst IsPlain (sym (of_parts_is_of answers.CodeTooLong kind text W HasLongCode has_long_code_is_of refusal h)) tt
 not_written_plain kind text reduce F refusal (W, work, inr (_, inr (_, inr (_, inr h)))) = absurd h.1
+
+pub part_plain : (kind : Kind) (text : List ℕ) (which : Which) (reduce : Bool) (F : KissFile) (refusal : Refusal) → HasNoPart kind text which reduce F refusal → IsPlain (answer_of refusal)
+part_plain kind text which reduce F refusal (inl h) = not_written_plain kind text reduce F refusal h
+part_plain kind text which reduce F refusal (inr (_, inl h)) = subst IsPlain (sym (lacks_part_is_of which h.parts refusal h.calls)) tt
+part_plain kind text which reduce F refusal (inr (_, inr (_, inl h))) = subst IsPlain (sym (lacks_bits_is_of which h.codes refusal h.calls)) tt
+part_plain kind text which reduce F refusal (inr (_, inr (_, inr (_, inl h)))) =
+    subst IsPlain (sym (many_inputs_is_of which h.codes h.sets refusal h.calls)) tt
+part_plain kind text which reduce F refusal (inr (_, inr (_, inr (_, inr (_, inl h))))) =
+    subst IsPlain (sym (long_name_is_of which h.codes h.sets h.names refusal h.calls)) tt
+part_plain kind text which reduce F refusal (inr (_, inr (_, inr (_, inr (_, inr h))))) = absurd h.1
 
 pub shift_plain : (reduce : Bool) (F : KissFile) (refusal : Refusal) → RefusesShift reduce F refusal → IsPlain (answer_of refusal)
 shift_plain reduce F refusal (W, work, inl h) = subst IsPlain (sym (keeps_apart_is_of W refusal h)) tt
@@ -135,6 +150,7 @@ work_plain : (task : WorkTask) (job : Job) (F : KissFile) (refusal : Refusal) �
 work_plain Definite job F refusal h = subst IsPlain (sym (not_definite_is_of job.reduce F refusal h)) tt
 work_plain Compare job F refusal h = absurd h
 work_plain Shift job F refusal h = with_clock_plain job (HasRegisterLatches job.reduce) F (RefusesShift job.reduce F) refusal (shift_plain job.reduce F refusal) h
+work_plain Part job F refusal h = part_plain (split_kind job.second) job.second (which_of job.part) job.reduce F refusal h
 work_plain (Decompose kind) job F refusal h =
     with_clock_plain job (HasSplitLatches kind job.second job.reduce) F (IsNotWritten kind job.second job.reduce F) refusal (not_written_plain kind job.second job.reduce F refusal) h
 

@@ -14,11 +14,12 @@ use Rattle.hsdec_core.specs.declared.tasks.MachineTask.TheVariants.{Listing, OfF
 use Rattle.hsdec_core.specs.declared.tasks.Task.{Task}
 use Rattle.hsdec_core.specs.declared.tasks.Task.TheVariants.{Gen, OnMachine, Sim, Trial, Walk}
 use Rattle.hsdec_core.specs.declared.tasks.WorkTask.{WorkTask}
-use Rattle.hsdec_core.specs.declared.tasks.WorkTask.TheVariants.{Compare, Decompose, Definite, Shift}
+use Rattle.hsdec_core.specs.declared.tasks.WorkTask.TheVariants.{Compare, Decompose, Definite, Part, Shift}
 use Rattle.hsdec_core.specs.Clocks.{HasCoverLatches, HasRegisterLatches, HasSplitLatches, TakesClock}
 use Rattle.operands.specs.Causes.{Never, NoMachineOf, NoNetworkOf, OfMachine, OfNetwork}
 use Rattle.operands.specs.Fill.{fill_of}
 use Rattle.operands.specs.OperandText.{Lengthy}
+use Rattle.hsdec_core.specs.SplitOperands.{split_kind, which_of}
 use Rattle.hsdec_core.specs.Task.{task_of}
 use Rattle.job_words.specs.declared.jobs.Job.{Job}
 use Rattle.kiss_file.specs.declared.file.KissFile.{KissFile}
@@ -27,6 +28,7 @@ use Rattle.mm_lattice.specs.MmPairs.{IsMmPair}
 use Rattle.partition.specs.Sides.{RightBefore}
 use Rattle.output_consistent.specs.Outputs.{IsClosedAndConsistent}
 use Rattle.operands.specs.PartFaults.{BadPart}
+use Rattle.part_texts.specs.PartCauses.{HasNoPart}
 use Rattle.partition.specs.Order.{Before}
 use Rattle.shift_texts.specs.Causes.{RefusesShift}
 use Rattle.split_texts.specs.Causes.{IsNotWritten}
@@ -53,6 +55,7 @@ abbrev pub work_cause : WorkTask → Job → KissFile → Cause
 work_cause Definite job F = NotDefiniteRow job.reduce F
 work_cause Compare job F = Never
 work_cause Shift job F = FirstOf (RefusesShift job.reduce F ∷ TakesClock job (HasRegisterLatches job.reduce) F ∷ [])
+work_cause Part job F = HasNoPart (split_kind job.second) job.second (which_of job.part) job.reduce F
 work_cause (Decompose kind) job F =
     FirstOf (IsNotWritten kind job.second job.reduce F ∷ TakesClock job (HasSplitLatches kind job.second job.reduce) F ∷ [])
 

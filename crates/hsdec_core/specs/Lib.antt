@@ -3,5 +3,6 @@ pub mod Inner
 pub mod Judgement
 pub mod Operands
 pub mod Promise
+pub mod SplitOperands
 pub mod Stop
 pub mod Task

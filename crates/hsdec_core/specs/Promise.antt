@@ -14,11 +14,12 @@ use Rattle.hsdec_core.specs.declared.tasks.MachineTask.TheVariants.{Listing, OfF
 use Rattle.hsdec_core.specs.declared.tasks.Task.{Task}
 use Rattle.hsdec_core.specs.declared.tasks.Task.TheVariants.{Gen, OnMachine, Sim, Trial, Walk}
 use Rattle.hsdec_core.specs.declared.tasks.WorkTask.{WorkTask}
-use Rattle.hsdec_core.specs.declared.tasks.WorkTask.TheVariants.{Compare, Decompose, Definite, Shift}
+use Rattle.hsdec_core.specs.declared.tasks.WorkTask.TheVariants.{Compare, Decompose, Definite, Part, Shift}
 use Rattle.hsdec_core.specs.Clocks.{design_of}
 use Rattle.operands.specs.Fill.{fill_of}
 use Rattle.operands.specs.OperandText.{IsText}
 use Rattle.operands.specs.OpenedOperands.{HoldsMachine, HoldsNetwork}
+use Rattle.hsdec_core.specs.SplitOperands.{split_kind, which_of}
 use Rattle.hsdec_core.specs.Task.{task_of}
 use Rattle.io_pairs.specs.Inputs.{IsInMmPair}
 use Rattle.job_words.specs.declared.jobs.Job.{Job}
@@ -38,6 +39,7 @@ use Rattle.partition.specs.Sides.{RightBefore}
 use Rattle.net_core.specs.declared.Network.{Network}
 use Rattle.net_sim.specs.Run.{IsRun}
 use Rattle.output_consistent.specs.Outputs.{IsClosedAndConsistent}
+use Rattle.part_texts.specs.PartText.{IsPartText}
 use Rattle.partition.specs.Order.{Before}
 use Rattle.shift_texts.specs.ShiftText.{IsShiftText}
 use Rattle.split_texts.specs.SplitText.{IsWritten}
@@ -78,6 +80,7 @@ abbrev pub IsWorkText : WorkTask → Job → KissFile → List ℕ → Type 0
 IsWorkText Definite job F text = IsChainText (shown_of job) job.reduce F text
 IsWorkText Compare job F text = IsCompared job.reduce F text
 IsWorkText Shift job F text = IsShiftText (design_of job) job.reduce F text
+IsWorkText Part job F text = IsPartText (split_kind job.second) job.second (which_of job.part) job.reduce F text
 IsWorkText (Decompose kind) job F text = IsWritten (design_of job) kind job.second job.reduce F text
 
 -- the text is the whole text of the task

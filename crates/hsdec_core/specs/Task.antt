@@ -5,7 +5,7 @@ use Rattle.hsdec_core.specs.declared.tasks.ListTask.TheVariants.{Closed, InputPa
 use Rattle.hsdec_core.specs.declared.tasks.MachineTask.TheVariants.{Listing, OfFile, OfWork}
 use Rattle.hsdec_core.specs.declared.tasks.Task.{Task}
 use Rattle.hsdec_core.specs.declared.tasks.Task.TheVariants.{Gen, OnMachine, Sim, Trial, Walk}
-use Rattle.hsdec_core.specs.declared.tasks.WorkTask.TheVariants.{Compare, Decompose, Definite, Shift}
+use Rattle.hsdec_core.specs.declared.tasks.WorkTask.TheVariants.{Compare, Decompose, Definite, Part, Shift}
 use Rattle.job_words.specs.declared.command.Command.{Command}
 use Rattle.job_words.specs.declared.command.Command.TheVariants as commands
 use Rattle.state_codes.specs.declared.split.Kind.{Kind}
@@ -36,6 +36,7 @@ task_of commands.Shift = OnMachine (OfWork Shift)
 task_of commands.Ispairs = OnMachine (Listing InputPairs)
 task_of commands.Sopairs = OnMachine (Listing OutputPairs)
 task_of commands.Compare = OnMachine (OfWork Compare)
+task_of commands.Part = OnMachine (OfWork Part)
 
 -- the kind of decomposition that a task writes, if it writes one
 abbrev pub kind_of : Task → Option Kind

@@ -6,7 +6,7 @@ ghost use Rattle.hsdec_core.specs.Inner.JobOutcome.{IsMadeFor, IsMadeOf};
 ghost use Rattle.hsdec_core.specs.Operands.{AreGranted, takes_file};
 ghost use Rattle.hsdec_core.specs.Task.{task_of};
 ghost use Rattle.job_words.specs.declared.command.Command.TheVariants as commands;
-ghost use Rattle.job_words.specs.Job.{HasFewSlashes, HasGivenNames, HasSizes, IsLimit, JobOf};
+ghost use Rattle.job_words.specs.Job.{HasFewSlashes, HasGivenNames, HasSizes, IsLimit, JobOf, TakesParts};
 
 use crate::machine_tasks::on_machine;
 use crate::pages::page_of;
@@ -45,7 +45,7 @@ pub fn perform<F: Shelf>(alloc: Global, words: &Words, shelf: &mut F) -> Result<
 
 /// Makes what a job asks for.
 fn perform_job<F: Shelf>(alloc: Global, job: &Job, shelf: &mut F) -> Result<Report, Refusal>
-    requires few { job.now.command ≡ commands.Assign → HasFewSlashes job.now.second }
+    requires few { TakesParts job.now.command → HasFewSlashes job.now.second }
     requires limited { IsLimit job.now.limit }
     requires named { HasGivenNames job.now }
     requires sizes { (job.now.command ≡ commands.Gen) ⊎ (job.now.command ≡ commands.Trial) → HasSizes job.now }

@@ -3,9 +3,10 @@
 //! [`run`] judges the words, loads the operands, has the command make its text or its network in memory, writes the
 //! network as a text (`pages`), and only then puts the text. The crate `operands` says what FILE, NET and SYMBOLS may
 //! hold. The crate of a command's family says what the command does and why it may refuse: `machine_reports`,
-//! `comparisons`, `split_texts`, `cover_texts`, `shift_texts`, `symbol_runs` or `generated_texts`. This crate says:
+//! `comparisons`, `split_texts`, `part_texts`, `cover_texts`, `shift_texts`, `symbol_runs` or `generated_texts`. This
+//! crate says:
 //!
-//! - what each command works on (`specs/Task`, `specs/Operands`);
+//! - what each command works on (`specs/Task`, `specs/Operands`, and for `part` `specs/SplitOperands`);
 //! - under which name of a model and with which clock the network of a job is written, and which clocks are refused
 //!   (`specs/Clocks`);
 //! - in which order the causes of refusals are judged (`specs/Judgement`);
@@ -26,6 +27,7 @@ mod designs;
 mod job_outcome;
 mod machine_tasks;
 mod pages;
+mod split_operands;
 mod symbol_tasks;
 mod tasks;
 mod top_call;

@@ -1,6 +1,6 @@
 //! The commands that work on the machine of FILE alone.
 
-ghost use Rattle.std.specs.Prelude.{◌≡◌, ◌≤◌, ◌↔◌, ℕ, Err, IfOk, List, MatchResult, Ok};
+ghost use Rattle.std.specs.Prelude.{◌≡◌, ◌≤◌, ◌↔◌, ◌⊎◌, ℕ, Err, IfOk, List, MatchResult, Ok};
 ghost use Rattle.hs_io.specs.Counts.{Rose};
 ghost use Rattle.answers.specs.declared.refusals.Refusal.TheVariants.{NoMemory};
 ghost use Rattle.answers.specs.declared.reports.Report.TheVariants.{Network, Whole};
@@ -24,14 +24,17 @@ ghost use Rattle.hsdec_core.specs.Promise.{
   IsWorkText,
   shown_of,
 };
+ghost use Rattle.hsdec_core.specs.SplitOperands.{split_kind, which_of};
 ghost use Rattle.hsdec_core.specs.Task.{task_of};
-ghost use Rattle.job_words.specs.declared.command.Command.TheVariants as commands;
-ghost use Rattle.job_words.specs.Job.{HasFewSlashes, HasGivenNames, IsLimit};
+ghost use Rattle.job_words.specs.Job.{HasFewSlashes, HasGivenNames, IsLimit, TakesParts};
 ghost use Rattle.kiss_file.specs.LawfulFile.{IsLawful};
 ghost use Rattle.kiss_file.specs.Machine.{Accepted};
+ghost use Rattle.part_texts.specs.PartCauses.{HasNoPart};
+ghost use Rattle.part_texts.specs.PartText.{IsPartText};
 ghost use Rattle.state_codes.specs.declared.split.Kind.TheVariants as kinds;
 
 use crate::designs::designed;
+use crate::split_operands::{kind_of_split, which};
 use crate::tasks::{FileTask, ListTask, MachineTask, WorkTask};
 use answers::{Bytes, Refusal, Report};
 use blif_out::{CommentedNetwork, HeadedNetwork, header_comments};
@@ -45,6 +48,7 @@ use machine_reports::{
 };
 use machine_table::Machine;
 use operands::{OpenedMachine, fill, open_machine};
+use part_texts::part;
 use shift_texts::shift;
 use split_texts::decompose;
 use std::alloc::{AllocError, Global};
@@ -57,7 +61,7 @@ pub fn on_machine<F: Shelf>(
     shelf: &mut F,
 ) -> Result<Report, Refusal>
     requires task { task_of job.now.command ≡ OnMachine task }
-    requires few { job.now.command ≡ commands.Assign → HasFewSlashes job.now.second }
+    requires few { TakesParts job.now.command → HasFewSlashes job.now.second }
     requires limited { IsLimit job.now.limit }
     requires named { HasGivenNames job.now }
     requires granted { AreGranted (F.grants shelf.old) job.now }
@@ -79,7 +83,8 @@ fn report(
     file: &KissFile,
     machine: Machine,
 ) -> Result<Report, Refusal>
-    requires few { task ≡ OfWork (works.Decompose kinds.Assign) → HasFewSlashes job.now.second }
+    requires few { (task ≡ OfWork (works.Decompose kinds.Assign)) ⊎ (task ≡ OfWork works.Part)
+        → HasFewSlashes job.now.second }
     requires limited { IsLimit job.now.limit }
     requires named { HasGivenNames job.now }
     requires lawful { IsLawful file.now }
@@ -133,7 +138,7 @@ fn on_work(
     file: &KissFile,
     machine: Machine,
 ) -> Result<Report, Refusal>
-    requires few { task ≡ works.Decompose kinds.Assign → HasFewSlashes job.now.second }
+    requires few { (task ≡ works.Decompose kinds.Assign) ⊎ (task ≡ works.Part) → HasFewSlashes job.now.second }
     requires named { HasGivenNames job.now }
     requires lawful { IsLawful file.now }
     requires accepted { Accepted file.now (fill_of job.now) }
@@ -150,6 +155,7 @@ fn on_work(
             let made = shift(alloc, file, machine, fill(job), job.reduce);
             drawn(alloc, job, made)
         }
+        WorkTask::Part => judged(part_of_split(alloc, job, file, machine)),
         WorkTask::Decompose(kind) => {
             let made = decompose(
                 alloc,
@@ -163,6 +169,35 @@ fn on_work(
             headed(alloc, job, made)
         }
     }
+}
+
+/// Makes the text of one of the machines of a split.
+fn part_of_split(
+    alloc: Global,
+    job: &Job,
+    file: &KissFile,
+    machine: Machine,
+) -> Result<Vec<u8>, Refusal>
+    requires few { HasFewSlashes job.now.second }
+    requires lawful { IsLawful file.now }
+    requires accepted { Accepted file.now (fill_of job.now) }
+    requires machine { machine ≡ file.now }
+    ensures { let kind = split_kind job.now.second in
+        let which = which_of job.now.part in
+        IsJudged (HasNoPart kind job.now.second which job.now.reduce file.now)
+        (λ written. IsPartText kind job.now.second which job.now.reduce file.now written.items) result }
+{
+    let split = job.second.bytes();
+    part(
+        alloc,
+        kind_of_split(split),
+        split,
+        which(job),
+        file,
+        machine,
+        fill(job),
+        job.reduce,
+    )
 }
 
 /// Makes a list, or the evidence that it has more than the limit.

@@ -66,6 +66,8 @@ pub enum WorkTask {
     Compare,
     /// The shift register of a definite machine.
     Shift,
+    /// One of the smaller machines of a split.
+    Part,
     /// A decomposition of that kind.
     Decompose(Kind),
 }
@@ -99,6 +101,7 @@ pub fn task_of_command(command: Command) -> Task
         Command::Ispairs => MachineTask::Listing(ListTask::InputPairs),
         Command::Sopairs => MachineTask::Listing(ListTask::OutputPairs),
         Command::Compare => MachineTask::OfWork(WorkTask::Compare),
+        Command::Part => MachineTask::OfWork(WorkTask::Part),
     };
     Task::OnMachine(on_machine)
 }

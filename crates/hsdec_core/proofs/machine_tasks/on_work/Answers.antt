@@ -1,13 +1,14 @@
-use Rattle.std.proofs.Common.{ap, refl, ◌∙◌, subst}
+use Rattle.std.proofs.Common.{ap, inl, inr, refl, ◌∙◌, subst}
 use Rattle.answers.specs.declared.numbers.Answer.TheVariants as answers
 use Rattle.answers.specs.Outcome.{IsJudged}
 use Rattle.blif_out.specs.NetworkText.{CanBeHeaded}
-use Rattle.hsdec_core.specs.declared.tasks.WorkTask.TheVariants.{Compare, Decompose, Definite, Shift}
+use Rattle.hsdec_core.specs.declared.tasks.WorkTask.TheVariants.{Compare, Decompose, Definite, Part, Shift}
 use Rattle.hsdec_core.specs.Clocks.{HasRegisterLatches, HasSplitLatches}
 use Rattle.hsdec_core.specs.Judgement.{work_cause}
 use Rattle.hsdec_core.specs.Promise.{IsWorkText}
+use Rattle.hsdec_core.specs.SplitOperands.{split_kind, which_of}
 use Rattle.hsdec_core.proofs.Clocks.{register_linked, split_linked}
-use Rattle.hsdec_core.proofs.Families.{not_written_plain, shift_plain}
+use Rattle.hsdec_core.proofs.Families.{not_written_plain, part_plain, shift_plain}
 use Rattle.hsdec_core.proofs.Reports.{drawn_reported, few_of, headed_reported, judged_first, judged_reported, parts_few, plain_few, reported_as, whole_reported}
 use Rattle.hsdec_core.proofs.machine_tasks.on_work.Goals as goal
 use Rattle.machine_reports.specs.Causes.{NotDefiniteRow}
@@ -19,7 +20,7 @@ use Rattle.shift_texts.specs.Causes.{RefusesShift}
 use Rattle.shift_texts.specs.ShiftText.{IsShiftNetwork}
 
 pub decompose-made-requires-clause-few : goal.decompose-made-requires-clause-few
-decompose-made-requires-clause-few c = λ assign. parts_few c.args.job.now.second c.bytes.result.now c.bytes.ensures (c.requires.few (c.in-Decompose.is ∙ ap Decompose assign))
+decompose-made-requires-clause-few c = λ assign. parts_few c.args.job.now.second c.bytes.result.now c.bytes.ensures (c.requires.few (inl (c.in-Decompose.is ∙ ap Decompose assign)))
 
 pub headed-requires : goal.headed-requires
 headed-requires c = judged_first _ CanBeHeaded (IsOfKind c.in-Decompose.kind c.bytes.result.now c.args.job.now.reduce c.args.file.now) c.decompose-made.result c.decompose-made.ensures
@@ -48,6 +49,18 @@ returns-in-Shift c =
     _ Shift F F c.drawn.result c.in-Shift.is refl
     (drawn_reported job c.requires.named (RefusesShift job.reduce F) (HasRegisterLatches job.reduce) F _ _ (IsShiftNetwork job.reduce F) c.shift-made.result c.drawn.result c.drawn.ensures
     (λ refusal h. plain_few _ (shift_plain job.reduce F refusal h)) (λ network right. register_linked job job.reduce F network c.requires.lawful right) (λ network right text told. (network, right, told)) c.shift-made.ensures)
+
+pub part_of_split-requires-clause-few : goal.part_of_split-requires-clause-few
+part_of_split-requires-clause-few c = c.requires.few (inr c.in-Part.is)
+
+pub returns-in-Part : goal.returns-in-Part
+returns-in-Part c =
+    let F = c.args.file.now in
+    let job = c.args.job.now in
+    reported_as (λ task. work_cause task job) (λ task. IsWorkText task job) (λ _ _ _. ⊥)
+    _ Part F F c.judged-in-Part.result c.in-Part.is refl
+    (judged_reported (λ v. v.items) _ _ _ c.part_of_split.result c.judged-in-Part.result c.judged-in-Part.ensures
+    (λ refusal h. plain_few _ (part_plain (split_kind job.second) job.second (which_of job.part) job.reduce F refusal h)) c.part_of_split.ensures)
 
 pub returns-in-Decompose : goal.returns-in-Decompose
 returns-in-Decompose c =

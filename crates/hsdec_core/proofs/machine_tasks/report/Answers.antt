@@ -1,4 +1,4 @@
-use Rattle.std.proofs.Common.{refl, ap, ◌∙◌, subst}
+use Rattle.std.proofs.Common.{inl, inr, refl, ap, ◌∙◌, subst}
 use Rattle.answers.specs.Outcome.{IsReported}
 use Rattle.hsdec_core.specs.declared.tasks.MachineTask.TheVariants.{Listing, OfFile, OfWork}
 use Rattle.hsdec_core.specs.Judgement.{list_cause, own_cause}
@@ -7,7 +7,10 @@ use Rattle.hsdec_core.proofs.Reports.{reported_as}
 use Rattle.hsdec_core.proofs.machine_tasks.report.Goals as goal
 
 pub on_work-requires-clause-few : goal.on_work-requires-clause-few
-on_work-requires-clause-few c = λ assign. c.requires.few (c.in-OfWork.is ∙ ap OfWork assign)
+on_work-requires-clause-few c = elim [
+  | inl assign ↦ c.requires.few (inl (c.in-OfWork.is ∙ ap OfWork assign))
+  | inr part ↦ c.requires.few (inr (c.in-OfWork.is ∙ ap OfWork part))
+]
 
 pub returns-in-Listing : goal.returns-in-Listing
 returns-in-Listing c =
