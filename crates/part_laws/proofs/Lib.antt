@@ -4,5 +4,7 @@ mod Stepping
 mod Once
 mod OneMachine
 mod Whole
+mod OneSplit
+mod Texts
 mod Worked
 mod Specified

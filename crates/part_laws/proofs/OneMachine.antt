@@ -34,7 +34,7 @@ use Rattle.partition.specs.Partition.{blocks_of, one_of}
 use Rattle.list_facts.specs.Laws.Places.{item_at}
 use Rattle.state_codes.specs.declared.Codes.{Codes}
 use Rattle.state_codes.specs.declared.split.Part.{Part}
-use Rattle.part_laws.specs.OneMachine.{PartIsOne}
+use Rattle.part_laws.specs.OneMachine.{MachineIsOne}
 use Rattle.part_laws.proofs.Specified.{specified_work}
 use Rattle.part_laws.proofs.Lists.{zip_once}
 use Rattle.text_laws.proofs.Lists.{same_ascending, same_items}
@@ -208,6 +208,6 @@ of_one_work W parts code sets names which P Q lawful specified one two =
     ((one.signals).input_names ∙ sym signals.input_names)
     ((one.signals).output_names ∙ sym signals.output_names)
 
-pub part_is_one : PartIsOne
-part_is_one reduce F W parts code sets names which P Q work lawful specified one two =
+pub machine_is_one : MachineIsOne
+machine_is_one reduce F W parts code sets names which P Q work lawful specified one two =
     of_one_work W parts code sets names which P Q lawful (specified_work reduce F W work.0 work.1 specified) one two

@@ -13,7 +13,8 @@ use Rattle.state_reduce.specs.WorkMachine.{IsWorkMachine}
 use Rattle.state_reduce.proofs.AllNamed.{all_named}
 use Rattle.state_reduce.proofs.Lawfully.{blocks_lawful}
 use Rattle.state_reduce.proofs.Working.{classes_answer_alike}
-use Rattle.part_laws.specs.Parts.{PartsAnswer}
+use Rattle.part_texts.specs.SplitMachine.{IsSplitMachine}
+use Rattle.part_laws.specs.Parts.{MachinesAnswer}
 use Rattle.part_laws.specs.Together.{AnswerTogether, at_reset}
 use Rattle.part_laws.proofs.Reading.{IsSplitUp}
 use Rattle.part_laws.proofs.Stepping.{answer_as_work}
@@ -42,21 +43,22 @@ fit false F W class lawful no_conflict work =
       reset = ap (λ (M : KissFile). M.reset) work.file ∙ sym (work.class_of F.reset);
     }
 
-pub parts_answer : PartsAnswer
-parts_answer reduce F W parts code sets names numbers machines Z apart are word long =
-    let class : ℕ → ℕ = (apart.work).0 in
-    let fits : IsFit F W (apart.work).0 = fit reduce F W (apart.work).0 apart.lawful apart.no_conflict (apart.work).1 in
+pub machines_answer : MachinesAnswer
+machines_answer kind text reduce F W parts code sets names numbers machines Z apart are word long =
+    let of_job : IsSplitMachine kind text reduce F W parts code sets names = apart.split in
+    let work = of_job.work in
+    let fits : IsFit F W work.0 = fit reduce F W work.0 apart.lawful apart.no_conflict work.1 in
     let split : IsSplitUp F W parts code sets names = record {
       lawful = apart.lawful;
       machine = fits.machine;
       inputs = fits.inputs;
-      parts_are = apart.parts_are;
-      short = apart.short;
-      reads = apart.reads;
-      own = apart.own;
+      parts_are = of_job.lawful;
+      short = of_job.coded.short;
+      reads = of_job.reads;
+      own = of_job.own;
     } in
     let same : answers W W.reset word ≡ answers F F.reset word =
     ap (λ (s : ℕ). answers W s word) fits.reset
-    ∙ classes_answer_alike reduce F W (apart.work).0 apart.lawful apart.no_conflict (apart.work).1 F.reset word (apart.lawful).reset long in
+    ∙ classes_answer_alike reduce F W work.0 apart.lawful apart.no_conflict work.1 F.reset word (apart.lawful).reset long in
     let made = answer_as_work F W parts code sets names numbers machines Z split are word long in
     (made.0, subst (λ (bits : List (List Bool)). AnswerTogether names.inputs Z (map at_reset machines) word bits made.0) same made.1, made.2)

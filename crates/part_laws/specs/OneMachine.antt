@@ -13,8 +13,8 @@ use Rattle.state_reduce.specs.Work.{IsWorkOf}
 use Rattle.part_laws.specs.Together.{AnswerTogether, MachineAt}
 
 -- where nothing is open in the file F, there is one machine of a part of the machine W that a job works on
-abbrev pub PartIsOne : Type 0
-PartIsOne =
+abbrev pub MachineIsOne : Type 0
+MachineIsOne =
     (reduce : Bool) (F W : KissFile) (parts : List Part) (code : Codes) (sets : Reads) (names : SignalNames) (which : Which) (P Q : KissFile)
     → IsWorkOf reduce F W → All (IsPart (length W.states)) parts → Specified F
     → IsPartOf W parts code sets names which P → IsPartOf W parts code sets names which Q → P ≡ Q

@@ -1,4 +1,4 @@
-use Rattle.part_laws.proofs.OneMachine.{part_is_one}
+use Rattle.part_laws.proofs.Texts.{part_is_one}
 use Rattle.part_laws.proofs.part_is_one.Goals as goal
 
 pub returns : goal.returns

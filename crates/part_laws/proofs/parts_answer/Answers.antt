@@ -1,4 +1,4 @@
-use Rattle.part_laws.proofs.Whole.{parts_answer}
+use Rattle.part_laws.proofs.Texts.{parts_answer}
 use Rattle.part_laws.proofs.parts_answer.Goals as goal
 
 pub returns : goal.returns
