@@ -1,7 +1,7 @@
 -- Rows of a state that are filled up with rows for what they leave open.
 use Rattle.std.proofs.Common.{◌≡◌, ℕ, ◌+◌, ◌-◌, ◌%◌, ◌^◌, ◌<◌, ◌↔◌, ◌⊎◌, min, Bool, true, false, List, [], ◌∷◌, ◌++◌, length, get_or, All, Contains, Option, Some, None, IfSome, IsNone, IsSome, inl, inr, sym, take, ◌∙◌, subst, refl, arith, ap, bit_and}
 use Rattle.std.proofs.lemmas.Bool.{cases_Bool, cases_lt, false≢true}
-use Rattle.std.proofs.lemmas.List.{take_more}
+use Rattle.std.proofs.lemmas.List.{append-nil, take_more}
 use Rattle.std.proofs.lemmas.List.Elements.{All-append, All-contains, All-push, All-weaker, Contains-append_cases, Contains-append_left, Contains-append_right, Contains-get_or}
 use Rattle.std.proofs.lemmas.Nat.Bits.{bit_at_and, bit_at_ones_above, bit_at_xor, bit_at-lt}
 use Rattle.std.specs.Int.{bit_at}
@@ -11,16 +11,18 @@ use Rattle.cubes.specs.declared.cube.Cube.{Cube}
 use Rattle.cubes.specs.Cube.{HoldsNumber, IsHalf, Meets}
 use Rattle.cubes.specs.Symbol.{bit, symbol_of}
 use Rattle.cubes.specs.Laws.Bits.{bit-zero, bit_from_one, one_from_bit}
+use Rattle.cubes.specs.Laws.Ends.{least_held}
 use Rattle.cubes.specs.Laws.Numbers.{length-symbol_of}
 use Rattle.cubes.specs.Laws.Parts.{half_from_whole, whole_from_half}
 use Rattle.kiss_file.specs.declared.file.KissFile.{KissFile}
 use Rattle.kiss_file.specs.declared.file.KissRow.{KissRow}
-use Rattle.kiss_file.specs.Machine.{Conflicting, IsRowAt, Specified, given_bit}
+use Rattle.kiss_file.specs.Machine.{Conflicting, IsRowAt, given_bit}
 use Rattle.kiss_file.specs.Laws.Machine.{next_not_said, next_said, output_bit_not_said, output_bit_said}
 use Rattle.machine_table.specs.declared.open_part.Missing.{Missing}
 use Rattle.machine_table.specs.declared.open_part.Missing.TheVariants.{Next, Output}
 use Rattle.machine_table.specs.Pieces.{IsRightRow, IsSaidBy}
 use Rattle.state_pairs.specs.RowLabels.{IsOfState}
+use Rattle.dependence.specs.FilledRows.{IsSpecifiedState}
 use Rattle.dependence.specs.Inner.FilledRows.{AreNear, AreRowsOf, AreThoseMet, Fills, FillsPart, IsFilling, SayNothing, alone_of}
 use Rattle.machine_table.specs.OpenEntries.{Says, place_of}
 use Rattle.machine_table.specs.Table.{IsTable}
@@ -164,15 +166,15 @@ module _ (F : KissFile) (table : IsTable F) (no_conflict : Conflicting F → ⊥
   }
 
   -- where nothing is open, they say each part at each symbol
-  pub own_say : Specified F → s < length F.states → (rows : List KissRow) → AreRowsOf F s rows → (x : ℕ) (part : Missing) → x < 2 ^ F.inputs → place_of part < F.outputs + 1 → IsSaidBy rows x part
-  own_say specified state rows known x part within counted = says part counted where
+  pub own_say : IsSpecifiedState F s → (rows : List KissRow) → AreRowsOf F s rows → (x : ℕ) (part : Missing) → place_of part < F.outputs + 1 → IsSaidBy rows x part
+  own_say specified rows known x part counted = says part counted where
     at_row : (part : Missing) (row : KissRow) → IsRowAt F s (symbol_of F.inputs x) row → Says part row → IsSaidBy rows x part
     at_row part row at told = (row, known.own row (row_from_at F table s x row at), held_from_at F table s x row at, told)
 
     says : (part : Missing) → place_of part < F.outputs + 1 → IsSaidBy rows x part
-    says Next counted = let there = (specified s (symbol_of F.inputs x) state (length-symbol_of F.inputs x)).next in at_row Next there.0 there.1 there.2
+    says Next counted = let there = (specified (symbol_of F.inputs x) (length-symbol_of F.inputs x)).next in at_row Next there.0 there.1 there.2
     says (Output b) counted =
-        let there = (specified s (symbol_of F.inputs x) state (length-symbol_of F.inputs x)).outputs b (omega arith) in at_row (Output b) there.0 there.1 there.2
+        let there = (specified (symbol_of F.inputs x) (length-symbol_of F.inputs x)).outputs b (omega arith) in at_row (Output b) there.0 there.1 there.2
 
   module _ (rows : List KissRow) (cube : Cube) (near : AreNear F s cube rows) (width : cube.width ≡ F.inputs) (state : s < length F.states) (added : KissRow) (filling : IsFilling rows s cube F.outputs added) where
     -- no row of the state says there what the added row says
@@ -211,6 +213,15 @@ module _ (F : KissFile) (table : IsTable F) (no_conflict : Conflicting F → ⊥
         to_within None each = tt
         to_within (Some t) each = subst (λ (u : ℕ). u < length F.states) (sym (each t refl)) state
 
+    -- the state leaves it open
+    left_open : (part : Missing) → place_of part < F.outputs + 1 → Says part added → ¬ IsSpecifiedState F s
+    left_open Next counted says specified =
+        let there = (specified (symbol_of F.inputs added.cube.value) (length-symbol_of F.inputs added.cube.value)).next in
+        silent_there added.cube.value Next (least_held added.cube) says there.0 there.1 there.2
+    left_open (Output b) counted says specified =
+        let there = (specified (symbol_of F.inputs added.cube.value) (length-symbol_of F.inputs added.cube.value)).outputs b (omega (arith, counted)) in
+        silent_there added.cube.value (Output b) (least_held added.cube) says there.0 there.1 there.2
+
     -- with it, the part is said at each symbol of the cube
     pub filled : (part : Missing) → place_of part < F.outputs + 1 → SayNothing rows cube part → (all old : List KissRow) → All (IsRightRow F s) old → Fills F s part cube all old (old ++ added ∷ [])
     filled part counted silent all old right = record {
@@ -222,6 +233,7 @@ module _ (F : KissFile) (table : IsTable F) (no_conflict : Conflicting F → ⊥
         subst (λ (c : Cube). HoldsNumber c x) (sym filling.same_cube) held,
         filling.says part counted silent,
       );
+      own = λ specified. absurd (left_open part counted (filling.says part counted silent) specified);
     }
 
 -- a cube whose symbols are said
@@ -231,6 +243,7 @@ filled_before F s part cube rows met old those right each = record {
   right = right;
   kept = λ row among. among;
   each = λ x held. let there = each x held in inl (there.0, those.among there.0 there.1, there.2, there.3);
+  own = λ specified. refl;
 }
 
 -- ---- the rows that a cube meets
@@ -286,6 +299,7 @@ module _ (F : KissFile) (s : ℕ) (cube : Cube) (rows met : List KissRow) (near 
             | inr there ↦ inr (there.0, second.kept there.0 there.1, there.2, there.3)
           ]
         ];
+    own = λ specified. second.own specified ∙ first.own specified;
   } where
     from_met : (x : ℕ) → IsSaidBy met x part → IsSaidBy rows x part
     from_met x there = (there.0, those.among there.0 there.1, there.2, there.3)
@@ -309,6 +323,7 @@ part_filled F s part cube old added more all known fills is = record {
   });
   kept = λ row among. subst (λ (list : List KissRow). Contains list row) (sym is) (Contains-append_left old added row among);
   each = λ x. subst (λ (list : List KissRow). IsSaidBy list x part) (sym is) (either x (fills.each x (all x)));
+  own = λ specified. is ∙ ap (λ (list : List KissRow). old ++ list) (fills.own specified) ∙ append-nil old;
 } where
   either : (x : ℕ) → IsSaidBy old x part ⊎ IsSaidBy added x part → IsSaidBy (old ++ added) x part
   either x said = elim said [

@@ -8,3 +8,4 @@ pub mod Showing
 pub mod Gathered
 pub mod FilledRows
 pub mod Differing
+pub mod OwnRows

@@ -3,5 +3,6 @@ pub mod LikeStates
 pub mod Judgement
 pub mod Effects
 pub mod FilledRows
+pub mod OwnRows
 pub mod Sets
 pub mod Differences

@@ -1,5 +1,5 @@
 -- What a row says of a bit.
-use Rattle.std.specs.Prelude.{ℕ, ◌<◌, Bool, List, Option, slice_index}
+use Rattle.std.specs.Prelude.{ℕ, Bool, List, Option, slice_index}
 use Rattle.std.specs.Option.{option_map}
 use Rattle.cubes.specs.Symbol.{bit}
 use Rattle.kiss_file.specs.Machine.{given_bit}

@@ -23,6 +23,7 @@ mod effects;
 mod gate_reads;
 mod laws;
 mod numbers;
+mod own_rows;
 mod read_rule;
 mod sets;
 mod sufficient_bits;

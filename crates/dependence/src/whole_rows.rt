@@ -4,7 +4,7 @@
 //! `machine_table/specs/Pieces` says what such a row is, and `specs/Inner/FilledRows` what the steps on the way
 //! promise.
 //!
-//! After the rows of the state come rows for what they leave open: there the next state is the state itself,
+//! After the rows of the state, which `own_rows` gives, come rows for what they leave open: there the next state is the state itself,
 //! and an output is 0. The symbols at which a part is open are found for one part at a time. The cube of all
 //! symbols is halved until some row that says the part holds all symbols of a half, or none holds any. Only the
 //! rows that share a symbol with a half are kept for it.
@@ -32,6 +32,7 @@ ghost use Rattle.cubes.specs.Cube.{HoldsNumber, Meets};
 ghost use Rattle.kiss_file.specs.declared.file.KissRow.{KissRow};
 ghost use Rattle.machine_table.specs.declared.open_part.Missing.{Missing};
 ghost use Rattle.machine_table.specs.Pieces.{IsRightRow, IsSaidBy};
+ghost use Rattle.dependence.specs.FilledRows.{AreFilledRows, IsSpecifiedState};
 ghost use Rattle.dependence.specs.Inner.FilledRows.{
   AreNear,
   AreRowsOf,
@@ -44,6 +45,7 @@ ghost use Rattle.dependence.specs.Inner.FilledRows.{
 };
 ghost use Rattle.machine_table.specs.OpenEntries.{Says, place_of};
 
+use crate::own_rows::own_rows;
 use cubes::Cube;
 use kiss_file::KissRow;
 use machine_table::{Machine, Missing, all_outputs, says};
@@ -140,33 +142,17 @@ fn filling(rows: &[KissRow], s: u16, cube: Cube, outputs: u8) -> KissRow
 
 /// Rows that say what the state does at each symbol, part by part.
 ///
-/// A part is the next state or one output. The rows of the state come first. With `Fill::Hold`, rows for
-/// the parts that they leave open may follow. A row need not say all parts, and rows may share symbols.
+/// A part is the next state or one output. The rows of the state come first, in the order of the file. Rows for the
+/// parts that they leave open follow. A row need not say all parts, and rows may share symbols.
 pub fn filled_rows(alloc: Global, m: &Machine, s: usize) -> Result<Vec<KissRow>, AllocError>
     requires { s < length m.now.states }
-    ensures each { IfOk result
-        (λ rows. (x : ℕ) (part : Missing) → x < 2 ^ m.now.inputs → place_of part < m.now.outputs + 1
-        → IsSaidBy rows.items x part) }
-    ensures right { IfOk result (λ rows. All (IsRightRow m.now s) rows.items) }
+    ensures { IfOk result (λ rows. AreFilledRows m.now s rows.items) }
 {
-    let mut rows = rows_of(alloc, m, s)?;
+    let mut rows = own_rows(alloc, m, s)?;
     if m.is_complete() {
         return Ok(rows);
     }
     fill(alloc, m, s, &mut rows)?;
-    Ok(rows)
-}
-
-/// The rows of the state.
-fn rows_of(alloc: Global, m: &Machine, s: usize) -> Result<Vec<KissRow>, AllocError>
-    requires { s < length m.now.states }
-    ensures { IfOk result (λ rows. AreRowsOf m.now s rows.items) }
-{
-    let numbers = m.numbers_of(s);
-    let mut rows = Vec::with_capacity(alloc, numbers.len())?;
-    for number in numbers {
-        rows.push(*m.row(*number))?;
-    }
     Ok(rows)
 }
 
@@ -177,6 +163,7 @@ fn fill(alloc: Global, m: &Machine, s: usize, rows: &mut Vec<KissRow>) -> Result
     ensures each { OnOk result
         ((x : ℕ) (part : Missing) → place_of part < m.now.outputs + 1 → IsSaidBy rows.new.items x part) }
     ensures rows { OnOk result (AreRowsOf m.now s rows.new.items) }
+    ensures own { OnOk result (IsSpecifiedState m.now s → rows.new.items ≡ rows.old.items) }
 {
     fill_part(alloc, m, s, Missing::Next, rows)?;
     for b in 0..m.outputs() {

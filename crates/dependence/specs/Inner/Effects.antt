@@ -1,5 +1,5 @@
 -- For which gates each input matters.
-use Rattle.std.specs.Prelude.{◌≡◌, ◌≢◌, ◌⊎◌, ◌↔◌, ℕ, ◌+◌, ◌^◌, ◌<◌, ◌≤◌, Bool, true, Contains, List, Option, length, slice_get, Some, bit_xor}
+use Rattle.std.specs.Prelude.{◌≡◌, ◌≢◌, ◌⊎◌, ◌↔◌, ℕ, ◌+◌, ◌^◌, ◌<◌, ◌≤◌, Bool, true, Contains, List, Option, length, Some, bit_xor}
 use Rattle.std.specs.Int.{bit_at}
 use Rattle.cubes.specs.Cube.{clash_of}
 use Rattle.cubes.specs.Symbol.{bit}
@@ -9,7 +9,6 @@ use Rattle.dependence.specs.declared.effects.Effect.{Effect}
 use Rattle.dependence.specs.declared.bit.Bit.{Bit}
 use Rattle.dependence.specs.declared.bit.Bit.TheVariants.{Latch, Output}
 use Rattle.dependence.specs.Bit.{IsBit, value_of}
-use Rattle.dependence.specs.Inputs.{DifferAlone}
 use Rattle.dependence.specs.Effects.{ActsBy, MattersAt}
 use Rattle.dependence.specs.RowBits.{row_value}
 

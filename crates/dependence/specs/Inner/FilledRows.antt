@@ -8,6 +8,7 @@ use Rattle.kiss_file.specs.declared.file.KissRow.{KissRow}
 use Rattle.machine_table.specs.declared.open_part.Missing.{Missing}
 use Rattle.machine_table.specs.Pieces.{IsRightRow, IsSaidBy}
 use Rattle.state_pairs.specs.RowLabels.{IsOfState}
+use Rattle.dependence.specs.FilledRows.{IsSpecifiedState}
 use Rattle.machine_table.specs.OpenEntries.{Says, place_of}
 
 -- each row of the state is among the rows, and each of them is right
@@ -45,14 +46,18 @@ pub record AreNear (F : KissFile) (s : ℕ) (cube : Cube) (rows : List KissRow) 
   pub widths : All (λ row. row.cube.width ≡ cube.width) rows
   pub own : (row : KissRow) (x : ℕ) → IsOfState F s row → HoldsNumber cube x → HoldsNumber row.cube x → Contains rows row
 
--- right rows were added to the old ones, and at each symbol of the cube one of the rows or of the added ones says the part
+-- Right rows were added to the old ones, and at each symbol of the cube one of the rows or of the added ones says the part.
+-- Where the state leaves nothing open, none was added.
 pub record Fills (F : KissFile) (s : ℕ) (part : Missing) (cube : Cube) (rows old more : List KissRow) : Type 0 where
   pub right : All (IsRightRow F s) more
   pub kept : (row : KissRow) → Contains old row → Contains more row
   pub each : (x : ℕ) → HoldsNumber cube x → IsSaidBy rows x part ⊎ IsSaidBy more x part
+  pub own : IsSpecifiedState F s → more ≡ old
 
--- right rows were added to those of the state, and at each symbol one of all these rows says the part
+-- Right rows were added to those of the state, and at each symbol one of all these rows says the part. Where the state
+-- leaves nothing open, none was added.
 pub record FillsPart (F : KissFile) (s : ℕ) (part : Missing) (old more : List KissRow) : Type 0 where
   pub rows : AreRowsOf F s more
   pub kept : (row : KissRow) → Contains old row → Contains more row
   pub each : (x : ℕ) → IsSaidBy more x part
+  pub own : IsSpecifiedState F s → more ≡ old

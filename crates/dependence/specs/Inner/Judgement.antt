@@ -1,6 +1,5 @@
 -- Sets of bits, and the judgement of one bit.
-use Rattle.std.specs.Prelude.{◌≢◌, ◌↔◌, ℕ, ◌≤◌, ◌<◌, Bool, Contains, List}
-use Rattle.std.specs.List.Sorted.{IsStrictlyIncreasing}
+use Rattle.std.specs.Prelude.{◌≢◌, ◌↔◌, ℕ, ◌≤◌, ◌<◌, Bool, List}
 use Rattle.kiss_file.specs.declared.file.KissFile.{KissFile}
 use Rattle.dependence.specs.SufficientBits.{InWord, PermitsValue}
 use Rattle.dependence.specs.ReadRule.{Beside, Without}
