@@ -58,7 +58,8 @@ fn put_judged(judged: &Result<Job, JobFail>, answer: &mut Answer) {
     }
 }
 
-/// Puts the command, the two names in brackets, the limit, the options, and the four numbers.
+/// Puts the command, the two names in brackets, the limit, the options, the number of a part where one is given, and
+/// the four numbers.
 fn put_job(job: &Job, answer: &mut Answer) {
     answer.add_displayed(format_args!("{:?}", job.command));
     put_in_brackets(job.file.bytes(), answer);
@@ -66,6 +67,10 @@ fn put_job(job: &Job, answer: &mut Answer) {
     answer.add(b" ");
     answer.add_number(job.limit as u64);
     put_options(job, answer);
+    if let Some(part) = job.part {
+        answer.add(b" part ");
+        answer.add_number(u64::from(part));
+    }
     answer.add_displayed(format_args!(" {} {} {} {}", job.seed, job.a, job.b, job.k));
 }
 

@@ -137,8 +137,21 @@ fn is_of_kind(kind: OperandKind, words: &Words, place: usize) -> bool {
             is_between(2, 128, word) && product(words.word(place - 1), word) <= 256
         }
         OperandKind::K => is_between(1, 8, word),
+        OperandKind::Split => is_split(word),
+        OperandKind::J => is_word(word, b"outputs") || is_between(0, 999, word) && word.len() < 4,
         _ => true,
     }
+}
+
+/// Whether a word is a kind of split that needs no partitions, or begins as partitions do.
+fn is_split(word: &[u8]) -> bool {
+    is_word(word, b"code")
+        || is_word(word, b"parallel")
+        || is_word(word, b"serial")
+        || is_word(word, b"cascade")
+        || is_word(word, b"feedback")
+        || is_word(word, b"least")
+        || !word.is_empty() && are_digits(&word[..1])
 }
 
 /// The product of two numbers.

@@ -27,6 +27,8 @@ fn text_of(alloc: Global, call: &str, words: &[u8]) -> Result<Vec<u8>, AllocErro
         "usage" | "symbols" | "conflict" | "more" | "code_bits" | "part_place" | "part_length" => {
             numbered(alloc, call, first, rest)
         }
+        "no_part" | "part_bits" | "part_inputs" | "outputs_inputs" | "part_name" | "outputs_name" =>
+            { of_part(alloc, call, count(first) as usize, count(rest) as usize) }
         _ => named(alloc, call, first, rest),
     }
 }
@@ -65,6 +67,18 @@ fn numbered(alloc: Global, call: &str, first: &[u8], rest: &[u8]) -> Result<Vec<
         "code_bits" => err_lines::code_bits(alloc, first as usize),
         "part_place" => err_lines::part_place(alloc, first as usize, second as usize),
         _ => err_lines::part_length(alloc, first as usize, second as usize, third as usize),
+    }
+}
+
+/// The lines of the machines of a split.
+fn of_part(alloc: Global, call: &str, first: usize, second: usize) -> Result<Vec<u8>, AllocError> {
+    match call {
+        "no_part" => err_lines::no_part(alloc, first),
+        "part_bits" => err_lines::part_bits(alloc, first),
+        "part_inputs" => err_lines::part_inputs(alloc, first, second),
+        "outputs_inputs" => err_lines::outputs_inputs(alloc, first),
+        "part_name" => err_lines::part_name(alloc, first, second),
+        _ => err_lines::outputs_name(alloc, first),
     }
 }
 

@@ -56,6 +56,22 @@ const NAMES: [&[u8]; 12] = [
     b"abcdefghijklmnopqrstuvwxyzabcdefghijklmnopqrstuvwxyz0123456789!~_",
 ];
 
+/// Words after `part`: splits and numbers of parts, and words that are close to one.
+const SPLITS: [&[u8]; 12] = [
+    b"f",
+    b"--reduce",
+    b"least",
+    b"shift",
+    b"0/1",
+    b"/1",
+    b"007",
+    b"0007",
+    b"999",
+    b"outputs",
+    b"Outputs",
+    b"+7",
+];
+
 /// Whether all lists agree. Prints the number of lists if they do, and else each list that differs.
 pub(crate) fn agree(rt: &HostRuntime) -> io::Result<bool> {
     let mut all = true;
@@ -66,6 +82,8 @@ pub(crate) fn agree(rt: &HostRuntime) -> io::Result<bool> {
     let agree = agree_on(rt, Some(b"gen"), &NUMBERS, 4, 6561)?;
     all = all && agree;
     let agree = agree_on(rt, Some(b"code"), &NAMES, 4, 20_736)?;
+    all = all && agree;
+    let agree = agree_on(rt, Some(b"part"), &SPLITS, 4, 20_736)?;
     Ok(all && agree)
 }
 
