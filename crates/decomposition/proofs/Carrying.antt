@@ -23,6 +23,7 @@ use Rattle.state_reduce.specs.WorkMachine.{IsFileItself, IsMachineOfClasses, IsW
 use Rattle.state_reduce.specs.Inner.BlockNames.{AreAllNamed}
 use Rattle.state_reduce.proofs.AllNamed.{all_named}
 use Rattle.state_reduce.proofs.Answered.{next_of_block, out_of_block}
+use Rattle.state_reduce.proofs.Lawfully.{blocks_lawful}
 use Rattle.state_reduce.proofs.Numbers.{number_within}
 use Rattle.state_reduce.proofs.Ordered.{blocks_in_order}
 use Rattle.state_reduce.specs.Laws.Unrefused.{alike_closed, alike_consistent}
@@ -73,6 +74,9 @@ module _ (F W : KissFile) (class : ℕ → ℕ) (lawful : IsLawful F) (no_confli
         ∙ out_of_block F classes lawful.distinct work.alike.lawful.length named table W work.quotient (alike_consistent F classes work.alike) s x inside symbol;
   }
 
+  lawful_classes : IsLawful W
+  lawful_classes = blocks_lawful F classes W work.quotient lawful.distinct work.alike.lawful.length table named lawful
+
   -- two partitions into alike states are one
   one_equivalence : (p : List ℕ) → IsEquivalence F p → p ≡ classes
   one_equivalence p is =
@@ -102,6 +106,11 @@ module _ (F W : KissFile) (class : ℕ → ℕ) (file : IsFileItself F W class) 
 pub image_of : (reduce : Bool) (F W : KissFile) (class : ℕ → ℕ) → IsLawful F → (Conflicting F → ⊥) → IsWorkMachine reduce F W class → IsImage F W class
 image_of true F W class lawful no_conflict work = image_of_classes F W class lawful no_conflict work
 image_of false F W class lawful no_conflict work = image_of_file F W class work lawful
+
+-- the machine that a job works on is lawful
+pub work_lawful : (reduce : Bool) (F W : KissFile) (class : ℕ → ℕ) → IsLawful F → (Conflicting F → ⊥) → IsWorkMachine reduce F W class → IsLawful W
+work_lawful true F W class lawful no_conflict work = lawful_classes F W class lawful no_conflict work
+work_lawful false F W class lawful no_conflict work = subst IsLawful (sym work.file) lawful
 
 -- ---- the printed words
 -- there is a word for each state of the file: that of its class

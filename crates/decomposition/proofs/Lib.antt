@@ -8,3 +8,5 @@ pub mod Writable
 pub mod LawfulHeader
 pub mod Networks
 pub mod Whole
+pub mod Lists
+pub mod ReadOnce

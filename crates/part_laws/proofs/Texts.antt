@@ -19,7 +19,8 @@ use Rattle.state_codes.specs.declared.which.Which.TheVariants.{Part as Numbered,
 use Rattle.part_laws.specs.Parts.{AreMachinesOf, AnswerAs}
 use Rattle.part_laws.specs.Texts.{AreTextsOf, HasBits, IsReadWhole, IsShortText, PartIsOne, PartIsRead, PartsAnswer, SayMachines}
 use Rattle.part_laws.proofs.OneMachine.{machine_is_one}
-use Rattle.part_laws.proofs.OneSplit.{of_same_split, split_is_one}
+use Rattle.part_laws.proofs.OneSplit.{of_same_split}
+use Rattle.part_texts.specs.Laws.OneSplit.{split_is_one}
 use Rattle.part_laws.proofs.Whole.{machines_answer}
 
 -- ---- one text

@@ -18,22 +18,6 @@ use Rattle.state_codes.specs.declared.which.Which.{Which}
 use Rattle.state_codes.specs.declared.which.Which.TheVariants.{Part as Numbered, Outputs}
 use Rattle.part_laws.specs.Parts.{AnswerAs}
 
--- ---- the split of a job
--- two splits of one job
-pub record IsSameSplit (W V : KissFile) (parts others : List Part) (code more : Codes) (sets reads : Reads) (names signals : SignalNames) : Type 0 where
-  pub machine : W ≡ V
-  pub parts_are : parts ≡ others
-  pub codes : code ≡ more
-  pub reads_are : sets ≡ reads
-  pub names_are : names ≡ signals
-
--- a job has one split: one work machine, and of it the same parts, codes, read sets and names
-abbrev pub SplitIsOne : Type 0
-SplitIsOne =
-    (kind : Kind) (text : List ℕ) (reduce : Bool) (F W V : KissFile) (parts others : List Part) (code more : Codes) (sets reads : Reads) (names signals : SignalNames)
-    → IsSplitMachine kind text reduce F W parts code sets names → IsSplitMachine kind text reduce F V others more reads signals
-    → IsSameSplit W V parts others code more sets reads names signals
-
 -- ---- one text
 -- the text is that of the part, and has no more rows than are read
 abbrev pub IsShortText : Kind → List ℕ → Which → Bool → KissFile → List ℕ → Type 0

@@ -6,9 +6,9 @@
 //! what the others give. `specs/Together` says what this means, with no order of evaluation in it, so that machines may
 //! read each other. [`machines_answer`] says the same of the machines themselves.
 //!
-//! A text is read back as the machine that it is written of ([`part_is_read`]). A job has one split ([`split_is_one`]).
-//! Where nothing is open in the file, a part of it has one machine ([`machine_is_one`]) and so one text
-//! ([`part_is_one`]). Machines that are stepped together have one answer ([`together_once`]).
+//! A text is read back as the machine that it is written of ([`part_is_read`]). Where nothing is open in the file, a part
+//! of it has one machine ([`machine_is_one`]) and so one text ([`part_is_one`]). Machines that are stepped together have
+//! one answer ([`together_once`]).
 //!
 //! `specs/Worked` has two small machines that read each other, and `specs/WorkedPart` the machine of a part of a small
 //! machine.
@@ -17,7 +17,7 @@
 ghost use Rattle.std.specs.Prelude.{Bool, List, [], ◌∷◌, codes};
 ghost use Rattle.part_laws.specs.OneMachine.{MachineIsOne, TogetherOnce};
 ghost use Rattle.part_laws.specs.Parts.{MachinesAnswer};
-ghost use Rattle.part_laws.specs.Texts.{PartIsOne, PartIsRead, PartsAnswer, SplitIsOne};
+ghost use Rattle.part_laws.specs.Texts.{PartIsOne, PartIsRead, PartsAnswer};
 ghost use Rattle.part_laws.specs.Together.{AnswerTogether, MachineAt, StepTogether};
 ghost use Rattle.part_laws.specs.Worked.{Cubes, high, input_x, loop, low, machine_z, places};
 ghost use Rattle.part_laws.specs.WorkedPart.{
@@ -49,11 +49,6 @@ pub fn parts_answer()
 /// The text of a part is read back as its machine, which has no conflict and leaves nothing open.
 pub fn part_is_read()
     ensures { PartIsRead }
-{}
-
-/// A job splits its machine in one way.
-pub fn split_is_one()
-    ensures { SplitIsOne }
 {}
 
 /// Where nothing is open in the file, there is one machine of each part, and one of the outputs.

@@ -40,14 +40,21 @@ LacksBits which codes refusal = (j : ℕ) × (refusal ≡ NoPart (NoBits j)) × 
 -- the machine of the part would have more than 32 inputs
 abbrev pub HasManyInputs : Which → Codes → Reads → Cause
 HasManyInputs which codes sets refusal =
-    (set : ReadSet) × (refusal ≡ NoPart (ManyInputs which (length set.inputs + length set.latches))) × IsPartSet codes sets which set
-    × (32 < length set.inputs + length set.latches)
+    (set : ReadSet) × (refusal ≡ NoPart (ManyInputs which (length set.inputs + length set.latches))) × IsPartSet codes sets which set × (32 < length set.inputs + length set.latches)
 
--- the first name of more than 64 bytes, of the inputs and then of the outputs
+-- the name has more bytes than a text may give one
+abbrev pub is_long : List ℕ → Bool
+is_long name = nat_lt 64 (length name)
+
+-- the first of the names that is too long
+abbrev pub IsFirstLong : Which → List (List ℕ) → Cause
+IsFirstLong which names refusal =
+    (name : List ℕ) × (refusal ≡ NoPart (LongName which (length name))) × (find is_long names ≡ Some name)
+
+-- an input of the machine of the part, or else an output, has such a name
 abbrev pub HasLongName : Which → Codes → Reads → SignalNames → Cause
 HasLongName which codes sets names refusal =
-    (set : ReadSet) × (name : List ℕ) × (refusal ≡ NoPart (LongName which (length name))) × IsPartSet codes sets which set
-    × (find (λ name. nat_lt 64 (length name)) (input_names names set ++ output_names names codes which) ≡ Some name)
+    (set : ReadSet) × IsPartSet codes sets which set × IsFirstLong which (input_names names set ++ output_names names codes which) refusal
 
 -- why no machine of the part is written, in the order of judgement
 abbrev pub HasNoPart : Kind → List ℕ → Which → Bool → KissFile → Cause

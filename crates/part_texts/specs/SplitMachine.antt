@@ -1,5 +1,5 @@
 -- The split that a job makes of the machine of a file, with all that the network of this split is made of.
-use Rattle.std.specs.Prelude.{ℕ, All, Bool, List, length}
+use Rattle.std.specs.Prelude.{◌≡◌, ℕ, All, Bool, List, length}
 use Rattle.dependence.specs.declared.sets.Reads.{Reads}
 use Rattle.dependence.specs.Reads.{AreReads}
 use Rattle.kiss_file.specs.declared.file.KissFile.{KissFile}
@@ -22,3 +22,18 @@ pub record IsSplitMachine (kind : Kind) (text : List ℕ) (reduce : Bool) (F W :
   pub coded : AreCodes (length W.states) parts codes
   pub reads : AreReads W parts codes sets
   pub own : AreNames F codes.bits names
+
+-- two splits of one job
+pub record IsSameSplit (W V : KissFile) (parts others : List Part) (codes more : Codes) (sets reads : Reads) (names signals : SignalNames) : Type 0 where
+  pub machine : W ≡ V
+  pub parts_are : parts ≡ others
+  pub codes_are : codes ≡ more
+  pub reads_are : sets ≡ reads
+  pub names_are : names ≡ signals
+
+-- a job has one split: one work machine, and of it the same parts, codes, read sets and names
+abbrev pub SplitIsOne : Type 0
+SplitIsOne =
+    (kind : Kind) (text : List ℕ) (reduce : Bool) (F W V : KissFile) (parts others : List Part) (codes more : Codes) (sets reads : Reads) (names signals : SignalNames)
+    → IsSplitMachine kind text reduce F W parts codes sets names → IsSplitMachine kind text reduce F V others more reads signals
+    → IsSameSplit W V parts others codes more sets reads names signals

@@ -10,11 +10,12 @@
 //! - a name of more than 64 bytes.
 //!
 //! `specs/SplitMachine` says what the split of a job is, `specs/PartText` what holds of the text, and
-//! `specs/PartCauses` which refusals a job calls for. All of them have one answer ([`part_has_one_answer`]).
+//! `specs/PartCauses` which refusals a job calls for. All of them have one answer ([`part_has_one_answer`]), and a job
+//! has one split ([`split_is_one`]).
 #![tactic(auto)]
 
 mod laws;
 mod machines;
 
-pub use laws::part_has_one_answer;
+pub use laws::{part_has_one_answer, split_is_one};
 pub use machines::part;

@@ -22,7 +22,7 @@ use Rattle.state_codes.specs.declared.split.Part.{Part}
 use Rattle.state_reduce.specs.AlikeStates.{Alike, IsEquivalence}
 use Rattle.state_reduce.specs.Quotient.{block_number}
 use Rattle.state_reduce.specs.WorkMachine.{IsWorkMachine}
-use Rattle.text_laws.proofs.Lists.{same_items}
+use Rattle.decomposition.proofs.Lists.{same_items}
 
 -- a partition is one where it is told which states it holds together
 partition_once : (n : ℕ) (p q : List ℕ) (Held : ℕ → ℕ → Type 0) → IsPartition n p → IsPartition n q

@@ -1,5 +1,3 @@
-pub mod Lists
-pub mod ReadOnce
 pub mod Nets
 pub mod Headers
 pub mod Texts

@@ -17,7 +17,7 @@ use Rattle.net_core.specs.Step.{AreStarts, bit_of_start}
 use Rattle.realise.specs.Codes.{code_of}
 use Rattle.realise.specs.CodeNetwork.{HasGate, IsRealised, name_at}
 use Rattle.text_laws.specs.Rows.{EqualButForRows, HasSameSignals}
-use Rattle.text_laws.proofs.Lists.{zip_at}
+use Rattle.decomposition.proofs.Lists.{zip_at}
 
 -- the start at a known bit
 start_at : Bool → Start

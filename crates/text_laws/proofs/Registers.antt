@@ -24,7 +24,7 @@ use Rattle.split_texts.specs.Laws.Names.{names_once}
 use Rattle.shift_texts.specs.ShiftText.{IsShiftOf}
 use Rattle.state_reduce.specs.Laws.Works.{one_work}
 use Rattle.text_laws.specs.Rows.{EqualButForRows, HasSameSignals, RegistersDifferInRows, ShiftRowsAloneDiffer}
-use Rattle.text_laws.proofs.Lists.{same_ascending, zip_at}
+use Rattle.decomposition.proofs.Lists.{same_ascending, zip_at}
 use Rattle.text_laws.proofs.Nets.{same_latches}
 
 -- ---- the start content

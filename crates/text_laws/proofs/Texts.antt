@@ -27,9 +27,9 @@ use Rattle.state_codes.specs.Laws.Codes.{codes_are_one}
 use Rattle.state_reduce.specs.WorkMachine.{IsWorkMachine}
 use Rattle.text_laws.specs.Rows.{EqualButForRows, HasSameSignals, NetworksDifferInRows, RowsAloneDiffer}
 use Rattle.text_laws.proofs.Headers.{class_once, classes_once, notes_once, same_header, words_once}
-use Rattle.text_laws.proofs.Lists.{zip_each}
+use Rattle.decomposition.proofs.Lists.{zip_each}
 use Rattle.text_laws.proofs.Nets.{equal_nets}
-use Rattle.text_laws.proofs.ReadOnce.{reads_once}
+use Rattle.decomposition.proofs.ReadOnce.{reads_once}
 
 -- the gates of one code
 nets_of : (F W : KissFile) (parts : List Part) (codes : Codes) (N M : Network) → HasGates F W parts codes N → HasGates F W parts codes M → EqualButForRows N M

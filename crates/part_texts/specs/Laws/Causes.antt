@@ -31,7 +31,7 @@ pub many_inputs_is_of : (which : Which) (codes : Codes) (sets : Reads) → IsOf 
 many_inputs_is_of which codes sets refusal (set, is, reads, many) = ap answer_of is
 
 pub long_name_is_of : (which : Which) (codes : Codes) (sets : Reads) (names : SignalNames) → IsOf answers.NoPart (HasLongName which codes sets names)
-long_name_is_of which codes sets names refusal (set, name, is, reads, found) = ap answer_of is
+long_name_is_of which codes sets names refusal (set, reads, (name, is, found)) = ap answer_of is
 
 pub part_has_one_answer : (kind : Kind) (text : List ℕ) (which : Which) (reduce : Bool) (F : KissFile) → HasOneAnswer (HasNoPart kind text which reduce F)
 part_has_one_answer kind text which reduce F =

@@ -12,7 +12,7 @@ use Rattle.dependence.specs.Laws.Judged.{permits_more}
 use Rattle.kiss_file.specs.declared.file.KissFile.{KissFile}
 use Rattle.state_codes.specs.declared.Codes.{Codes}
 use Rattle.state_codes.specs.declared.split.Part.{Part}
-use Rattle.text_laws.proofs.Lists.{same_ascending, same_items}
+use Rattle.decomposition.proofs.Lists.{same_ascending, same_items}
 
 -- a bit that one read set has, the other has too, where above it the other has no bit that the one has not
 also_read : (F : KissFile) (words : List ℕ) (Candidate R S : ℕ → Type 0) (value : ℕ → List Bool → Bool) (c : ℕ) → S c ⊎ (S c → ⊥) → IsReadRule F words Candidate R value → IsReadRule F words Candidate S value
