@@ -8,3 +8,7 @@ mod OneSplit
 mod Texts
 mod Worked
 mod Specified
+mod WorkedCubes
+mod WorkedRows
+mod WorkedSteps
+mod WorkedPart
