@@ -71,9 +71,13 @@ module _ (kind : Kind) (text : List ℕ) (reduce : Bool) (F : KissFile) (work : 
   stop_of_plan refusal (inr calls) = inr (work.machine, work_is, no_plan_no_text kind text work.machine refusal calls)
 
   module _ (split : Split) (plan : CallsForNone (HasNoPlan kind text work.machine) × IsPlanned kind text work.machine split) where
-    stop_of_code : (refusal : Refusal) → IsStop (HasNoCode work.machine split.parts) refusal → IsStop (IsNotWritten kind text reduce F) refusal
+    pub stop_of_code : (refusal : Refusal) → IsStop (HasNoCode work.machine split.parts) refusal → IsStop (IsNotWritten kind text reduce F) refusal
     stop_of_code refusal (inl wanting) = inl wanting
     stop_of_code refusal (inr calls) = inr (work.machine, work_is, no_code_no_text kind text work.machine split.parts plan.1.made plan.0 refusal calls)
+
+    -- where neither the plan nor its codes call for a refusal, the text does not
+    pub none_written : CallsForNone (HasNoCode work.machine split.parts) → CallsForNone (IsNotWritten kind text reduce F)
+    none_written none = on_work_none kind text reduce F work.machine work_is (text_of_code kind text work.machine split.parts plan.1.made plan.0 none)
 
     -- codes of parts that call for no refusal are short
     short : (codes : Codes) → CallsForNone (HasNoCode work.machine split.parts) → AreApart (length work.machine.states) split.parts → IsCode (length work.machine.states) split.parts codes → codes.bits ≤ 64
@@ -96,7 +100,7 @@ module _ (kind : Kind) (text : List ℕ) (reduce : Bool) (F : KissFile) (work : 
         → IsJudged (IsNotWritten kind text reduce F) (λ made. CanBeHeaded made × IsOfKind kind text reduce F made) result
     judged_network (Err refusal) stop = stop_of_code refusal stop
     judged_network (Ok made) (none, (apart, ready, is)) = (
-      on_work_none kind text reduce F work.machine work_is (text_of_code kind text work.machine split.parts plan.1.made plan.0 none),
+      none_written none,
       (
         ready,
         (
