@@ -1,4 +1,4 @@
-mod Listing
+pub mod Listing
 mod SmallCases
 mod Spelling
 mod Turning
