@@ -65,6 +65,7 @@ fn shown_cell(codes: &Codes, which: Which, cell: Cell, field: Field) -> Shown
     ensures block { result.block ≡ cell.block }
     ensures field { result.field ≡ field }
     ensures bits { HasBits (map (symbols.bit (slice_index codes.now.words cell.state)) (whiches.own_bits codes.now which)) result.bits }
+    ensures few { result.bits.count ≤ 64 }
 {
     let word = codes.words.as_slice()[usize::from(cell.state)];
     Shown {
@@ -79,7 +80,8 @@ fn shown_cell(codes: &Codes, which: Which, cell: Cell, field: Field) -> Shown
 fn own_bits(codes: &Codes, which: Which, word: u64) -> Bits
     requires owner { length codes.now.owner ≡ codes.now.bits }
     requires short { codes.now.bits ≤ 64 }
-    ensures { HasBits (map (symbols.bit word) (whiches.own_bits codes.now which)) result }
+    ensures bits { HasBits (map (symbols.bit word) (whiches.own_bits codes.now which)) result }
+    ensures few { result.count ≤ 64 }
 {
     match which {
         Which::Part(j) => bits_of_owner(codes.owner.as_slice(), j, word),
@@ -90,9 +92,10 @@ fn own_bits(codes: &Codes, which: Which, word: u64) -> Bits
 /// The bits in a word whose owner is the part with that number.
 fn bits_of_owner(owners: &[u16], j: usize, word: u64) -> Bits
     requires { length owners.now ≤ 64 }
-    ensures { HasBits
+    ensures bits { HasBits
         (map (symbols.bit word) (filter (λ c. slice_index owners.now c == j) (range_with_len 0 (length owners.now))))
         result }
+    ensures few { result.count ≤ 64 }
 {
     let mut bits = Bits { count: 0, word: 0 };
     for (c, owner) in owners.iter().enumerate() {

@@ -1,5 +1,5 @@
 -- Cells with what their rows have in common. Private functions need it; no public contract cites it.
-use Rattle.std.specs.Prelude.{◌≡◌, ◌↔◌, ℕ, ◌<◌, ◌^◌, All, Bool, true, List, Some, length, map, slice_get, slice_index}
+use Rattle.std.specs.Prelude.{◌≡◌, ◌↔◌, ℕ, ◌<◌, ◌≤◌, ◌^◌, All, Bool, true, List, Some, length, map, slice_get, slice_index}
 use Rattle.cubes.specs.Field.{characters}
 use Rattle.cubes.specs.Symbol.{bit}
 use Rattle.part_machines.specs.Cells.{AreCells, IsCellField}
@@ -13,7 +13,6 @@ use Rattle.state_codes.specs.declared.which.Which.{Which}
 -- the field has so many characters, and 0 as the value of a dash
 pub record IsField (places : ℕ) (field : Field) : Type 0 where
   pub care_below : field.care < 2 ^ places
-  pub value_below : field.value < 2 ^ places
   pub value_in_care : (k : ℕ) → bit field.value k ≡ true → bit field.care k ≡ true
 
 -- the word has the bits of the list, the first of them as its lowest bit
@@ -28,6 +27,7 @@ pub record IsShown (code : Codes) (p latches : List ℕ) (which : Which) (cell :
   pub field : IsField (length latches) cell.field
   pub of_cell : IsCellField p code.words latches cell.state (characters (length latches) cell.field.care cell.field.value)
   pub bits : HasBits (map (bit (slice_index code.words cell.state)) (own_bits code which)) cell.bits
+  pub few : cell.bits.count ≤ 64
 
 -- the cells in the order of their least states
 pub record AreShown (code : Codes) (p latches : List ℕ) (which : Which) (cells : List Shown) : Type 0 where
