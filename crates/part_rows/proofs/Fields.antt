@@ -26,7 +26,7 @@ character_at (suc p) care value (suc a) within =
 character_same : (care value other another k : ℕ) → bit care k ≡ bit other k → bit value k ≡ bit another k → character care value k ≡ character other another k
 character_same care value other another k cares values = rw cares (rw values refl)
 
-cons_same : {X : Type 0} (x y : X) (xs ys : List X) → x ≡ y → xs ≡ ys → ◌≡◌ {A = List X} (x ∷ xs) (y ∷ ys)
+pub cons_same : {X : Type 0} (x y : X) (xs ys : List X) → x ≡ y → xs ≡ ys → ◌≡◌ {A = List X} (x ∷ xs) (y ∷ ys)
 cons_same x y xs ys head tail = cc
 
 -- the characters of two fields with the same lowest bits
@@ -49,6 +49,10 @@ doubled n p q low is = omega arith
 
 wider : (n places : ℕ) → n < 2 ^ places → n < 2 ^ (places + 1)
 wider n places low = subst (λ (k : ℕ). n < 2 ^ k) (sym (add-one places)) (doubled n (2 ^ places) (2 ^ suc places) low (pow-suc places))
+
+pub or_false : (a : Bool) → (a || false) ≡ a
+or_false true = refl
+or_false false = refl
 
 module _ (places : ℕ) (field : Field) (is : IsField places field) where
   no_care : bit field.care places ≡ false
@@ -82,10 +86,6 @@ module _ (places : ℕ) (field : Field) (is : IsField places field) where
 
     power_same : bit (2 ^ places) places ≡ true
     power_same = bit_from_one (2 ^ places) places (bit_at-pow_same places)
-
-    or_false : (a : Bool) → (a || false) ≡ a
-    or_false true = refl
-    or_false false = refl
 
     or_other : (n k : ℕ) → k ≢ places → bit (bit_or n (2 ^ places)) k ≡ bit n k
     or_other n k other = bit-or n (2 ^ places) k ∙ ap (λ (b : Bool). bit n k || b) (power_other k other) ∙ or_false (bit n k)

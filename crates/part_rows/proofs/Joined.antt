@@ -4,6 +4,7 @@ use Rattle.std.proofs.lemmas.List.{append-nil, map-append, take_more}
 use Rattle.std.proofs.lemmas.List.Elements.{filter-append}
 use Rattle.std.proofs.lemmas.Grind.{flat_map-append}
 use Rattle.std.specs.List.{AllZip, flat_map}
+use Rattle.indexmap.proofs.SetLemmas.{AllZip-push}
 use Rattle.kiss_file.specs.declared.file.KissFile.{KissFile}
 use Rattle.kiss_file.specs.declared.file.KissRow.{KissRow}
 use Rattle.part_machines.specs.PartRows.{AreCellRows, ArePartRows}
@@ -12,12 +13,6 @@ use Rattle.part_rows.specs.declared.shown.Shown.{Shown}
 use Rattle.dependence.specs.declared.sets.ReadSet.{ReadSet}
 use Rattle.state_codes.specs.declared.Codes.{Codes}
 use Rattle.state_codes.specs.declared.which.Which.{Which}
-
-pub zip_push : {X Y : Type 0} (R : X → Y → Type 0) (xs : List X) (ys : List Y) (x : X) (y : Y) → AllZip R xs ys → R x y → AllZip R (xs ++ x ∷ []) (ys ++ y ∷ [])
-zip_push R [] [] x y all one = (one, tt)
-zip_push R [] (z ∷ ys) x y all one = absurd all
-zip_push R (z ∷ xs) [] x y all one = absurd all
-zip_push R (z ∷ xs) (w ∷ ys) x y all one = (all.0, zip_push R xs ys x y all.1 one)
 
 -- what holds of all items holds of each that was lent
 pub item_has : {X : Type 0} (P : X → Type 0) (xs lent : List X) (k : ℕ) (d : X) → All P xs → lent ≡ xs → k < length lent → P (get_or lent k d)
@@ -34,7 +29,7 @@ module _ {X Y : Type 0} (R : X → Y → Type 0) (test : X → Bool) (rows : Lis
       let taken : filter test (row ∷ []) ≡ row ∷ [] = rw passes refl in
       subst (λ (list : List Y). AllZip R (filter test (take (k + 1) rows)) list) (sym pushed)
       (subst (λ (list : List X). AllZip R list (made ++ y ∷ [])) (sym (next_taken ∙ ap (λ (list : List X). filter test (take k rows) ++ list) taken))
-      (zip_push R (filter test (take k rows)) made row y before one))
+      (AllZip-push R (filter test (take k rows)) made row y before one))
 
   pub made_same : test row ≡ false → more ≡ made → AllZip R (filter test (take (k + 1) rows)) more
   made_same fails same =
@@ -65,7 +60,7 @@ module _ (W : KissFile) (code : Codes) (p : List ℕ) (set : ReadSet) (which : W
       (record {
         lists = before.lists ++ own ∷ [];
         each = subst (λ (list : List ℕ). AllZip (AreCellRows W code p set which) list (before.lists ++ own ∷ [])) (sym (map-append (λ (c : Shown). c.state) front (cell ∷ [])))
-            (zip_push (AreCellRows W code p set which) (states_of front) before.lists cell.state own before.each are);
+            (AllZip-push (AreCellRows W code p set which) (states_of front) before.lists cell.state own before.each are);
         joined =
             appended ∙ ap (λ (list : List KissRow). list ++ own) before.joined
             ∙ ap (λ (list : List KissRow). flat_map (λ (l : List KissRow). l) before.lists ++ list) (sym (append-nil own))

@@ -17,6 +17,7 @@ use Rattle.partition.specs.Laws.Labels.{label-lt-blocks_of}
 use Rattle.partition.specs.Partition.{blocks_of}
 use Rattle.part_machines.specs.PartRows.{IsPartRow, characters_at, given_outputs, next_block, output_count}
 use Rattle.part_machines.specs.Which.{own_bits}
+use Rattle.part_rows.proofs.Fields.{cons_same}
 use Rattle.part_rows.specs.Inner.Given.{GivesAsRow, GivesBits}
 use Rattle.part_rows.specs.Inner.Shown.{HasBits, IsShown}
 use Rattle.part_rows.specs.declared.part_row.Given.{Given}
@@ -27,9 +28,6 @@ use Rattle.state_codes.specs.declared.which.Which.{Which}
 use Rattle.state_codes.specs.declared.which.Which.TheVariants.{Part as Numbered, Outputs}
 
 -- ---- outputs
-cons_same : {X : Type 0} (x y : X) (xs ys : List X) → x ≡ y → xs ≡ ys → ◌≡◌ {A = List X} (x ∷ xs) (y ∷ ys)
-cons_same x y xs ys head tail = cc
-
 -- what is given at each place of a list
 each_place : {X Y : Type 0} (f : ℕ → Y) (g : X → Y) (a : ℕ) (xs : List X) → ((k : ℕ) (x : X) → slice_get xs k ≡ Some x → f (a + k) ≡ g x) → map f (range_with_len a (length xs)) ≡ map g xs
 each_place f g a [] each = refl

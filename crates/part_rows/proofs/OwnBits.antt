@@ -11,6 +11,7 @@ use Rattle.cubes.specs.Symbol.{bit}
 use Rattle.cubes.specs.Laws.Bits.{bit-or, bit-zero, bit_from_one, bit_from_zero, or_second}
 use Rattle.list_facts.specs.Laws.Places.{get_behind, get_cases, get_first}
 use Rattle.part_machines.specs.Which.{own_bits}
+use Rattle.part_rows.proofs.Fields.{or_false}
 use Rattle.part_rows.specs.Inner.Shown.{HasBits}
 use Rattle.part_rows.specs.declared.shown.Bits.{Bits}
 use Rattle.state_codes.specs.declared.Codes.{Codes}
@@ -22,10 +23,6 @@ module _ (list : List Bool) (bits more : Bits) (last : Bool) (is : HasBits list 
     (words : more.word ≡ (if last then (bit_or bits.word (1 * 2 ^ bits.count % 2 ^ 64)) else bits.word)) where
   power : 1 * 2 ^ bits.count % 2 ^ 64 ≡ 2 ^ bits.count
   power = one_shl bits.count 64 few
-
-  or_false : (a : Bool) → (a || false) ≡ a
-  or_false true = refl
-  or_false false = refl
 
   none_yet : bit bits.word bits.count ≡ false
   none_yet =

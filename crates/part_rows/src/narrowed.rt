@@ -6,18 +6,15 @@ ghost use Rattle.std.specs.Prelude.{
   ◌≡◌,
   ◌<◌,
   ◌≤◌,
-  ◌^◌,
   ◌∷◌,
   ◌++◌,
   All,
   None,
   length,
   slice_index_or,
-  true,
 };
 ghost use Rattle.cubes.specs.Cube.{field_of};
 ghost use Rattle.cubes.specs.Field.{characters};
-ghost use Rattle.cubes.specs.Symbol as symbols;
 ghost use Rattle.part_machines.specs.PartRows.{characters_at};
 ghost use Rattle.part_rows.specs.Inner.Shown.{IsField};
 
@@ -31,7 +28,8 @@ pub(crate) fn narrowed(cube: &Cube, inputs: &[u8], field: Field, places: usize) 
     requires few { length inputs.now + places ≤ 32 }
     requires field { IsField places field }
     ensures width { result.width ≡ length inputs.now + places }
-    ensures field { field_of result ≡ characters_at (field_of cube.now) inputs.now ++ characters places field.care field.value }
+    ensures field { field_of result
+        ≡ characters_at (field_of cube.now) inputs.now ++ characters places field.care field.value }
 {
     let whole = with_inputs(cube, inputs, field, places);
     Cube {

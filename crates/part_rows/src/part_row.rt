@@ -1,11 +1,9 @@
 //! One row of a part, made of a row of a state.
 
-ghost use Rattle.std.specs.Prelude.{ℕ, ◌+◌, ◌≡◌, ◌<◌, ◌≤◌, All, Bool, IfSome, List, length, map, true};
-ghost use Rattle.std.specs.List.{range_with_len};
+ghost use Rattle.std.specs.Prelude.{ℕ, ◌+◌, ◌≡◌, ◌<◌, ◌≤◌, All, IfSome, length, true};
 ghost use Rattle.cubes.specs.Symbol.{bit};
 ghost use Rattle.kiss_file.specs.declared.file.KissFile.{KissFile};
 ghost use Rattle.kiss_file.specs.LawfulFile.{IsLawfulRow};
-ghost use Rattle.partition.specs.Partition.{blocks_of};
 ghost use Rattle.part_machines.specs.PartRows as part_rows;
 ghost use Rattle.part_machines.specs.PartRows.{IsPartRow};
 ghost use Rattle.cubes.specs.Field.{characters};
@@ -21,7 +19,7 @@ use kiss_file::KissRow;
 use partition::Partition;
 use state_codes::Which;
 
-/// Whether a part has a row made of this one: for a part it names a next state, and for the outputs it gives one.
+/// Whether a row is made of this one: for a part it names a next state, and for the outputs it gives an output.
 pub(crate) fn is_taken(row: &KissRow, which: Which) -> bool
     ensures { (outputs : ℕ) → ((b : ℕ) → bit row.now.care b ≡ true → b < outputs)
         → result ≡ part_rows.is_taken outputs which row.now }

@@ -1,10 +1,24 @@
 //! The cells of a part, each with what its rows have in common.
 
-ghost use Rattle.std.specs.Prelude.{◌==◌, ◌≡◌, ◌<◌, ◌≤◌, ◌^◌, ◌∷◌, ◌++◌, [], All, Bool, IfOk, List, filter, length, map};
-ghost use Rattle.std.specs.Prelude.{slice_index};
+ghost use Rattle.std.specs.Prelude.{
+  ◌==◌,
+  ◌≡◌,
+  ◌<◌,
+  ◌≤◌,
+  ◌∷◌,
+  ◌++◌,
+  [],
+  All,
+  Bool,
+  IfOk,
+  List,
+  filter,
+  length,
+  map,
+  slice_index,
+};
 ghost use Rattle.std.specs.List.{range_with_len};
 ghost use Rattle.cubes.specs.Symbol as symbols;
-ghost use Rattle.part_machines.specs.CellLists.{IsCellAt, IsFieldOfCell};
 ghost use Rattle.part_machines.specs.Which as whiches;
 ghost use Rattle.part_rows.specs.Inner.Shown.{AreShown, HasBits};
 
@@ -64,7 +78,9 @@ fn shown_cell(codes: &Codes, which: Which, cell: Cell, field: Field) -> Shown
     ensures state { result.state ≡ cell.state }
     ensures block { result.block ≡ cell.block }
     ensures field { result.field ≡ field }
-    ensures bits { HasBits (map (symbols.bit (slice_index codes.now.words cell.state)) (whiches.own_bits codes.now which)) result.bits }
+    ensures bits { HasBits
+        (map (symbols.bit (slice_index codes.now.words cell.state)) (whiches.own_bits codes.now which))
+        result.bits }
     ensures few { result.bits.count ≤ 64 }
 {
     let word = codes.words.as_slice()[usize::from(cell.state)];
