@@ -14,8 +14,12 @@
 //! has one split ([`split_is_one`]).
 #![tactic(auto)]
 
+mod blocks;
+mod flaws;
 mod laws;
 mod machines;
+mod part_names;
+mod split_machine;
 
 pub use laws::{part_has_one_answer, split_is_one};
 pub use machines::part;
