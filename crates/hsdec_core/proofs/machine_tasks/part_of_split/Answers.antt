@@ -13,5 +13,6 @@ pub returns : goal.returns
 returns c =
     let F = c.args.file.now in
     let job = c.args.job.now in
-    subst (λ text. IsJudged (HasNoPart (split_kind text) text c.which.result job.reduce F) (λ written. IsPartText (split_kind text) text c.which.result job.reduce F written.items) c.part.result) c.bytes-split.ensures
-    (subst (λ kind. IsJudged (HasNoPart kind c.bytes-split.result.now c.which.result job.reduce F) (λ written. IsPartText kind c.bytes-split.result.now c.which.result job.reduce F written.items) c.part.result) c.kind_of_split.ensures c.part.ensures)
+    subst (λ which. IsJudged (HasNoPart (split_kind job.second) job.second which job.reduce F) (λ written. IsPartText (split_kind job.second) job.second which job.reduce F written.items) c.part.result) c.which.ensures
+    (subst (λ text. IsJudged (HasNoPart (split_kind text) text c.which.result job.reduce F) (λ written. IsPartText (split_kind text) text c.which.result job.reduce F written.items) c.part.result) c.bytes-split.ensures
+    (subst (λ kind. IsJudged (HasNoPart kind c.bytes-split.result.now c.which.result job.reduce F) (λ written. IsPartText kind c.bytes-split.result.now c.which.result job.reduce F written.items) c.part.result) c.kind_of_split.ensures c.part.ensures))
