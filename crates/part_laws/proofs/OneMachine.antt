@@ -29,11 +29,11 @@ use Rattle.part_machines.specs.Fields.{IsFieldOf, LeavesAt}
 use Rattle.part_machines.specs.Laws.Fields.{same_places}
 use Rattle.part_machines.specs.PartMachine.{HasBlocks, HasSignals, IsPartOf}
 use Rattle.part_machines.specs.PartRows.{AreCellRows, ArePartRows, IsPartRow, is_taken, output_count, rows_once}
-use Rattle.part_machines.specs.PartSet.{IsPartSet}
 use Rattle.partition.specs.Partition.{blocks_of, one_of}
 use Rattle.list_facts.specs.Laws.Places.{item_at}
 use Rattle.state_codes.specs.declared.Codes.{Codes}
 use Rattle.state_codes.specs.declared.split.Part.{Part}
+use Rattle.part_texts.specs.Laws.OneSplit.{set_once}
 use Rattle.part_laws.specs.OneMachine.{MachineIsOne}
 use Rattle.part_laws.proofs.Specified.{specified_work}
 use Rattle.part_laws.proofs.Lists.{zip_once}
@@ -165,17 +165,6 @@ module _ (W : KissFile) (code : Codes) (p : List ℕ) (set : ReadSet) (which : W
       ∙ sym two.joined)
 
 -- ---- the machine
-same_set : (inputs more latches others : List ℕ) → inputs ≡ more → latches ≡ others → ◌≡◌ {A = ReadSet} (record { inputs = inputs; latches = latches }) (record { inputs = more; latches = others })
-same_set inputs more latches others a b = cc
-
-set_once : (code : Codes) (sets : Reads) (which : Which) (set more : ReadSet) → IsPartSet code sets which set → IsPartSet code sets which more → set ≡ more
-set_once code sets which set more one two =
-    same_set set.inputs more.inputs set.latches more.latches
-    (same_ascending set.inputs more.inputs one.inputs_ascend two.inputs_ascend
-    (λ a. ((λ is. (two.inputs a).1 ((one.inputs a).0 is)), (λ is. (one.inputs a).1 ((two.inputs a).0 is)))))
-    (same_ascending set.latches more.latches one.latches_ascend two.latches_ascend
-    (λ c. ((λ is. (two.latches c).1 ((one.latches c).0 is)), (λ is. (one.latches c).1 ((two.latches c).0 is)))))
-
 same_file : (i j o q r t : ℕ) (states others : List (List ℕ)) (rows more : List KissRow) (a b c d : Option (List (List ℕ))) → i ≡ j → o ≡ q → r ≡ t → states ≡ others → rows ≡ more → a ≡ b → c ≡ d
     → ◌≡◌ {A = KissFile} (record { inputs = i; outputs = o; reset = r; states = states; rows = rows; input_names = a; output_names = c })
     (record { inputs = j; outputs = q; reset = t; states = others; rows = more; input_names = b; output_names = d })

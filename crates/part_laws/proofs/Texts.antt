@@ -1,5 +1,5 @@
 -- The texts of the machines of a split.
-use Rattle.std.proofs.Common.{◌≡◌, ◌∙◌, ◌≤◌, ℕ, Bool, List, [], ◌∷◌, Contains, length, sym, ap, subst}
+use Rattle.std.proofs.Common.{◌≡◌, ◌∙◌, ℕ, Bool, List, [], ◌∷◌, sym, ap, subst}
 use Rattle.std.specs.List.{AllZip}
 use Rattle.dependence.specs.declared.sets.Reads.{Reads}
 use Rattle.kiss2.specs.Kiss.{Kiss}
@@ -8,7 +8,6 @@ use Rattle.kiss2_laws.proofs.RoundTrip.{says_again}
 use Rattle.kiss_file.specs.declared.file.KissFile.{KissFile}
 use Rattle.net_core.specs.declared.SignalNames.{SignalNames}
 use Rattle.part_machines.specs.PartMachine.{IsPartOf}
-use Rattle.part_machines.specs.Which.{own_bits}
 use Rattle.part_texts.specs.PartText.{IsPartText}
 use Rattle.part_texts.specs.SplitMachine.{IsSplitMachine}
 use Rattle.state_codes.specs.declared.Codes.{Codes}
@@ -16,8 +15,8 @@ use Rattle.state_codes.specs.declared.split.Kind.{Kind}
 use Rattle.state_codes.specs.declared.split.Part.{Part}
 use Rattle.state_codes.specs.declared.which.Which.{Which}
 use Rattle.state_codes.specs.declared.which.Which.TheVariants.{Part as Numbered, Outputs}
-use Rattle.part_laws.specs.Parts.{AreMachinesOf, AnswerAs}
-use Rattle.part_laws.specs.Texts.{AreTextsOf, HasBits, IsReadWhole, IsShortText, PartIsOne, PartIsRead, PartsAnswer, SayMachines}
+use Rattle.part_laws.specs.Parts.{AreMachinesOf}
+use Rattle.part_laws.specs.Texts.{IsShortText, PartIsOne, PartIsRead, PartsAnswer}
 use Rattle.part_laws.proofs.OneMachine.{machine_is_one}
 use Rattle.part_laws.proofs.OneSplit.{of_same_split}
 use Rattle.part_texts.specs.Laws.OneSplit.{split_is_one}

@@ -1,17 +1,10 @@
 -- The machines of a split answer as the machine of the file.
 use Rattle.std.proofs.Common.{◌≡◌, ◌∙◌, ℕ, Bool, true, false, List, map, sym, ap, subst}
+use Rattle.decomposition.proofs.Carrying.{work_lawful}
 use Rattle.kiss_file.specs.declared.file.KissFile.{KissFile}
 use Rattle.kiss_file.specs.LawfulFile.{IsLawful}
-use Rattle.kiss_file.specs.Laws.Machine.{next_is_a_state}
 use Rattle.kiss_file.specs.Machine.{Conflicting, answers}
-use Rattle.machine_table.specs.NextStates.{NeverLeaves}
-use Rattle.machine_table.specs.Table.{IsTable}
-use Rattle.state_pairs.specs.Laws.Lawful.{table_of_lawful}
-use Rattle.state_reduce.specs.Inner.BlockNames.{AreAllNamed}
-use Rattle.state_reduce.specs.Laws.Unrefused.{alike_closed}
 use Rattle.state_reduce.specs.WorkMachine.{IsWorkMachine}
-use Rattle.state_reduce.proofs.AllNamed.{all_named}
-use Rattle.state_reduce.proofs.Lawfully.{blocks_lawful}
 use Rattle.state_reduce.proofs.Working.{classes_answer_alike}
 use Rattle.part_texts.specs.SplitMachine.{IsSplitMachine}
 use Rattle.part_laws.specs.Parts.{MachinesAnswer}
@@ -26,22 +19,16 @@ record IsFit (F W : KissFile) (class : ℕ → ℕ) : Type 0 where
   reset : W.reset ≡ class F.reset
 
 fit : (reduce : Bool) (F W : KissFile) (class : ℕ → ℕ) → IsLawful F → (Conflicting F → ⊥) → IsWorkMachine reduce F W class → IsFit F W class
-fit true F W class lawful no_conflict work =
-    let p : List ℕ = work.classes in
-    let table : IsTable F = table_of_lawful F lawful in
-    let stays : NeverLeaves F = λ t x within size. next_is_a_state F t x lawful within in
-    let named : AreAllNamed F p = all_named F p table work.alike.lawful.length lawful.numbered no_conflict (alike_closed F p work.alike stays) in
-    record {
-      machine = blocks_lawful F p W work.quotient lawful.distinct work.alike.lawful.length table named lawful;
-      inputs = (work.quotient).inputs;
-      reset = (work.quotient).reset ∙ sym (work.class_of F.reset);
-    }
-fit false F W class lawful no_conflict work =
-    record {
-      machine = subst IsLawful (sym work.file) lawful;
-      inputs = ap (λ (M : KissFile). M.inputs) work.file;
-      reset = ap (λ (M : KissFile). M.reset) work.file ∙ sym (work.class_of F.reset);
-    }
+fit true F W class lawful no_conflict work = record {
+  machine = work_lawful true F W class lawful no_conflict work;
+  inputs = (work.quotient).inputs;
+  reset = (work.quotient).reset ∙ sym (work.class_of F.reset);
+}
+fit false F W class lawful no_conflict work = record {
+  machine = work_lawful false F W class lawful no_conflict work;
+  inputs = ap (λ (M : KissFile). M.inputs) work.file;
+  reset = ap (λ (M : KissFile). M.reset) work.file ∙ sym (work.class_of F.reset);
+}
 
 pub machines_answer : MachinesAnswer
 machines_answer kind text reduce F W parts code sets names numbers machines Z apart are word long =
