@@ -4,7 +4,7 @@ use Rattle.std.specs.List.{flat_map, AllByRecursion}
 use Rattle.list_facts.specs.Laws.Everywhere.{each_weaker}
 use Rattle.hs_io.specs.Spelling.{spaced, IsFieldByte}
 use Rattle.blif_out.specs.Head.{comment_text}
-use Rattle.blif_out.proofs.Visible.{IsVisible, AreVisible}
+use Rattle.blif_out.specs.Laws.Visible.{IsVisible, AreVisible}
 
 -- all but the first
 abbrev pub rest_of : {X : Type 0} → List X → List X

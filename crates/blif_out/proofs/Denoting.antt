@@ -22,9 +22,9 @@ use Rattle.blif_out.specs.Design.{IsClockOf, IsDesignOf}
 use Rattle.blif_out.specs.NetText.{net_fields, net_text}
 use Rattle.blif_out.specs.Writable.{IsSignalName, IsWritable}
 use Rattle.blif_out.specs.Law.{NetTextDenotes}
-use Rattle.blif_out.proofs.Grammar.{on_lines, said-on_lines, tail_statements, net_statements, net_said, net_faultless, controls_of, all_clocks, flat_map-tail, latches_read, gates_read}
-use Rattle.blif_out.proofs.Reading.{numbered, HasNoBackslash, GoesOn, lines_from-comments, joined-numbered, take_while-numbered, statements-comments}
-use Rattle.blif_out.proofs.Words.{AreNames, all_names, all_go_on, all_have_words, name_word}
+use Rattle.blif_out.specs.Laws.Grammar.{on_lines, said-on_lines, tail_statements, net_statements, net_said, net_faultless, controls_of, all_clocks, flat_map-tail, latches_read, gates_read}
+use Rattle.blif_out.specs.Laws.Reading.{numbered, HasNoBackslash, GoesOn, lines_from-comments, joined-numbered, take_while-numbered, statements-comments}
+use Rattle.blif_out.specs.Laws.Words.{AreNames, all_names, all_go_on, all_have_words, name_word}
 
 -- ---- lines
 -- no text has a line feed within

@@ -1,12 +1,7 @@
-pub mod Reading
-pub mod Grammar
-pub mod Words
 pub mod Denoting
 pub mod Appending
 pub mod Whole
-pub mod Visible
 pub mod Cutting
 pub mod Once
 pub mod NetworkTexts
-pub mod Designs
 pub mod WorkedTexts

@@ -15,7 +15,7 @@ use Rattle.blif_out.specs.NetText.{net_text}
 use Rattle.blif_out.specs.NetworkText.{IsNetworkText, CanBeWritten, NetworkHasText, TextHasHead}
 use Rattle.blif_out.specs.Writable.{IsWritable}
 use Rattle.blif_out.proofs.Denoting.{net_denotes}
-use Rattle.blif_out.proofs.Visible.{head_comments}
+use Rattle.blif_out.specs.Laws.Visible.{head_comments}
 use Rattle.blif_out.proofs.Whole.{head_begins}
 
 pub comments_join : CommentsJoin

@@ -27,7 +27,7 @@ use Rattle.blif_out.specs.HeadLaw.{IsLawfulPartition, IsLawfulPart, IsLawfulNote
 use Rattle.blif_out.specs.NetText.{model_fields}
 use Rattle.blif_out.proofs.Cutting.{rest_of, pieces_once, fields_once}
 use Rattle.blif_out.proofs.Denoting.{comment_inside}
-use Rattle.blif_out.proofs.Visible.{AreVisible, head_visible, head_comments}
+use Rattle.blif_out.specs.Laws.Visible.{AreVisible, head_visible, head_comments}
 
 -- a numeral is no dash
 no_dash : (n : ℕ) → n < 2 ^ 64 → decimal n ≢ 45 ∷ []

@@ -17,7 +17,7 @@ use Rattle.blif_out.specs.NetText.{net_text, gate_fields, latch_fields, model_fi
 use Rattle.blif_out.specs.Writable.{IsWritable}
 use Rattle.blif_out.specs.Inner.Pieces.{row_line, latch_line, gate_lines, part_line, state_line, note_line}
 use Rattle.blif_out.proofs.Denoting.{net_denotes}
-use Rattle.blif_out.proofs.Visible.{head_comments}
+use Rattle.blif_out.specs.Laws.Visible.{head_comments}
 
 -- a statement as a line
 abbrev line : List (List ℕ) → List ℕ

@@ -12,8 +12,8 @@ use Rattle.blif_out.specs.Head.{comment_text, net_text_of, note_fields, part_fie
 use Rattle.blif_out.specs.Design.{IsClockOf, driven_signals, plain_design}
 use Rattle.blif_out.specs.NetText.{gate_fields, net_text}
 use Rattle.blif_out.specs.Worked.{carried_part, clocked_design, clocked_lines, gate, named_design, named_lines, reduced_header, reduced_lines, reduced_network, serial_header, serial_lines, serial_network, started_network, text, unlike_note}
-use Rattle.blif_out.proofs.Designs.{among, outside}
-use Rattle.blif_out.proofs.Words.{is_name_byte, name_word}
+use Rattle.blif_out.specs.Laws.Designs.{among, outside}
+use Rattle.blif_out.specs.Laws.Words.{is_name_byte, name_word}
 
 pub serial : net_text_of plain_design serial_header serial_network ≡ text serial_lines
 unfolding digits

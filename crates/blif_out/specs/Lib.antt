@@ -8,4 +8,5 @@ pub mod HeadLaw
 pub mod Comments
 pub mod NetworkText
 pub mod Worked
+pub mod Laws
 pub mod Inner

@@ -16,7 +16,7 @@ ghost use Rattle.partition.specs.MeetAndJoin.{IsJoin};
 ghost use Rattle.partition.specs.Partition.{IsPartition, Together};
 
 use crate::known_principals::Principals;
-use crate::next_pairs::{known_ahead, numbered, pairs_ahead};
+use crate::next_pairs::{known_ahead, pairs_ahead, state_number};
 use machine_table::Machine;
 use partition::Partition;
 use std::alloc::{AllocError, Global};
@@ -224,7 +224,7 @@ pub(crate) fn learn(
     ensures known { OnOk result (ArePrincipalsOf m.now known.new) }
     ensures principal { IfOk result (IsPrincipal m.now s t) }
 {
-    let (u, v) = (numbered(m, s), numbered(m, t));
+    let (u, v) = (state_number(m, s), state_number(m, t));
     if let Some(least) = known.find(u, v) {
         return least.copy(alloc);
     }

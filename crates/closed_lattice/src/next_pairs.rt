@@ -26,7 +26,7 @@ const MOST_COLUMNS: usize = 8;
 const MOST_KNOWN: usize = 32;
 
 /// The number of a state. There are at most 256.
-pub(crate) fn numbered(m: &Machine, s: usize) -> u16
+pub(crate) fn state_number(m: &Machine, s: usize) -> u16
     requires { s < length m.now.states }
     ensures { result ≡ s }
 {
@@ -43,7 +43,7 @@ fn pair_at(m: &Machine, s: u16, t: u16, k: usize) -> Option<(u16, u16)>
     let x = m.symbol_of_column(usize::from(s), k)?;
     let u = m.next(usize::from(s), x);
     let v = m.next(usize::from(t), x);
-    Some((numbered(m, u), numbered(m, v)))
+    Some((state_number(m, u), state_number(m, v)))
 }
 
 /// Two states that the two go to at a symbol of one of the first columns of s, other than the two themselves, and

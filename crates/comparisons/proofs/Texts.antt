@@ -15,7 +15,7 @@ use Rattle.blif_out.specs.Design.{plain_design}
 use Rattle.blif_out.specs.Head.{header_text, kind_word}
 use Rattle.blif_out.specs.NetText.{net_text}
 use Rattle.blif_out.specs.NetworkText.{CanBeHeaded, CanBeText, IsHeadedText}
-use Rattle.blif_out.proofs.Designs.{plain_design_is_lawful}
+use Rattle.blif_out.specs.Laws.Designs.{plain_design_is_lawful}
 use Rattle.blif_out.proofs.NetworkTexts.{header_is_comments, network_has_text, text_has_head}
 use Rattle.comparisons.proofs.Reasons.{refusals_have_reasons, register_refusals_have_reasons}
 use Rattle.comparisons.specs.Comparison.{AreKindLines, HasReason, IsCompared, IsKindLine, IsRegisterLine, compared_kinds}

@@ -42,40 +42,35 @@ pub fn compare(
     ensures { IfOk result (λ text. IsCompared reduce file.now text.items) }
 {
     let work = work_machine(alloc, file, machine, fill, reduce)?;
-    compare_work(alloc, file, &work)
+    compare_work(alloc, &work)
 }
 
-/// The lines of a machine that `work_machine` gives for the file.
-fn compare_work(alloc: Global, file: &KissFile, work: &WorkMachine) -> Result<Vec<u8>, AllocError>
-    requires lawful { IsLawful file.now }
-    requires no_conflict { Conflicting file.now → ⊥ }
-    requires work { (reduce : Bool) × IsWork reduce file.now work.now }
-    ensures { (reduce : Bool) → IsWork reduce file.now work.now
-        → IfOk result (λ text. IsCompared reduce file.now text.items) }
+/// The lines of a machine that `work_machine` gives.
+fn compare_work(alloc: Global, work: &WorkMachine) -> Result<Vec<u8>, AllocError>
+    requires lawful { IsLawful work.now.file.now }
+    requires no_conflict { Conflicting work.now.file.now → ⊥ }
+    requires work { (reduce : Bool) × IsWork reduce work.now.file.now work.now }
+    ensures { (reduce : Bool) → IsWork reduce work.now.file.now work.now
+        → IfOk result (λ text. IsCompared reduce work.now.file.now text.items) }
 {
-    let mut text = kind_lines(alloc, COMPARED, file, work)?;
-    let last = register_line(alloc, file, work)?;
+    let mut text = kind_lines(alloc, COMPARED, work)?;
+    let last = register_line(alloc, work)?;
     append_line(&mut text, last.as_slice())?;
     Ok(text)
 }
 
 /// The lines of kinds.
-fn kind_lines(
-    alloc: Global,
-    compared: &[Kind],
-    file: &KissFile,
-    work: &WorkMachine,
-) -> Result<Vec<u8>, AllocError>
+fn kind_lines(alloc: Global, compared: &[Kind], work: &WorkMachine) -> Result<Vec<u8>, AllocError>
     requires operands { AllByRecursion (λ kind. kind ≢ kinds.Assign) compared.now }
-    requires lawful { IsLawful file.now }
-    requires no_conflict { Conflicting file.now → ⊥ }
-    requires work { (reduce : Bool) × IsWork reduce file.now work.now }
-    ensures { (reduce : Bool) → IsWork reduce file.now work.now
-        → IfOk result (λ text. HasKindLines reduce file.now compared.now text.items) }
+    requires lawful { IsLawful work.now.file.now }
+    requires no_conflict { Conflicting work.now.file.now → ⊥ }
+    requires work { (reduce : Bool) × IsWork reduce work.now.file.now work.now }
+    ensures { (reduce : Bool) → IsWork reduce work.now.file.now work.now
+        → IfOk result (λ text. HasKindLines reduce work.now.file.now compared.now text.items) }
 {
     let mut text = Vec::new(alloc);
     for kind in compared {
-        let line = kind_line(alloc, *kind, file, work)?;
+        let line = kind_line(alloc, *kind, work)?;
         append_line(&mut text, line.as_slice())?;
     }
     Ok(text)

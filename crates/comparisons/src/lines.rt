@@ -14,7 +14,6 @@ use crate::network_counts::{count_across, counts_of};
 use answers::Refusal;
 use blif_out::{HeadedNetwork, word_of_kind};
 use hs_texts::comparisons::{Reason, counted, short};
-use kiss_file::KissFile;
 use shift_texts::{OrderedRegister, register_of_work};
 use split_texts::decompose_work;
 use state_codes::Kind;
@@ -28,35 +27,30 @@ const REGISTER: &[u8] = b"shift";
 pub(crate) fn kind_line(
     alloc: Global,
     kind: Kind,
-    file: &KissFile,
     work: &WorkMachine,
 ) -> Result<Vec<u8>, AllocError>
     requires operand { kind ≢ kinds.Assign }
-    requires lawful { IsLawful file.now }
-    requires no_conflict { Conflicting file.now → ⊥ }
-    requires work { (reduce : Bool) × IsWork reduce file.now work.now }
-    ensures { (reduce : Bool) → IsWork reduce file.now work.now
-        → IfOk result (λ line. IsKindLine reduce file.now kind line.items) }
+    requires lawful { IsLawful work.now.file.now }
+    requires no_conflict { Conflicting work.now.file.now → ⊥ }
+    requires work { (reduce : Bool) × IsWork reduce work.now.file.now work.now }
+    ensures { (reduce : Bool) → IsWork reduce work.now.file.now work.now
+        → IfOk result (λ line. IsKindLine reduce work.now.file.now kind line.items) }
 {
-    match decompose_work(alloc, kind, b"", file, work) {
+    match decompose_work(alloc, kind, b"", work) {
         Ok(made) => parts_line(alloc, kind, &made),
         Err(refusal) => reason_line(alloc, word_of_kind(kind), &refusal),
     }
 }
 
 /// The line of the register: the counts of its network, or why there is none.
-pub(crate) fn register_line(
-    alloc: Global,
-    file: &KissFile,
-    work: &WorkMachine,
-) -> Result<Vec<u8>, AllocError>
-    requires lawful { IsLawful file.now }
-    requires no_conflict { Conflicting file.now → ⊥ }
-    requires work { (reduce : Bool) × IsWork reduce file.now work.now }
-    ensures { (reduce : Bool) → IsWork reduce file.now work.now
-        → IfOk result (λ line. IsRegisterLine reduce file.now line.items) }
+pub(crate) fn register_line(alloc: Global, work: &WorkMachine) -> Result<Vec<u8>, AllocError>
+    requires lawful { IsLawful work.now.file.now }
+    requires no_conflict { Conflicting work.now.file.now → ⊥ }
+    requires work { (reduce : Bool) × IsWork reduce work.now.file.now work.now }
+    ensures { (reduce : Bool) → IsWork reduce work.now.file.now work.now
+        → IfOk result (λ line. IsRegisterLine reduce work.now.file.now line.items) }
 {
-    match register_of_work(alloc, file, work) {
+    match register_of_work(alloc, work) {
         Ok(made) => order_line(alloc, &made),
         Err(refusal) => reason_line(alloc, REGISTER, &refusal),
     }

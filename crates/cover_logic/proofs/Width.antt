@@ -9,7 +9,7 @@ use Rattle.std.proofs.lemmas.List.Elements.{All-append, All-contains, All-drop, 
 use Rattle.cover_terms.specs.Laws.Bits.{below_width}
 use Rattle.cover_terms.specs.declared.term.Term.{Term}
 use Rattle.cover_terms.specs.Term.{FitsWidth, Holds, HoldsWithDash, IsCovered}
-use Rattle.cover_logic.specs.Cover.{ShareNoValue, IsTermCover}
+use Rattle.cover_logic.specs.TermCover.{ShareNoValue, IsTermCover}
 use Rattle.cover_terms.specs.Lists.{HasSameValues}
 use Rattle.cover_logic.specs.Inner.Rows.{AreNeededPrimes, IsClear}
 use Rattle.cover_terms.specs.Laws.Values.{covered_back}

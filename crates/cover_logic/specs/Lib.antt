@@ -1,2 +1,2 @@
-pub mod Cover
+pub mod TermCover
 pub mod Inner

@@ -2,7 +2,7 @@
 ghost use Rattle.std.specs.Prelude.{◌≡◌, ◌≤◌, All, IfOk, IsTrue};
 ghost use Rattle.cover_terms.specs.Term.{FitsWidth};
 ghost use Rattle.cover_logic.specs.Inner.Rows.{ArePrimeRows, IsClear, IsPrimeRow};
-ghost use Rattle.cover_logic.specs.Inner.Tables.{IsTable};
+ghost use Rattle.cover_logic.specs.Inner.Tables.{IsMarkTable};
 
 use crate::table::Table;
 use crate::wide_rows::{raise, widened};
@@ -42,7 +42,7 @@ pub fn is_dense(on: &[Term], off: &[Term], width: u8) -> bool
 
 /// A row that holds the seed and no value of off, and that needs each of its literals.
 fn row_of(seed: Term, ground: &Ground, off: &Table, width: u8) -> Term
-    requires table { IsTable off.now }
+    requires table { IsMarkTable off.now }
     requires width { off.now.width ≡ width }
     requires few { width ≤ 16 }
     requires fits { FitsWidth width seed }
@@ -61,7 +61,7 @@ fn rows_of(
     zeros: &Table,
     width: u8,
 ) -> Result<Vec<Term>, AllocError>
-    requires table { IsTable zeros.now }
+    requires table { IsMarkTable zeros.now }
     requires columns { zeros.now.width ≡ width }
     requires few { width ≤ 16 }
     requires fits { All (FitsWidth width) on.now }

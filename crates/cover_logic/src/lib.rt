@@ -2,7 +2,7 @@
 //!
 //! A gate of up to 128 columns is given by two lists of terms: `on` holds the values at which it is 1, and `off`
 //! those at which it is 0. Any other value is free. `cover` answers rows that are a good cover (`IsTermCover`, in
-//! specs/Cover.antt): they hold every value of on and none of off, no literal can become a dash without a value of
+//! specs/TermCover.antt): they hold every value of on and none of off, no literal can become a dash without a value of
 //! off being held, and no row can be left out without a value of on being lost. That definition speaks of values,
 //! by their bits (`specs/Term` of `cover_terms`), and never of the terms that give them. Which of the good covers is answered is
 //! left to the crate, and no clause says that it is a least one. (specs/Inner has the definitions of the crate's own
@@ -37,7 +37,7 @@
 
 ghost use Rattle.std.specs.Prelude.{◌≤◌, ◌↔◌, All, IfOk, IsTrue};
 ghost use Rattle.cover_terms.specs.Term.{FitsWidth};
-ghost use Rattle.cover_logic.specs.Cover.{CanCover, IsTermCover};
+ghost use Rattle.cover_logic.specs.TermCover.{CanCover, IsTermCover};
 ghost use Rattle.cover_logic.specs.Inner.Rows.{AreNeededPrimes, IsClear};
 
 mod bundles;

@@ -5,7 +5,7 @@ ghost use Rattle.cover_terms.specs.declared.term.Term.{Term};
 ghost use Rattle.cover_terms.specs.Term.{FitsWidth};
 ghost use Rattle.cover_logic.specs.Inner.Index.{terms_of};
 ghost use Rattle.cover_logic.specs.Inner.Rows.{IsMetOrClear, MeetsSome};
-ghost use Rattle.cover_logic.specs.Inner.Tables.{IsTable};
+ghost use Rattle.cover_logic.specs.Inner.Tables.{IsMarkTable};
 
 use crate::index::Index;
 use crate::table::Table;
@@ -50,7 +50,7 @@ impl Off for Index {
 impl Off for Table {
     ghost terms = { λ table. table.terms.items };
 
-    ghost can_ask = { λ table row. IsTable table × FitsWidth table.width row };
+    ghost can_ask = { λ table row. IsMarkTable table × FitsWidth table.width row };
 
     fn meets(&self, row: Term) -> bool {
         self.shares_value(row)

@@ -17,12 +17,12 @@ impl Table {
     ghost use Rattle.std.specs.Prelude.{◌≡◌, ◌≤◌, [], All, IfOk, IsTrue, OnOk};
     ghost use Rattle.cover_terms.specs.Term.{FitsWidth};
     ghost use Rattle.cover_logic.specs.Inner.Rows.{IsAllHeld, IsMetOrClear};
-    ghost use Rattle.cover_logic.specs.Inner.Tables.{IsOneMore, IsTable, IsTableOf};
+    ghost use Rattle.cover_logic.specs.Inner.Tables.{IsOneMore, IsMarkTable, IsMarkTableOf};
 
     /// The table of no terms.
     pub fn new(alloc: Global, width: u8) -> Result<Table, AllocError>
         requires { width ≤ 16 }
-        ensures { IfOk result (IsTableOf width []) }
+        ensures { IfOk result (IsMarkTableOf width []) }
     {
         let marks = blank(alloc, width)?;
         Ok(Table {
@@ -36,7 +36,7 @@ impl Table {
     pub fn of(alloc: Global, terms: &[Term], width: u8) -> Result<Table, AllocError>
         requires few { width ≤ 16 }
         requires fits { All (FitsWidth width) terms.now }
-        ensures { IfOk result (IsTableOf width terms.now) }
+        ensures { IfOk result (IsMarkTableOf width terms.now) }
     {
         let mut table = Table::new(alloc, width)?;
         for term in terms {
@@ -47,7 +47,7 @@ impl Table {
 
     /// Adds a term.
     pub fn add(&mut self, term: Term) -> Result<(), AllocError>
-        requires table { IsTable self.old }
+        requires table { IsMarkTable self.old }
         requires fits { FitsWidth self.old.width term }
         ensures { OnOk result (IsOneMore self.old term self.new) }
     {
@@ -58,7 +58,7 @@ impl Table {
 
     /// Whether a term holds some value of the row.
     pub fn shares_value(&self, row: Term) -> bool
-        requires table { IsTable self.now }
+        requires table { IsMarkTable self.now }
         requires fits { FitsWidth self.now.width row }
         ensures { IsMetOrClear self.now.terms.items row result }
     {
@@ -67,7 +67,7 @@ impl Table {
 
     /// Whether terms hold all values of the row.
     pub fn holds(&self, row: Term) -> bool
-        requires table { IsTable self.now }
+        requires table { IsMarkTable self.now }
         requires fits { FitsWidth self.now.width row }
         ensures { IsTrue result → IsAllHeld self.now.terms.items row }
     {

@@ -23,7 +23,7 @@ use Rattle.machine_table.specs.Table.{IsTable}
 use Rattle.machine_table.specs.Laws.OutputWords.{same_map, same_values}
 use Rattle.kiss_file.specs.Laws.ByState.{IsByState, lawful_by_state, numbered_by_state}
 use Rattle.kiss_file.specs.Laws.NumberedNames.{length-numbered_names}
-use Rattle.cover_split.specs.Cover.{IsCover}
+use Rattle.cover_split.specs.StateCover.{IsStateCover}
 use Rattle.cover_split.specs.Expansion.{AnswersAlike, AnswersAsStates, IsExpansion, IsNextPair, IsPair, IsTarget, pairs_of}
 use Rattle.cover_split.specs.Inner.Rows.{IsBuilt, IsPairRow}
 use Rattle.cover_split.specs.Laws.Pairs.{length-pairs_of, one_pair, some_pair}
@@ -51,7 +51,7 @@ low_bit n o b small one =
 gives_bit : (row : KissRow) (o b : ℕ) → row.care ≡ 2 ^ o - 1 → b < o → given_bit b row ≡ Some (bit row.value b)
 gives_bit row o b care low = let cares : bit row.care b ≡ true = ap (λ (n : ℕ). bit n b) care ∙ ones_low o b low in rw cares refl
 
-module _ (F : KissFile) (table : IsTable F) (stays : NeverLeaves F) (blocks : List (List ℕ)) (cover : IsCover (length F.states) blocks) (E : KissFile) (is : IsBuilt F blocks E) where
+module _ (F : KissFile) (table : IsTable F) (stays : NeverLeaves F) (blocks : List (List ℕ)) (cover : IsStateCover (length F.states) blocks) (E : KissFile) (is : IsBuilt F blocks E) where
   pub state_count : length E.states ≡ length (pairs_of blocks)
   state_count = ap length is.states ∙ length-numbered_names (length (pairs_of blocks))
 

@@ -3,7 +3,7 @@ use Rattle.std.proofs.Common.{◌≡◌, ◌≢◌, ℕ, ◌+◌, ◌<◌, ◌�
 use Rattle.std.proofs.lemmas.Bool.{cases_lt}
 use Rattle.std.proofs.lemmas.List.{get_or_append_left, get_or_default, get_or_push, length_push}
 use Rattle.std.proofs.lemmas.List.Elements.{All-get_or, Contains-append_left, Contains-get_or, Contains-push, Contains-push_cases}
-use Rattle.cover_split.specs.Cover.{Has, IsBlock, IsCovered, IsWithin, block_at}
+use Rattle.cover_split.specs.StateCover.{Has, IsBlock, IsInSomeBlock, IsWithin, block_at}
 use Rattle.cover_split.specs.Refusal.{IsFirstMissing}
 use Rattle.cover_split.specs.Inner.Holders.{AreHolders, AreHoldersOf, AreIn, IsLeastAround}
 
@@ -60,13 +60,13 @@ module _ (blocks : List (List ℕ)) (s count : ℕ) (holders : List ℕ) (so_far
 
 -- ---- the lists of all states
 module _ (blocks : List (List ℕ)) (n : ℕ) (lists : List (List ℕ)) (are : AreHoldersOf blocks n lists) where
-  pub covered_from_some : (s : ℕ) → s < n → 0 < length (block_at lists s) → IsCovered blocks s
+  pub covered_from_some : (s : ℕ) → s < n → 0 < length (block_at lists s) → IsInSomeBlock blocks s
   covered_from_some s within some =
       let j = get_or (block_at lists s) 0 0 in
       let it = (are.right s within).own j (Contains-get_or (block_at lists s) 0 0 some) in
       (j, it.0, it.1)
 
-  pub missing_from_none : (s : ℕ) → s < n → block_at lists s ≡ [] → IsCovered blocks s → ⊥
+  pub missing_from_none : (s : ℕ) → s < n → block_at lists s ≡ [] → IsInSomeBlock blocks s → ⊥
   missing_from_none s within none (j, inside, has) =
       let there = (are.right s within).each j inside has in
       omega (arith, there.1, ap length none)

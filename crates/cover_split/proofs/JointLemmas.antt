@@ -16,7 +16,7 @@ use Rattle.machine_table.specs.declared.pieces.Piece.{Piece}
 use Rattle.machine_table.specs.Pieces.{IsHeldByPiece, IsPiece}
 use Rattle.machine_table.specs.Pairs.{AtEachSymbol, IsFirstWithout}
 use Rattle.cubes.specs.Laws.SharedCubes.{meets_from_held, value_below}
-use Rattle.cover_split.specs.Cover.{block_at}
+use Rattle.cover_split.specs.StateCover.{block_at}
 use Rattle.cover_split.specs.Expansion.{HasNexts, IsTarget, StaysWithin}
 use Rattle.cover_split.specs.declared.joint.Joint.{Joint}
 use Rattle.cover_split.specs.Inner.Joints.{AddsJoints, AllLead, AreJoints, AreJointsOfEach, AreListsFor, AreListsMet, AreMet, AreSettled, AreSpread, HasEachNext, IsFirstOf, IsDash, IsHeldByJoint, IsJoint, IsJointOf, IsLeastLeaving, IsTargetOf, IsWholePiece, NoneHasEach, list_at}

@@ -6,10 +6,10 @@ use Rattle.std.proofs.lemmas.List.{ext_get_or, get_or-map, length-map}
 use Rattle.std.proofs.lemmas.List.Elements.{All-get_or}
 use Rattle.std.proofs.lemmas.Option.{same_Some, slice_get_within, slice_get-get_or}
 use Rattle.std.specs.Fmt.{decimal}
-use Rattle.cover_split.specs.declared.cover.Cover.{Cover}
-use Rattle.cover_split.specs.declared.cover.CoverFail.{CoverFail}
-use Rattle.cover_split.specs.declared.cover.CoverFail.TheVariants.{BadText, Contained, Missing, TooMany, Trivial, NoMemory}
-use Rattle.cover_split.specs.Cover.{IsBlock, IsCover, IsWithin, NoneIsWithin}
+use Rattle.cover_split.specs.declared.state_cover.Cover.{Cover}
+use Rattle.cover_split.specs.declared.state_cover.CoverFail.{CoverFail}
+use Rattle.cover_split.specs.declared.state_cover.CoverFail.TheVariants.{BadText, Contained, Missing, TooMany, Trivial, NoMemory}
+use Rattle.cover_split.specs.StateCover.{IsBlock, IsStateCover, IsWithin, NoneIsWithin}
 use Rattle.cover_split.specs.Refusal.{BlocksFault, CoverFault, IsFirstBad, IsFirstMissing, IsFirstWithin, IsStatePiece, SpellsBlocks, IsTextOfFault}
 use Rattle.cover_split.specs.Text.{pieces_by_block}
 use Rattle.cover_split.proofs.Reading.{block_pieces}
@@ -140,7 +140,7 @@ module _ (n : ℕ) (blocks : List (List ℕ)) where
   one_blocks_fault Trivial two first second = trivial_one two first second
   one_blocks_fault NoMemory two first second = absurd first
 
-  no_blocks_fault : (fail : CoverFail) → IsCover n blocks → BlocksFault n blocks fail → ⊥
+  no_blocks_fault : (fail : CoverFail) → IsStateCover n blocks → BlocksFault n blocks fail → ⊥
   no_blocks_fault (BadText c d) cover fault = fault
   no_blocks_fault (Contained c d) cover fault = cover.apart c d fault.is_within
   no_blocks_fault (Missing t) cover fault = fault.1.missing (cover.each t fault.1.state)
@@ -176,7 +176,7 @@ one_fault n text one two few first second =
           ]
     ]
 
-no_fault : (n : ℕ) (text : List ℕ) (blocks : List (List ℕ)) (fail : CoverFail) → n ≤ 256 → SpellsBlocks n text blocks → IsCover n blocks → CoverFault n text fail → ⊥
+no_fault : (n : ℕ) (text : List ℕ) (blocks : List (List ℕ)) (fail : CoverFail) → n ≤ 256 → SpellsBlocks n text blocks → IsStateCover n blocks → CoverFault n text fail → ⊥
 no_fault n text blocks fail few is cover fault =
     elim (fault_kind n text fail fault) [
       | inl bad ↦ no_bad n text blocks bad.0 bad.1 few is bad.3
@@ -195,9 +195,9 @@ text_fault n text blocks NoMemory is fault = absurd fault
 -- ---- what is answered
 abbrev IsAnswer : ℕ → List ℕ → Result Cover CoverFail → Type 0
 IsAnswer n text r =
-    MatchResult r (λ cover. SpellsBlocks n text cover.blocks × IsCover n cover.blocks) (λ fail. (fail ≡ NoMemory) ⊎ CoverFault n text fail)
+    MatchResult r (λ cover. SpellsBlocks n text cover.blocks × IsStateCover n cover.blocks) (λ fail. (fail ≡ NoMemory) ⊎ CoverFault n text fail)
 
-pub accepts : (n : ℕ) (text : List ℕ) (blocks : List (List ℕ)) (r : Result Cover CoverFail) → n ≤ 256 → IsAnswer n text r → SpellsBlocks n text blocks → IsCover n blocks
+pub accepts : (n : ℕ) (text : List ℕ) (blocks : List (List ℕ)) (r : Result Cover CoverFail) → n ≤ 256 → IsAnswer n text r → SpellsBlocks n text blocks → IsStateCover n blocks
     → MatchResult r (λ cover. cover.blocks ≡ blocks) (λ fail. fail ≡ NoMemory)
 accepts n text blocks (Ok cover) few answer is lawful = same_blocks n text cover.blocks blocks few answer.0 is
 accepts n text blocks (Err fail) few answer is lawful =

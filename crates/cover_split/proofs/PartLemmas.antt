@@ -16,7 +16,7 @@ use Rattle.state_codes.specs.declared.split.Part.{Part}
 use Rattle.state_codes.specs.Split.{IsPart, own_part}
 use Rattle.state_codes.specs.Kinds.{IsOwnCarrier, PartsMeetInZero}
 use Rattle.state_codes.specs.Laws.InnerLabels.{complement_apart}
-use Rattle.cover_split.specs.Cover.{IsBlock, IsCover, block_at}
+use Rattle.cover_split.specs.StateCover.{IsBlock, IsStateCover, block_at}
 use Rattle.cover_split.specs.Expansion.{IsExpansion, IsPair, IsTarget, pairs_of}
 use Rattle.cover_split.specs.Parts.{IsByBlock, IsClosedFront, IsLongest, IsSplitByBlock}
 use Rattle.cover_split.specs.Laws.Pairs.{few_blocks, length-pairs_of, pair_at, pair_has, pair_of, placed, some_pair, start_of}
@@ -43,7 +43,7 @@ start_more (block ∷ []) zero within = omega arith
 start_more (block ∷ next ∷ blocks) zero within = omega arith
 start_more (block ∷ blocks) (suc j) within = omega (arith, start_more blocks j (omega arith))
 
-module _ (n : ℕ) (blocks : List (List ℕ)) (cover : IsCover n blocks) where
+module _ (n : ℕ) (blocks : List (List ℕ)) (cover : IsStateCover n blocks) where
   few : length blocks ≤ 256
   few = omega (arith, few_blocks n blocks cover.lawful, cover.few)
 

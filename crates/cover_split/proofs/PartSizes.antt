@@ -8,7 +8,7 @@ use Rattle.std.proofs.lemmas.Option.{slice_get_within, slice_get-get_or}
 use Rattle.partition.specs.Partition.{IsNontrivial, IsOne, IsZero, Together, blocks_of}
 use Rattle.partition.specs.NestedBlocks.{IsLargestSize, size_of}
 use Rattle.partition.specs.Laws.Labels.{block_stands, label-lt-blocks_of}
-use Rattle.cover_split.specs.Cover.{IsBlock, IsCover, block_at}
+use Rattle.cover_split.specs.StateCover.{IsBlock, IsStateCover, block_at}
 use Rattle.cover_split.specs.Expansion.{IsPair, pairs_from, pairs_of, pairs_with}
 use Rattle.cover_split.specs.Parts.{IsByBlock, IsLongest}
 use Rattle.cover_split.specs.Laws.Pairs.{pair_at, pair_has, some_pair, start_of}
@@ -68,7 +68,7 @@ longest blocks p size is it = record {
   longest = λ other. omega (arith, size_is blocks other, ap (λ (xs : List ℕ). size_of xs other) is, it.largest other);
 }
 
-module _ (n : ℕ) (blocks : List (List ℕ)) (cover : IsCover n blocks) (p : List ℕ) (is : IsByBlock blocks p) where
+module _ (n : ℕ) (blocks : List (List ℕ)) (cover : IsStateCover n blocks) (p : List ℕ) (is : IsByBlock blocks p) where
   -- a state of a block
   pair_in : (j k : ℕ) → k < length (block_at blocks j) → IsPair blocks (start_of blocks j + k) j (get_or (block_at blocks j) k 0)
   pair_in j k within = pair_at blocks j k (get_or (block_at blocks j) k 0) (slice_get-get_or (block_at blocks j) k 0 within)

@@ -6,7 +6,7 @@ use Rattle.std.proofs.lemmas.List.{ext_get_or, get_or_default, get_or-map, get_o
 use Rattle.std.proofs.lemmas.List.Elements.{All-get_or, All-nil, All-push}
 use Rattle.std.proofs.lemmas.Option.{get_or_from_slice_get, same_Some, slice_get_read}
 use Rattle.std.specs.Fmt.{decimal}
-use Rattle.cover_split.specs.Cover.{IsBlock}
+use Rattle.cover_split.specs.StateCover.{IsBlock}
 use Rattle.cover_split.specs.Inner.Pieces.{IsBlockText, IsFirstBadPiece}
 use Rattle.partition.specs.Text.{pieces_of}
 use Rattle.cover_split.specs.Refusal.{IsStatePiece}

@@ -9,12 +9,12 @@ use Rattle.std.proofs.lemmas.Option.{get_or_from_slice_get, same_Some, slice_get
 use Rattle.std.specs.Fmt.{decimal}
 use Rattle.std.specs.List.{onto_first, slice_split}
 use Rattle.std.specs.Option.{option_map}
-use Rattle.cover_split.specs.Cover.{IsBlock, places_of}
+use Rattle.cover_split.specs.StateCover.{IsBlock, places_of}
 use Rattle.cover_split.specs.Inner.Pieces.{IsBlockFault, IsBlockText, IsFirstBadPiece}
 use Rattle.partition.specs.Text.{pieces_of}
 use Rattle.cover_split.specs.Refusal.{CoverFault, IsFirstBad, SpellsBlocks}
-use Rattle.cover_split.specs.declared.cover.CoverFail.{CoverFail}
-use Rattle.cover_split.specs.declared.cover.CoverFail.TheVariants.{BadText, Contained, Missing, TooMany, Trivial, NoMemory}
+use Rattle.cover_split.specs.declared.state_cover.CoverFail.{CoverFail}
+use Rattle.cover_split.specs.declared.state_cover.CoverFail.TheVariants.{BadText, Contained, Missing, TooMany, Trivial, NoMemory}
 use Rattle.cover_split.specs.Text.{pieces_by_block, Spells}
 use Rattle.cover_split.proofs.Reading.{block_pieces}
 

@@ -12,7 +12,7 @@ use Rattle.kiss_file.specs.declared.file.KissRow.{KissRow}
 use Rattle.kiss_file.specs.Machine.{next, out}
 use Rattle.machine_table.specs.declared.pieces.Piece.{Piece}
 use Rattle.machine_table.specs.Pieces.{IsPiece}
-use Rattle.cover_split.specs.Cover.{Has, block_at}
+use Rattle.cover_split.specs.StateCover.{Has, block_at}
 use Rattle.cover_split.specs.Expansion.{IsTarget, pairs_of}
 use Rattle.cover_split.specs.declared.joint.Joint.{Joint}
 use Rattle.cover_split.specs.Inner.Joints.{AreJoints, HoldsAllOf, IsJoint}

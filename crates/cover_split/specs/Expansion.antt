@@ -5,7 +5,7 @@ use Rattle.kiss_file.specs.declared.file.KissFile.{KissFile}
 use Rattle.kiss_file.specs.Machine.{answers, next, out}
 use Rattle.machine_table.specs.Pairs.{AtEachSymbol, IsFirstWithout}
 use Rattle.kiss_file.specs.NumberedNames.{numbered_names}
-use Rattle.cover_split.specs.Cover.{Has, places_of}
+use Rattle.cover_split.specs.StateCover.{Has, places_of}
 use Rattle.cover_split.specs.declared.expansion.ExpandFail.{ExpandFail}
 use Rattle.cover_split.specs.declared.expansion.ExpandFail.TheVariants.{NotClosed, NoMemory}
 

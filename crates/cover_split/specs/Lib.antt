@@ -1,5 +1,5 @@
 pub mod Text
-pub mod Cover
+pub mod StateCover
 pub mod Refusal
 pub mod Expansion
 pub mod Parts

@@ -6,7 +6,7 @@ use Rattle.partition.specs.Partition.{IsNontrivial, IsPartition, Together, block
 use Rattle.partition.specs.NestedBlocks.{IsComplement, IsLargestSize}
 use Rattle.state_codes.specs.declared.split.Part.{Part}
 use Rattle.state_codes.specs.Kinds.{IsOwnCarrier}
-use Rattle.cover_split.specs.Cover.{block_at}
+use Rattle.cover_split.specs.StateCover.{block_at}
 use Rattle.cover_split.specs.Expansion.{IsExpansion, IsPair, pairs_of}
 
 -- pairs are together exactly where their blocks are the same

@@ -1,10 +1,10 @@
 -- Why a text is not a cover of n states: the first of its faults.
 use Rattle.std.specs.Prelude.{◌≡◌, ℕ, ◌+◌, ◌<◌, ◌≤◌, All, List, Some, length, slice_get}
 use Rattle.std.specs.Fmt.{decimal}
-use Rattle.cover_split.specs.declared.cover.CoverFail.{CoverFail}
-use Rattle.cover_split.specs.declared.cover.CoverFail.TheVariants.{BadText, Contained, Missing, TooMany, Trivial, NoMemory}
+use Rattle.cover_split.specs.declared.state_cover.CoverFail.{CoverFail}
+use Rattle.cover_split.specs.declared.state_cover.CoverFail.TheVariants.{BadText, Contained, Missing, TooMany, Trivial, NoMemory}
 use Rattle.cover_split.specs.Text.{pieces_by_block, Spells}
-use Rattle.cover_split.specs.Cover.{IsBlock, IsCovered, IsTrivial, IsWithin, NoneIsWithin, places_of}
+use Rattle.cover_split.specs.StateCover.{IsBlock, IsInSomeBlock, IsTrivial, IsWithin, NoneIsWithin, places_of}
 
 -- the piece at the given place of a block is the number of a state; if the piece before it is also the number
 -- of a state, this number is the greater one
@@ -36,13 +36,13 @@ pub record IsFirstWithin (blocks : List (List ℕ)) (a b : ℕ) : Type 0 where
 -- the least state that is in no block
 pub record IsFirstMissing (n : ℕ) (blocks : List (List ℕ)) (s : ℕ) : Type 0 where
   pub state : s < n
-  pub missing : IsCovered blocks s → ⊥
-  pub before : (t : ℕ) → t < s → IsCovered blocks t
+  pub missing : IsInSomeBlock blocks s → ⊥
+  pub before : (t : ℕ) → t < s → IsInSomeBlock blocks t
 
 -- no block is within another, and each state is in some block
 pub record AreApartAndWhole (n : ℕ) (blocks : List (List ℕ)) : Type 0 where
   pub apart : NoneIsWithin blocks
-  pub whole : (s : ℕ) → s < n → IsCovered blocks s
+  pub whole : (s : ℕ) → s < n → IsInSomeBlock blocks s
 
 -- why blocks of states are not a cover
 abbrev pub BlocksFault : ℕ → List (List ℕ) → CoverFail → Type 0

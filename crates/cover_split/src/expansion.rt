@@ -4,15 +4,15 @@ ghost use Rattle.std.specs.Option.{option_map_or};
 ghost use Rattle.kiss_file.specs.LawfulFile.{AreNumbered, IsLawful};
 ghost use Rattle.kiss_file.specs.Machine.{Conflicting, Specified};
 ghost use Rattle.machine_table.specs.Table.{IsTable};
-ghost use Rattle.cover_split.specs.Cover.{IsCover};
+ghost use Rattle.cover_split.specs.StateCover.{IsStateCover};
 ghost use Rattle.cover_split.specs.Expansion.{AnswersAlike, AnswersAsStates, Caused, IsClosedCover, IsExpansion};
 ghost use Rattle.cover_split.specs.Inner.Joints.{AllLead, AreJointsOfEach, IsLeastLeaving};
 ghost use Rattle.cover_split.specs.Inner.Rows.{IsBuilt};
 
-use crate::cover::{Block, Cover, states_at};
 use crate::joint::{Joint, Joints, joints};
 use crate::pairs::{first_with, number_of, pairs_of};
 use crate::rows::rows_of_pairs;
+use crate::state_cover::{Block, Cover, states_at};
 use kiss_file::{KissFile, numbered_names};
 use machine_table::Machine;
 use std::alloc::{AllocError, AllocFailed, Global};
@@ -52,7 +52,7 @@ impl<T: Drop> From<AllocFailed<T>> for ExpandFail {
 /// The machine of the pairs of a block and a state in it, by block and then by state. A pair goes to the copy
 /// of the next state in the first block that has the next states of its whole block.
 pub fn expand(alloc: Global, m: &Machine, cover: &Cover) -> Result<KissFile, ExpandFail>
-    requires { IsCover (length m.now.states) cover.now.blocks }
+    requires { IsStateCover (length m.now.states) cover.now.blocks }
     ensures expansion { IfOk result (IsExpansion m.now cover.now.blocks) }
     ensures closed { IfOk result (λ _. IsClosedCover m.now cover.now.blocks) }
     ensures caused { IfErr result (Caused m.now cover.now.blocks) }
@@ -75,7 +75,7 @@ pub fn expand(alloc: Global, m: &Machine, cover: &Cover) -> Result<KissFile, Exp
 
 /// The file of the pairs.
 fn file_of_pairs(alloc: Global, m: &Machine, blocks: &[Block]) -> Result<KissFile, ExpandFail>
-    requires { IsCover (length m.now.states) blocks.now }
+    requires { IsStateCover (length m.now.states) blocks.now }
     ensures built { IfOk result (IsBuilt m.now blocks.now) }
     ensures closed { IfOk result (λ _. IsClosedCover m.now blocks.now) }
     ensures caused { IfErr result (Caused m.now blocks.now) }
@@ -98,7 +98,7 @@ fn file_of_pairs(alloc: Global, m: &Machine, blocks: &[Block]) -> Result<KissFil
 
 /// The joint pieces of each block, each of which leads to a block.
 fn joints_of_blocks(alloc: Global, m: &Machine, blocks: &[Block]) -> Result<Vec<Joints>, ExpandFail>
-    requires { IsCover (length m.now.states) blocks.now }
+    requires { IsStateCover (length m.now.states) blocks.now }
     ensures count { IfOk result (λ lists. length lists.items ≡ length blocks.now) }
     ensures joints { IfOk result (λ lists. AreJointsOfEach m.now blocks.now lists.items) }
     ensures closed { IfOk result (λ _. IsClosedCover m.now blocks.now) }

@@ -1,10 +1,10 @@
 //! The blocks that have each state, by which a block within another block is found.
 ghost use Rattle.std.specs.Prelude.{◌≡◌, ℕ, ◌<◌, ◌≤◌, ◌↔◌, All, AllPairs, IfNone, IfOk, IfSome, IsTrue, [], length};
-ghost use Rattle.cover_split.specs.Cover.{IsBlock, IsWithin, NoneIsWithin, block_at};
+ghost use Rattle.cover_split.specs.StateCover.{IsBlock, IsWithin, NoneIsWithin, block_at};
 ghost use Rattle.cover_split.specs.Refusal.{IsFirstWithin};
 ghost use Rattle.cover_split.specs.Inner.Holders.{AreHolders, AreHoldersOf, AreIn, IsLeastAround};
 
-use crate::cover::{Block, has_state, states_at};
+use crate::state_cover::{Block, has_state, states_at};
 use hs_list::Items;
 use std::alloc::{AllocError, Global};
 

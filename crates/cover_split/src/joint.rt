@@ -21,7 +21,7 @@ ghost use Rattle.cover_split.specs.Inner.Joints.{
   IsWholePiece,
 };
 
-use crate::cover::{Block, has_state, states_at};
+use crate::state_cover::{Block, has_state, states_at};
 use cubes::{Cube, bit};
 use hs_list::Items;
 use machine_table::{Machine, Piece};

@@ -10,12 +10,11 @@
 //! machine of the pairs, which answers every word as the machine does, or gives where the cover is not closed.
 //! [`split`] is the serial split of that machine: the block, and the place in the block.
 //!
-//! The definitions are in `specs/`: `Text` has the pieces of a text, `Cover` what a cover is, `Refusal` the
+//! The definitions are in `specs/`: `Text` has the pieces of a text, `StateCover` what a cover is, `Refusal` the
 //! refusals of a text, `Expansion` the machine of the pairs and where a cover is not closed, and `Parts` the
 //! split. What is in `specs/Inner` serves private functions and proofs alone.
 #![tactic(auto)]
 
-mod cover;
 mod expansion;
 mod holders;
 mod joint;
@@ -23,11 +22,12 @@ mod laws;
 mod pairs;
 mod parts;
 mod rows;
+mod state_cover;
 mod text;
 
-pub use cover::{Block, Blocks, Cover, CoverFail};
 pub use expansion::{ExpandFail, expand};
 pub use laws::{pairs_fill_places, worked_texts};
 pub use pairs::pairs_of;
 pub use parts::split;
+pub use state_cover::{Block, Blocks, Cover, CoverFail};
 pub use text::parse;

@@ -1,9 +1,9 @@
 //! The pairs of a block and a state in it, and their numbers.
 ghost use Rattle.std.specs.Prelude.{◌≡◌, ◌<◌, ◌≤◌, ◌++◌, Contains, IfOk, OnOk, Some, length, map, slice_get};
-ghost use Rattle.cover_split.specs.Cover.{IsCovered};
+ghost use Rattle.cover_split.specs.StateCover.{IsInSomeBlock};
 ghost use Rattle.cover_split.specs.Expansion.{IsFirstWith, pairs_of};
 
-use crate::cover::{Block, has_state, states_at};
+use crate::state_cover::{Block, has_state, states_at};
 use std::alloc::{AllocError, Global};
 
 /// All pairs, by block and then by state.
@@ -52,7 +52,7 @@ pub(crate) fn number_of(pairs: &[(u16, u16)], j: u16, s: u16) -> u16
 
 /// The first block that has the state.
 pub(crate) fn first_with(blocks: &[Block], s: u16) -> u16
-    requires covered { IsCovered blocks.now s }
+    requires covered { IsInSomeBlock blocks.now s }
     requires few { length blocks.now ≤ 256 }
     ensures { IsFirstWith blocks.now s result }
 {

@@ -2,12 +2,12 @@
 ghost use Rattle.std.specs.Prelude.{◌≡◌, ℕ, ◌≤◌, All, IfOk, length, map};
 ghost use Rattle.state_codes.specs.Kinds.{PartsMeetInZero};
 ghost use Rattle.state_codes.specs.Split.{IsPart};
-ghost use Rattle.cover_split.specs.Cover.{IsCover};
+ghost use Rattle.cover_split.specs.StateCover.{IsStateCover};
 ghost use Rattle.cover_split.specs.Expansion.{pairs_of};
 ghost use Rattle.cover_split.specs.Parts.{IsByBlock, IsClosedFront, IsSplitByBlock};
 
-use crate::cover::{Block, Cover};
 use crate::pairs::pairs_of;
+use crate::state_cover::{Block, Cover};
 use partition::Partition;
 use state_codes::{Kind, Part, PartNumbers, Parts, Split};
 use std::alloc::{AllocError, Global};
@@ -15,7 +15,7 @@ use std::alloc::{AllocError, Global};
 /// The split of the machine of the pairs that `expand` makes: the block, and the place in the block. The next
 /// block of a pair depends on its block and the symbol alone.
 pub fn split(alloc: Global, cover: &Cover) -> Result<Split, AllocError>
-    requires { (n : ℕ) × IsCover n cover.now.blocks }
+    requires { (n : ℕ) × IsStateCover n cover.now.blocks }
     ensures kind { IfOk result (λ split. split.kind ≡ Kind.Serial) }
     ensures by_block { IfOk result (λ split. IsSplitByBlock cover.now.blocks split.parts) }
     ensures in_zero { IfOk result (λ split. PartsMeetInZero split.parts) }
@@ -41,7 +41,7 @@ pub fn split(alloc: Global, cover: &Cover) -> Result<Split, AllocError>
 
 /// The partition of the pairs by their blocks.
 fn by_block(alloc: Global, blocks: &[Block]) -> Result<Partition, AllocError>
-    requires { (n : ℕ) × IsCover n blocks.now }
+    requires { (n : ℕ) × IsStateCover n blocks.now }
     ensures by_block { IfOk result (IsByBlock blocks.now) }
     ensures labels { IfOk result (λ labels. labels ≡ map (λ pair. pair.0) (pairs_of blocks.now)) }
 {

@@ -1,13 +1,13 @@
 //! The rows of the pairs.
 ghost use Rattle.std.specs.Prelude.{◌≡◌, ◌<◌, Contains, IfOk, IsSome, OnOk, Some, length, slice_index};
-ghost use Rattle.cover_split.specs.Cover.{IsCover, block_at};
+ghost use Rattle.cover_split.specs.StateCover.{IsStateCover, block_at};
 ghost use Rattle.cover_split.specs.Expansion.{pairs_of};
 ghost use Rattle.cover_split.specs.Inner.Joints.{AllLead, AreJoints, AreJointsOfEach, IsJoint};
 ghost use Rattle.cover_split.specs.Inner.Rows.{AddsRows, AreRowsBelow, IsPairRow, IsPlaceOf};
 
-use crate::cover::{Block, states_at};
 use crate::joint::{Joint, Joints, joints_at};
 use crate::pairs::{number_of, pair_at};
+use crate::state_cover::{Block, states_at};
 use kiss_file::{KissRow, Rows};
 use machine_table::{Machine, all_outputs};
 use std::alloc::{AllocError, Global};
@@ -28,7 +28,7 @@ pub(crate) fn rows_of_pairs(
     pairs: &[(u16, u16)],
     lists: &[Joints],
 ) -> Result<Rows, AllocError>
-    requires cover { IsCover (length m.now.states) blocks.now }
+    requires cover { IsStateCover (length m.now.states) blocks.now }
     requires pairs { pairs.now ≡ pairs_of blocks.now }
     requires count { length lists.now ≡ length blocks.now }
     requires lists { AreJointsOfEach m.now blocks.now lists.now }
@@ -71,7 +71,7 @@ fn add_rows(
     at: PairPlace,
     joints: &[Joint],
 ) -> Result<(), AllocError>
-    requires cover { IsCover (length m.now.states) blocks.now }
+    requires cover { IsStateCover (length m.now.states) blocks.now }
     requires pairs { pairs.now ≡ pairs_of blocks.now }
     requires at { IsPlaceOf blocks.now at.number at.block at.place }
     requires joints { AreJoints m.now blocks.now (block_at blocks.now at.block) joints.now }
@@ -92,7 +92,7 @@ fn row_of(
     at: PairPlace,
     joint: &Joint,
 ) -> KissRow
-    requires cover { IsCover (length m.now.states) blocks.now }
+    requires cover { IsStateCover (length m.now.states) blocks.now }
     requires pairs { pairs.now ≡ pairs_of blocks.now }
     requires at { IsPlaceOf blocks.now at.number at.block at.place }
     requires joint { IsJoint m.now blocks.now (block_at blocks.now at.block) joint.now }

@@ -24,13 +24,13 @@ ghost use Rattle.std.specs.Prelude.{
 ghost use Rattle.std.specs.Fmt.{decimal};
 ghost use Rattle.partition.specs.Partition.{IsStateCount};
 ghost use Rattle.partition.specs.Numerals.{IsPlain};
-ghost use Rattle.cover_split.specs.declared.cover.CoverFail.{CoverFail};
-ghost use Rattle.cover_split.specs.Cover.{IsBlock, IsCover, IsTrivial, places_of};
+ghost use Rattle.cover_split.specs.declared.state_cover.CoverFail.{CoverFail};
+ghost use Rattle.cover_split.specs.StateCover.{IsBlock, IsStateCover, IsTrivial, places_of};
 ghost use Rattle.cover_split.specs.Refusal.{BlocksFault, CoverFault, SpellsBlocks};
 ghost use Rattle.cover_split.specs.Inner.Pieces.{IsBlockFault, IsBlockText};
 
-use crate::cover::{Block, Blocks, Cover, CoverFail};
 use crate::holders::{first_contained, first_missing, holders_of_states};
+use crate::state_cover::{Block, Blocks, Cover, CoverFail};
 use std::alloc::{AllocError, AllocFailed, Global};
 
 /// The greatest number of places.
@@ -41,8 +41,8 @@ const MOST_PLACES: usize = 256;
 pub fn parse(alloc: Global, text: &[u8], n: usize) -> Result<Cover, CoverFail>
     requires { IsStateCount n }
     ensures text { IfOk result (λ cover. SpellsBlocks n text.now cover.blocks) }
-    ensures cover { IfOk result (λ cover. IsCover n cover.blocks) }
-    ensures accepted { (blocks : List (List ℕ)) → SpellsBlocks n text.now blocks → IsCover n blocks
+    ensures cover { IfOk result (λ cover. IsStateCover n cover.blocks) }
+    ensures accepted { (blocks : List (List ℕ)) → SpellsBlocks n text.now blocks → IsStateCover n blocks
         → MatchResult result (λ cover. cover.blocks ≡ blocks) (λ fail. fail ≡ CoverFail.NoMemory) }
     ensures refused { (fail : CoverFail) → result ≡ Err fail
         → (fail ≡ CoverFail.NoMemory) ⊎ CoverFault n text.now fail }
@@ -56,7 +56,7 @@ pub fn parse(alloc: Global, text: &[u8], n: usize) -> Result<Cover, CoverFail>
 fn read_cover(alloc: Global, text: &[u8], n: usize) -> Result<Cover, CoverFail>
     requires { IsStateCount n }
     ensures { MatchResult result
-        (λ cover. SpellsBlocks n text.now cover.blocks × IsCover n cover.blocks)
+        (λ cover. SpellsBlocks n text.now cover.blocks × IsStateCover n cover.blocks)
         (λ fail. (fail ≡ CoverFail.NoMemory) ⊎ CoverFault n text.now fail) }
 {
     let blocks = read_blocks(alloc, text, n)?;
@@ -69,7 +69,7 @@ fn judge(alloc: Global, blocks: &[Block], n: usize) -> Result<(), CoverFail>
     requires count { IsStateCount n }
     requires lawful { All (IsBlock n) blocks.now }
     requires fits { places_of blocks.now < 2 ^ 64 }
-    ensures ok { OnOk result (IsCover n blocks.now) }
+    ensures ok { OnOk result (IsStateCover n blocks.now) }
     ensures err { IfErr result (λ fail. (fail ≡ CoverFail.NoMemory) ⊎ BlocksFault n blocks.now fail) }
 {
     let holders = holders_of_states(alloc, blocks, n)?;

@@ -1,6 +1,6 @@
 -- The pairs always have codes: two of them differ in the block or in the place in it, and the codes are short.
 use Rattle.std.proofs.Common.{◌≡◌, ◌≢◌, ◌⊎◌, ◌≤◌, ℕ, List, Result, Err, inl, inr, length, sym, ◌∙◌, subst, arith}
-use Rattle.cover_split.specs.Cover.{IsCover}
+use Rattle.cover_split.specs.StateCover.{IsStateCover}
 use Rattle.cover_split.specs.Expansion.{pairs_of}
 use Rattle.cover_split.specs.Laws.Pairs.{few_blocks}
 use Rattle.cover_texts.specs.Inner.Steps.{AreParts}
@@ -25,7 +25,7 @@ module _ (n : ℕ) (blocks : List (List ℕ)) (parts : List Part) (are : ArePart
       let same : s ≡ t = are.in_zero s t (fault.partner).together in
       omega (arith, same, (fault.partner).above)
 
-  pub never_long : (m : ℕ) → IsCover m blocks → (bits : ℕ) → fail ≡ CodeTooLong bits → ⊥
+  pub never_long : (m : ℕ) → IsStateCover m blocks → (bits : ℕ) → fail ≡ CodeTooLong bits → ⊥
   never_long m cover bits is =
       let fault : CodeFault n parts (CodeTooLong bits) = fault_of (CodeTooLong bits) is (λ e. cc) in
       let few : length blocks ≤ 256 = omega (arith, few_blocks m blocks cover.lawful, cover.few) in

@@ -10,9 +10,9 @@ use Rattle.blif_out.specs.declared.header.Header.{Header}
 use Rattle.blif_out.specs.declared.header.LatchNote.{LatchNote}
 use Rattle.blif_out.specs.Comments.{AreComments}
 use Rattle.blif_out.specs.Head.{bit_text, bits_of, comment_text, note_fields}
-use Rattle.blif_out.proofs.Visible.{AreVisible, IsVisible, decimal_visible, head_visible, text_visible}
-use Rattle.blif_out.proofs.Words.{name_word}
-use Rattle.cover_split.specs.Cover.{IsBlock, block_at}
+use Rattle.blif_out.specs.Laws.Visible.{AreVisible, IsVisible, decimal_visible, head_visible, text_visible}
+use Rattle.blif_out.specs.Laws.Words.{name_word}
+use Rattle.cover_split.specs.StateCover.{IsBlock, block_at}
 use Rattle.cover_split.specs.Expansion.{pairs_of}
 use Rattle.cover_texts.specs.Lines.{block_fields, cover_comments, cover_fields, cover_lines, pair_fields}
 use Rattle.hs_io.specs.Spelling.{ArePlainFields, IsComment, IsFieldByte, spaced}

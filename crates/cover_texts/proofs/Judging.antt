@@ -6,10 +6,10 @@ use Rattle.answers.specs.declared.refusals.Refusal.{Refusal}
 use Rattle.answers.specs.declared.refusals.Refusal.TheVariants.{NoMemory}
 use Rattle.answers.specs.Cause.{CallsForNone}
 use Rattle.answers.specs.Outcome.{IsStop}
-use Rattle.cover_split.specs.declared.cover.Cover.{Cover}
-use Rattle.cover_split.specs.declared.cover.CoverFail.{CoverFail}
-use Rattle.cover_split.specs.declared.cover.CoverFail.TheVariants as fails
-use Rattle.cover_split.specs.Cover.{IsCover}
+use Rattle.cover_split.specs.declared.state_cover.Cover.{Cover}
+use Rattle.cover_split.specs.declared.state_cover.CoverFail.{CoverFail}
+use Rattle.cover_split.specs.declared.state_cover.CoverFail.TheVariants as fails
+use Rattle.cover_split.specs.StateCover.{IsStateCover}
 use Rattle.cover_split.specs.Expansion.{IsClosedCover, IsFirstLeaving}
 use Rattle.cover_split.specs.Refusal.{CoverFault, SpellsBlocks}
 use Rattle.cover_texts.specs.Flaws.{BadCoverRow, IsFlaw}
@@ -38,8 +38,8 @@ missing_below n text fail state (inr fault) is =
 
 -- ---- a text that is one
 module _ (n : ℕ) (text : List ℕ) (result : Result Cover CoverFail) (cover : Cover) (is : result ≡ Ok cover) where
-  pub alone_from : ((blocks : List (List ℕ)) → SpellsBlocks n text blocks → IsCover n blocks → MatchResult result (λ (c : Cover). c.blocks ≡ blocks) (λ fail. fail ≡ fails.NoMemory))
-      → (others : List (List ℕ)) → SpellsBlocks n text others → IsCover n others → cover.blocks ≡ others
+  pub alone_from : ((blocks : List (List ℕ)) → SpellsBlocks n text blocks → IsStateCover n blocks → MatchResult result (λ (c : Cover). c.blocks ≡ blocks) (λ fail. fail ≡ fails.NoMemory))
+      → (others : List (List ℕ)) → SpellsBlocks n text others → IsStateCover n others → cover.blocks ≡ others
   alone_from accepted others told lawful = subst (λ (r : Result Cover CoverFail). MatchResult r (λ (c : Cover). c.blocks ≡ others) (λ fail. fail ≡ fails.NoMemory)) is (accepted others told lawful)
 
   pub faultless_from : ((fail : CoverFail) → CoverFault n text fail → (result ≡ Err fail) ⊎ (result ≡ Err fails.NoMemory)) → (fail : CoverFail) → CoverFault n text fail → ⊥
@@ -85,8 +85,8 @@ module _ (F M : KissFile) (n : ℕ) (same : M ≡ F) (count : n ≡ length M.sta
   pub stop_here : (fail : CoverFail) (refusal : Refusal) → IsFailRefusal F fail refusal → (fail ≡ fails.NoMemory) ⊎ CoverFault n text fail → IsStop (BadCoverRow F text) refusal
   stop_here fail refusal is refused = stop_of_fail F text fail refusal is (fault_here fail refused)
 
-  pub read_from : (result : Result Cover CoverFail) (cover : Cover) → result ≡ Ok cover → SpellsBlocks n text cover.blocks → IsCover n cover.blocks
-      → ((blocks : List (List ℕ)) → SpellsBlocks n text blocks → IsCover n blocks → MatchResult result (λ (c : Cover). c.blocks ≡ blocks) (λ fail. fail ≡ fails.NoMemory))
+  pub read_from : (result : Result Cover CoverFail) (cover : Cover) → result ≡ Ok cover → SpellsBlocks n text cover.blocks → IsStateCover n cover.blocks
+      → ((blocks : List (List ℕ)) → SpellsBlocks n text blocks → IsStateCover n blocks → MatchResult result (λ (c : Cover). c.blocks ≡ blocks) (λ fail. fail ≡ fails.NoMemory))
       → ((fail : CoverFail) → CoverFault n text fail → (result ≡ Err fail) ⊎ (result ≡ Err fails.NoMemory)) → IsRead (length F.states) text cover.blocks
   read_from result cover is told lawful accepted caused =
       subst (λ (k : ℕ). IsRead k text cover.blocks) counted

@@ -8,7 +8,7 @@ use Rattle.blif_out.specs.declared.networks.CommentedNetwork.{CommentedNetwork}
 use Rattle.blif_out.specs.Comments.{AreComments}
 use Rattle.blif_out.specs.NetworkText.{CanBeWritten, CanBeText}
 use Rattle.blif_out.specs.Writable.{IsWritable}
-use Rattle.cover_split.specs.Cover.{IsCover}
+use Rattle.cover_split.specs.StateCover.{IsStateCover}
 use Rattle.cover_split.specs.Expansion.{pairs_of}
 use Rattle.cover_split.specs.Refusal.{SpellsBlocks}
 use Rattle.cover_texts.specs.Inner.Steps.{AreCodesOfPairs, AreParts, IsExpanded}
@@ -20,7 +20,7 @@ use Rattle.cover_texts.proofs.Flowing.{states_counted}
 use Rattle.cover_texts.proofs.Sizes.{length_of_code}
 use Rattle.decomposition.specs.Network.{IsNetworkOf}
 use Rattle.decomposition.specs.PartReads.{IsBitOf}
-use Rattle.decomposition.proofs.Writable.{file_names, plain_fields, writable}
+use Rattle.decomposition.specs.Laws.Writable.{file_names, plain_fields, writable}
 use Rattle.kiss_file.specs.declared.file.KissFile.{KissFile}
 use Rattle.kiss_file.specs.LawfulFile.{IsLawful}
 use Rattle.kiss_file.specs.Machine.{next, out}
@@ -41,7 +41,7 @@ use Rattle.state_codes.specs.declared.split.Part.{Part}
 use Rattle.state_codes.specs.Agreement.{AreDistinct}
 use Rattle.state_codes.specs.Code.{IsCode}
 
-module _ (F E : KissFile) (blocks : List (List ℕ)) (parts : List Part) (codes : Codes) (lawful : IsLawful F) (cover : IsCover (length F.states) blocks) (is : IsExpanded F blocks E) (are : AreParts blocks parts) (coded : AreCodesOfPairs blocks parts codes) where
+module _ (F E : KissFile) (blocks : List (List ℕ)) (parts : List Part) (codes : Codes) (lawful : IsLawful F) (cover : IsStateCover (length F.states) blocks) (is : IsExpanded F blocks E) (are : AreParts blocks parts) (coded : AreCodesOfPairs blocks parts codes) where
   pub counts : length E.states ≡ length (pairs_of blocks)
   counts = states_counted F E blocks is.expansion
 

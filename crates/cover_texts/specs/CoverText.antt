@@ -5,7 +5,7 @@ use Rattle.blif_out.specs.declared.design.Design.{Design}
 use Rattle.blif_out.specs.declared.header.LatchNote.{LatchNote}
 use Rattle.blif_out.specs.declared.networks.CommentedNetwork.{CommentedNetwork}
 use Rattle.blif_out.specs.NetworkText.{IsTextWith}
-use Rattle.cover_split.specs.Cover.{IsCover}
+use Rattle.cover_split.specs.StateCover.{IsStateCover}
 use Rattle.cover_split.specs.Expansion.{IsClosedCover, IsExpansion, IsFirstCopy, IsPair, IsTarget, pairs_of}
 use Rattle.cover_split.specs.Parts.{IsLongest, IsSplitByBlock}
 use Rattle.cover_split.specs.Refusal.{SpellsBlocks}
@@ -69,7 +69,7 @@ HasNamesOf F latches N = (names : SignalNames) × AreNames F latches names × Ha
 -- E of the cover's pairs. The codes are those of E's split: by the block, and by the place in the block.
 pub record IsNetworkOfPairs (F : KissFile) (text : List ℕ) (blocks : List (List ℕ)) (E : KissFile) (parts : List Part) (codes : Codes) (notes : List LatchNote) (comments : List ℕ) (N : Network) : Type 0 where
   pub spelled : SpellsBlocks (length F.states) text blocks
-  pub cover : IsCover (length F.states) blocks
+  pub cover : IsStateCover (length F.states) blocks
   pub closed : IsClosedCover F blocks
   pub expansion : IsExpansion F blocks E
   pub split : IsSplitByBlock blocks parts

@@ -5,8 +5,8 @@ use Rattle.answers.specs.declared.refusals.CoverFlaw.{CoverFlaw}
 use Rattle.answers.specs.declared.refusals.CoverFlaw.TheVariants.{Lacks, Leaves, Place, Places, Trivial, Within}
 use Rattle.answers.specs.declared.refusals.Refusal.TheVariants.{BadCover}
 use Rattle.answers.specs.Cause.{Cause}
-use Rattle.cover_split.specs.declared.cover.CoverFail.TheVariants as fails
-use Rattle.cover_split.specs.Cover.{IsCover}
+use Rattle.cover_split.specs.declared.state_cover.CoverFail.TheVariants as fails
+use Rattle.cover_split.specs.StateCover.{IsStateCover}
 use Rattle.cover_split.specs.Expansion.{IsFirstLeaving}
 use Rattle.cover_split.specs.Refusal.{CoverFault, SpellsBlocks}
 use Rattle.cubes.specs.Symbol.{digit, symbol_of}
@@ -23,7 +23,7 @@ pub record LacksState (F : KissFile) (text name : List ℕ) : Type 0 where
 pub record LeavesAt (F : KissFile) (text : List ℕ) (block : ℕ) (digits : List ℕ) : Type 0 where
   pub blocks : List (List ℕ)
   pub spelled : SpellsBlocks (length F.states) text blocks
-  pub cover : IsCover (length F.states) blocks
+  pub cover : IsStateCover (length F.states) blocks
   pub symbol : ℕ
   pub first : IsFirstLeaving F blocks block symbol
   pub shown : digits ≡ map digit (symbol_of F.inputs symbol)

@@ -3,7 +3,7 @@
 ghost use Rattle.std.specs.Prelude.{◌≡◌, ℕ, List, length};
 ghost use Rattle.answers.specs.Outcome.{IsJudged};
 ghost use Rattle.blif_out.specs.NetworkText.{CanBeText};
-ghost use Rattle.cover_split.specs.Cover.{IsCover};
+ghost use Rattle.cover_split.specs.StateCover.{IsStateCover};
 ghost use Rattle.cover_texts.specs.Flaws.{BadCoverRow};
 ghost use Rattle.cover_texts.specs.Inner.Steps.{IsRead};
 ghost use Rattle.cover_texts.specs.CoverText.{IsCoverNetwork};
@@ -44,7 +44,7 @@ fn cover_by(
 ) -> Result<CommentedNetwork, Refusal>
     requires lawful { IsLawful file.now }
     requires machine { machine.now ≡ file.now }
-    requires cover { IsCover (length file.now.states) blocks.now.blocks }
+    requires cover { IsStateCover (length file.now.states) blocks.now.blocks }
     ensures { (text : List ℕ) → IsRead (length file.now.states) text blocks.now.blocks
         → IsJudged (BadCoverRow file.now text) (λ made. CanBeText made × IsCoverNetwork file.now text made) result }
 {

@@ -2,7 +2,7 @@
 
 ghost use Rattle.std.specs.Prelude.{◌≡◌, ◌<◌, ℕ, IfOk, MatchResult, length};
 ghost use Rattle.answers.specs.Outcome.{IsStop};
-ghost use Rattle.cover_split.specs.declared.cover.CoverFail.TheVariants as fails;
+ghost use Rattle.cover_split.specs.declared.state_cover.CoverFail.TheVariants as fails;
 ghost use Rattle.cover_texts.specs.Flaws.{BadCoverRow};
 ghost use Rattle.cover_texts.specs.Inner.Steps.{IsRead, IsFailRefusal};
 

@@ -2,7 +2,7 @@
 
 ghost use Rattle.std.specs.Prelude.{◌≡◌, ◌≤◌, ◌++◌, ◌<◌, All, OnOk, length};
 ghost use Rattle.std.specs.List.{flat_map, zip};
-ghost use Rattle.cover_split.specs.Cover.{IsCover};
+ghost use Rattle.cover_split.specs.StateCover.{IsStateCover};
 ghost use Rattle.cover_split.specs.Expansion as expansion;
 ghost use Rattle.cover_texts.specs.Inner.Pieces.{pair_line};
 ghost use Rattle.cover_texts.specs.Lines.{cover_comments};
@@ -23,7 +23,7 @@ pub(crate) fn append_head(
     codes: &Codes,
     notes: &[LatchNote],
 ) -> Result<(), AllocError>
-    requires cover { IsCover (length file.now.states) cover.now.blocks }
+    requires cover { IsStateCover (length file.now.states) cover.now.blocks }
     requires words { length codes.now.words ≡ length (expansion.pairs_of cover.now.blocks) }
     requires bits { codes.now.bits ≤ 64 }
     ensures { OnOk result

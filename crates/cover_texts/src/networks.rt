@@ -2,7 +2,7 @@
 
 ghost use Rattle.std.specs.Prelude.{◌≡◌, ◌≤◌, IfOk, length};
 ghost use Rattle.blif_out.specs.NetworkText.{CanBeText};
-ghost use Rattle.cover_split.specs.Cover.{IsCover};
+ghost use Rattle.cover_split.specs.StateCover.{IsStateCover};
 ghost use Rattle.cover_split.specs.Expansion as expansion;
 ghost use Rattle.cover_texts.specs.Inner.Steps.{AreCodesOfPairs, AreParts, IsExpanded};
 ghost use Rattle.cover_texts.specs.Inner.CommentedNetwork.{IsCommented};
@@ -29,7 +29,7 @@ pub(crate) fn network_of_pairs(
     pairs: &Machine,
 ) -> Result<CommentedNetwork, AllocError>
     requires lawful { IsLawful file.now }
-    requires cover { IsCover (length file.now.states) cover.now.blocks }
+    requires cover { IsStateCover (length file.now.states) cover.now.blocks }
     requires expanded { IsExpanded file.now cover.now.blocks pairs.now }
     ensures ready { IfOk result CanBeText }
     ensures whole { IfOk result (IsWhole file.now cover.now.blocks pairs.now) }
@@ -50,7 +50,7 @@ fn network_of_codes(
     codes: &Codes,
 ) -> Result<CommentedNetwork, AllocError>
     requires lawful { IsLawful file.now }
-    requires cover { IsCover (length file.now.states) cover.now.blocks }
+    requires cover { IsStateCover (length file.now.states) cover.now.blocks }
     requires expanded { IsExpanded file.now cover.now.blocks pairs.now }
     requires parts { AreParts cover.now.blocks split.now.parts }
     requires codes { AreCodesOfPairs cover.now.blocks split.now.parts codes.now }
@@ -71,7 +71,7 @@ fn commented(
     codes: &Codes,
     made: SplitNetwork,
 ) -> Result<CommentedNetwork, AllocError>
-    requires cover { IsCover (length file.now.states) cover.now.blocks }
+    requires cover { IsStateCover (length file.now.states) cover.now.blocks }
     requires words { length codes.now.words ≡ length (expansion.pairs_of cover.now.blocks) }
     requires bits { codes.now.bits ≤ 64 }
     ensures { IfOk result (IsCommented file.now cover.now.blocks codes.now made) }

@@ -2,7 +2,7 @@
 
 ghost use Rattle.std.specs.Prelude.{◌≡◌, ◌⊎◌, ℕ, IfOk, MatchResult, length};
 ghost use Rattle.answers.specs.declared.refusals.Refusal.TheVariants as refusals;
-ghost use Rattle.cover_split.specs.Cover.{IsCover};
+ghost use Rattle.cover_split.specs.StateCover.{IsStateCover};
 ghost use Rattle.cover_split.specs.Expansion.{pairs_of};
 ghost use Rattle.cover_texts.specs.Inner.Steps.{AreCodesOfPairs, AreParts, IsExpanded, LeavesWith};
 ghost use Rattle.partition.specs.Partition.{IsStateCount};
@@ -20,7 +20,7 @@ pub(crate) fn machine_of_pairs(
     machine: &Machine,
     cover: &Cover,
 ) -> Result<Machine, Refusal>
-    requires { IsCover (length machine.now.states) cover.now.blocks }
+    requires { IsStateCover (length machine.now.states) cover.now.blocks }
     ensures { MatchResult result (IsExpanded machine.now cover.now.blocks)
         (λ refusal. (refusal ≡ refusals.NoMemory) ⊎ LeavesWith machine.now cover.now.blocks refusal) }
 {
@@ -39,7 +39,7 @@ pub(crate) fn machine_of_pairs(
 
 /// The split of the machine of the pairs.
 pub(crate) fn split_of_pairs(alloc: Global, cover: &Cover) -> Result<Split, AllocError>
-    requires { (n : ℕ) × IsCover n cover.now.blocks }
+    requires { (n : ℕ) × IsStateCover n cover.now.blocks }
     ensures { IfOk result (λ split. AreParts cover.now.blocks split.parts) }
 {
     split(alloc, cover)
@@ -54,7 +54,7 @@ pub(crate) fn codes_of_pairs(
 ) -> Result<Codes, AllocError>
     requires count { IsStateCount n }
     requires pairs { n ≡ length (pairs_of cover.now.blocks) }
-    requires cover { (m : ℕ) × IsCover m cover.now.blocks }
+    requires cover { (m : ℕ) × IsStateCover m cover.now.blocks }
     requires parts { AreParts cover.now.blocks split.now.parts }
     ensures { IfOk result (AreCodesOfPairs cover.now.blocks split.now.parts) }
 {

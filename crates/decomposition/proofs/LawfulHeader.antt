@@ -26,9 +26,9 @@ use Rattle.state_codes.specs.Split.{IsPart}
 use Rattle.decomposition.specs.Inner.Header.{HasSmallReads, IsHeaderOf, words_by}
 use Rattle.decomposition.specs.Notes.{AreNotes, IsNoteOf}
 use Rattle.state_reduce.specs.Work.{AreClasses}
-use Rattle.decomposition.proofs.Carrying.{ArePrinted, IsImage}
+use Rattle.decomposition.specs.Laws.Carrying.{ArePrinted, IsImage}
 use Rattle.decomposition.proofs.Enough.{no_bit_past}
-use Rattle.decomposition.proofs.Writable.{plain_fields}
+use Rattle.decomposition.specs.Laws.Writable.{plain_fields}
 
 -- a partition of some number of states has a label for each
 own_labels : (n : ℕ) (p : List ℕ) → IsPartition n p → IsLawfulPartition p

@@ -3,10 +3,6 @@ pub mod Labelling
 pub mod Enough
 pub mod Reading
 pub mod Pairs
-pub mod Carrying
-pub mod Writable
 pub mod LawfulHeader
 pub mod Networks
 pub mod Whole
-pub mod Lists
-pub mod ReadOnce

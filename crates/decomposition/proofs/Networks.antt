@@ -32,7 +32,7 @@ use Rattle.decomposition.specs.Notes.{AreNotes}
 use Rattle.decomposition.proofs.Enough.{enough, irredundant}
 use Rattle.decomposition.proofs.Flowing.{flow_permits}
 use Rattle.decomposition.proofs.Pairs.{AreMade, own_pairs, within_parts}
-use Rattle.decomposition.proofs.Writable.{known_starts, rows_in_order}
+use Rattle.decomposition.specs.Laws.Writable.{known_starts, rows_in_order}
 
 -- what is asked of a machine, the parts of its split, the codes and the names of the signals
 pub record IsSplitAsked (W : KissFile) (parts : List Part) (codes : Codes) (names : SignalNames) : Type 0 where

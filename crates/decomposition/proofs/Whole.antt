@@ -36,9 +36,9 @@ use Rattle.decomposition.specs.Notes.{AreNotes}
 use Rattle.decomposition.specs.OwnPairs.{OwnPairs}
 use Rattle.decomposition.specs.PartReads.{IsWithinParts}
 use Rattle.state_reduce.specs.Work.{AreClasses, IsWork}
-use Rattle.decomposition.proofs.Carrying.{ArePrinted, IsImage, carries_file, image_of, labels_inside, printed_of}
+use Rattle.decomposition.specs.Laws.Carrying.{ArePrinted, IsImage, carries_file, image_of, labels_inside, printed_of}
 use Rattle.decomposition.proofs.LawfulHeader.{header_lawful}
-use Rattle.decomposition.proofs.Writable.{AreSignalNames, file_names, plain_fields, writable}
+use Rattle.decomposition.specs.Laws.Writable.{AreSignalNames, file_names, plain_fields, writable}
 
 module _ (F : KissFile) (work : WorkMachine) (codes : Codes) (lawful : IsLawful F) (no_conflict : Conflicting F → ⊥) (words_counted : length codes.words ≡ length (work.machine).states) (short : codes.bits ≤ 64) where
   abbrev W : KissFile

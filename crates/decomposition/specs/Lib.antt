@@ -6,4 +6,5 @@ pub mod PartReads
 pub mod Irredundance
 pub mod Network
 pub mod Decomposition
+pub mod Laws
 pub mod Inner

@@ -15,7 +15,7 @@ ghost use Rattle.state_reduce.specs.Work.{IsWork};
 use crate::header::header_of;
 use crate::network::{SplitNetwork, network_of_split};
 use blif_out::HeadedNetwork;
-use kiss_file::{KissFile, StateNames};
+use kiss_file::StateNames;
 use partition::Partition;
 use realise::names;
 use state_codes::{Codes, Split};
@@ -23,17 +23,16 @@ use state_reduce::WorkMachine;
 use std::alloc::{AllocError, Global};
 
 /// The network of a split, with the codes that `encode` gives for it, and the header that explains it. Each gate
-/// reads no more than it must. The machine is one that `work_machine` gives for the file, which is accepted.
+/// reads no more than it must. The machine is one that `work_machine` gives for its file, which is accepted.
 pub fn headed_network(
     alloc: Global,
-    file: &KissFile,
     work: &WorkMachine,
     split: Split,
     codes: &Codes,
 ) -> Result<HeadedNetwork, AllocError>
-    requires lawful { IsLawful file.now }
-    requires no_conflict { Conflicting file.now → ⊥ }
-    requires work { (reduce : Bool) × IsWork reduce file.now work.now }
+    requires lawful { IsLawful work.now.file.now }
+    requires no_conflict { Conflicting work.now.file.now → ⊥ }
+    requires work { (reduce : Bool) × IsWork reduce work.now.file.now work.now }
     requires count { length split.parts ≤ 256 }
     requires parts { All (IsPart (length work.now.machine.states)) split.parts }
     requires flows { Flows work.now.machine split.parts }
@@ -41,33 +40,32 @@ pub fn headed_network(
     requires distinct { AreDistinct (length work.now.machine.states) codes.now.words }
     requires short { codes.now.bits ≤ 64 }
     ensures ready { IfOk result CanBeHeaded }
-    ensures made { (reduce : Bool) → IsWork reduce file.now work.now
-        → IfOk result (IsDecomposed reduce file.now work.now.machine split.kind split.parts) }
+    ensures made { (reduce : Bool) → IsWork reduce work.now.file.now work.now
+        → IfOk result (IsDecomposed reduce work.now.file.now work.now.machine split.kind split.parts) }
 {
-    let made = network_of_file(alloc, file, work, &split, codes)?;
-    headed(alloc, &file.states, &work.classes, split, codes, made)
+    let made = network_of_file(alloc, work, &split, codes)?;
+    headed(alloc, &work.file.states, &work.classes, split, codes, made)
 }
 
 /// The network of a split, with the names that the file gives to its signals.
 fn network_of_file(
     alloc: Global,
-    file: &KissFile,
     work: &WorkMachine,
     split: &Split,
     codes: &Codes,
 ) -> Result<SplitNetwork, AllocError>
-    requires lawful { IsLawful file.now }
-    requires no_conflict { Conflicting file.now → ⊥ }
-    requires work { (reduce : Bool) × IsWork reduce file.now work.now }
+    requires lawful { IsLawful work.now.file.now }
+    requires no_conflict { Conflicting work.now.file.now → ⊥ }
+    requires work { (reduce : Bool) × IsWork reduce work.now.file.now work.now }
     requires parts { All (IsPart (length work.now.machine.states)) split.now.parts }
     requires flows { Flows work.now.machine split.now.parts }
     requires code { IsCode (length work.now.machine.states) split.now.parts codes.now }
     requires distinct { AreDistinct (length work.now.machine.states) codes.now.words }
     requires short { codes.now.bits ≤ 64 }
-    ensures { IfOk result (IsNamedNetwork file.now work.now split.now codes.now) }
+    ensures { IfOk result (IsNamedNetwork work.now split.now codes.now) }
 {
     work.machine.keeps_its_states();
-    let signals = names(alloc, file, codes.bits)?;
+    let signals = names(alloc, work.file, codes.bits)?;
     network_of_split(alloc, &work.machine, split, codes, &signals)
 }
 

@@ -5,16 +5,16 @@ use Rattle.std.proofs.lemmas.Bool.{false≢true}
 use Rattle.std.proofs.lemmas.List.Elements.{All-append, Contains-append_cases, Contains-append_left, Contains-append_right}
 use Rattle.list_facts.specs.Laws.Everywhere.{all_one}
 use Rattle.list_facts.specs.Laws.Members.{Contains-here, Contains-none, Contains-one}
-use Rattle.cover_logic.specs.Cover.{CanCover}
+use Rattle.cover_logic.specs.TermCover.{CanCover}
 use Rattle.cubes.specs.Symbol.{symbol_of, lowest_bits}
 use Rattle.gate_rows.specs.declared.demands.Demand.{Demand}
 use Rattle.gate_rows.specs.Columns.{IsReadIn, IsTermOf, column_count}
-use Rattle.gate_rows.specs.Covers.{HoldValues, IsGoodCover}
-use Rattle.gate_rows.specs.Demands.{AreApart, IsAsked}
+use Rattle.gate_rows.specs.GateCovers.{HoldValues, IsGoodCover}
+use Rattle.gate_rows.specs.Demands.{NeverContradict, IsAsked}
 use Rattle.gate_rows.specs.Inner.Terms.{HoldWhatIsRead}
-use Rattle.gate_rows.proofs.ReadNumbers.{read_length}
-use Rattle.gate_rows.proofs.RowTexts.{number_for}
-use Rattle.gate_rows.proofs.TermCovers.{same_cover}
+use Rattle.gate_rows.specs.Laws.ReadNumbers.{read_length}
+use Rattle.gate_rows.specs.Laws.RowTexts.{number_for}
+use Rattle.gate_rows.specs.Laws.TermCovers.{same_cover}
 use Rattle.cover_terms.specs.declared.term.Term.{Term}
 use Rattle.cover_terms.specs.Term.{FitsWidth, Holds}
 
@@ -100,7 +100,7 @@ module _ (inputs places : List ℕ) (demands : List Demand) where
       (number.0, number.1, number.2, (hold.held number.0).1 (subst (IsAsked inputs places given demands) (sym number.2) h))
 
   -- with the values of a call
-  pub can_cover_at : (width : ℕ) (on off : List Term) → width ≡ column_count inputs places → column_count inputs places ≤ 128 → AreApart inputs places demands → HoldWhatIsRead inputs places true demands on → HoldWhatIsRead inputs places false demands off → CanCover width on off
+  pub can_cover_at : (width : ℕ) (on off : List Term) → width ≡ column_count inputs places → column_count inputs places ≤ 128 → NeverContradict inputs places demands → HoldWhatIsRead inputs places true demands on → HoldWhatIsRead inputs places false demands off → CanCover width on off
   can_cover_at width on off same few apart on_is off_is =
       subst (λ (w : ℕ). CanCover w on off) (sym same) (record {
         columns = few;

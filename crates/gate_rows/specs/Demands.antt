@@ -24,5 +24,5 @@ pub record CanBeRead (inputs places : List ℕ) (demands : List Demand) : Type 0
   pub width : column_count inputs places ≤ 128
 
 -- both bits are asked for nowhere
-abbrev pub AreApart : List ℕ → List ℕ → List Demand → Type 0
-AreApart inputs places demands = (read : List Bool) → IsAsked inputs places true demands read → IsAsked inputs places false demands read → ⊥
+abbrev pub NeverContradict : List ℕ → List ℕ → List Demand → Type 0
+NeverContradict inputs places demands = (read : List Bool) → IsAsked inputs places true demands read → IsAsked inputs places false demands read → ⊥

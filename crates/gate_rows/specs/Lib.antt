@@ -1,6 +1,7 @@
 pub mod Columns
-pub mod Covers
+pub mod GateCovers
 pub mod Demands
 pub mod Names
 pub mod Latches
+pub mod Laws
 pub mod Inner

@@ -5,8 +5,8 @@ ghost use Rattle.std.specs.Cmp.Lexicographic.{slice_cmp};
 ghost use Rattle.std.specs.List.Sorted.{IsSorted};
 ghost use Rattle.std.specs.Ordering.{nat_cmp};
 ghost use Rattle.gate_rows.specs.Columns.{column_count};
-ghost use Rattle.gate_rows.specs.Covers.{IsGoodCover};
-ghost use Rattle.gate_rows.specs.Demands.{AreApart, CanBeRead, IsAsked};
+ghost use Rattle.gate_rows.specs.GateCovers.{IsGoodCover};
+ghost use Rattle.gate_rows.specs.Demands.{NeverContradict, CanBeRead, IsAsked};
 ghost use Rattle.gate_rows.specs.Inner.Terms.{HoldWhatIsRead};
 
 use crate::columns::term_of;
@@ -33,7 +33,7 @@ pub fn demanded_rows(
     places: &[u8],
 ) -> Result<Names, AllocError>
     requires read { CanBeRead inputs.now places.now demands.now }
-    requires apart { AreApart inputs.now places.now demands.now }
+    requires apart { NeverContradict inputs.now places.now demands.now }
     ensures cover { IfOk result
         (IsGoodCover (IsAsked inputs.now places.now true demands.now)
         (IsAsked inputs.now places.now false demands.now)) }

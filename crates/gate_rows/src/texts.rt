@@ -4,8 +4,8 @@ ghost use Rattle.std.specs.Prelude.{◌≡◌, ◌<◌, ◌≤◌, All, IfOk, le
 ghost use Rattle.std.specs.Cmp.Lexicographic.{slice_cmp};
 ghost use Rattle.std.specs.List.Sorted.{IsPermutation, IsSorted};
 ghost use Rattle.std.specs.Ordering.{nat_cmp};
-ghost use Rattle.cover_logic.specs.Cover.{CanCover};
-ghost use Rattle.gate_rows.specs.Covers.{HoldValues, IsGoodCover};
+ghost use Rattle.cover_logic.specs.TermCover.{CanCover};
+ghost use Rattle.gate_rows.specs.GateCovers.{HoldValues, IsGoodCover};
 ghost use Rattle.gate_rows.specs.Inner.Texts.{byte_at, row_text};
 
 use cover_logic::{Term, cover};

@@ -7,9 +7,9 @@ use Rattle.blif_out.specs.Design.{plain_design}
 use Rattle.blif_out.specs.Head.{head_lines, header_text}
 use Rattle.blif_out.specs.NetText.{net_text}
 use Rattle.blif_out.specs.NetworkText.{CanBeText, CanBeWritten, IsNetworkText}
-use Rattle.blif_out.proofs.Designs.{plain_design_is_lawful}
+use Rattle.blif_out.specs.Laws.Designs.{plain_design_is_lawful}
 use Rattle.blif_out.proofs.NetworkTexts.{network_has_text, text_has_head}
-use Rattle.blif_out.proofs.Visible.{head_comments}
+use Rattle.blif_out.specs.Laws.Visible.{head_comments}
 use Rattle.decomposition.specs.Decomposition.{IsDecomposed}
 use Rattle.hs_texts.specs.Reports.{trial_text}
 use Rattle.kiss_file.specs.declared.file.KissFile.{KissFile}

@@ -6,6 +6,7 @@ use Rattle.answers.specs.Outcome.{IsJudged, IsStop}
 use Rattle.answers.specs.Laws.Causes.{none_first}
 use Rattle.state_reduce.specs.declared.work.WorkMachine.{WorkMachine}
 use Rattle.state_reduce.specs.Work.{IsWork}
+use Rattle.state_reduce.specs.Laws.Works.{with_its_file}
 use Rattle.hs_texts.proofs.Comments.{trial_lines_are_comments}
 use Rattle.hs_texts.specs.declared.reports.TrialFigures.{TrialFigures}
 use Rattle.hs_texts.specs.Reports.{trial_lines, trial_text}
@@ -77,10 +78,11 @@ module _ (seed a b k : ℕ) (F : KissFile) (work : WorkMachine) (split : Split) 
     network = subst CanBeWritten (sym network) ready.network;
   }
 
-  pub trial_network : IsWork false F work → IsPlanned Parallel [] work.machine split → AreFigures seed a b k work.machine split.parts figures → IsOfParts F work split.kind split.parts headed → IsTrialNetwork seed a b k F made
+  pub trial_network : IsWork false F work → IsPlanned Parallel [] work.machine split → AreFigures seed a b k work.machine split.parts figures → IsOfParts work split.kind split.parts headed → IsTrialNetwork seed a b k F made
   trial_network is_work planned are of_parts =
       let same : work.machine ≡ F = is_work.machine.file in
-      let of_kind : IsDecomposed false F work.machine Parallel split.parts headed = subst (λ (kind : Kind). IsDecomposed false F work.machine kind split.parts headed) planned.same_kind (of_parts false is_work) in (
+      let of_file : IsDecomposed false F work.machine split.kind split.parts headed = subst (λ (G : KissFile). IsDecomposed false G work.machine split.kind split.parts headed) is_work.file (of_parts false (with_its_file false F work is_work)) in
+      let of_kind : IsDecomposed false F work.machine Parallel split.parts headed = subst (λ (kind : Kind). IsDecomposed false F work.machine kind split.parts headed) planned.same_kind of_file in (
         split.parts,
         figures,
         headed,

@@ -55,31 +55,31 @@ fn trial_of(alloc: Global, numbers: Numbers, file: &KissFile) -> Result<Commente
         (λ made. CanBeText made × IsTrialNetwork numbers.seed numbers.a numbers.b numbers.k file.now made) result }
 {
     let work = machine_of(alloc, file)?;
-    trial_on(alloc, numbers, file, &work)
+    trial_on(alloc, numbers, &work)
 }
 
-/// The network of the parallel decomposition of a machine that `work_machine` gives for that file, with a summary and
-/// the header as comments.
+/// The network of the parallel decomposition of a machine that `work_machine` gives, with a summary and the header as
+/// comments.
 fn trial_on(
     alloc: Global,
     numbers: Numbers,
-    file: &KissFile,
     work: &WorkMachine,
 ) -> Result<CommentedNetwork, Refusal>
     requires sizes { AreSizes numbers.a numbers.b numbers.k }
     requires made { IsGenerated numbers.seed numbers.a numbers.b numbers.k work.now.machine }
-    requires lawful { IsLawful file.now }
-    requires no_conflict { Conflicting file.now → ⊥ }
-    requires work { IsWork false file.now work.now }
+    requires lawful { IsLawful work.now.file.now }
+    requires no_conflict { Conflicting work.now.file.now → ⊥ }
+    requires work { IsWork false work.now.file.now work.now }
     ensures { IsJudged (LongCodeRow numbers.seed numbers.a numbers.b numbers.k)
-        (λ made. CanBeText made × IsTrialNetwork numbers.seed numbers.a numbers.b numbers.k file.now made) result }
+        (λ made. CanBeText made × IsTrialNetwork numbers.seed numbers.a numbers.b numbers.k work.now.file.now made)
+        result }
 {
-    let coded = split_of(alloc, numbers, file, work)?;
-    Ok(network_of(alloc, numbers, file, work, coded)?)
+    let coded = split_of(alloc, numbers, work)?;
+    Ok(network_of(alloc, numbers, work, coded)?)
 }
 
 /// The machine of a file that is accepted as it is.
-fn machine_of(alloc: Global, file: &KissFile) -> Result<WorkMachine, AllocError>
+fn machine_of(alloc: Global, file: &KissFile) -> Result<WorkMachine<'_>, AllocError>
     requires lawful { IsLawful file.now }
     requires accepted { Accepted file.now Fill.Refuse }
     ensures { IfOk result (IsWork false file.now) }
@@ -89,19 +89,14 @@ fn machine_of(alloc: Global, file: &KissFile) -> Result<WorkMachine, AllocError>
 }
 
 /// The parallel split of a machine of the numbers, and its codes.
-fn split_of(
-    alloc: Global,
-    numbers: Numbers,
-    file: &KissFile,
-    work: &WorkMachine,
-) -> Result<CodedSplit, Refusal>
+fn split_of(alloc: Global, numbers: Numbers, work: &WorkMachine) -> Result<CodedSplit, Refusal>
     requires sizes { AreSizes numbers.a numbers.b numbers.k }
     requires made { IsGenerated numbers.seed numbers.a numbers.b numbers.k work.now.machine }
-    requires work { IsWork false file.now work.now }
+    requires work { IsWork false work.now.file.now work.now }
     ensures { IsJudged (LongCodeRow numbers.seed numbers.a numbers.b numbers.k) (IsCodedSplit work.now.machine) result }
 {
     let split = plan(alloc, Kind::Parallel, b"", &work.machine)?;
-    let codes = codes_of(alloc, file, work, &split)?;
+    let codes = codes_of(alloc, work, &split)?;
     Ok(CodedSplit { split, codes })
 }
 
@@ -109,21 +104,20 @@ fn split_of(
 fn network_of(
     alloc: Global,
     numbers: Numbers,
-    file: &KissFile,
     work: &WorkMachine,
     coded: CodedSplit,
 ) -> Result<CommentedNetwork, AllocError>
     requires sizes { AreSizes numbers.a numbers.b numbers.k }
     requires made { IsGenerated numbers.seed numbers.a numbers.b numbers.k work.now.machine }
-    requires lawful { IsLawful file.now }
-    requires no_conflict { Conflicting file.now → ⊥ }
-    requires work { IsWork false file.now work.now }
+    requires lawful { IsLawful work.now.file.now }
+    requires no_conflict { Conflicting work.now.file.now → ⊥ }
+    requires work { IsWork false work.now.file.now work.now }
     requires coded { IsCodedSplit work.now.machine coded }
     ensures ready { IfOk result CanBeText }
-    ensures trial { IfOk result (IsTrialNetwork numbers.seed numbers.a numbers.b numbers.k file.now) }
+    ensures trial { IfOk result (IsTrialNetwork numbers.seed numbers.a numbers.b numbers.k work.now.file.now) }
 {
     let summary = summary_of(alloc, numbers, &work.machine, &coded)?;
-    let made = network_of_codes(alloc, file, work, coded.split, &coded.codes)?;
+    let made = network_of_codes(alloc, work, coded.split, &coded.codes)?;
     with_summary(alloc, summary, made)
 }
 

@@ -12,7 +12,7 @@ use Rattle.blif_out.specs.declared.networks.CommentedNetwork.{CommentedNetwork}
 use Rattle.blif_out.specs.declared.networks.HeadedNetwork.{HeadedNetwork}
 use Rattle.blif_out.specs.Design.{IsClockOf, IsDesignOf, driven_signals, signals_of}
 use Rattle.blif_out.specs.Writable.{IsSignalName}
-use Rattle.blif_out.proofs.Designs.{plain_design_is_lawful}
+use Rattle.blif_out.specs.Laws.Designs.{plain_design_is_lawful}
 use Rattle.cover_split.proofs.Outcomes.{same_blocks}
 use Rattle.cover_split.specs.Parts.{IsLongest}
 use Rattle.cover_split.specs.Refusal.{SpellsBlocks}

@@ -14,7 +14,7 @@ use Rattle.answers.specs.Laws.Causes.{none_first}
 use Rattle.answers.specs.Refusal.{answer_of}
 use Rattle.blif_out.specs.declared.networks.CommentedNetwork.{CommentedNetwork}
 use Rattle.blif_out.specs.NetworkText.{CanBeText}
-use Rattle.blif_out.proofs.Designs.{plain_design_is_lawful}
+use Rattle.blif_out.specs.Laws.Designs.{plain_design_is_lawful}
 use Rattle.generated_texts.specs.SeedMachine.{OfGenerated}
 use Rattle.generated_texts.specs.Trial.{IsTrialNetwork, LongCodeRow}
 use Rattle.generated_texts.specs.Laws.Trials.{long_code_is_of}
@@ -25,7 +25,7 @@ use Rattle.hsdec_core.specs.declared.tasks.Task.TheVariants.{Gen, OnMachine, Sim
 use Rattle.operands.specs.Causes.{Never, NoMachineOf, NoNetworkOf, OfMachine, OfNetwork}
 use Rattle.operands.specs.Fill.{fill_of}
 use Rattle.operands.specs.Load.{IsStopAt}
-use Rattle.hsdec_core.specs.Inner.JobOutcome.{IsMadeOf, IsMadeOfNetwork, IsMadeOfText, IsPlain}
+use Rattle.hsdec_core.specs.Inner.JobOutcome.{IsNetworkOutcome, IsOutcomeOfJob, IsPlain, IsTextOutcome}
 use Rattle.hsdec_core.specs.Inner.Pages.{IsPageOf, report_of}
 use Rattle.hsdec_core.specs.Judgement.{BadSymbols, all_causes, first_cause, first_cause_of, own_cause, second_cause, second_cause_of}
 use Rattle.operands.specs.Laws.Causes.{conflict_is_of, lengthy_is_of, machine_passes, network_passes, no_machine_is_of, no_network_is_of, not_long, open_is_of}
@@ -33,7 +33,7 @@ use Rattle.operands.specs.OpenedOperands.{HoldsMachine, HoldsNetwork}
 use Rattle.operands.specs.OperandText.{IsShortText, IsText, Lengthy, MayBe}
 use Rattle.hsdec_core.specs.Operands.{file_held, held_where, symbols_held, takes_file, takes_symbols}
 use Rattle.hsdec_core.specs.Promise.{IsAsked, IsAskedOf, IsReport, IsShown, IsShownBy}
-use Rattle.hsdec_core.specs.Stop.{IsCalledFor}
+use Rattle.hsdec_core.specs.Refusals.{IsCalledFor}
 use Rattle.hsdec_core.specs.Task.{task_of}
 use Rattle.hsdec_core.proofs.Families.{own_plain}
 use Rattle.kiss2.proofs.Exact.{one_file}
@@ -106,7 +106,7 @@ module _ (job : Job) (holds : List ℕ → Option (List ℕ)) (Faulted : Type 0)
 
     -- a load of FILE or NET that failed, or bytes that call for a refusal before all else
     pub unopened : (cause : List ℕ → Cause) (refusal : Refusal) → takes_file task ≡ true → ((bytes : List ℕ) → cause bytes refusal → first_cause_of task job bytes refusal) → ((bytes : List ℕ) → cause bytes refusal → IsPlain (answer_of refusal))
-        → IsStopAt (holds job.file) Faulted job.file cause refusal → IsMadeOf job holds Faulted (Err refusal)
+        → IsStopAt (holds job.file) Faulted job.file cause refusal → IsOutcomeOfJob job holds Faulted (Err refusal)
     unopened cause refusal takes first plain (inl wanting) = inl wanting
     unopened cause refusal takes first plain (inr (inl (unreadable, fault))) = inr (inl (fault, inl (ap takes_file is ∙ takes, unreadable)))
     unopened cause refusal takes first plain (inr (inr (bytes, may, h))) =
@@ -114,7 +114,7 @@ module _ (job : Job) (holds : List ℕ → Option (List ℕ)) (Faulted : Type 0)
 
   -- ---- a machine
   pub no_machine : (task : Task) (refusal : Refusal) → task_of job.command ≡ task → takes_file task ≡ true → ((bytes : List ℕ) → NoMachineOf job.file (fill_of job) bytes refusal → first_cause_of task job bytes refusal) → IsStopAt (holds job.file) Faulted job.file (NoMachineOf job.file (fill_of job)) refusal
-      → IsMadeOf job holds Faulted (Err refusal)
+      → IsOutcomeOfJob job holds Faulted (Err refusal)
   no_machine task refusal is takes first stop = unopened task is (NoMachineOf job.file (fill_of job)) refusal takes first (λ bytes. plain_machine job.file job bytes refusal) stop
 
   module _ (task : MachineTask) (F : KissFile) (is : task_of job.command ≡ OnMachine task) (bytes : List ℕ) (held : HoldsMachine (holds job.file) (fill_of job) bytes F) where
@@ -134,7 +134,7 @@ module _ (job : Job) (holds : List ℕ → Option (List ℕ)) (Faulted : Type 0)
     may_file : MayBe (file_held job holds) bytes
     may_file = file_may (OnMachine task) is bytes refl held.text.1
 
-    pub made_of_machine : (result : Result Report Refusal) → IsReported (own_cause task job F) (IsReport task job F) (IsShown task job F) result → IsMadeOf job holds Faulted result
+    pub made_of_machine : (result : Result Report Refusal) → IsReported (own_cause task job F) (IsReport task job F) (IsShown task job F) result → IsOutcomeOfJob job holds Faulted result
     made_of_machine (Ok (Whole text)) (none, report) =
         let (symbols, may_symbols) = some_symbols in (
           asked_here (OnMachine task) is text (bytes, F, held, report),
@@ -152,7 +152,7 @@ module _ (job : Job) (holds : List ℕ → Option (List ℕ)) (Faulted : Type 0)
         inr (inr (called_first bytes refusal may_file (first_here (OnMachine task) is bytes refusal (own_called refusal h)), own_plain task job F refusal h few))
 
   -- ---- a network
-  pub no_network : (refusal : Refusal) → task_of job.command ≡ Sim → IsStopAt (holds job.file) Faulted job.file (NoNetworkOf job.file) refusal → IsMadeOf job holds Faulted (Err refusal)
+  pub no_network : (refusal : Refusal) → task_of job.command ≡ Sim → IsStopAt (holds job.file) Faulted job.file (NoNetworkOf job.file) refusal → IsOutcomeOfJob job holds Faulted (Err refusal)
   no_network refusal is stop = unopened Sim is (NoNetworkOf job.file) refusal refl (λ bytes h. inl h) (λ bytes. plain_network job.file bytes refusal) stop
 
   module _ (N : Network) (is : task_of job.command ≡ Sim) (bytes : List ℕ) (held : HoldsNetwork (holds job.file) bytes N) where
@@ -160,7 +160,7 @@ module _ (job : Job) (holds : List ℕ → Option (List ℕ)) (Faulted : Type 0)
     network_opens = network_passes job.file bytes N held.0.0 held.1
 
     -- a network that has no values of its latches to begin with
-    pub no_start : (refusal : Refusal) → IsStop (NoStart N job.start) refusal → IsMadeOf job holds Faulted (Err refusal)
+    pub no_start : (refusal : Refusal) → IsStop (NoStart N job.start) refusal → IsOutcomeOfJob job holds Faulted (Err refusal)
     no_start refusal (inl wanting) = inl wanting
     no_start refusal (inr h) =
         inr (inr (
@@ -185,7 +185,7 @@ module _ (job : Job) (holds : List ℕ → Option (List ℕ)) (Faulted : Type 0)
 
   module _ (task : Task) (is : task_of job.command ≡ task) (takes : takes_symbols task ≡ true) (bytes : List ℕ) (may : MayBe (file_held job holds) bytes) (none : CallsForNone (first_cause_of task job bytes)) where
     -- a load of SYMBOLS that failed
-    pub unloaded : (refusal : Refusal) → ((symbols : List ℕ) → Lengthy job.second symbols refusal → second_cause_of task job bytes symbols refusal) → IsStopAt (holds job.second) Faulted job.second (Lengthy job.second) refusal → IsMadeOf job holds Faulted (Err refusal)
+    pub unloaded : (refusal : Refusal) → ((symbols : List ℕ) → Lengthy job.second symbols refusal → second_cause_of task job bytes symbols refusal) → IsStopAt (holds job.second) Faulted job.second (Lengthy job.second) refusal → IsOutcomeOfJob job holds Faulted (Err refusal)
     unloaded refusal second (inl wanting) = inl wanting
     unloaded refusal second (inr (inl (unreadable, fault))) =
         inr (inl (fault, inr (ap takes_symbols is ∙ takes, unreadable, (bytes, may, first_none task is bytes none))))
@@ -197,7 +197,7 @@ module _ (job : Job) (holds : List ℕ → Option (List ℕ)) (Faulted : Type 0)
 
     -- what the symbols give
     pub made_of_symbols : (cause : Cause) (IsRight : List ℕ → Type 0) (symbols : List ℕ) (result : Result (List ℕ) Refusal) → IsText (holds job.second) symbols → ((refusal : Refusal) → cause refusal → second_cause_of task job bytes symbols refusal) → (CallsForNone cause → CallsForNone (second_cause_of task job bytes symbols))
-        → ((text : List ℕ) → IsRight text → IsAskedOf task job holds text) → ((refusal : Refusal) → cause refusal → IsPlain (answer_of refusal)) → IsJudged cause IsRight result → IsMadeOfText job holds Faulted result
+        → ((text : List ℕ) → IsRight text → IsAskedOf task job holds text) → ((refusal : Refusal) → cause refusal → IsPlain (answer_of refusal)) → IsJudged cause IsRight result → IsTextOutcome job holds Faulted result
     made_of_symbols cause IsRight symbols (Ok text) is_text second later asked plain (none_here, right) =
         (asked_here task is text (asked text right), (bytes, symbols, may, symbols_may task is symbols takes is_text.1, passes task is bytes symbols none (later none_here)))
     made_of_symbols cause IsRight symbols (Err refusal) is_text second later asked plain (inl wanting) = inl wanting
@@ -219,10 +219,10 @@ module _ (job : Job) (holds : List ℕ → Option (List ℕ)) (Faulted : Type 0)
     walk_none symbols none refusal (G, kiss, accepted, h) =
         none refusal (subst (λ (H : KissFile). BadSymbols job.second H.inputs symbols refusal) (one_file bytes G F kiss held.kiss) h)
 
-    pub walk_unloaded : (refusal : Refusal) → IsStopAt (holds job.second) Faulted job.second (Lengthy job.second) refusal → IsMadeOf job holds Faulted (Err refusal)
+    pub walk_unloaded : (refusal : Refusal) → IsStopAt (holds job.second) Faulted job.second (Lengthy job.second) refusal → IsOutcomeOfJob job holds Faulted (Err refusal)
     walk_unloaded refusal stop = unloaded Walk is refl bytes walk_may walk_opens refusal (λ symbols long. of_walk symbols refusal (inl long)) stop
 
-    pub walk_made : (symbols : List ℕ) (result : Result (List ℕ) Refusal) → IsText (holds job.second) symbols → IsJudged (BadSymbolRow F.inputs symbols) (IsWalkText F symbols) result → IsMadeOfText job holds Faulted result
+    pub walk_made : (symbols : List ℕ) (result : Result (List ℕ) Refusal) → IsText (holds job.second) symbols → IsJudged (BadSymbolRow F.inputs symbols) (IsWalkText F symbols) result → IsTextOutcome job holds Faulted result
     walk_made symbols result is_text judged =
         made_of_symbols Walk is refl bytes walk_may walk_opens (BadSymbolRow F.inputs symbols) (IsWalkText F symbols) symbols result is_text
         (λ refusal h. of_walk symbols refusal (symbols_causes job.second F.inputs symbols refusal is_text.0 h))
@@ -242,10 +242,10 @@ module _ (job : Job) (holds : List ℕ → Option (List ℕ)) (Faulted : Type 0)
     sim_none symbols none_here refusal (M, blif, h) =
         none_here refusal (subst (λ (K : Network). BadSymbols job.second (length K.inputs) symbols refusal) (blif_one bytes M N blif held.1) h)
 
-    pub sim_unloaded : (refusal : Refusal) → IsStopAt (holds job.second) Faulted job.second (Lengthy job.second) refusal → IsMadeOf job holds Faulted (Err refusal)
+    pub sim_unloaded : (refusal : Refusal) → IsStopAt (holds job.second) Faulted job.second (Lengthy job.second) refusal → IsOutcomeOfJob job holds Faulted (Err refusal)
     sim_unloaded refusal stop = unloaded Sim is refl bytes sim_may (network_first N is bytes held none) refusal (λ symbols long. of_sim symbols refusal (inl long)) stop
 
-    pub sim_made : (symbols : List ℕ) (result : Result (List ℕ) Refusal) → IsText (holds job.second) symbols → IsJudged (BadSymbolRow (length N.inputs) symbols) (IsRun N job.start symbols) result → IsMadeOfText job holds Faulted result
+    pub sim_made : (symbols : List ℕ) (result : Result (List ℕ) Refusal) → IsText (holds job.second) symbols → IsJudged (BadSymbolRow (length N.inputs) symbols) (IsRun N job.start symbols) result → IsTextOutcome job holds Faulted result
     sim_made symbols result is_text judged =
         made_of_symbols Sim is refl bytes sim_may (network_first N is bytes held none) (BadSymbolRow (length N.inputs) symbols) (IsRun N job.start symbols) symbols result is_text
         (λ refusal h. of_sim symbols refusal (symbols_causes job.second (length N.inputs) symbols refusal is_text.0 h))
@@ -259,7 +259,7 @@ module _ (job : Job) (holds : List ℕ → Option (List ℕ)) (Faulted : Type 0)
       subst (λ (t : Task). MayBe (held_where (takes_file t) (holds job.file)) []) (sym is) (subst (λ b. MayBe (held_where b (holds job.file)) []) (sym none) refl)
 
   pub made_of_numbers : (task : Task) (cause : Cause) (IsRight : List ℕ → Type 0) (result : Result (List ℕ) Refusal) → task_of job.command ≡ task → takes_file task ≡ false → ((refusal : Refusal) → cause refusal → first_cause_of task job [] refusal) → (CallsForNone cause → CallsForNone (first_cause_of task job []))
-      → ((symbols : List ℕ) → CallsForNone (second_cause_of task job [] symbols)) → ((text : List ℕ) → IsRight text → IsAskedOf task job holds text) → ((refusal : Refusal) → cause refusal → IsPlain (answer_of refusal)) → IsJudged cause IsRight result → IsMadeOfText job holds Faulted result
+      → ((symbols : List ℕ) → CallsForNone (second_cause_of task job [] symbols)) → ((text : List ℕ) → IsRight text → IsAskedOf task job holds text) → ((refusal : Refusal) → cause refusal → IsPlain (answer_of refusal)) → IsJudged cause IsRight result → IsTextOutcome job holds Faulted result
   made_of_numbers task cause IsRight (Ok text) is none_taken called none second asked plain (none_here, right) =
       let (symbols, may_symbols) = some_symbols in
       (asked_here task is text (asked text right), ([], symbols, no_file task is none_taken, may_symbols, passes task is [] symbols (none none_here) (second symbols)))
@@ -267,12 +267,12 @@ module _ (job : Job) (holds : List ℕ → Option (List ℕ)) (Faulted : Type 0)
   made_of_numbers task cause IsRight (Err refusal) is none_taken called none second asked plain (inr h) =
       inr (inr (called_first [] refusal (no_file task is none_taken) (first_here task is [] refusal (called refusal h)), plain refusal h))
 
-  pub made_of_gen : (text : List ℕ) → task_of job.command ≡ Gen → OfGenerated job.seed job.a job.b job.k (λ F. text ≡ kiss_text F) → IsMadeOfText job holds Faulted (Ok text)
+  pub made_of_gen : (text : List ℕ) → task_of job.command ≡ Gen → OfGenerated job.seed job.a job.b job.k (λ F. text ≡ kiss_text F) → IsTextOutcome job holds Faulted (Ok text)
   made_of_gen text is right =
       made_of_numbers Gen Never (λ t. OfGenerated job.seed job.a job.b job.k (λ F. t ≡ kiss_text F)) (Ok text) is refl (λ refusal h. h) (λ none. none) (λ symbols refusal h. h) (λ t asked. asked) (λ refusal h. absurd h) (λ refusal h. h, right)
 
   pub made_of_trial : (result : Result CommentedNetwork Refusal) → task_of job.command ≡ Trial
-      → IsJudged (LongCodeRow job.seed job.a job.b job.k) (λ made. CanBeText made × OfGenerated job.seed job.a job.b job.k (λ F. IsTrialNetwork job.seed job.a job.b job.k F made)) result → IsMadeOfNetwork job holds Faulted result
+      → IsJudged (LongCodeRow job.seed job.a job.b job.k) (λ made. CanBeText made × OfGenerated job.seed job.a job.b job.k (λ F. IsTrialNetwork job.seed job.a job.b job.k F made)) result → IsNetworkOutcome job holds Faulted result
   made_of_trial (Ok made) is (none, (ready, (F, of_numbers, right))) =
       let (symbols, may_symbols) = some_symbols in (
         (ready, plain_design_is_lawful made.network, λ text told. asked_here Trial is text (F, of_numbers, trial_has_text job.seed job.a job.b job.k F made text ready right told)),
@@ -283,8 +283,8 @@ module _ (job : Job) (holds : List ℕ → Option (List ℕ)) (Faulted : Type 0)
       inr (inr (called_first [] refusal (no_file Trial is refl) (first_here Trial is [] refusal h), plain_of answers.CodeTooLong refusal tt (long_code_is_of job.seed job.a job.b job.k refusal h)))
 
   -- what is put of a report is what the report is
-  pub made_of_page : (report : Report) (page : Page) → IsMadeOf job holds Faulted (Ok report) → IsPageOf report page → IsMadeOf job holds Faulted (report_of (Ok page))
-  made_of_page (Whole text) page made is = subst (λ (p : Page). IsMadeOf job holds Faulted (report_of (Ok p))) (sym is) made
-  made_of_page (Evidence text limit) page made is = subst (λ (p : Page). IsMadeOf job holds Faulted (report_of (Ok p))) (sym is) made
+  pub made_of_page : (report : Report) (page : Page) → IsOutcomeOfJob job holds Faulted (Ok report) → IsPageOf report page → IsOutcomeOfJob job holds Faulted (report_of (Ok page))
+  made_of_page (Whole text) page made is = subst (λ (p : Page). IsOutcomeOfJob job holds Faulted (report_of (Ok p))) (sym is) made
+  made_of_page (Evidence text limit) page made is = subst (λ (p : Page). IsOutcomeOfJob job holds Faulted (report_of (Ok p))) (sym is) made
   made_of_page (reports.Network design network) page (drawn, passed) (text, is, told) =
-      subst (λ (p : Page). IsMadeOf job holds Faulted (report_of (Ok p))) (sym is) (drawn.2 text told, passed)
+      subst (λ (p : Page). IsOutcomeOfJob job holds Faulted (report_of (Ok p))) (sym is) (drawn.2 text told, passed)

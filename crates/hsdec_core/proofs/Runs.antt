@@ -10,13 +10,13 @@ use Rattle.answers.specs.Cause.{CallsForNone}
 use Rattle.answers.specs.Delivery.{IsDone, IsRefusedWith}
 use Rattle.answers.specs.Refusal.{answer_of}
 use Rattle.hs_io.specs.Pieces.{Appends, AppendsFront}
-use Rattle.hsdec_core.specs.Inner.JobOutcome.{IsMadeFor, IsMadeOf, IsPlain, IsUndone}
+use Rattle.hsdec_core.specs.Inner.JobOutcome.{IsOutcomeOfJob, IsOutcomeOfWords, IsPlain, IsUndone}
 use Rattle.hsdec_core.specs.Inner.Pages.{report_of}
 use Rattle.hsdec_core.specs.Judgement.{all_causes, first_cause}
 use Rattle.operands.specs.OperandText.{MayBe}
 use Rattle.hsdec_core.specs.Operands.{file_held, symbols_held}
 use Rattle.hsdec_core.specs.Promise.{IsAsked, IsAskedOrShown, IsEvidence}
-use Rattle.hsdec_core.specs.Stop.{Comes, IsCalledFor, IsExcused, IsFailedLoad, IsRefusedFor, IsStopOf}
+use Rattle.hsdec_core.specs.Refusals.{Comes, IsCalledFor, IsExcused, IsFailedLoad, IsRefusalOfJob, IsRefusalOfWords}
 use Rattle.hsdec_core.proofs.OneAnswer.{all_have_one, first_have_one}
 use Rattle.job_words.specs.declared.jobs.Job.{Job}
 
@@ -96,7 +96,7 @@ module _ (job : Job) (holds : List ℕ → Option (List ℕ)) (Faulted : Type 0)
     first_called made wanted result (bytes, symbols, may, may_symbols, inr later) k a =
         absurd (later.0 wanted (subst (λ (b : List ℕ). first_cause job b wanted) (sym (the_same (file_held job holds) told bytes is may)) k))
 
-    pub first_comes : (made : Result Page Refusal) (result : Answer) → IsMadeOf job holds Faulted (report_of made) → IsAnsweredBy made result → Comes result (first_cause job told)
+    pub first_comes : (made : Result Page Refusal) (result : Answer) → IsOutcomeOfJob job holds Faulted (report_of made) → IsAnsweredBy made result → Comes result (first_cause job told)
     first_comes (Ok (Whole text)) result (asked, (bytes, symbols, may, may_symbols, none)) a wanted k =
         absurd (none wanted (inl (subst (λ (b : List ℕ). first_cause job b wanted) (sym (the_same (file_held job holds) told bytes is may)) k)))
     first_comes (Ok (Evidence text limit)) result (shown, (bytes, may, h)) a wanted k =
@@ -121,7 +121,7 @@ module _ (job : Job) (holds : List ℕ → Option (List ℕ)) (Faulted : Type 0)
       shown_cause : (bytes : List ℕ) (limit : ℕ) → MayBe (file_held job holds) bytes → first_cause job bytes (More limit) → all_causes job told told_symbols (More limit)
       shown_cause bytes limit may h = inl (subst (λ (b : List ℕ). first_cause job b (More limit)) (the_same (file_held job holds) told bytes is may) h)
 
-      pub all_come : (made : Result Page Refusal) (result : Answer) → IsMadeOf job holds Faulted (report_of made) → IsAnsweredBy made result → Comes result (all_causes job told told_symbols)
+      pub all_come : (made : Result Page Refusal) (result : Answer) → IsOutcomeOfJob job holds Faulted (report_of made) → IsAnsweredBy made result → Comes result (all_causes job told told_symbols)
       all_come (Ok (Whole text)) result (asked, (bytes, symbols, may, may_symbols, none)) a wanted k = absurd (none wanted (told_back bytes symbols wanted may may_symbols k))
       all_come (Ok (Evidence text limit)) result (shown, (bytes, may, h)) a wanted k =
           shown_answer text limit result (answer_of wanted) (all_have_one job told told_symbols wanted (More limit) k (shown_cause bytes limit may h)) a
@@ -131,7 +131,7 @@ module _ (job : Job) (holds : List ℕ → Option (List ℕ)) (Faulted : Type 0)
           same_answer made result (answer_of wanted) (all_have_one job told told_symbols made wanted (told_causes bytes symbols made may may_symbols h) k) a
 
       -- where nothing calls for a refusal and there is no fault, the answer is Done or want of memory
-      pub completes : (made : Result Page Refusal) (result : Answer) (PutFaulted : Type 0) → IsMadeOf job holds Faulted (report_of made) → IsAnsweredBy made result → (result ≡ answers.WriteFault → PutFaulted)
+      pub completes : (made : Result Page Refusal) (result : Answer) (PutFaulted : Type 0) → IsOutcomeOfJob job holds Faulted (report_of made) → IsAnsweredBy made result → (result ≡ answers.WriteFault → PutFaulted)
           → CallsForNone (all_causes job told told_symbols) → (Faulted → ⊥) → (PutFaulted → ⊥) → (result ≡ answers.Done) ⊎ (result ≡ answers.NoMemory)
       completes (Ok (Whole text)) result PutFaulted is_made (inl e) fault none unfaulted unput = inl e
       completes (Ok (Whole text)) result PutFaulted is_made (inr e) fault none unfaulted unput = absurd (unput (fault e))
@@ -143,14 +143,14 @@ module _ (job : Job) (holds : List ℕ → Option (List ℕ)) (Faulted : Type 0)
 
 -- ---- of the words
 module _ (holds : List ℕ → Option (List ℕ)) (Faulted PutFaulted Stays : Type 0) (given given' : Option (List ℕ)) where
-  pub first_of : (job : Result Job ℕ) (made : Result Page Refusal) (result : Answer) → IsMadeFor job holds Faulted made → IsDelivered made given given' PutFaulted Stays result
+  pub first_of : (job : Result Job ℕ) (made : Result Page Refusal) (result : Answer) → IsOutcomeOfWords job holds Faulted made → IsDelivered made given given' PutFaulted Stays result
       → IfOk job (λ j. IfSome (file_held j holds) (λ bytes. Comes result (first_cause j bytes)))
   first_of (Err word) made result is_made delivered = tt
   first_of (Ok j) made result is_made delivered =
       all_told (file_held j holds) (λ bytes. Comes result (first_cause j bytes))
       (λ told is. first_comes j holds Faulted told is made result is_made (answered made given given' PutFaulted Stays result delivered))
 
-  pub all_of : (job : Result Job ℕ) (made : Result Page Refusal) (result : Answer) → IsMadeFor job holds Faulted made → IsDelivered made given given' PutFaulted Stays result
+  pub all_of : (job : Result Job ℕ) (made : Result Page Refusal) (result : Answer) → IsOutcomeOfWords job holds Faulted made → IsDelivered made given given' PutFaulted Stays result
       → IfOk job (λ j. IfSome (file_held j holds) (λ bytes. IfSome (symbols_held j holds) (λ symbols. Comes result (all_causes j bytes symbols))))
   all_of (Err word) made result is_made delivered = tt
   all_of (Ok j) made result is_made delivered =
@@ -180,7 +180,7 @@ module _ (holds : List ℕ → Option (List ℕ)) (Faulted PutFaulted Stays : Ty
   undone_read j refusal (inr (inl failed)) e = failed.0
   undone_read j refusal (inr (inr called)) e = absurd (subst IsPlain e called.1)
 
-  never_unwritable : (job : Result Job ℕ) (made : Result Page Refusal) → IsMadeFor job holds Faulted made → (wrong : Refusal) → made ≡ Err wrong → answer_of wrong ≢ answers.WriteFault
+  never_unwritable : (job : Result Job ℕ) (made : Result Page Refusal) → IsOutcomeOfWords job holds Faulted made → (wrong : Refusal) → made ≡ Err wrong → answer_of wrong ≢ answers.WriteFault
   never_unwritable (Ok j) (Ok report) is_made wrong is = absurd (cc)
   never_unwritable (Ok j) (Err refusal) is_made wrong is =
       let same : refusal ≡ wrong = cc in
@@ -193,12 +193,12 @@ module _ (holds : List ℕ → Option (List ℕ)) (Faulted PutFaulted Stays : Ty
       let same : wrong ≡ Usage word = let back : refusal ≡ wrong = cc in sym back ∙ usage in
       λ e. absurd (let f : answers.Usage ≡ answers.WriteFault = sym (ap answer_of same) ∙ e in cc)
 
-  pub write_faults : (job : Result Job ℕ) (made : Result Page Refusal) (result : Answer) → IsMadeFor job holds Faulted made → IsDelivered made given given' PutFaulted Stays result → result ≡ answers.WriteFault → PutFaulted
+  pub write_faults : (job : Result Job ℕ) (made : Result Page Refusal) (result : Answer) → IsOutcomeOfWords job holds Faulted made → IsDelivered made given given' PutFaulted Stays result → result ≡ answers.WriteFault → PutFaulted
   write_faults job made result is_made delivered e =
       let (refusal, is, with_it) = delivered.refused (λ done. let f : answers.WriteFault ≡ answers.Done = sym e ∙ done in cc) in
       put_fault made refusal (is ∙ e) with_it (never_unwritable job made is_made)
 
-  read_with : (job : Result Job ℕ) (made : Result Page Refusal) (refusal : Refusal) → answer_of refusal ≡ answers.ReadFault → IsMadeFor job holds Faulted made → IsRefusedWith made given given' PutFaulted refusal → Faulted
+  read_with : (job : Result Job ℕ) (made : Result Page Refusal) (refusal : Refusal) → answer_of refusal ≡ answers.ReadFault → IsOutcomeOfWords job holds Faulted made → IsRefusedWith made given given' PutFaulted refusal → Faulted
   read_with (Ok j) (Ok (Whole text)) refusal e is_made with_it = absurd (let f : answers.WriteFault ≡ answers.ReadFault = sym (ap answer_of with_it.0) ∙ e in cc)
   read_with (Ok j) (Ok (Evidence text limit)) refusal e is_made (inl shown) = absurd (let f : answers.More ≡ answers.ReadFault = sym (ap answer_of shown.0) ∙ e in cc)
   read_with (Ok j) (Ok (Evidence text limit)) refusal e is_made (inr (inl cut)) = absurd (let f : answers.WriteFault ≡ answers.ReadFault = sym (ap answer_of cut.0) ∙ e in cc)
@@ -210,12 +210,12 @@ module _ (holds : List ℕ → Option (List ℕ)) (Faulted PutFaulted Stays : Ty
   read_with (Err word) (Err made) refusal e (inr usage) (inl same) = absurd (let f : answers.Usage ≡ answers.ReadFault = sym (ap answer_of (same ∙ usage)) ∙ e in cc)
   read_with (Err word) (Err made) refusal e is_made (inr wanting) = absurd (let f : answers.NoMemory ≡ answers.ReadFault = sym (ap answer_of wanting) ∙ e in cc)
 
-  pub read_faults : (job : Result Job ℕ) (made : Result Page Refusal) (result : Answer) → IsMadeFor job holds Faulted made → IsDelivered made given given' PutFaulted Stays result → result ≡ answers.ReadFault → Faulted
+  pub read_faults : (job : Result Job ℕ) (made : Result Page Refusal) (result : Answer) → IsOutcomeOfWords job holds Faulted made → IsDelivered made given given' PutFaulted Stays result → result ≡ answers.ReadFault → Faulted
   read_faults job made result is_made delivered e =
       let (refusal, is, with_it) = delivered.refused (λ done. let f : answers.ReadFault ≡ answers.Done = sym e ∙ done in cc) in
       read_with job made refusal (is ∙ e) is_made with_it
 
-  pub complete_of : (job : Result Job ℕ) (made : Result Page Refusal) (result : Answer) → IsMadeFor job holds Faulted made → IsDelivered made given given' PutFaulted Stays result
+  pub complete_of : (job : Result Job ℕ) (made : Result Page Refusal) (result : Answer) → IsOutcomeOfWords job holds Faulted made → IsDelivered made given given' PutFaulted Stays result
       → IfOk job (λ j. IfSome (file_held j holds) (λ bytes. IfSome (symbols_held j holds) (λ symbols. CallsForNone (all_causes j bytes symbols) → (Faulted → ⊥) → (PutFaulted → ⊥) → (result ≡ answers.Done) ⊎ (result ≡ answers.NoMemory))))
   complete_of (Err word) made result is_made delivered = tt
   complete_of (Ok j) made result is_made delivered =
@@ -226,29 +226,29 @@ module _ (holds : List ℕ → Option (List ℕ)) (Faulted PutFaulted Stays : Ty
       (λ symbols symbols_is. completes j holds Faulted told is symbols symbols_is made result PutFaulted is_made (answered made given given' PutFaulted Stays result delivered) (write_faults (Ok j) made result is_made delivered)))
 
   -- ---- the refusal that is answered
-  shown_stop : (j : Job) (bytes : List ℕ) (limit : ℕ) → MayBe (file_held j holds) bytes → first_cause j bytes (More limit) → IsStopOf j holds Faulted (More limit)
-  shown_stop j bytes limit may h = let (symbols, may_symbols) = some_bytes (symbols_held j holds) in inr (inr (bytes, symbols, may, may_symbols, inl h))
+  shown_refusal : (j : Job) (bytes : List ℕ) (limit : ℕ) → MayBe (file_held j holds) bytes → first_cause j bytes (More limit) → IsRefusalOfJob j holds Faulted (More limit)
+  shown_refusal j bytes limit may h = let (symbols, may_symbols) = some_bytes (symbols_held j holds) in inr (inr (bytes, symbols, may, may_symbols, inl h))
 
-  stop_of_undone : (j : Job) (refusal : Refusal) → IsUndone j holds Faulted refusal → IsStopOf j holds Faulted refusal
-  stop_of_undone j refusal (inl wanting) = inl wanting
-  stop_of_undone j refusal (inr (inl failed)) = inr (inl failed)
-  stop_of_undone j refusal (inr (inr called)) = inr (inr called.0)
+  refusal_of_undone : (j : Job) (refusal : Refusal) → IsUndone j holds Faulted refusal → IsRefusalOfJob j holds Faulted refusal
+  refusal_of_undone j refusal (inl wanting) = inl wanting
+  refusal_of_undone j refusal (inr (inl failed)) = inr (inl failed)
+  refusal_of_undone j refusal (inr (inr called)) = inr (inr called.0)
 
-  pub refused_of : (job : Result Job ℕ) (made : Result Page Refusal) (refusal : Refusal) → IsMadeFor job holds Faulted made → IsRefusedWith made given given' PutFaulted refusal → IsRefusedFor job holds Faulted PutFaulted refusal
+  pub refused_of : (job : Result Job ℕ) (made : Result Page Refusal) (refusal : Refusal) → IsOutcomeOfWords job holds Faulted made → IsRefusedWith made given given' PutFaulted refusal → IsRefusalOfWords job holds Faulted PutFaulted refusal
   refused_of (Ok j) (Ok (Whole text)) refusal is_made (unwritable, (front, same, some, put, fault)) = inr (unwritable, fault)
   refused_of (Ok j) (Ok (Evidence text limit)) refusal (shown, (bytes, may, h)) (inl more) =
-      inl (subst (IsStopOf j holds Faulted) (sym more.0) (shown_stop j bytes limit may h))
+      inl (subst (IsRefusalOfJob j holds Faulted) (sym more.0) (shown_refusal j bytes limit may h))
   refused_of (Ok j) (Ok (Evidence text limit)) refusal is_made (inr (inl (unwritable, (front, same, some, put, fault)))) = inr (unwritable, fault)
   refused_of (Ok j) (Ok (Evidence text limit)) refusal is_made (inr (inr wanting)) = inl (inl wanting)
-  refused_of (Ok j) (Err made) refusal is_made (inl same) = inl (subst (IsStopOf j holds Faulted) (sym same) (stop_of_undone j made is_made))
+  refused_of (Ok j) (Err made) refusal is_made (inl same) = inl (subst (IsRefusalOfJob j holds Faulted) (sym same) (refusal_of_undone j made is_made))
   refused_of (Ok j) (Err made) refusal is_made (inr wanting) = inl (inl wanting)
   refused_of (Err word) (Ok report) refusal is_made with_it = absurd is_made
-  refused_of (Err word) (Err made) refusal (inl wanting) (inl same) = inl (inl (same ∙ wanting))
-  refused_of (Err word) (Err made) refusal (inr usage) (inl same) = inl (inr (same ∙ usage))
-  refused_of (Err word) (Err made) refusal is_made (inr wanting) = inl (inl wanting)
+  refused_of (Err word) (Err made) refusal (inl wanting) (inl same) = inl (same ∙ wanting)
+  refused_of (Err word) (Err made) refusal (inr usage) (inl same) = inr (same ∙ usage)
+  refused_of (Err word) (Err made) refusal is_made (inr wanting) = inl wanting
 
   -- refused words are answered as such
-  usage_of : (job : Result Job ℕ) (made : Result Page Refusal) (result : Answer) → IsMadeFor job holds Faulted made → IsDelivered made given given' PutFaulted Stays result → (word : ℕ) → job ≡ Err word → (result ≡ answers.Usage) ⊎ (result ≡ answers.NoMemory)
+  usage_of : (job : Result Job ℕ) (made : Result Page Refusal) (result : Answer) → IsOutcomeOfWords job holds Faulted made → IsDelivered made given given' PutFaulted Stays result → (word : ℕ) → job ≡ Err word → (result ≡ answers.Usage) ⊎ (result ≡ answers.NoMemory)
   usage_of (Ok j) made result is_made delivered word is = absurd (cc)
   usage_of (Err first) (Ok report) result is_made delivered word is = absurd is_made
   usage_of (Err first) (Err refusal) result (inl wanting) delivered word is =
@@ -256,21 +256,21 @@ module _ (holds : List ℕ → Option (List ℕ)) (Faulted PutFaulted Stays : Ty
   usage_of (Err first) (Err refusal) result (inr usage) delivered word is =
       elim (answered (Err refusal) given given' PutFaulted Stays result delivered) [ inl e ↦ inl (e ∙ ap answer_of usage) | inr e ↦ inr e ]
 
-  pub usage_if_err : (job : Result Job ℕ) (made : Result Page Refusal) (result : Answer) → IsMadeFor job holds Faulted made → IsDelivered made given given' PutFaulted Stays result → IsErr job → (result ≡ answers.Usage) ⊎ (result ≡ answers.NoMemory)
+  pub usage_if_err : (job : Result Job ℕ) (made : Result Page Refusal) (result : Answer) → IsOutcomeOfWords job holds Faulted made → IsDelivered made given given' PutFaulted Stays result → IsErr job → (result ≡ answers.Usage) ⊎ (result ≡ answers.NoMemory)
   usage_if_err (Ok j) made result is_made delivered err = absurd (cc)
   usage_if_err (Err word) made result is_made delivered err = usage_of (Err word) made result is_made delivered word refl
 
   -- ---- texts
-  asked_of : (job : Result Job ℕ) (made : Result Page Refusal) → IsMadeFor job holds Faulted made → IsDone made given given' Stays → IfOk job (λ j. (text : List ℕ) × IsAsked j holds text × Appends given text given' × (text ≡ [] → Stays))
+  asked_of : (job : Result Job ℕ) (made : Result Page Refusal) → IsOutcomeOfWords job holds Faulted made → IsDone made given given' Stays → IfOk job (λ j. (text : List ℕ) × IsAsked j holds text × Appends given text given' × (text ≡ [] → Stays))
   asked_of (Ok j) (Ok (Whole text)) is_made put = (text, is_made.0, put.0, put.1)
   asked_of (Ok j) (Ok (Evidence text limit)) is_made put = absurd put
   asked_of (Ok j) (Err refusal) is_made put = absurd put
   asked_of (Err word) made is_made put = tt
 
-  pub text_of : (job : Result Job ℕ) (made : Result Page Refusal) (result : Answer) → IsMadeFor job holds Faulted made → IsDelivered made given given' PutFaulted Stays result → result ≡ answers.Done → IfOk job (λ j. (text : List ℕ) × IsAsked j holds text × Appends given text given' × (text ≡ [] → Stays))
+  pub text_of : (job : Result Job ℕ) (made : Result Page Refusal) (result : Answer) → IsOutcomeOfWords job holds Faulted made → IsDelivered made given given' PutFaulted Stays result → result ≡ answers.Done → IfOk job (λ j. (text : List ℕ) × IsAsked j holds text × Appends given text given' × (text ≡ [] → Stays))
   text_of job made result is_made delivered e = asked_of job made is_made (delivered.done e)
 
-  shown_of : (job : Result Job ℕ) (made : Result Page Refusal) (refusal : Refusal) → answer_of refusal ≡ answers.More → IsMadeFor job holds Faulted made → IsRefusedWith made given given' PutFaulted refusal → IfOk job (λ j. (text : List ℕ) × IsEvidence j holds text × Appends given text given')
+  shown_of : (job : Result Job ℕ) (made : Result Page Refusal) (refusal : Refusal) → answer_of refusal ≡ answers.More → IsOutcomeOfWords job holds Faulted made → IsRefusedWith made given given' PutFaulted refusal → IfOk job (λ j. (text : List ℕ) × IsEvidence j holds text × Appends given text given')
   shown_of (Ok j) (Ok (Whole text)) refusal e is_made with_it = absurd (let f : answers.WriteFault ≡ answers.More = sym (ap answer_of with_it.0) ∙ e in cc)
   shown_of (Ok j) (Ok (Evidence text limit)) refusal e is_made (inl shown) = (text, is_made.0, shown.1)
   shown_of (Ok j) (Ok (Evidence text limit)) refusal e is_made (inr (inl cut)) = absurd (let f : answers.WriteFault ≡ answers.More = sym (ap answer_of cut.0) ∙ e in cc)
@@ -279,12 +279,12 @@ module _ (holds : List ℕ → Option (List ℕ)) (Faulted PutFaulted Stays : Ty
   shown_of (Ok j) (Err made) refusal e is_made (inr wanting) = absurd (let f : answers.NoMemory ≡ answers.More = sym (ap answer_of wanting) ∙ e in cc)
   shown_of (Err word) made refusal e is_made with_it = tt
 
-  pub evidence_of : (job : Result Job ℕ) (made : Result Page Refusal) (result : Answer) → IsMadeFor job holds Faulted made → IsDelivered made given given' PutFaulted Stays result → result ≡ answers.More → IfOk job (λ j. (text : List ℕ) × IsEvidence j holds text × Appends given text given')
+  pub evidence_of : (job : Result Job ℕ) (made : Result Page Refusal) (result : Answer) → IsOutcomeOfWords job holds Faulted made → IsDelivered made given given' PutFaulted Stays result → result ≡ answers.More → IfOk job (λ j. (text : List ℕ) × IsEvidence j holds text × Appends given text given')
   evidence_of job made result is_made delivered e =
       let (refusal, is, with_it) = delivered.refused (λ done. let f : answers.More ≡ answers.Done = sym e ∙ done in cc) in
       shown_of job made refusal (is ∙ e) is_made with_it
 
-  cut_of : (job : Result Job ℕ) (made : Result Page Refusal) (refusal : Refusal) → answer_of refusal ≡ answers.WriteFault → IsMadeFor job holds Faulted made → IsRefusedWith made given given' PutFaulted refusal
+  cut_of : (job : Result Job ℕ) (made : Result Page Refusal) (refusal : Refusal) → answer_of refusal ≡ answers.WriteFault → IsOutcomeOfWords job holds Faulted made → IsRefusedWith made given given' PutFaulted refusal
       → IfOk job (λ j. (text : List ℕ) × (text ≢ []) × IsAskedOrShown j holds text × AppendsFront given text given')
   cut_of (Ok j) (Ok (Whole text)) refusal e is_made (unwritable, (front, same, some, put, fault)) =
       (front, some, inl (subst (IsAsked j holds) (sym same) is_made.0), put)
@@ -295,7 +295,7 @@ module _ (holds : List ℕ → Option (List ℕ)) (Faulted PutFaulted Stays : Ty
   cut_of (Ok j) (Err made) refusal e is_made with_it = absurd (elim with_it [ inl same ↦ undone_otherwise j made answers.WriteFault (λ f. cc) (λ f. cc) (λ plain. plain) is_made (ap answer_of (sym same) ∙ e) | inr wanting ↦ let f : answers.NoMemory ≡ answers.WriteFault = sym (ap answer_of wanting) ∙ e in cc ])
   cut_of (Err word) made refusal e is_made with_it = tt
 
-  pub front_of : (job : Result Job ℕ) (made : Result Page Refusal) (result : Answer) → IsMadeFor job holds Faulted made → IsDelivered made given given' PutFaulted Stays result → result ≡ answers.WriteFault
+  pub front_of : (job : Result Job ℕ) (made : Result Page Refusal) (result : Answer) → IsOutcomeOfWords job holds Faulted made → IsDelivered made given given' PutFaulted Stays result → result ≡ answers.WriteFault
       → IfOk job (λ j. (text : List ℕ) × (text ≢ []) × IsAskedOrShown j holds text × AppendsFront given text given')
   front_of job made result is_made delivered e =
       let (refusal, is, with_it) = delivered.refused (λ done. let f : answers.WriteFault ≡ answers.Done = sym e ∙ done in cc) in

@@ -3,6 +3,6 @@ pub mod Inner
 pub mod Judgement
 pub mod Operands
 pub mod Promise
+pub mod Refusals
 pub mod SplitOperands
-pub mod Stop
 pub mod Task

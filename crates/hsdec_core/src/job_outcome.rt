@@ -2,7 +2,7 @@
 
 ghost use Rattle.std.specs.Prelude.{◌≡◌, ◌-◌, ◌^◌, ◌<◌, ◌≤◌, ◌↔◌, ◌⊎◌, ℕ, List, IfOk, IsErr, false, length};
 ghost use Rattle.hs_io.specs.Counts.{Rose};
-ghost use Rattle.hsdec_core.specs.Inner.JobOutcome.{IsMadeFor, IsMadeOf};
+ghost use Rattle.hsdec_core.specs.Inner.JobOutcome.{IsOutcomeOfJob, IsOutcomeOfWords};
 ghost use Rattle.hsdec_core.specs.Operands.{AreGranted, takes_file};
 ghost use Rattle.hsdec_core.specs.Task.{task_of};
 ghost use Rattle.job_words.specs.declared.command.Command.TheVariants as commands;
@@ -24,7 +24,7 @@ use std::alloc::Global;
 pub fn perform<F: Shelf>(alloc: Global, words: &Words, shelf: &mut F) -> Result<Page, Refusal>
     requires few { length words.now < 2 ^ 32 - 1 }
     requires granted { IfOk (JobOf words.now) (AreGranted (F.grants shelf.old)) }
-    ensures made { IsMadeFor
+    ensures made { IsOutcomeOfWords
         (JobOf words.now) (F.holds shelf.old) (Rose (F.faults shelf.old) (F.faults shelf.new)) result }
     ensures unloaded { IsErr (JobOf words.now) → shelf.new ≡ shelf.old }
     ensures no_operand { IfOk (JobOf words.now)
@@ -50,7 +50,7 @@ fn perform_job<F: Shelf>(alloc: Global, job: &Job, shelf: &mut F) -> Result<Repo
     requires named { HasGivenNames job.now }
     requires sizes { (job.now.command ≡ commands.Gen) ⊎ (job.now.command ≡ commands.Trial) → HasSizes job.now }
     requires granted { AreGranted (F.grants shelf.old) job.now }
-    ensures made { IsMadeOf
+    ensures made { IsOutcomeOfJob
         job.now (F.holds shelf.old) (Rose (F.faults shelf.old) (F.faults shelf.new)) result }
     ensures no_operand { takes_file (task_of job.now.command) ≡ false → shelf.new ≡ shelf.old }
     ensures holds_the_same { (other : List ℕ) → F.holds shelf.new other ≡ F.holds shelf.old other }

@@ -11,7 +11,7 @@
 //!   (`specs/Clocks`);
 //! - in which order the causes of refusals are judged (`specs/Judgement`);
 //! - what a job is promised (`specs/Promise`);
-//! - which refusal is answered, also after a failed load (`specs/Stop`).
+//! - which refusal is answered, also after a failed load (`specs/Refusals`).
 //!
 //! Two groups of clauses of `run` connect answers and causes. `refused` gives, for every answer but `Done`, the
 //! refusal with its cause and its line. `usage`, `comes` and `all_come` say that what is called for is

@@ -12,7 +12,7 @@ ghost use Rattle.hsdec_core.specs.declared.tasks.WorkTask.TheVariants as works;
 ghost use Rattle.operands.specs.Fill.{fill_of};
 ghost use Rattle.hsdec_core.specs.Clocks.{design_of};
 ghost use Rattle.hsdec_core.specs.Inner.HeadedReport.{IsReportOf, NamesSignal};
-ghost use Rattle.hsdec_core.specs.Inner.JobOutcome.{IsMadeOf};
+ghost use Rattle.hsdec_core.specs.Inner.JobOutcome.{IsOutcomeOfJob};
 ghost use Rattle.hsdec_core.specs.Judgement.{file_cause, list_cause, own_cause, work_cause};
 ghost use Rattle.hsdec_core.specs.Operands.{AreGranted};
 ghost use Rattle.hsdec_core.specs.Promise.{
@@ -65,7 +65,7 @@ pub fn on_machine<F: Shelf>(
     requires limited { IsLimit job.now.limit }
     requires named { HasGivenNames job.now }
     requires granted { AreGranted (F.grants shelf.old) job.now }
-    ensures made { IsMadeOf
+    ensures made { IsOutcomeOfJob
         job.now (F.holds shelf.old) (Rose (F.faults shelf.old) (F.faults shelf.new)) result }
     ensures holds_the_same { (other : List ℕ) → F.holds shelf.new other ≡ F.holds shelf.old other }
     ensures grants_the_same { (other : List ℕ) → F.grants shelf.new other ↔ F.grants shelf.old other }

@@ -4,7 +4,7 @@ ghost use Rattle.std.specs.Prelude.{◌≡◌, ◌≤◌, ◌↔◌, ℕ, List};
 ghost use Rattle.hs_io.specs.Counts.{Rose};
 ghost use Rattle.hsdec_core.specs.declared.tasks.Task.TheVariants as tasks;
 ghost use Rattle.operands.specs.Fill.{fill_of};
-ghost use Rattle.hsdec_core.specs.Inner.JobOutcome.{IsMadeOf};
+ghost use Rattle.hsdec_core.specs.Inner.JobOutcome.{IsOutcomeOfJob};
 ghost use Rattle.hsdec_core.specs.Operands.{AreGranted};
 ghost use Rattle.hsdec_core.specs.Task.{task_of};
 ghost use Rattle.net_core.specs.Order.{IsOrderOf};
@@ -22,7 +22,7 @@ use std::alloc::Global;
 pub fn walk<F: Shelf>(alloc: Global, job: &Job, shelf: &mut F) -> Result<Report, Refusal>
     requires task { task_of job.now.command ≡ tasks.Walk }
     requires granted { AreGranted (F.grants shelf.old) job.now }
-    ensures made { IsMadeOf
+    ensures made { IsOutcomeOfJob
         job.now (F.holds shelf.old) (Rose (F.faults shelf.old) (F.faults shelf.new)) result }
     ensures holds_the_same { (other : List ℕ) → F.holds shelf.new other ≡ F.holds shelf.old other }
     ensures grants_the_same { (other : List ℕ) → F.grants shelf.new other ↔ F.grants shelf.old other }
@@ -43,7 +43,7 @@ fn run_machine<F: Shelf>(
     requires granted { F.grants shelf.old job.now.second }
     requires held { (bytes : List ℕ)
         × HoldsMachine (F.holds shelf.old job.now.file) (fill_of job.now) bytes machine.now }
-    ensures made { IsMadeOf
+    ensures made { IsOutcomeOfJob
         job.now (F.holds shelf.old) (Rose (F.faults shelf.old) (F.faults shelf.new)) result }
     ensures holds_the_same { (other : List ℕ) → F.holds shelf.new other ≡ F.holds shelf.old other }
     ensures grants_the_same { (other : List ℕ) → F.grants shelf.new other ↔ F.grants shelf.old other }
@@ -59,7 +59,7 @@ fn run_machine<F: Shelf>(
 pub fn sim<F: Shelf>(alloc: Global, job: &Job, shelf: &mut F) -> Result<Report, Refusal>
     requires task { task_of job.now.command ≡ tasks.Sim }
     requires granted { AreGranted (F.grants shelf.old) job.now }
-    ensures made { IsMadeOf
+    ensures made { IsOutcomeOfJob
         job.now (F.holds shelf.old) (Rose (F.faults shelf.old) (F.faults shelf.new)) result }
     ensures holds_the_same { (other : List ℕ) → F.holds shelf.new other ≡ F.holds shelf.old other }
     ensures grants_the_same { (other : List ℕ) → F.grants shelf.new other ↔ F.grants shelf.old other }
@@ -80,7 +80,7 @@ fn run_network<F: Shelf>(
     requires granted { F.grants shelf.old job.now.second }
     requires held { (bytes : List ℕ) × HoldsNetwork (F.holds shelf.old job.now.file) bytes opened.now.net }
     requires order { IsOrderOf opened.now.net opened.now.order }
-    ensures made { IsMadeOf
+    ensures made { IsOutcomeOfJob
         job.now (F.holds shelf.old) (Rose (F.faults shelf.old) (F.faults shelf.new)) result }
     ensures holds_the_same { (other : List ℕ) → F.holds shelf.new other ≡ F.holds shelf.old other }
     ensures grants_the_same { (other : List ℕ) → F.grants shelf.new other ↔ F.grants shelf.old other }

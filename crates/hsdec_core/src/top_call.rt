@@ -27,7 +27,7 @@ ghost use Rattle.hs_io.specs.Pieces.{Appends, AppendsFront};
 ghost use Rattle.hsdec_core.specs.Judgement.{all_causes, first_cause};
 ghost use Rattle.hsdec_core.specs.Operands.{AreGranted, IfAllTold, IfTold, takes_file};
 ghost use Rattle.hsdec_core.specs.Promise.{IsAsked, IsAskedOrShown, IsDecompositionOf, IsEvidence};
-ghost use Rattle.hsdec_core.specs.Stop.{Comes, IsRefusedFor};
+ghost use Rattle.hsdec_core.specs.Refusals.{Comes, IsRefusalOfWords};
 ghost use Rattle.hsdec_core.specs.Task.{kind_of, task_of};
 ghost use Rattle.job_words.specs.Job.{JobOf};
 
@@ -52,7 +52,7 @@ pub fn run<F: Shelf, O: Sink, E: Sink>(
     // Every answer but `Done` is the answer of a refusal that has its cause, and this refusal's line goes to
     // err.
     ensures refused { result ≢ Answer.Done → (refusal : Refusal) × (answer_of refusal ≡ result)
-        × IsRefusedFor (JobOf words.now) (F.holds shelf.old)
+        × IsRefusalOfWords (JobOf words.now) (F.holds shelf.old)
         (Rose (F.faults shelf.old) (F.faults shelf.new)) (Rose (O.faults out.old) (O.faults out.new)) refusal
         × LinePut (line_of refusal) (E.given err.old) (E.given err.new) (E.faults err.old) (E.faults err.new) }
 

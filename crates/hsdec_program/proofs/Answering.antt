@@ -1,92 +1,116 @@
--- The answer to words, by whether they ask for a page.
-use Rattle.std.proofs.Common.{◌≡◌, ◌≢◌, ◌⊎◌, ℕ, List, Option, Some, None, Result, Ok, Err, IfOk, IfSome, MatchOption, inl, inr, refl, sym, ap, ◌∙◌}
+-- The answer to words, by whether they ask for a page and whether memory ran out.
+use Rattle.std.proofs.Common.{◌≡◌, ◌≢◌, ◌⊎◌, ℕ, List, Option, Some, None, Result, Ok, Err, IfOk, IfSome, MatchOption, inl, inr, refl, sym, ap, subst, ◌∙◌}
 use Rattle.job_words.specs.declared.jobs.Job.{Job}
 use Rattle.job_words.specs.Job.{JobOf}
 use Rattle.answers.specs.declared.numbers.Answer.{Answer}
-use Rattle.answers.specs.declared.numbers.Answer.TheVariants.{Done, WriteFault, NoMemory}
+use Rattle.answers.specs.declared.numbers.Answer.TheVariants as answers
 use Rattle.answers.specs.declared.refusals.Refusal.{Refusal}
 use Rattle.answers.specs.declared.refusals.Refusal.TheVariants as refusals
+use Rattle.answers.specs.declared.reports.Page.TheVariants.{Whole}
 use Rattle.answers.specs.Cause.{CallsForNone}
-use Rattle.answers.specs.Refusal.{answer_of}
+use Rattle.answers.specs.Delivery.{IsDone, IsRefusedWith}
+use Rattle.answers.specs.Refusal.{answer_of, line_of}
+use Rattle.hs_io.specs.Pieces.{AppendsFront}
 use Rattle.hsdec_core.specs.Judgement.{all_causes}
-use Rattle.hsdec_core.specs.Operands.{IfAllTold, file_held, symbols_held}
-use Rattle.hsdec_core.specs.Stop.{IsRefusedFor, IsStopFor}
-use Rattle.hsdec_program.specs.Status.{IsAnswerBy, IsCompleteBy, IsGivenOut, IsAnswerCalledFor, IsPageAnswer, IsRefusedBy}
+use Rattle.hsdec_core.specs.Operands.{file_held, symbols_held}
+use Rattle.hsdec_core.specs.Refusals.{IsRefusalOfWords}
+use Rattle.hsdec_program.specs.Pages.{page_asked}
+use Rattle.hsdec_program.specs.Status.{IsAnswerTo, IsJobAnswer, IsPageAnswer, Seen}
 
--- ---- words that ask for no page
-pub answered_by_run : (page : Option (List ℕ)) (words : List (List ℕ)) (holds : List ℕ → Option (List ℕ)) (given : Answer) (out out' : Option (List ℕ)) (Stays : Type 0) → page ≡ None → IsAnswerCalledFor words holds given → IsGivenOut words holds given out out' Stays → IsAnswerBy page words holds given out out' Stays
-answered_by_run None words holds given out out' Stays none judged put = (judged, put)
-answered_by_run (Some page) words holds given out out' Stays none judged put = absurd (cc)
+done_or : (given : Answer) (Else : Type 0) → (given ≢ answers.Done → Else) → (given ≡ answers.Done) ⊎ Else
+done_or answers.Done Else undone = inl refl
+done_or _ Else undone = inr (undone (λ e. cc))
 
--- what is said of a job and of what it loads
-all_some : (held : Option (List ℕ)) (P Q : List ℕ → Type 0) → ((bytes : List ℕ) → P bytes → Q bytes) → IfSome held P → IfSome held Q
-all_some None P Q more is = tt
-all_some (Some bytes) P Q more is = more bytes is
+-- ---- the page that the words ask for
+pub answer_to_job : (words : List (List ℕ)) (seen : Seen) (given : Answer) → page_asked words ≡ None → IsJobAnswer words seen given → IsAnswerTo words seen given
+answer_to_job words seen given none answer =
+    subst (λ (asked : Option (List ℕ)). MatchOption asked (IsJobAnswer words seen given) (λ page. IsPageAnswer page seen given)) (sym none) answer
 
-told_then : (job : Result Job ℕ) (holds : List ℕ → Option (List ℕ)) (P Q : Job → List ℕ → List ℕ → Type 0) → ((j : Job) (bytes symbols : List ℕ) → P j bytes symbols → Q j bytes symbols) → IfOk job (λ j. IfSome (file_held j holds) (λ bytes. IfSome (symbols_held j holds) (P j bytes))) → IfOk job (λ j. IfSome (file_held j holds) (λ bytes. IfSome (symbols_held j holds) (Q j bytes)))
-told_then (Err word) holds P Q more is = tt
-told_then (Ok j) holds P Q more is =
-    all_some (file_held j holds) (λ bytes. IfSome (symbols_held j holds) (P j bytes)) (λ bytes. IfSome (symbols_held j holds) (Q j bytes))
-    (λ bytes here. all_some (symbols_held j holds) (P j bytes) (Q j bytes) (λ symbols. more j bytes symbols) here) is
+pub answer_to_page : (words : List (List ℕ)) (page : List ℕ) (seen : Seen) (given : Answer) → page_asked words ≡ Some page → IsPageAnswer page seen given → IsAnswerTo words seen given
+answer_to_page words page seen given some answer =
+    subst (λ (asked : Option (List ℕ)). MatchOption asked (IsJobAnswer words seen given) (λ text. IsPageAnswer text seen given)) (sym some) answer
 
--- the two counts of faults in one
-pub completed_by_run : (page : Option (List ℕ)) (words : List (List ℕ)) (holds : List ℕ → Option (List ℕ)) (given : Answer) (Read Written : Type 0) → page ≡ None → IfAllTold words holds (λ job bytes symbols. CallsForNone (all_causes job bytes symbols) → (Read → ⊥) → (Written → ⊥) → (given ≡ Done) ⊎ (given ≡ NoMemory)) → IsCompleteBy page words holds given (Read ⊎ Written)
-completed_by_run None words holds given Read Written none complete =
-    told_then (JobOf words) holds
-    (λ job bytes symbols. CallsForNone (all_causes job bytes symbols) → (Read → ⊥) → (Written → ⊥) → (given ≡ Done) ⊎ (given ≡ NoMemory))
-    (λ job bytes symbols. CallsForNone (all_causes job bytes symbols) → (Read ⊎ Written → ⊥) → (given ≡ Done) ⊎ (given ≡ NoMemory))
-    (λ job bytes symbols here unrefused rises. here unrefused (λ read. rises (inl read)) (λ written. rises (inr written)))
-    complete
-completed_by_run (Some page) words holds given Read Written none complete = absurd (cc)
+-- ---- a page that is delivered
+module _ (page : List ℕ) (seen : Seen) (given : Answer) (done : given ≡ answers.Done → IsDone (Ok (Whole page)) seen.out_before seen.out_after seen.out_stays) (refused : given ≢ answers.Done → (refusal : Refusal) × (answer_of refusal ≡ given) × IsRefusedWith (Ok (Whole page)) seen.out_before seen.out_after seen.out_faulted refusal × seen.err_takes (line_of refusal)) where
+  pub page_comes : (given ≡ answers.Done) ⊎ (given ≡ answers.WriteFault)
+  page_comes = done_or given (given ≡ answers.WriteFault) (λ undone. let told = refused undone in sym told.1 ∙ ap answer_of told.2.0)
 
-pub refused_by_run : (page : Option (List ℕ)) (words : List (List ℕ)) (holds : List ℕ → Option (List ℕ)) (Faulted PutFaulted : Type 0) (refusal : Refusal) → page ≡ None → IsRefusedFor (JobOf words) holds Faulted PutFaulted refusal → IsRefusedBy page words holds Faulted PutFaulted refusal
-refused_by_run None words holds Faulted PutFaulted refusal none is = is
-refused_by_run (Some page) words holds Faulted PutFaulted refusal none is = absurd (cc)
+  pub page_faulted : given ≡ answers.WriteFault → seen.out_faulted
+  page_faulted e = (refused (λ done. let f : answers.WriteFault ≡ answers.Done = sym e ∙ done in cc)).2.1.4
 
--- ---- words that ask for a page
-pub answered_by_page : (page : Option (List ℕ)) (text : List ℕ) (words : List (List ℕ)) (holds : List ℕ → Option (List ℕ)) (given : Answer) (out out' : Option (List ℕ)) (Stays : Type 0) → page ≡ Some text → IsPageAnswer text given out out' → IsAnswerBy page words holds given out out' Stays
-answered_by_page page text words holds given out out' Stays asked is =
-    rw asked is
+  pub page_unread : given ≡ answers.ReadFault → ⊥
+  page_unread e =
+      elim page_comes [
+        | inl done ↦ let f : answers.ReadFault ≡ answers.Done = sym e ∙ done in cc
+        | inr cut ↦ let f : answers.ReadFault ≡ answers.WriteFault = sym e ∙ cut in cc
+      ]
 
-pub completed_by_page : (page : Option (List ℕ)) (text : List ℕ) (words : List (List ℕ)) (holds : List ℕ → Option (List ℕ)) (given : Answer) (Read Written : Type 0) → page ≡ Some text → (given ≡ Done) ⊎ (given ≡ WriteFault) → (given ≡ WriteFault → Written) → IsCompleteBy page words holds given (Read ⊎ Written)
-completed_by_page None text words holds given Read Written asked comes fault = absurd (cc)
-completed_by_page (Some page) text words holds given Read Written asked comes fault =
-    λ rises. elim comes [ inl done ↦ inl done | inr failed ↦ absurd (rises (inr (fault failed))) ]
+  page_front : given ≡ answers.WriteFault → AppendsFront seen.out_before page seen.out_after
+  page_front e =
+      let cut = (refused (λ done. let f : answers.WriteFault ≡ answers.Done = sym e ∙ done in cc)).2.1 in
+      subst (λ (text : List ℕ). AppendsFront seen.out_before text seen.out_after) cut.1 cut.3
 
-pub refused_by_page : (page : Option (List ℕ)) (text : List ℕ) (words : List (List ℕ)) (holds : List ℕ → Option (List ℕ)) (given : Answer) (Faulted PutFaulted : Type 0) → page ≡ Some text → (given ≡ Done) ⊎ (given ≡ WriteFault) → (given ≡ WriteFault → PutFaulted) → given ≢ Done
-    → (answer_of refusals.Unwritable ≡ given) × IsRefusedBy page words holds Faulted PutFaulted refusals.Unwritable
-refused_by_page None text words holds given Faulted PutFaulted asked comes fault undone = absurd (cc)
-refused_by_page (Some page) text words holds given Faulted PutFaulted asked comes fault undone =
-    elim comes [ inl done ↦ absurd (undone done) | inr failed ↦ (sym failed, inl (refl, fault failed)) ]
+  pub page_answer : IsPageAnswer page seen given
+  page_answer = record {
+    comes = elim page_comes [ inl e ↦ inl e | inr e ↦ inr (inl e) ];
+    complete = λ calm. elim page_comes [ inl e ↦ inl e | inr e ↦ absurd (calm (page_faulted e)) ];
+    whole = λ e. (done e).0;
+    front = page_front;
+    refused = λ undone. let told = refused undone in (told.0, told.1, inl (told.2.0, told.2.1.4), told.3);
+  }
 
--- ---- where memory is wanting
-complete_some : (held : Option (List ℕ)) (P : List ℕ → Type 0) → ((bytes : List ℕ) → P bytes) → IfSome held P
-complete_some None P all = tt
-complete_some (Some bytes) P all = all bytes
+-- ---- memory that ran out
+pub wanting : (seen : Seen) (given : Answer) → (given ≡ answers.Done → IsDone (Err refusals.NoMemory) seen.out_before seen.out_after seen.out_stays)
+    → (given ≢ answers.Done → (refusal : Refusal) × (answer_of refusal ≡ given) × IsRefusedWith (Err refusals.NoMemory) seen.out_before seen.out_after seen.out_faulted refusal × seen.err_takes (line_of refusal))
+    → (given ≡ answers.NoMemory) × seen.err_takes (line_of refusals.NoMemory)
+wanting seen given done refused =
+    elim (done_or given ((given ≡ answers.NoMemory) × seen.err_takes (line_of refusals.NoMemory)) (λ undone.
+    let told = refused undone in
+    let same : told.0 ≡ refusals.NoMemory = elim told.2 [ inl e ↦ e | inr e ↦ e ] in
+    (sym told.1 ∙ ap answer_of same, subst (λ (refusal : Refusal). seen.err_takes (line_of refusal)) same told.3))) [ inl e ↦ absurd (done e) | inr is ↦ is ]
 
-complete_job : (job : Result Job ℕ) (holds : List ℕ → Option (List ℕ)) (P : Job → List ℕ → List ℕ → Type 0) → ((j : Job) (bytes symbols : List ℕ) → P j bytes symbols) → IfOk job (λ j. IfSome (file_held j holds) (λ bytes. IfSome (symbols_held j holds) (P j bytes)))
-complete_job (Err word) holds P all = tt
-complete_job (Ok j) holds P all =
-    complete_some (file_held j holds) (λ bytes. IfSome (symbols_held j holds) (P j bytes)) (λ bytes. complete_some (symbols_held j holds) (P j bytes) (λ symbols. all j bytes symbols))
+-- what holds of all bytes holds of those that are known
+known : (held : Option (List ℕ)) (P : List ℕ → Type 0) → ((bytes : List ℕ) → P bytes) → IfSome held P
+known None P all = tt
+known (Some bytes) P all = all bytes
 
-pub completed_by_want : (page : Option (List ℕ)) (words : List (List ℕ)) (holds : List ℕ → Option (List ℕ)) (given : Answer) (Rises : Type 0) → given ≡ NoMemory → IsCompleteBy page words holds given Rises
-completed_by_want (Some page) words holds given Rises is = λ rises. inr is
-completed_by_want None words holds given Rises is =
-    complete_job (JobOf words) holds (λ job bytes symbols. CallsForNone (all_causes job bytes symbols) → (Rises → ⊥) → (given ≡ Done) ⊎ (given ≡ NoMemory)) (λ job bytes symbols unrefused rises. inr is)
+known_of_job : (job : Result Job ℕ) (holds : List ℕ → Option (List ℕ)) (P : Job → List ℕ → Type 0) → ((j : Job) (bytes : List ℕ) → P j bytes) → IfOk job (λ j. IfSome (file_held j holds) (P j))
+known_of_job (Err word) holds P all = tt
+known_of_job (Ok j) holds P all = known (file_held j holds) (P j) (all j)
 
-want_stop : (job : Result Job ℕ) (holds : List ℕ → Option (List ℕ)) (Faulted : Type 0) → IsStopFor job holds Faulted refusals.NoMemory
-want_stop (Ok job) holds Faulted = inl refl
-want_stop (Err word) holds Faulted = inl refl
+want_is_refusal : (job : Result Job ℕ) (holds : List ℕ → Option (List ℕ)) (Faulted PutFaulted : Type 0) → IsRefusalOfWords job holds Faulted PutFaulted refusals.NoMemory
+want_is_refusal (Ok job) holds Faulted PutFaulted = inl (inl refl)
+want_is_refusal (Err word) holds Faulted PutFaulted = inl refl
 
-pub refused_by_want : (page : Option (List ℕ)) (words : List (List ℕ)) (holds : List ℕ → Option (List ℕ)) (Faulted PutFaulted : Type 0) → IsRefusedBy page words holds Faulted PutFaulted refusals.NoMemory
-refused_by_want (Some page) words holds Faulted PutFaulted = inr refl
-refused_by_want None words holds Faulted PutFaulted = inl (want_stop (JobOf words) holds Faulted)
+module _ (seen : Seen) (given : Answer) (want : given ≡ answers.NoMemory) (line : seen.err_takes (line_of refusals.NoMemory)) where
+  pub never : (other : Answer) → answers.NoMemory ≢ other → given ≡ other → ⊥
+  never other differ e = differ (sym want ∙ e)
 
--- ---- the page that was made
-pub page_is_none : {T : Type 0} (asked : Option (List ℕ)) (page : Option T) (Q : T → Type 0) → page ≡ None → MatchOption page (asked ≡ None) Q → asked ≡ None
-page_is_none asked None Q is match = match
-page_is_none asked (Some text) Q is match = absurd (cc)
+  want_for_job : (words : List (List ℕ)) → IsJobAnswer words seen given
+  want_for_job words = record {
+    usage = λ refused. inr want;
+    comes = known_of_job (JobOf words) seen.holds _ (λ job bytes refusal called. inr (inl want));
+    all_come = known_of_job (JobOf words) seen.holds _ (λ job bytes. known (symbols_held job seen.holds) _ (λ symbols refusal called. inr (inl want)));
+    complete = known_of_job (JobOf words) seen.holds _ (λ job bytes. known (symbols_held job seen.holds) _ (λ symbols none read written. inr want));
+    headline = λ e. absurd (never answers.Done (λ f. cc) e);
+    text = λ e. absurd (never answers.Done (λ f. cc) e);
+    evidence = λ e. absurd (never answers.More (λ f. cc) e);
+    front = λ e. absurd (never answers.WriteFault (λ f. cc) e);
+    refused = λ undone. (refusals.NoMemory, sym want, want_is_refusal (JobOf words) seen.holds seen.shelf_faulted seen.out_faulted, line);
+  }
 
-pub page_is_some : {T : Type 0} (asked : Option (List ℕ)) (page : Option T) (text : T) (items : T → List ℕ) → page ≡ Some text → MatchOption page (asked ≡ None) (λ made. asked ≡ Some (items made)) → asked ≡ Some (items text)
-page_is_some asked None text items is match = absurd (cc)
-page_is_some asked (Some made) text items is match = let same : made ≡ text = cc in match ∙ ap (λ t. Some (items t)) same
+  want_for_page : (page : List ℕ) → IsPageAnswer page seen given
+  want_for_page page = record {
+    comes = inr (inr want);
+    complete = λ calm. inr want;
+    whole = λ e. absurd (never answers.Done (λ f. cc) e);
+    front = λ e. absurd (never answers.WriteFault (λ f. cc) e);
+    refused = λ undone. (refusals.NoMemory, sym want, inr refl, line);
+  }
+
+  want_by : (page : Option (List ℕ)) (words : List (List ℕ)) → MatchOption page (IsJobAnswer words seen given) (λ text. IsPageAnswer text seen given)
+  want_by None words = want_for_job words
+  want_by (Some page) words = want_for_page page
+
+  pub answer_of_want : (words : List (List ℕ)) → IsAnswerTo words seen given
+  answer_of_want words = want_by (page_asked words) words

@@ -15,18 +15,11 @@ use Rattle.io_pairs.specs.Inner.Families.{AreFunctions, FamilyPair, IsParted}
 use Rattle.partition.specs.Laws.Partners.{same_right_of}
 use Rattle.partition.specs.Sides.{RightBefore, Sides}
 use Rattle.io_pairs.specs.Sides.{sides_of}
-use Rattle.partition.specs.Laws.Generating.{IsZeroOf}
+use Rattle.partition.specs.Laws.Generating.{HaveJoinsOf, IsJoinOfSome, IsZeroOf}
 use Rattle.io_pairs.proofs.Generating.{right_generated}
 use Rattle.io_pairs.proofs.Going.{family_pairs_grow}
 use Rattle.io_pairs.proofs.Parting.{parted_greatest}
 use Rattle.io_pairs.proofs.Reached.{reached_join, reached_pair, reached_two, reached_zero}
-
--- the joins of partitions, as `join_closure` writes them
-abbrev pub IsMadeOf : ℕ → List (List ℕ) → List ℕ → Type 0
-IsMadeOf n generators q = IsGenerated (IsZeroOf n) IsJoin (map (λ r. r) generators) q
-
-abbrev pub HaveJoinsOf : ℕ → List (List ℕ) → Type 0
-HaveJoinsOf n generators = HaveJoins (IsZeroOf n) IsJoin (map (λ r. r) generators)
 
 module _ (members values : ℕ) (functions : List (List ℕ)) where
   -- each right side of two members is reached
@@ -36,7 +29,7 @@ module _ (members values : ℕ) (functions : List (List ℕ)) where
       reached_two members values functions two.x two.y (get_or found k d) two.in_x two.in_y two.right
 
   module _ (are : AreFunctions members values functions) (found : List (List ℕ)) (rights : AreRights members values functions found) where
-    to : (q : List ℕ) → IsMadeOf values found q → IsReached members values functions q
+    to : (q : List ℕ) → IsJoinOfSome values found q → IsReached members values functions q
     to q made =
         let plain = subst (λ (gs : List (List ℕ)). IsGenerated (IsZeroOf values) IsJoin gs q) (map-id found) made in
         IsGenerated-has (IsZeroOf values) IsJoin (IsReached members values functions) found q
@@ -45,29 +38,29 @@ module _ (members values : ℕ) (functions : List (List ℕ)) where
         (are_reached found rights)
         plain
 
-    from : HaveRights values functions members found → HaveJoinsOf values found → (q : List ℕ) → IsRightSide members values functions q → IsMadeOf values found q
+    from : HaveRights values functions members found → HaveJoinsOf values found → (q : List ℕ) → IsRightSide members values functions q → IsJoinOfSome values found q
     from have joins q is =
         let plain = subst (λ (gs : List (List ℕ)). HaveJoins (IsZeroOf values) IsJoin gs) (map-id found) joins in
         let made = right_generated members values functions found have plain q is in
         subst (λ (gs : List (List ℕ)). IsGenerated (IsZeroOf values) IsJoin gs q) (sym (map-id found)) made
 
-    pub listed : HaveRights values functions members found → (items : List (List ℕ)) → Lists Before (IsMadeOf values found) (map (λ q. q) items) → HaveJoinsOf values found → ListsRights members values functions items
+    pub listed : HaveRights values functions members found → (items : List (List ℕ)) → Lists Before (IsJoinOfSome values found) (map (λ q. q) items) → HaveJoinsOf values found → ListsRights members values functions items
     listed have items lists joins =
-        let plain = subst (λ (xs : List (List ℕ)). Lists Before (IsMadeOf values found) xs) (map-id items) lists in
+        let plain = subst (λ (xs : List (List ℕ)). Lists Before (IsJoinOfSome values found) xs) (map-id items) lists in
         record {
           ascending = plain.ascending;
           reached = λ k d within. to (get_or items k d) (plain.members k d within);
           complete = λ q is. plain.complete q (from have joins q is);
         }
 
-    pub evident : (limit : ℕ) (items : List (List ℕ)) → Evidence Before (IsMadeOf values found) limit (map (λ q. q) items) → Evidence Before (IsReached members values functions) limit items
+    pub evident : (limit : ℕ) (items : List (List ℕ)) → Evidence Before (IsJoinOfSome values found) limit (map (λ q. q) items) → Evidence Before (IsReached members values functions) limit items
     evident limit items evidence =
         subst (λ (xs : List (List ℕ)). Evidence Before (IsReached members values functions) limit xs) (map-id items)
-        (evidence_as Before (IsMadeOf values found) (IsReached members values functions) limit (map (λ q. q) items) to evidence)
+        (evidence_as Before (IsJoinOfSome values found) (IsReached members values functions) limit (map (λ q. q) items) to evidence)
 
-    pub unevident : HaveRights values functions members found → (limit : ℕ) → ((xs : List (List ℕ)) → Evidence Before (IsMadeOf values found) limit xs → ⊥) → HaveJoinsOf values found
+    pub unevident : HaveRights values functions members found → (limit : ℕ) → ((xs : List (List ℕ)) → Evidence Before (IsJoinOfSome values found) limit xs → ⊥) → HaveJoinsOf values found
         → (xs : List (List ℕ)) → Evidence Before (IsRightSide members values functions) limit xs → ⊥
-    unevident have limit none joins xs evidence = none xs (evidence_as Before (IsRightSide members values functions) (IsMadeOf values found) limit xs (from have joins) evidence)
+    unevident have limit none joins xs evidence = none xs (evidence_as Before (IsRightSide members values functions) (IsJoinOfSome values found) limit xs (from have joins) evidence)
 
   -- the greatest partner is put beside one more partition
   pub lefts_more : (rights : List (List ℕ)) (items : List IoPair) (pair : IoPair) → HaveLefts members functions rights (map sides_of items) → IsParted members functions pair.right pair.left

@@ -3,7 +3,7 @@ use Rattle.std.proofs.Common.{◌≡◌, ◌≢◌, ℕ, ◌+◌, ◌<◌, List,
 use Rattle.std.proofs.lemmas.Bool.{cases_eq, cases_lt, eq-eqb}
 use Rattle.std.proofs.lemmas.Bool.Decides.{eqb_tells}
 use Rattle.std.proofs.lemmas.List.{get_or-map, get_or-set_same, get_or-set_other, get_or_past, length-map, length-set, map-set}
-use Rattle.partition.proofs.FirstAppearance.{IsNumbering, numbering_step}
+use Rattle.partition.specs.Laws.FirstAppearance.{IsNumbering, numbering_step}
 use Rattle.io_pairs.specs.declared.marks.Mark.{Mark}
 use Rattle.io_pairs.specs.Inner.Marks.{AreMarksBefore, class_in, seen_in}
 

@@ -43,8 +43,8 @@ pub option_fits : (row : Row) (before : List Item) (option : CommandOption) (wor
 option_fits row before option word e = fits_of (may_stand row before option) (fits_option option word) e
 
 -- an item that is not refused keeps what holds of those before it
-abbrev pub IsKept : (List Item → Type 0) → Row → Type 0
-IsKept P row = (before : List Item) (item : Item) → P before → refusal row before item ≡ None → P (item ∷ before)
+abbrev pub Keeps : (List Item → Type 0) → Row → Type 0
+Keeps P row = (before : List Item) (item : Item) → P before → refusal row before item ≡ None → P (item ∷ before)
 
 -- a job is that of items of which this holds, with all operands
 pub record IsOfItems (P : List Item → Type 0) (row : Row) (job : Job) : Type 0 where
@@ -59,7 +59,7 @@ ended P row before number job true holds test e = cc
 ended P row before number job false holds test e =
     let same : job_of row before ≡ job = cc in record { items = before; holds = holds; whole = grind (arith, nat_tests); job_is = same }
 
-pub judged-keeps : (P : List Item → Type 0) (row : Row) (before : List Item) (number : ℕ) (items : List Item) (job : Job) → IsKept P row → P before → judged row before number items ≡ Ok job → IsOfItems P row job
+pub judged-keeps : (P : List Item → Type 0) (row : Row) (before : List Item) (number : ℕ) (items : List Item) (job : Job) → Keeps P row → P before → judged row before number items ≡ Ok job → IsOfItems P row job
 judged-keeps P row before number [] job kept holds e = ended P row before number job _ holds refl e
 judged-keeps P row before number (item ∷ items) job kept holds e =
     judged-keeps P row (item ∷ before) (number + width_of item) items job kept

@@ -19,7 +19,7 @@ use Rattle.kiss2.specs.Kiss.{HaveNoFault, IsLineFault, before_end, lines_read}
 use Rattle.kiss2.specs.Inner.ReaderState.{FailsWith, HasShortFields, Keeps, fail_at}
 use Rattle.kiss2.specs.Inner.ReaderPlace.{GoesOn, HasCome}
 use Rattle.kiss2.specs.Words.{is_ending}
-use Rattle.kiss2.proofs.FieldBytes.{HasGoodFields, fields_good}
+use Rattle.kiss2.specs.Laws.FieldBytes.{HasGoodFields, fields_good}
 
 pub goes_more : (lines : List Line) (i : ℕ) (line : Line) → i < length lines → line ≡ get_or lines i line → is_ending line ≡ false → GoesOn lines i → GoesOn lines (i + 1)
 goes_more lines i line inside here passes before k d lt =

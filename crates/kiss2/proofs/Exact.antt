@@ -7,7 +7,7 @@ use Rattle.kiss2.specs.declared.fault.KissFault.{KissFault}
 use Rattle.kiss2.specs.declared.fault.KissKind.{KissKind}
 use Rattle.kiss_file.specs.declared.file.KissFile.{KissFile}
 use Rattle.kiss2.specs.Kiss.{IsKissFault, Kiss, NeverBoth, OneFile, lines_read}
-use Rattle.kiss2.proofs.Closing.{some_rows}
+use Rattle.kiss2.specs.Laws.Closing.{some_rows}
 use Rattle.kiss2.proofs.OneFault.{never_both, one_fault}
 use Rattle.kiss2.specs.Laws.SameRecord.{one_record}
 

@@ -11,7 +11,7 @@ use Rattle.kiss2.specs.declared.fault.KissLimit.TheVariants.{NameBytes, Rows, St
 use Rattle.kiss2.specs.Faults.{fault_where, first_of, long_name, row_fault}
 use Rattle.kiss2.specs.Words.{current_field, input_field, is_character_field, is_name, is_open, next_field, output_field}
 use Rattle.kiss2.specs.Laws.Finding.{find_first, none_long}
-use Rattle.kiss2.proofs.Stood.{skip}
+use Rattle.kiss2.specs.Laws.Stood.{skip}
 
 -- the number of inputs or that of outputs is missing
 pub no_inputs : (inputs outputs : Option ℕ) (rows : ℕ) (states : List (List ℕ)) (line : Line) → inputs ≡ None → row_fault inputs outputs rows states line ≡ Some MissingCounts

@@ -1,14 +1,8 @@
 pub mod Digits
-pub mod Stood
 pub mod Taken
 pub mod RowStands
 pub mod Front
 pub mod Ending
-pub mod Closing
-pub mod GoodLines
-pub mod Building
-pub mod FieldBytes
 pub mod OneFault
-pub mod Made
 pub mod Exact
 pub mod Written

@@ -10,7 +10,7 @@ use Rattle.kiss2.specs.declared.fault.KissKind.{KissKind}
 use Rattle.kiss2.specs.Faults.{fault_in}
 use Rattle.kiss2.specs.Kiss.{HaveNoFault, IsFaultOf, IsFirstFault, IsLineFault, closing_fault}
 use Rattle.kiss2.specs.Laws.Faultless.{faultless_push}
-use Rattle.kiss2.proofs.GoodLines.{take_step}
+use Rattle.kiss2.specs.Laws.GoodLines.{take_step}
 
 -- a place among the first ones
 get_front : {X : Type 0} (xs : List X) (place count : ℕ) (x : X) → place < count → slice_get xs place ≡ Some x → slice_get (take count xs) place ≡ Some x

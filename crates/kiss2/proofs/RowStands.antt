@@ -14,7 +14,7 @@ use Rattle.kiss2.specs.Inner.ReaderState.{Stands, names_on, names_seen, once_aft
 use Rattle.kiss2.specs.Standing.{each_once, row_lines, state_names}
 use Rattle.kiss2.specs.Words.{current_field, is_name, line_kind_of, next_field}
 use Rattle.kiss2.specs.Laws.Once.{each_once-append, put_both, seen_count}
-use Rattle.kiss2.proofs.Stood.{fault_form, rows_more, stay}
+use Rattle.kiss2.specs.Laws.Stood.{fault_form, rows_more, stay}
 
 module _ (said : Said) (before : List Line) (line : Line) (stands : Stands said before) (clean : line.bad ≡ false) (kind : line_kind_of line ≡ Row) where
   -- its fault, by what is kept

@@ -16,7 +16,7 @@ use Rattle.kiss2.specs.Faults.{count_fault, fault_in, fault_where, first_of, for
 use Rattle.kiss2.specs.Inner.ReaderState.{Judges, Stands}
 use Rattle.kiss2.specs.Standing.{has_stood}
 use Rattle.kiss2.specs.Words.{decimal_value, field_at, line_kind_of, operands}
-use Rattle.kiss2.proofs.Stood.{fails_at, fault_word, is_some-map, operand_field, own, stay}
+use Rattle.kiss2.specs.Laws.Stood.{fails_at, fault_word, is_some-map, operand_field, own, stay}
 
 -- what holds of each result
 pub on_ok : {T E P : Type 0} (result : Result T E) → P → OnOk result P

@@ -2,3 +2,9 @@ pub mod Finding
 pub mod Once
 pub mod SameRecord
 pub mod Faultless
+pub mod Stood
+pub mod Closing
+pub mod Building
+pub mod GoodLines
+pub mod Made
+pub mod FieldBytes

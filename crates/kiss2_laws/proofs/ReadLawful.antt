@@ -33,11 +33,11 @@ use Rattle.kiss_file.specs.LawfulFile.{AreGiven, AreNumbered, IsGivenName, IsLaw
 use Rattle.kiss_file.specs.Names.{AreDistinct, IsPlainName}
 use Rattle.kiss2.specs.Standing.{each_once, inputs_said, line_with, names_in_column, names_said, outputs_said, row_lines, state_names}
 use Rattle.kiss2.specs.Words.{care_in, current_field, field_at, has_backslash, is_ending, is_name, is_of_kind, is_open, line_kind_of, next_field, operands, output_field, same_kind, value_in}
-use Rattle.kiss2.proofs.Building.{field_length}
-use Rattle.kiss2.proofs.Closing.{some_rows}
-use Rattle.kiss2.proofs.FieldBytes.{HasGoodFields, fields_good}
+use Rattle.kiss2.specs.Laws.Building.{field_length}
+use Rattle.kiss2.specs.Laws.Closing.{some_rows}
+use Rattle.kiss2.specs.Laws.FieldBytes.{HasGoodFields, fields_good}
 use Rattle.kiss2.specs.Laws.Finding.{contained_from_test, contained_test}
-use Rattle.kiss2.proofs.GoodLines.{IsFound, all_kept, few, fine, form_at, found, inputs_on, inputs_range, none_first, outputs_on, outputs_range, passes, rows_good}
+use Rattle.kiss2.specs.Laws.GoodLines.{IsFound, all_kept, few, fine, form_at, found, inputs_on, inputs_range, none_first, outputs_on, outputs_range, passes, rows_good}
 use Rattle.kiss2.specs.Laws.Once.{among, among-each_once, distinct_from_once, each_once-append, itself, once-each_once}
 use Rattle.kiss2.specs.Laws.SameRecord.{length-text, number_once, reset_there, states_distinct}
 

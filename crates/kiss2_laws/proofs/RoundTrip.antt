@@ -39,7 +39,7 @@ use Rattle.kiss2_laws.proofs.ReadLawful.{twice_parts}
 use Rattle.kiss2.specs.Laws.SameRecord.{length-text}
 use Rattle.kiss2_laws.proofs.RowsBack.{Ready, all_pushed, column_from, column_to, row_texts, rows_are, rows_go, rows_without, rows_zip}
 use Rattle.kiss2_laws.proofs.Renumbered.{renumbered}
-use Rattle.kiss2.proofs.Stood.{fault_form, or_none, other}
+use Rattle.kiss2.specs.Laws.Stood.{fault_form, or_none, other}
 
 -- the lines above the rows
 abbrev pub head : ℕ → ℕ → Option (List (List ℕ)) → Option (List (List ℕ)) → ℕ → ℕ → List ℕ → List (List (List ℕ))

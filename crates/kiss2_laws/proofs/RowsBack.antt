@@ -31,15 +31,15 @@ use Rattle.kiss_file.specs.Names.{IsPlainName, name_of}
 use Rattle.kiss2.specs.Standing.{inputs_said, line_with, names_in_column, outputs_said, row_lines, state_names}
 use Rattle.kiss2.specs.Words.{care_in, is_character, is_character_field, is_ending, is_name, is_open, kind_of_field, line_kind_of, same_kind, value_in}
 use Rattle.kiss2.specs.KissText.{fields_of_row, next_name, output_characters}
-use Rattle.kiss2.proofs.Building.{names_in_column-append}
+use Rattle.kiss2.specs.Laws.Building.{names_in_column-append}
 use Rattle.kiss2.specs.Laws.Faultless.{faultless_push}
 use Rattle.kiss2.specs.Laws.Finding.{contained_test}
-use Rattle.kiss2.proofs.GoodLines.{among_states}
+use Rattle.kiss2.specs.Laws.GoodLines.{among_states}
 use Rattle.kiss2_laws.proofs.Header.{none_long}
 use Rattle.kiss2.specs.Laws.Once.{among, no_more, once-each_once}
 use Rattle.kiss2_laws.proofs.ReadBack.{numbered}
 use Rattle.kiss2.specs.Laws.SameRecord.{length-text}
-use Rattle.kiss2.proofs.Stood.{fault_form, rows_more, skip, stay}
+use Rattle.kiss2.specs.Laws.Stood.{fault_form, rows_more, skip, stay}
 
 -- characters that are written are characters
 byte_test : (c : Option Bool) → is_character (byte_of c) ≡ true

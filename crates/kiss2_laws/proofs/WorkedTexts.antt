@@ -7,7 +7,7 @@ use Rattle.kiss2.specs.Kiss.{IsNextOf, Kiss, lines_read}
 use Rattle.kiss2.specs.Standing.{reset_name, state_names}
 use Rattle.kiss2.specs.Words.{is_open}
 use Rattle.kiss2.specs.Laws.Faultless.{faultless_none}
-use Rattle.kiss2.proofs.Made.{a_record}
+use Rattle.kiss2.specs.Laws.Made.{a_record}
 use Rattle.kiss2_laws.proofs.Scanning.{scan, scanned_none}
 use Rattle.kiss2.specs.Laws.SameRecord.{next_once, number_once, states_distinct}
 

@@ -2,7 +2,7 @@
 //! off.
 
 ghost use Rattle.std.specs.Prelude.{◌≤◌};
-ghost use Rattle.cover_logic.specs.Cover.{CanCover};
+ghost use Rattle.cover_logic.specs.TermCover.{CanCover};
 
 use crate::functions::put_functions;
 use crate::terms::{add_terms, masked, put_terms};

@@ -1,7 +1,7 @@
 //! The calls of `cover_split`.
 
 ghost use Rattle.std.specs.Prelude.{ℕ, length};
-ghost use Rattle.cover_split.specs.Cover.{IsCover};
+ghost use Rattle.cover_split.specs.StateCover.{IsStateCover};
 
 use crate::words::put_part;
 use case_lines::Answer;
@@ -22,7 +22,7 @@ pub(crate) fn put_cover(alloc: Global, words: &str, m: &Machine, answer: &mut An
 
 /// Puts where a cover is not closed, or what the machine of the pairs and its split are.
 fn put_expanded(alloc: Global, m: &Machine, cover: &Cover, answer: &mut Answer)
-    requires { IsCover (length m.now.states) cover.now.blocks }
+    requires { IsStateCover (length m.now.states) cover.now.blocks }
 {
     match expand(alloc, m, cover) {
         Ok(file) => {
@@ -41,7 +41,7 @@ fn put_counts(file: &KissFile, answer: &mut Answer) {
 
 /// Puts the parts of the split.
 fn put_split(alloc: Global, cover: &Cover, answer: &mut Answer)
-    requires { (n : ℕ) × IsCover n cover.now.blocks }
+    requires { (n : ℕ) × IsStateCover n cover.now.blocks }
 {
     match split(alloc, cover) {
         Ok(split) => put_parts(alloc, split.parts.as_slice(), answer),

@@ -46,10 +46,10 @@ fn short_order(alloc: Global, m: &Machine) -> Option<usize>
 
 /// Puts what the latches of the register start at, as a number, or that the reset state is not reached.
 pub(crate) fn put_start(alloc: Global, m: &Machine, answer: &mut Answer) {
-    let Some(_k) = short_order(alloc, m) else {
+    let Some(k) = short_order(alloc, m) else {
         return answer.fail();
     };
-    match start(alloc, m) {
+    match start(alloc, m, k) {
         Ok(number) => answer.add_number(number),
         Err(fail) => put_fail(&fail, answer),
     }
@@ -73,16 +73,17 @@ pub(crate) fn put_register(alloc: Global, file: &KissFile, m: &Machine, answer: 
     };
     names_apart();
     match names(alloc, file, k * usize::from(m.inputs())) {
-        Ok(names) => put_register_with(alloc, m, &names, answer),
+        Ok(names) => put_register_with(alloc, m, k, &names, answer),
         Err(_) => answer.fail(),
     }
 }
 
 /// Puts the statements of the register that has these names, or that the reset state is not reached.
-fn put_register_with(alloc: Global, m: &Machine, names: &SignalNames, answer: &mut Answer)
-    requires { (k : ℕ) × HasShortOrder m.now k × AreNamesFor m.now k names.now }
+fn put_register_with(alloc: Global, m: &Machine, k: usize, names: &SignalNames, answer: &mut Answer)
+    requires order { HasShortOrder m.now k }
+    requires names { AreNamesFor m.now k names.now }
 {
-    match register(alloc, m, names) {
+    match register(alloc, m, k, names) {
         Ok(net) => put_network(&net, answer),
         Err(fail) => put_fail(&fail, answer),
     }

@@ -9,7 +9,7 @@ ghost use Rattle.machine_reports.specs.Causes.{NotDefiniteRow};
 ghost use Rattle.machine_reports.specs.DefiniteText.{IsChainText};
 
 use crate::lines::lines_of_parts;
-use crate::orders::order_of;
+use crate::orders::order_by_chain;
 use crate::state_texts::{Shown, work_names};
 use answers::Refusal;
 use kiss_file::{Fill, KissFile};
@@ -35,23 +35,19 @@ pub fn definite(
     ensures { IsJudged (NotDefiniteRow reduce file.now) (λ text. IsChainText shown reduce file.now text.items) result }
 {
     let work = work_machine(alloc, file, machine, fill, reduce)?;
-    chain_text(alloc, file, &work, shown)
+    chain_text(alloc, &work, shown)
 }
 
 /// How the states of a machine that is worked on come together; or the same refusal.
-fn chain_text(
-    alloc: Global,
-    file: &KissFile,
-    work: &WorkMachine,
-    shown: Shown,
-) -> Result<Vec<u8>, Refusal>
-    requires { (reduce : Bool) × IsWork reduce file.now work.now }
-    ensures { (reduce : Bool) → IsWork reduce file.now work.now
-        → IsJudged (NotDefiniteRow reduce file.now) (λ text. IsChainText shown reduce file.now text.items) result }
+fn chain_text(alloc: Global, work: &WorkMachine, shown: Shown) -> Result<Vec<u8>, Refusal>
+    requires { (reduce : Bool) × IsWork reduce work.now.file.now work.now }
+    ensures { (reduce : Bool) → IsWork reduce work.now.file.now work.now
+        → IsJudged (NotDefiniteRow reduce work.now.file.now)
+        (λ text. IsChainText shown reduce work.now.file.now text.items) result }
 {
     work.machine.keeps_its_states();
-    order_of(alloc, file, work)?;
     let members = chain(alloc, &work.machine)?;
-    let names = work_names(file, work);
+    order_by_chain(alloc, work, &members)?;
+    let names = work_names(work);
     Ok(lines_of_parts(alloc, shown, names, members.as_slice())?)
 }

@@ -6,7 +6,7 @@ ghost use Rattle.machine_reports.specs.StateTexts.{between, block_text, names_te
 ghost use Rattle.machine_reports.specs.StateTexts.{state_line, state_pair_line, state_text};
 ghost use Rattle.machine_reports.specs.Inner.Blanks.{blank_if};
 
-use kiss_file::{KissFile, StateNames};
+use kiss_file::StateNames;
 use partition::Partition;
 use state_reduce::WorkMachine;
 use std::alloc::{AllocError, Global};
@@ -21,13 +21,13 @@ pub enum Shown {
 }
 
 /// The names of the states of the machine that is worked on.
-pub fn work_names<'a>(file: &'a KissFile, work: &'a WorkMachine) -> &'a StateNames
-    requires { (reduce : Bool) × IsWork reduce file.now work.now }
+pub fn work_names<'a>(work: &'a WorkMachine<'_>) -> &'a StateNames
+    requires { (reduce : Bool) × IsWork reduce work.now.file.now work.now }
     ensures { result.now ≡ work.now.machine.states }
 {
     match &work.names {
         Some(names) => names,
-        None => &file.states,
+        None => &work.file.states,
     }
 }
 

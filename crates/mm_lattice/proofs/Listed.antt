@@ -16,18 +16,12 @@ use Rattle.mm_lattice.specs.declared.worlds.MmPair.{MmPair}
 use Rattle.mm_lattice.specs.Inner.RightSides.{AreRights, HaveLefts, HaveRights, IsReached, ListsRights}
 use Rattle.mm_lattice.specs.Laws.{same_right}
 use Rattle.mm_lattice.specs.MmPairs.{IsMmPair}
+use Rattle.partition.specs.Laws.Generating.{HaveJoinsOf, IsJoinOfSome}
 use Rattle.partition.specs.Sides.{RightBefore, Sides}
 use Rattle.mm_lattice.specs.Sides.{sides_of}
 use Rattle.mm_lattice.specs.Top.{IsRightSide}
 use Rattle.mm_lattice.proofs.Generating.{right_generated}
 use Rattle.mm_lattice.proofs.Reached.{reached_join, reached_pair, reached_two, reached_zero}
-
--- the joins of partitions of n states
-abbrev pub IsMadeOf : ℕ → List (List ℕ) → List ℕ → Type 0
-IsMadeOf n generators q = IsGenerated (λ r. r ≡ zero_of n) IsJoin (map (λ r. r) generators) q
-
-abbrev pub HaveJoinsOf : ℕ → List (List ℕ) → Type 0
-HaveJoinsOf n generators = HaveJoins (λ r. r ≡ zero_of n) IsJoin (map (λ r. r) generators)
 
 -- each right side of two states is a partition of the states
 pub rights_fit : (F : KissFile) (found : List (List ℕ)) → AreRights F found → All (IsPartition (length F.states)) found
@@ -41,9 +35,9 @@ module _ (F : KissFile) (n : ℕ) (size : n ≡ length F.states) (count : IsStat
   all_count : IsStateCount (length F.states)
   all_count = subst IsStateCount size count
 
-  to : (q : List ℕ) → IsMadeOf n found q → IsReached F q
+  to : (q : List ℕ) → IsJoinOfSome n found q → IsReached F q
   to q made =
-      let here = subst (λ (k : ℕ). IsMadeOf k found q) size made in
+      let here = subst (λ (k : ℕ). IsJoinOfSome k found q) size made in
       let plain = subst (λ (gs : List (List ℕ)). IsGenerated (λ r. r ≡ zero_of (length F.states)) IsJoin gs q) (map-id found) here in
       IsGenerated-has (λ r. r ≡ zero_of (length F.states)) IsJoin (IsReached F) found q
       (λ r is. subst (IsReached F) (sym is) (reached_zero F all_count))
@@ -51,28 +45,28 @@ module _ (F : KissFile) (n : ℕ) (size : n ≡ length F.states) (count : IsStat
       (are_reached F found rights)
       plain
 
-  from : HaveRights F (length F.states) found → HaveJoinsOf n found → (q : List ℕ) → IsRightSide F q → IsMadeOf n found q
+  from : HaveRights F (length F.states) found → HaveJoinsOf n found → (q : List ℕ) → IsRightSide F q → IsJoinOfSome n found q
   from have joins q is =
       let plain = subst (λ (gs : List (List ℕ)). HaveJoins (λ r. r ≡ zero_of (length F.states)) IsJoin gs) (map-id found) (subst (λ (k : ℕ). HaveJoinsOf k found) size joins) in
       let made = right_generated F found have plain q is in
-      subst (λ (k : ℕ). IsMadeOf k found q) (sym size) (subst (λ (gs : List (List ℕ)). IsGenerated (λ r. r ≡ zero_of (length F.states)) IsJoin gs q) (sym (map-id found)) made)
+      subst (λ (k : ℕ). IsJoinOfSome k found q) (sym size) (subst (λ (gs : List (List ℕ)). IsGenerated (λ r. r ≡ zero_of (length F.states)) IsJoin gs q) (sym (map-id found)) made)
 
-  pub listed : HaveRights F (length F.states) found → (items : List (List ℕ)) → Lists Before (IsMadeOf n found) (map (λ q. q) items) → HaveJoinsOf n found → ListsRights F items
+  pub listed : HaveRights F (length F.states) found → (items : List (List ℕ)) → Lists Before (IsJoinOfSome n found) (map (λ q. q) items) → HaveJoinsOf n found → ListsRights F items
   listed have items lists joins =
-      let plain = subst (λ (xs : List (List ℕ)). Lists Before (IsMadeOf n found) xs) (map-id items) lists in
+      let plain = subst (λ (xs : List (List ℕ)). Lists Before (IsJoinOfSome n found) xs) (map-id items) lists in
       record {
         ascending = plain.ascending;
         reached = λ k d within. to (get_or items k d) (plain.members k d within);
         complete = λ q is. plain.complete q (from have joins q is);
       }
 
-  pub evident : (limit : ℕ) (items : List (List ℕ)) → Evidence Before (IsMadeOf n found) limit (map (λ q. q) items) → Evidence Before (IsReached F) limit items
+  pub evident : (limit : ℕ) (items : List (List ℕ)) → Evidence Before (IsJoinOfSome n found) limit (map (λ q. q) items) → Evidence Before (IsReached F) limit items
   evident limit items evidence =
       subst (λ (xs : List (List ℕ)). Evidence Before (IsReached F) limit xs) (map-id items)
-      (evidence_as Before (IsMadeOf n found) (IsReached F) limit (map (λ q. q) items) to evidence)
+      (evidence_as Before (IsJoinOfSome n found) (IsReached F) limit (map (λ q. q) items) to evidence)
 
-  pub unevident : HaveRights F (length F.states) found → (limit : ℕ) → ((values : List (List ℕ)) → Evidence Before (IsMadeOf n found) limit values → ⊥) → HaveJoinsOf n found → (values : List (List ℕ)) → Evidence Before (IsRightSide F) limit values → ⊥
-  unevident have limit none joins values evidence = none values (evidence_as Before (IsRightSide F) (IsMadeOf n found) limit values (from have joins) evidence)
+  pub unevident : HaveRights F (length F.states) found → (limit : ℕ) → ((values : List (List ℕ)) → Evidence Before (IsJoinOfSome n found) limit values → ⊥) → HaveJoinsOf n found → (values : List (List ℕ)) → Evidence Before (IsRightSide F) limit values → ⊥
+  unevident have limit none joins values evidence = none values (evidence_as Before (IsRightSide F) (IsJoinOfSome n found) limit values (from have joins) evidence)
 
 -- M is put beside one more partition
 pub lefts_more : (F : KissFile) (rights : List (List ℕ)) (items : List MmPair) (right : List ℕ) (pair : MmPair) → HaveLefts F rights (map sides_of items) → pair.right ≡ right → IsHigh F right pair.left → HaveLefts F (rights ++ right ∷ []) (map sides_of (items ++ pair ∷ []))

@@ -20,7 +20,7 @@ use Rattle.net_core.specs.Step.{character_holds, row_holds}
 use Rattle.net_core.specs.declared.gate_order.NumberedGate.{NumberedGate}
 use Rattle.net_sim.specs.declared.forms.GateForm.{GateForm}
 use Rattle.net_sim.specs.Inner.GateValues.{bits_at, value_at, value_for}
-use Rattle.net_sim.specs.Inner.Forms.{AreForms, IsCubes, IsForm, IsTable}
+use Rattle.net_sim.specs.Inner.Forms.{AreForms, IsCubes, IsForm, IsValueTable}
 use Rattle.net_sim.proofs.Known.{zip_get}
 use Rattle.net_sim.proofs.Rows.{row_holds_other}
 
@@ -47,7 +47,7 @@ bits_of_number gate signals number at =
     (ap (symbol_of (length gate.inputs.items)) at
     ∙ (ap (λ (n : ℕ). symbol_of n (number_of held)) (sym (count_bits signals gate.inputs.items)) ∙ symbol_of-number_of held))
 
-module _ (gate : NumberedGate) (table signals : List Bool) (is : IsTable gate table) (number : ℕ) (at : number ≡ number_of (bits_at signals gate.inputs.items)) where
+module _ (gate : NumberedGate) (table signals : List Bool) (is : IsValueTable gate table) (number : ℕ) (at : number ≡ number_of (bits_at signals gate.inputs.items)) where
   pub place_within : number < length table
   place_within = subst (λ (n : ℕ). number < n) (sym is.whole) (number_within gate signals number at)
 

@@ -4,7 +4,7 @@ ghost use Rattle.std.specs.Prelude.{◌≡◌, ◌<◌, ◌≤◌, ◌^◌, ◌|
 ghost use Rattle.std.specs.List.{list_any};
 ghost use Rattle.cubes.specs.Cube.{holds};
 ghost use Rattle.net_core.specs.Step.{row_holds};
-ghost use Rattle.net_sim.specs.Inner.Forms.{AreForms, HasValues, IsCubes, IsForm, IsSmall, IsTable};
+ghost use Rattle.net_sim.specs.Inner.Forms.{AreForms, HasValues, IsCubes, IsForm, IsSmall, IsValueTable};
 
 use crate::gate_values::value_of_cubes;
 use crate::pieces::{Pieces, wide_rows};
@@ -123,7 +123,7 @@ fn push_row(cubes: &mut Items<Cube>, row: &[u8], width: u8) -> Result<(), AllocE
 fn table_of(alloc: Global, gate: &NumberedGate, cubes: &[Cube]) -> Result<Items<bool>, AllocError>
     requires few { length gate.now.inputs.items ≤ 12 }
     requires cubes { IsCubes gate.now cubes.now }
-    ensures { IfOk result (IsTable gate.now) }
+    ensures { IfOk result (IsValueTable gate.now) }
 {
     let mut table = Items::new(alloc);
     for number in 0..1 << gate.inputs.len() {

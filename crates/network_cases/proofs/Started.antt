@@ -14,7 +14,7 @@ use Rattle.blif_out.specs.Worked.{clocked_design, named_design, started_network}
 use Rattle.blif_out.specs.Writable.{IsSignalName, IsWritable}
 use Rattle.blif_out.proofs.Denoting.{net_denotes}
 use Rattle.blif_out.proofs.WorkedTexts.{can_be_clock}
-use Rattle.blif_out.proofs.Words.{is_name_byte, name_word}
+use Rattle.blif_out.specs.Laws.Words.{is_name_byte, name_word}
 use Rattle.net_core.specs.declared.Network.{Network}
 use Rattle.net_core.specs.Blif.{Blif}
 use Rattle.net_core.specs.Laws.Determined.{denotes_one}

@@ -10,13 +10,14 @@ use Rattle.pair_operators.specs.Consistency.{Consistent}
 use Rattle.partition.specs.Partition.{IsStateCount, Le, Together}
 use Rattle.partition.specs.MeetAndJoin.{IsJoin, Leads}
 use Rattle.partition.specs.Laws.Extremes.{zero_of_is_zero}
+use Rattle.partition.specs.Laws.Generating.{IsZeroOf}
 use Rattle.closed_lattice.specs.ClosedPartitions.{HasPrincipal, IsPrincipalWithin}
-use Rattle.closed_lattice.specs.Laws.Generating.{IsMade, IsZeroOf, join_closed, made_by_pairs, zero_closed}
+use Rattle.closed_lattice.specs.Laws.Generating.{IsMade, join_closed, made_by_pairs, zero_closed}
 use Rattle.state_reduce.specs.AlikeStates.{IsEquivalence, IsWord}
 use Rattle.state_reduce.specs.Laws.Unrefused.{alike_closed, alike_consistent}
 use Rattle.output_consistent.specs.Outputs.{IsClosedAndConsistent}
 
-zero_consistent : (F : KissFile) (p : List ℕ) → IsZeroOf F p → Consistent F p
+zero_consistent : (F : KissFile) (p : List ℕ) → IsZeroOf (length F.states) p → Consistent F p
 zero_consistent F p is s t x held size =
     ap (λ (u : ℕ). out F u x) (zero_of_is_zero (length F.states) s t (subst (λ (q : List ℕ). Together q s t) is held))
 
@@ -34,7 +35,7 @@ join_consistent F p q r left right is s t x held size =
 -- joins of closed and consistent partitions are closed and consistent
 pub made_consistent : (F : KissFile) (generators : List (List ℕ)) (p : List ℕ) → NeverLeaves F → IsStateCount (length F.states) → All (IsClosedAndConsistent F) generators → IsMade F generators p → IsClosedAndConsistent F p
 made_consistent F generators p inside count all made =
-    IsGenerated-has (IsZeroOf F) IsJoin (IsClosedAndConsistent F) generators p
+    IsGenerated-has (IsZeroOf (length F.states)) IsJoin (IsClosedAndConsistent F) generators p
     (λ q is. (zero_closed F q inside count is, zero_consistent F q is))
     (λ a b c left right joined. (join_closed F a b c left.0 right.0 joined, join_consistent F a b c left.1 right.1 joined)) all made
 
@@ -62,6 +63,6 @@ principals_consistent F alike found inside equivalence members k d within =
 
 -- and each such partition is a join of least closed partitions of pairs of alike states
 pub consistent_made : (F : KissFile) (alike : List ℕ) (generators : List (List ℕ)) → IsEquivalence F alike → IsStateCount (length F.states)
-    → ((s t : ℕ) → s < t → Together alike s t → HasPrincipal F generators s t) → HaveJoins (IsZeroOf F) IsJoin generators → (p : List ℕ) → IsClosedAndConsistent F p → IsMade F generators p
+    → ((s t : ℕ) → s < t → Together alike s t → HasPrincipal F generators s t) → HaveJoins (IsZeroOf (length F.states)) IsJoin generators → (p : List ℕ) → IsClosedAndConsistent F p → IsMade F generators p
 consistent_made F alike generators equivalence count each joins p is =
     made_by_pairs F generators p is.0 (λ s t order below held. each s t order (below_alike F alike p equivalence is s t held)) count joins

@@ -37,7 +37,7 @@ use Rattle.part_texts.specs.Laws.OneSplit.{set_once}
 use Rattle.part_laws.specs.OneMachine.{MachineIsOne}
 use Rattle.part_laws.proofs.Specified.{specified_work}
 use Rattle.part_laws.proofs.Lists.{zip_once}
-use Rattle.decomposition.proofs.Lists.{same_ascending, same_items}
+use Rattle.decomposition.specs.Laws.Lists.{same_ascending, same_items}
 
 -- ---- one field
 module _ (Shown : List Bool → Type 0) (v : List Bool) (one other : List (Option Bool)) (first : IsFieldOf Shown v one) (second : IsFieldOf Shown v other) where

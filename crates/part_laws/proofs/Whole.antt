@@ -1,6 +1,6 @@
 -- The machines of a split answer as the machine of the file.
 use Rattle.std.proofs.Common.{◌≡◌, ◌∙◌, ℕ, Bool, true, false, List, map, sym, ap, subst}
-use Rattle.decomposition.proofs.Carrying.{work_lawful}
+use Rattle.decomposition.specs.Laws.Carrying.{work_lawful}
 use Rattle.kiss_file.specs.declared.file.KissFile.{KissFile}
 use Rattle.kiss_file.specs.LawfulFile.{IsLawful}
 use Rattle.kiss_file.specs.Machine.{Conflicting, answers}

@@ -33,7 +33,7 @@ use Rattle.part_machines.specs.MachineLaws.{IsSplitOf}
 use Rattle.part_machines.specs.PartRows.{ArePartRows, characters_at, given_outputs, next_block, output_count}
 use Rattle.part_machines.specs.PartSet.{IsPartSet}
 use Rattle.part_machines.specs.Which.{own_bits, partition_of}
-use Rattle.part_machines.proofs.Blocks.{next_together, output_same}
+use Rattle.part_machines.specs.Laws.Blocks.{next_together, output_same}
 use Rattle.part_machines.proofs.MadeRows.{IsMade, row_is_made}
 use Rattle.part_machines.proofs.Narrowed.{split_held, symbol_from}
 

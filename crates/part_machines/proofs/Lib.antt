@@ -12,7 +12,6 @@ pub mod Numbering
 pub mod PartInputs
 pub mod Whole
 pub mod LawfulMachine
-pub mod Blocks
 pub mod Narrowed
 pub mod MadeRows
 pub mod Conflicts

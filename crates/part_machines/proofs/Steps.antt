@@ -22,7 +22,7 @@ use Rattle.part_machines.specs.PartMachine.{FollowsSteps, IsOfMoore, outputs_at}
 use Rattle.part_machines.specs.PartRows.{ArePartRows, output_count}
 use Rattle.part_machines.specs.PartSet.{IsPartSet}
 use Rattle.part_machines.specs.Which.{own_bits, partition_of}
-use Rattle.part_machines.proofs.Blocks.{next_together, output_same, own_agree}
+use Rattle.part_machines.specs.Laws.Blocks.{next_together, output_same, own_agree}
 use Rattle.part_machines.proofs.Conflicts.{given_same, right_next, right_output, target, target_of}
 use Rattle.part_machines.proofs.Reached.{IsReached, IsStep, step}
 use Rattle.part_machines.proofs.Specified.{decided, own_given, reached_at}

@@ -1,3 +1,4 @@
 -- What follows from the definitions.
 pub mod Fields
 pub mod Cells
+pub mod Blocks

@@ -4,9 +4,9 @@ use Rattle.std.specs.declared.alloc.AllocError.{AllocError}
 use Rattle.std.proofs.lemmas.List.{length-map}
 use Rattle.std.proofs.lemmas.List.Elements.{All-from_recursion}
 use Rattle.answers.specs.Cause.{CallsForNone}
-use Rattle.blif_out.proofs.Words.{name_word}
-use Rattle.decomposition.proofs.Carrying.{IsImage, image_of, work_lawful}
-use Rattle.decomposition.proofs.Writable.{AreSignalNames, file_names}
+use Rattle.blif_out.specs.Laws.Words.{name_word}
+use Rattle.decomposition.specs.Laws.Carrying.{IsImage, image_of, work_lawful}
+use Rattle.decomposition.specs.Laws.Writable.{AreSignalNames, file_names}
 use Rattle.dependence.specs.declared.sets.ReadSet.{ReadSet}
 use Rattle.hs_io.specs.Spelling.{IsFieldByte}
 use Rattle.kiss_file.specs.declared.file.KissFile.{KissFile}
@@ -19,7 +19,7 @@ use Rattle.part_machines.specs.MachineLaws.{HasLawfulNames, HasSizes, IsSplitOf,
 use Rattle.part_machines.specs.PartMachine.{output_names, state_names}
 use Rattle.part_machines.specs.PartRows.{ArePartRows, output_count}
 use Rattle.part_machines.specs.Which.{own_bits, outputs_name, partition_of}
-use Rattle.part_machines.proofs.Blocks.{part_of}
+use Rattle.part_machines.specs.Laws.Blocks.{part_of}
 use Rattle.part_machines.proofs.PartInputs.{inputs_within, latches_within, some_read}
 use Rattle.partition.specs.Partition.{IsPartition}
 use Rattle.realise.specs.CodeNetwork.{AreCounted}

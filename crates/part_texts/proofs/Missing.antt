@@ -11,7 +11,7 @@ use Rattle.dependence.specs.declared.sets.Reads.{Reads}
 use Rattle.list_facts.specs.Laws.Members.{Contains-here}
 use Rattle.part_machines.specs.PartSet.{IsPartSet}
 use Rattle.part_machines.specs.Which.{own_bits}
-use Rattle.part_machines.proofs.Blocks.{own_bit, own_from}
+use Rattle.part_machines.specs.Laws.Blocks.{own_bit, own_from}
 use Rattle.state_codes.specs.declared.Codes.{Codes}
 use Rattle.state_codes.specs.declared.split.Part.{Part}
 use Rattle.state_codes.specs.declared.which.Which.{Which}

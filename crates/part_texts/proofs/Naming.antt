@@ -15,7 +15,7 @@ use Rattle.answers.specs.declared.refusals.PartFlaw.TheVariants.{LongName}
 use Rattle.answers.specs.declared.refusals.Refusal.TheVariants.{NoPart}
 use Rattle.answers.specs.Cause.{CallsForNone}
 use Rattle.blif_out.specs.Writable.{IsSignalName}
-use Rattle.decomposition.proofs.Writable.{AreSignalNames}
+use Rattle.decomposition.specs.Laws.Writable.{AreSignalNames}
 use Rattle.dependence.specs.declared.sets.ReadSet.{ReadSet}
 use Rattle.dependence.specs.declared.sets.Reads.{Reads}
 use Rattle.hs_io.specs.Spelling.{IsFieldByte}
@@ -28,7 +28,7 @@ use Rattle.net_core.specs.Laws.Members.{is_same_name, times, times-append, times
 use Rattle.part_machines.specs.PartMachine.{input_names, output_names}
 use Rattle.part_machines.specs.PartSet.{IsPartSet}
 use Rattle.part_machines.specs.Which.{own_bits}
-use Rattle.part_machines.proofs.Blocks.{own_bit}
+use Rattle.part_machines.specs.Laws.Blocks.{own_bit}
 use Rattle.realise.specs.CodeNetwork.{name_at}
 use Rattle.realise.specs.Laws.{ArePairwiseDistinct}
 use Rattle.state_codes.specs.declared.Codes.{Codes}

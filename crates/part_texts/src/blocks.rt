@@ -8,7 +8,7 @@ ghost use Rattle.state_codes.specs.declared.Codes.{Codes};
 ghost use Rattle.state_codes.specs.Split.{IsPart};
 ghost use Rattle.state_reduce.specs.Work.{IsWork};
 
-use kiss_file::{KissFile, StateNames};
+use kiss_file::StateNames;
 use machine_table::Machine;
 use partition::Partition;
 use state_codes::{Part, Which};
@@ -36,17 +36,16 @@ pub(crate) fn partition_of(
 /// The names of the states of the machine of the part.
 pub(crate) fn state_names(
     alloc: Global,
-    file: &KissFile,
     work: &WorkMachine,
     p: &Partition,
     which: Which,
 ) -> Result<StateNames, AllocError>
-    requires work { (reduce : Bool) × IsWork reduce file.now work.now }
+    requires work { (reduce : Bool) × IsWork reduce work.now.file.now work.now }
     requires size { length p.now ≡ length work.now.machine.states }
     ensures { IfOk result (λ names. names ≡ machines.state_names work.now.machine p.now which) }
 {
     match which {
-        Which::Part(_) => block_names(alloc, file, work, p),
+        Which::Part(_) => block_names(alloc, work, p),
         Which::Outputs => one_name(alloc),
     }
 }
@@ -61,13 +60,8 @@ fn one_name(alloc: Global) -> Result<StateNames, AllocError>
 }
 
 /// The names of the blocks, each of which has that of its least state.
-fn block_names(
-    alloc: Global,
-    file: &KissFile,
-    work: &WorkMachine,
-    p: &Partition,
-) -> Result<StateNames, AllocError>
-    requires work { (reduce : Bool) × IsWork reduce file.now work.now }
+fn block_names(alloc: Global, work: &WorkMachine, p: &Partition) -> Result<StateNames, AllocError>
+    requires work { (reduce : Bool) × IsWork reduce work.now.file.now work.now }
     requires size { length p.now ≡ length work.now.machine.states }
     ensures { IfOk result (λ names. names ≡ names_of_blocks work.now.machine.states p.now) }
 {
@@ -75,7 +69,7 @@ fn block_names(
     let mut names = StateNames::new(alloc);
     for s in 0..p.len() {
         if usize::from(p.label(s)) == names.count() {
-            names.add(state_name(file, work, s))?;
+            names.add(state_name(work, s))?;
         }
     }
     Ok(names)

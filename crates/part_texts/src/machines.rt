@@ -57,66 +57,64 @@ pub fn part(
         (λ written. IsPartText kind text.now which reduce file.now written.items) result }
 {
     let work = work_machine(alloc, file, machine, fill, reduce)?;
-    part_of_work(alloc, kind, text, which, file, &work)
+    part_of_work(alloc, kind, text, which, &work)
 }
 
-/// The same of a machine that `work_machine` gives for the file.
+/// The text of the machine of a part, or of the outputs, where the machine that is split is one that `work_machine`
+/// gives.
 fn part_of_work(
     alloc: Global,
     kind: Kind,
     text: &[u8],
     which: Which,
-    file: &KissFile,
     work: &WorkMachine,
 ) -> Result<Vec<u8>, Refusal>
     requires few { kind ≡ kinds.Assign → HasFewParts text.now }
-    requires lawful { IsLawful file.now }
-    requires no_conflict { Conflicting file.now → ⊥ }
-    requires work { (reduce : Bool) × IsWork reduce file.now work.now }
-    ensures { (reduce : Bool) → IsWork reduce file.now work.now
-        → IsJudged (HasNoPart kind text.now which reduce file.now)
-        (λ written. IsPartText kind text.now which reduce file.now written.items) result }
+    requires lawful { IsLawful work.now.file.now }
+    requires no_conflict { Conflicting work.now.file.now → ⊥ }
+    requires work { (reduce : Bool) × IsWork reduce work.now.file.now work.now }
+    ensures { (reduce : Bool) → IsWork reduce work.now.file.now work.now
+        → IsJudged (HasNoPart kind text.now which reduce work.now.file.now)
+        (λ written. IsPartText kind text.now which reduce work.now.file.now written.items) result }
 {
-    let made = split_machine(alloc, kind, text, file, work)?;
-    text_of_part(alloc, file, work, &made, which)
+    let made = split_machine(alloc, kind, text, work)?;
+    text_of_part(alloc, work, &made, which)
 }
 
 /// The text of the machine of a part of the split.
 fn text_of_part(
     alloc: Global,
-    file: &KissFile,
     work: &WorkMachine,
     made: &SplitMachine,
     which: Which,
 ) -> Result<Vec<u8>, Refusal>
-    requires lawful { IsLawful file.now }
-    requires no_conflict { Conflicting file.now → ⊥ }
-    requires work { (reduce : Bool) × IsWork reduce file.now work.now }
-    requires made { IsSplitHere file.now work.now.machine made.now }
+    requires lawful { IsLawful work.now.file.now }
+    requires no_conflict { Conflicting work.now.file.now → ⊥ }
+    requires work { (reduce : Bool) × IsWork reduce work.now.file.now work.now }
+    requires made { IsSplitHere work.now.file.now work.now.machine made.now }
     ensures { IsJudged (HasNoMachine which made.now.split.parts made.now.codes made.now.reads made.now.names)
         (λ text. IsTextOf work.now.machine made.now which text.items) result }
 {
     work.machine.keeps_its_states();
     let set = set_of_part(alloc, made, which)?;
     let names = names_of_part(alloc, made, &set, which)?;
-    let machine = machine_of_part(alloc, file, work, made, &set, which, names)?;
+    let machine = machine_of_part(alloc, work, made, &set, which, names)?;
     Ok(write(alloc, &machine)?)
 }
 
 /// The machine of the part that reads the set, with these names of its inputs and outputs.
 fn machine_of_part(
     alloc: Global,
-    file: &KissFile,
     work: &WorkMachine,
     made: &SplitMachine,
     set: &ReadSet,
     which: Which,
     names: PartNames,
 ) -> Result<KissFile, AllocError>
-    requires lawful { IsLawful file.now }
-    requires no_conflict { Conflicting file.now → ⊥ }
-    requires work { (reduce : Bool) × IsWork reduce file.now work.now }
-    requires made { IsSplitHere file.now work.now.machine made.now }
+    requires lawful { IsLawful work.now.file.now }
+    requires no_conflict { Conflicting work.now.file.now → ⊥ }
+    requires work { (reduce : Bool) × IsWork reduce work.now.file.now work.now }
+    requires made { IsSplitHere work.now.file.now work.now.machine made.now }
     requires set { IsSmallSet made.now.split.parts made.now.codes made.now.reads which set.now }
     requires names { ArePartNames made.now set.now which names }
     requires short { CallsForNone (IsFirstLong which (all_names made.now set.now which)) }
@@ -125,30 +123,29 @@ fn machine_of_part(
     rows_make_the_part();
     parts_are_lawful();
     work.machine.keeps_its_states();
-    machine_of_pieces(alloc, file, work, made, set, which, names)
+    machine_of_pieces(alloc, work, made, set, which, names)
 }
 
 /// The record of the names, the blocks and the rows of the part.
 fn machine_of_pieces(
     alloc: Global,
-    file: &KissFile,
     work: &WorkMachine,
     made: &SplitMachine,
     set: &ReadSet,
     which: Which,
     names: PartNames,
 ) -> Result<KissFile, AllocError>
-    requires lawful { IsLawful file.now }
-    requires no_conflict { Conflicting file.now → ⊥ }
-    requires work { (reduce : Bool) × IsWork reduce file.now work.now }
-    requires made { IsSplitHere file.now work.now.machine made.now }
+    requires lawful { IsLawful work.now.file.now }
+    requires no_conflict { Conflicting work.now.file.now → ⊥ }
+    requires work { (reduce : Bool) × IsWork reduce work.now.file.now work.now }
+    requires made { IsSplitHere work.now.file.now work.now.machine made.now }
     requires set { IsSmallSet made.now.split.parts made.now.codes made.now.reads which set.now }
     requires names { ArePartNames made.now set.now which names }
     ensures { IfOk result (IsMadeOf work.now.machine made.now set.now which) }
 {
     work.machine.keeps_its_states();
     let p = partition_of(alloc, &work.machine, made.split.parts.as_slice(), which)?;
-    let states = state_names(alloc, file, work, &p, which)?;
+    let states = state_names(alloc, work, &p, which)?;
     let rows = rows_of_part(alloc, &work.machine, &made.codes, &p, set, which)?;
     Ok(KissFile {
         inputs: (set.inputs.as_slice().len() + set.latches.as_slice().len()) as u8,

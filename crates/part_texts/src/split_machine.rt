@@ -16,7 +16,6 @@ ghost use Rattle.state_reduce.specs.Work.{IsWork};
 use answers::Refusal;
 use decomposition::reads_are_enough;
 use dependence::{Reads, reads};
-use kiss_file::KissFile;
 use net_core::SignalNames;
 use realise::names;
 use split_texts::{codes_of, plan};
@@ -33,46 +32,44 @@ pub(crate) struct SplitMachine {
     pub names: SignalNames,
 }
 
-/// The split of a machine that `work_machine` gives for the file.
+/// The split of a machine that `work_machine` gives.
 pub(crate) fn split_machine(
     alloc: Global,
     kind: Kind,
     text: &[u8],
-    file: &KissFile,
     work: &WorkMachine,
 ) -> Result<SplitMachine, Refusal>
     requires few { kind ≡ kinds.Assign → HasFewParts text.now }
-    requires lawful { IsLawful file.now }
-    requires no_conflict { Conflicting file.now → ⊥ }
-    requires work { (reduce : Bool) × IsWork reduce file.now work.now }
-    ensures here { IfOk result (IsSplitHere file.now work.now.machine) }
-    ensures judged { (reduce : Bool) → IsWork reduce file.now work.now
-        → IsJudged (IsNotWritten kind text.now reduce file.now)
-        (λ made. IsSplitMachine kind text.now reduce file.now work.now.machine made.split.parts made.codes made.reads made.names)
-        result }
+    requires lawful { IsLawful work.now.file.now }
+    requires no_conflict { Conflicting work.now.file.now → ⊥ }
+    requires work { (reduce : Bool) × IsWork reduce work.now.file.now work.now }
+    ensures here { IfOk result (IsSplitHere work.now.file.now work.now.machine) }
+    ensures judged { (reduce : Bool) → IsWork reduce work.now.file.now work.now
+        → IsJudged (IsNotWritten kind text.now reduce work.now.file.now)
+        (λ made. IsSplitMachine kind text.now reduce work.now.file.now work.now.machine
+        made.split.parts made.codes made.reads made.names) result }
 {
     let split = plan(alloc, kind, text, &work.machine)?;
-    let codes = codes_of(alloc, file, work, &split)?;
-    Ok(with_reads(alloc, file, work, split, codes)?)
+    let codes = codes_of(alloc, work, &split)?;
+    Ok(with_reads(alloc, work, split, codes)?)
 }
 
 /// A split with its codes, what the gates read, and the names of the signals.
 fn with_reads(
     alloc: Global,
-    file: &KissFile,
     work: &WorkMachine,
     split: Split,
     codes: Codes,
 ) -> Result<SplitMachine, AllocError>
-    requires lawful { IsLawful file.now }
+    requires lawful { IsLawful work.now.file.now }
     requires planned { (text : List ℕ) × IsPlanned split.kind text work.now.machine split }
     requires codes { AreCodes (length work.now.machine.states) split.parts codes }
-    ensures { IfOk result (IsReadSplit file.now work.now.machine split codes) }
+    ensures { IfOk result (IsReadSplit work.now.file.now work.now.machine split codes) }
 {
     reads_are_enough();
     work.machine.keeps_its_states();
     let reads = reads(alloc, &work.machine, &split, &codes)?;
-    let names = names(alloc, file, codes.bits)?;
+    let names = names(alloc, work.file, codes.bits)?;
     Ok(SplitMachine {
         split,
         codes,

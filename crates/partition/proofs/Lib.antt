@@ -1,4 +1,3 @@
-pub mod FirstAppearance
 pub mod Comparing
 pub mod Pairs
 pub mod Merging

@@ -18,3 +18,4 @@ pub mod Faults
 pub mod Outcomes
 pub mod Partners
 pub mod Generating
+pub mod FirstAppearance

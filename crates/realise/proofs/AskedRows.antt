@@ -16,9 +16,9 @@ use Rattle.dependence.specs.RowBits.{row_value}
 use Rattle.dependence.specs.Laws.Said.{mapped, part_counted, part_of, row_gives, says_value}
 use Rattle.gate_rows.specs.declared.demands.Demand.{Demand}
 use Rattle.gate_rows.specs.Columns.{IsReadIn}
-use Rattle.gate_rows.specs.Covers.{IsGoodCover}
-use Rattle.gate_rows.specs.Demands.{AreApart, CanBeRead, IsAsked, demand_at}
-use Rattle.gate_rows.proofs.TermCovers.{same_cover}
+use Rattle.gate_rows.specs.GateCovers.{IsGoodCover}
+use Rattle.gate_rows.specs.Demands.{NeverContradict, CanBeRead, IsAsked, demand_at}
+use Rattle.gate_rows.specs.Laws.TermCovers.{same_cover}
 use Rattle.kiss_file.specs.declared.file.KissFile.{KissFile}
 use Rattle.kiss_file.specs.declared.file.KissRow.{KissRow}
 use Rattle.realise.specs.CodeNetwork.{IsEnough, IsWithin}
@@ -120,7 +120,7 @@ module _ (F : KissFile) (words : List ℕ) (bits : ℕ) (set : ReadSet) (bit : B
     width = omega (arith, width_small F.inputs bits set few short within);
   }
 
-  are_apart : IsEnough F words (value_of F words bit) set → AreApart set.inputs set.latches demands
+  are_apart : IsEnough F words (value_of F words bit) set → NeverContradict set.inputs set.latches demands
   are_apart enough read is_on is_off =
       let one = from_asked true read is_on in
       let none = from_asked false read is_off in
@@ -135,11 +135,11 @@ module _ (F : KissFile) (words : List ℕ) (bits : ℕ) (set : ReadSet) (bit : B
         (subst (λ (list : List ℕ). CanBeRead set.inputs list shown) (sym same_latches)
         (subst (CanBeRead set.inputs set.latches) (sym is_shown) (can_be_read few short)))
 
-    pub are_apart_at : IsEnough F words (value_of F words bit) set → AreApart inputs latches shown
+    pub are_apart_at : IsEnough F words (value_of F words bit) set → NeverContradict inputs latches shown
     are_apart_at enough =
-        subst (λ (list : List ℕ). AreApart list latches shown) (sym same_inputs)
-        (subst (λ (list : List ℕ). AreApart set.inputs list shown) (sym same_latches)
-        (subst (AreApart set.inputs set.latches) (sym is_shown) (are_apart enough)))
+        subst (λ (list : List ℕ). NeverContradict list latches shown) (sym same_inputs)
+        (subst (λ (list : List ℕ). NeverContradict set.inputs list shown) (sym same_latches)
+        (subst (NeverContradict set.inputs set.latches) (sym is_shown) (are_apart enough)))
 
     -- a good cover of what is asked for is one of what the gate gives
     pub gives_cover_at : (rows : List (List ℕ)) → IsGoodCover (IsAsked inputs latches true shown) (IsAsked inputs latches false shown) rows

@@ -10,9 +10,9 @@ use Rattle.dependence.specs.declared.sets.ReadSet.{ReadSet}
 use Rattle.dependence.specs.declared.sets.Reads.{Reads}
 use Rattle.dependence.specs.Bit.{value_of}
 use Rattle.dependence.specs.SufficientBits.{next_value, output_value}
-use Rattle.gate_rows.specs.Covers.{IsGoodCover}
+use Rattle.gate_rows.specs.GateCovers.{IsGoodCover}
 use Rattle.gate_rows.specs.Latches.{AreLatches}
-use Rattle.gate_rows.proofs.LatchNames.{listed_count}
+use Rattle.gate_rows.specs.Laws.LatchNames.{listed_count}
 use Rattle.kiss_file.specs.declared.file.KissFile.{KissFile}
 use Rattle.net_core.specs.declared.Gate.{Gate}
 use Rattle.net_core.specs.declared.Network.{Network}

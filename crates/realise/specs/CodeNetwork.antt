@@ -7,7 +7,7 @@ use Rattle.dependence.specs.declared.sets.ReadSet.{ReadSet}
 use Rattle.dependence.specs.declared.sets.Reads.{Reads}
 use Rattle.dependence.specs.SufficientBits.{PermitsValue, next_value, output_value}
 use Rattle.dependence.specs.Inputs.{Matters}
-use Rattle.gate_rows.specs.Covers.{IsGoodCover}
+use Rattle.gate_rows.specs.GateCovers.{IsGoodCover}
 pub use Rattle.gate_rows.specs.Names.{name_at}
 use Rattle.kiss_file.specs.declared.file.KissFile.{KissFile}
 use Rattle.net_core.specs.declared.Gate.{Gate}

@@ -7,7 +7,7 @@ ghost use Rattle.std.specs.List.Sorted.{IsSorted};
 ghost use Rattle.std.specs.Ordering.{nat_cmp};
 ghost use Rattle.dependence.specs.Bit.{IsBit, value_of};
 ghost use Rattle.dependence.specs.Effects.{HasPlace};
-ghost use Rattle.gate_rows.specs.Covers.{IsGoodCover};
+ghost use Rattle.gate_rows.specs.GateCovers.{IsGoodCover};
 ghost use Rattle.realise.specs.CodeNetwork.{IsEnough, IsWithin};
 ghost use Rattle.realise.specs.Rows.{GivesAt};
 ghost use Rattle.realise.specs.Inner.Lists.{asked_by, width_of};

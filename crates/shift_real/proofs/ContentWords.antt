@@ -7,8 +7,8 @@ use Rattle.std.proofs.lemmas.List.FromFn.{length-map-range_with_len}
 use Rattle.std.proofs.lemmas.Nat.Bits.{same_from_bits_below}
 use Rattle.cubes.specs.Symbol.{bit, lowest_bits}
 use Rattle.cubes.specs.Laws.Bits.{same_digits}
-use Rattle.gate_rows.proofs.ReadNumbers.{code_at}
-use Rattle.gate_rows.proofs.RowTexts.{number_for}
+use Rattle.gate_rows.specs.Laws.ReadNumbers.{code_at}
+use Rattle.gate_rows.specs.Laws.RowTexts.{number_for}
 use Rattle.kiss_file.specs.declared.file.KissFile.{KissFile}
 use Rattle.shift_real.specs.Inner.Tables.{content_of, state_at, word_of}
 use Rattle.shift_real.specs.Register.{latch_values, state_after}

@@ -21,12 +21,12 @@ use Rattle.dependence.specs.Inputs.{DifferAlone}
 use Rattle.dependence.specs.SufficientBits.{InWord}
 use Rattle.gate_rows.specs.declared.demands.Demand.{Demand}
 use Rattle.gate_rows.specs.Columns.{column_count, column_values, input_of}
-use Rattle.gate_rows.specs.Covers.{IsGoodCover}
-use Rattle.gate_rows.specs.Demands.{AreApart, CanBeRead, IsAsked}
+use Rattle.gate_rows.specs.GateCovers.{IsGoodCover}
+use Rattle.gate_rows.specs.Demands.{NeverContradict, CanBeRead, IsAsked}
 use Rattle.gate_rows.specs.Names.{name_at}
-use Rattle.gate_rows.proofs.LatchNames.{listed_count}
-use Rattle.gate_rows.proofs.ReadNumbers.{code_at}
-use Rattle.gate_rows.proofs.TermCovers.{same_cover}
+use Rattle.gate_rows.specs.Laws.LatchNames.{listed_count}
+use Rattle.gate_rows.specs.Laws.ReadNumbers.{code_at}
+use Rattle.gate_rows.specs.Laws.TermCovers.{same_cover}
 use Rattle.kiss_file.specs.declared.file.KissFile.{KissFile}
 use Rattle.net_core.specs.declared.Gate.{Gate}
 use Rattle.net_core.specs.declared.SignalNames.{SignalNames}
@@ -210,7 +210,7 @@ module _ (F : KissFile) (k b : ℕ) (table firsts classes : List ℕ) (mask inpu
           );
         }
 
-    pub are_apart : AreApart set.inputs set.latches demands
+    pub are_apart : NeverContradict set.inputs set.latches demands
     are_apart read one none = gives_one F k b set reads read (from_demand true read one) (from_demand false read none)
 
     pub gives_cover : (rows : List (List ℕ)) → IsGoodCover (IsAsked set.inputs set.latches true demands) (IsAsked set.inputs set.latches false demands) rows → IsGoodCover (GivesAfter F k b set true) (GivesAfter F k b set false) rows
@@ -249,10 +249,10 @@ module _ (F : KissFile) (k b : ℕ) (table : List ℕ) (reading : OutputReading)
         (subst (λ (list : List ℕ). CanBeRead list reading.set.latches shown) (sym same_inputs)
         (can_be_read F k b table basis.firsts reading.classes.items reading.mask basis.inputs reading.set is basis.are basis.mapped short few of_output basis.latch_bits basis.input_bits basis.listed_latches basis.listed_inputs shown known_here))
 
-    pub are_apart_at : (inputs latches : List ℕ) → inputs ≡ reading.set.inputs → latches ≡ reading.set.latches → AreApart inputs latches shown
+    pub are_apart_at : (inputs latches : List ℕ) → inputs ≡ reading.set.inputs → latches ≡ reading.set.latches → NeverContradict inputs latches shown
     are_apart_at inputs latches same_inputs same_latches =
-        subst (λ (list : List ℕ). AreApart inputs list shown) (sym same_latches)
-        (subst (λ (list : List ℕ). AreApart list reading.set.latches shown) (sym same_inputs)
+        subst (λ (list : List ℕ). NeverContradict inputs list shown) (sym same_latches)
+        (subst (λ (list : List ℕ). NeverContradict list reading.set.latches shown) (sym same_inputs)
         (are_apart F k b table basis.firsts reading.classes.items reading.mask basis.inputs reading.set is basis.are basis.mapped short few of_output basis.latch_bits basis.input_bits basis.listed_latches basis.listed_inputs shown known_here))
 
     -- the gate lists and covers what was lent

@@ -11,7 +11,7 @@ use Rattle.cubes.specs.Symbol.{bit, number_of, symbol_of, lowest_bits}
 use Rattle.cubes.specs.Laws.Bits.{same_bits, same_digits}
 use Rattle.cubes.specs.Laws.Numbers.{length-symbol_of, number_below, symbol_of-number_of}
 use Rattle.dependence.specs.Inputs.{DifferAlone}
-use Rattle.gate_rows.proofs.ReadNumbers.{code_at}
+use Rattle.gate_rows.specs.Laws.ReadNumbers.{code_at}
 use Rattle.kiss_file.specs.declared.file.KissFile.{KissFile}
 use Rattle.kiss_file.specs.Machine.{output_bit}
 use Rattle.shift_real.specs.Gates.{InputMatters, LatchMatters}

@@ -6,7 +6,7 @@ use Rattle.std.specs.Ordering.{nat_cmp}
 use Rattle.dependence.specs.declared.sets.ReadSet.{ReadSet}
 use Rattle.dependence.specs.Inputs.{DifferAlone}
 use Rattle.gate_rows.specs.Columns.{input_of}
-use Rattle.gate_rows.specs.Covers.{IsGoodCover}
+use Rattle.gate_rows.specs.GateCovers.{IsGoodCover}
 use Rattle.gate_rows.specs.Names.{name_at}
 use Rattle.kiss_file.specs.declared.file.KissFile.{KissFile}
 use Rattle.kiss_file.specs.Machine.{output_bit}

@@ -38,7 +38,7 @@ pub(crate) fn contents(alloc: Global, m: &Machine, k: usize) -> Result<Vec<Conte
     requires { k * m.now.inputs ≤ 12 }
     ensures { IfOk result (λ contents. AreContents m.now k contents.items) }
 {
-    let _states = m.states();
+    m.keeps_its_states();
     let mut contents = Vec::new(alloc);
     contents.push(Content {
         latches: 0,
@@ -71,7 +71,7 @@ fn add_next(m: &Machine, content: &Content, longer: &mut Vec<Content>) -> Result
     requires state { content.now.state < length m.now.states }
     ensures { OnOk result (longer.new.items ≡ longer.old.items ++ contents_after m.now content.now) }
 {
-    let _states = m.states();
+    m.keeps_its_states();
     let symbols = 1u32 << m.inputs();
     for x in 0..symbols {
         let latches = content.latches * u64::from(symbols) + turned(x, m.inputs());

@@ -50,7 +50,7 @@ fn add_class(
     ensures { OnOk result
         (AreClassDemands m.now b classes.now (IsOfClassBelow classes.now mask (class + 1)) demands.new.items) }
 {
-    let _outputs = m.outputs();
+    m.keeps_its_states();
     let rows = filled_rows(alloc, m, class)?;
     for (number, at) in classes.iter().enumerate() {
         if usize::from(*at) == class && number as u64 & mask == number as u64 {

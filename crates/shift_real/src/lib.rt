@@ -4,7 +4,7 @@
 //! shows how states come together symbol by symbol: its members are zero, M(zero), M(M(zero)) and so on, up to
 //! the first that M leaves as it is. States are together in member j exactly where every word of j symbols
 //! brings them to one state. [`order`] gives the least k, or two states that words of every length can bring to
-//! different states.
+//! different states; [`order_of_chain`] gives it where the chain is there.
 //!
 //! A shift register that keeps the last k symbols keeps the state of such a machine. Its content, a word of k
 //! symbols, determines the state, and the next content determines the next state ([`contents_follow`]).
@@ -48,6 +48,6 @@ mod tables;
 
 pub use chains::{Chain, chain};
 pub use laws::contents_follow;
-pub use orders::{OrderFail, order};
+pub use orders::{OrderFail, StatesApart, order, order_of_chain};
 pub use registers::register;
 pub use starts::{RegisterFail, start};

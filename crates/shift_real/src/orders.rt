@@ -1,9 +1,10 @@
 //! The order of a definite machine.
 
-ghost use Rattle.std.specs.Prelude.{◌≡◌, ◌≢◌, ℕ, ◌<◌, IfErr, IfNone, IfOk, IfSome, length, slice_index};
-ghost use Rattle.shift_real.specs.DefiniteMachine.{IsOrder, IsOrderCause};
+ghost use Rattle.std.specs.Prelude.{◌≡◌, ◌≢◌, ℕ, ◌<◌, ◌≤◌, IfErr, IfNone, IfOk, IfSome, length, slice_index};
+ghost use Rattle.shift_real.specs.Chain.{AreTogetherAfter, IsChain};
+ghost use Rattle.shift_real.specs.DefiniteMachine.{AreFirstApart, IsOrder, IsOrderCause};
 
-use crate::chains::chain;
+use crate::chains::{Chain, chain};
 use machine_table::Machine;
 use partition::Partition;
 use std::alloc::{AllocError, Global};
@@ -16,6 +17,13 @@ pub enum OrderFail {
     NotDefinite { s: u16, t: u16 },
     /// Memory ran out.
     NoMemory,
+}
+
+/// Two states that no number of symbols brings to one state, whatever the symbols: the least two, by s and then by t.
+#[derive(Clone, Copy)]
+pub struct StatesApart {
+    pub s: u16,
+    pub t: u16,
 }
 
 impl From<AllocError> for OrderFail {
@@ -35,13 +43,28 @@ pub fn order(alloc: Global, m: &Machine) -> Result<usize, OrderFail>
     ensures few { IfOk result (λ k. k < length m.now.states) }
     ensures refused { IfErr result (IsOrderCause m.now) }
 {
-    let _states = m.states();
     let chain = chain(alloc, m)?;
+    match order_of_chain(m, &chain) {
+        Ok(k) => Ok(k),
+        Err(StatesApart { s, t }) => Err(OrderFail::NotDefinite { s, t }),
+    }
+}
+
+/// The order of a machine that has this chain; or the two states that show that it has none.
+pub fn order_of_chain(m: &Machine, chain: &Chain) -> Result<usize, StatesApart>
+    requires chain { IsChain m.now chain.now }
+    requires together { AreTogetherAfter m.now chain.now }
+    requires size { length chain.now ≤ length m.now.states }
+    ensures order { IfOk result (IsOrder m.now) }
+    ensures few { IfOk result (λ k. k < length m.now.states) }
+    ensures refused { IfErr result (λ two. AreFirstApart m.now two.s two.t) }
+{
+    m.keeps_its_states();
     let members = chain.as_slice();
     let last = members.len() - 1;
     match first_apart(&members[last]) {
         None => Ok(last),
-        Some(t) => Err(OrderFail::NotDefinite { s: 0, t: t as u16 }),
+        Some(t) => Err(StatesApart { s: 0, t: t as u16 }),
     }
 }
 

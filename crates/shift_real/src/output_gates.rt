@@ -2,7 +2,7 @@
 
 ghost use Rattle.std.specs.Prelude.{◌*◌, ◌<◌, ◌≤◌, All, IfOk, OnOk, length};
 ghost use Rattle.dependence.specs.declared.sets.ReadSet.{ReadSet};
-ghost use Rattle.gate_rows.specs.Demands.{AreApart, CanBeRead};
+ghost use Rattle.gate_rows.specs.Demands.{NeverContradict, CanBeRead};
 ghost use Rattle.shift_real.specs.Gates.{IsOutputGate};
 ghost use Rattle.shift_real.specs.ShiftNetwork.{AreNamesFor};
 ghost use Rattle.shift_real.specs.Inner.DemandedGate.{IsGateOfDemands};
@@ -57,7 +57,7 @@ fn output_gate(
     requires output { b < m.now.outputs }
     ensures { IfOk result (λ gate. (set : ReadSet) × IsOutputGate m.now k names.now b set gate) }
 {
-    let _limits = (m.inputs(), m.outputs());
+    m.keeps_its_states();
     let reading = output_reading(alloc, m, k, table, effects, b)?;
     let demands = content_demands(alloc, m, &reading.classes, reading.mask, b)?;
     gate_of_demands(alloc, names, &reading.set, &demands, b)
@@ -75,7 +75,7 @@ fn gate_of_demands(
     requires inputs { All (λ a. a < length names.now.inputs) set.now.inputs }
     requires latches { All (λ c. c < length names.now.latch_outputs) set.now.latches }
     requires read { CanBeRead set.now.inputs set.now.latches demands.now }
-    requires apart { AreApart set.now.inputs set.now.latches demands.now }
+    requires apart { NeverContradict set.now.inputs set.now.latches demands.now }
     ensures { IfOk result (IsGateOfDemands names.now b set.now.inputs set.now.latches demands.now) }
 {
     let inputs = set.inputs.as_slice();

@@ -36,7 +36,7 @@ pub(crate) fn output_reading(
     requires output { b < m.now.outputs }
     ensures { IfOk result (IsOutputReading m.now k b table.now) }
 {
-    let _limits = (m.states(), m.outputs());
+    m.keeps_its_states();
     let firsts = first_alike(alloc, m, b)?;
     let classes = classes_of(alloc, &firsts, table)?;
     let mask = latches_read(&classes, k * usize::from(m.inputs()));

@@ -24,16 +24,24 @@ use std::alloc::{AllocError, Global};
 /// bit i of the symbol that came j + 1 steps ago. Its gate takes input i where j is 0, and else the latch with
 /// the same bit of the next newer symbol. The gates of the latches come first, and then those of the outputs.
 /// The gate of an output reads the inputs and the latches that matter for it.
-pub fn register(alloc: Global, m: &Machine, names: &SignalNames) -> Result<Network, RegisterFail>
-    requires { (k : ℕ) × HasShortOrder m.now k × AreNamesFor m.now k names.now }
+///
+/// The machine has this order, and its register at most 12 latches.
+pub fn register(
+    alloc: Global,
+    m: &Machine,
+    order: usize,
+    names: &SignalNames,
+) -> Result<Network, RegisterFail>
+    requires order { HasShortOrder m.now order }
+    requires names { AreNamesFor m.now order names.now }
     ensures network { IfOk result (λ net. (k : ℕ) → IsOrder m.now k → IsRegister m.now k names.now net) }
     ensures sound { IfOk result Sound }
     ensures steps { IfOk result (λ net. (k : ℕ) → IsOrder m.now k → StepsAlong m.now k net) }
     ensures answers { IfOk result (AnswersAs m.now) }
     ensures refused { IfErr result (IsRegisterCause m.now) }
 {
-    let _limits = (m.states(), m.reset());
-    let held = register_contents(alloc, m)?;
+    m.keeps_its_states();
+    let held = register_contents(alloc, m, order)?;
     let word = start_among(m, &held)?;
     Ok(network(alloc, m, &held, word, names)?)
 }

@@ -7,7 +7,6 @@ ghost use Rattle.shift_real.specs.Start.{IsRegisterCause, WritesStart};
 ghost use Rattle.shift_real.specs.Inner.RegisterContents.{AreRegisterContents};
 
 use crate::contents::{Content, contents, first_reaching};
-use crate::orders::{OrderFail, order};
 use machine_table::Machine;
 use std::alloc::{AllocError, Global};
 
@@ -38,22 +37,17 @@ pub(crate) struct RegisterContents {
     pub(crate) contents: Vec<Content>,
 }
 
-/// What the register of a machine can hold.
+/// What the register of a machine of this order can hold.
 pub(crate) fn register_contents(
     alloc: Global,
     m: &Machine,
-) -> Result<RegisterContents, RegisterFail>
-    requires { (k : ℕ) × HasShortOrder m.now k }
-    ensures held { IfOk result (AreRegisterContents m.now) }
-    ensures refused { IfErr result (IsRegisterCause m.now) }
+    order: usize,
+) -> Result<RegisterContents, AllocError>
+    requires { HasShortOrder m.now order }
+    ensures { IfOk result (AreRegisterContents m.now) }
 {
-    let k = match order(alloc, m) {
-        Ok(k) => k,
-        Err(OrderFail::NoMemory) => return Err(RegisterFail::NoMemory),
-        Err(OrderFail::NotDefinite { s: _, t: _ }) => unreachable!(),
-    };
-    let contents = contents(alloc, m, k)?;
-    Ok(RegisterContents { order: k, contents })
+    let contents = contents(alloc, m, order)?;
+    Ok(RegisterContents { order, contents })
 }
 
 /// What the latches start at, among what the register can hold.
@@ -71,11 +65,13 @@ pub(crate) fn start_among(m: &Machine, held: &RegisterContents) -> Result<u64, R
 /// The values of the latches before the first symbol, latch i at 2^i. The latch with the number j times the
 /// inputs plus i holds bit i of the symbol that came j + 1 steps ago. Contents are read as binary numbers, the
 /// oldest symbol first: this is the least content after which the machine is in its reset state.
-pub fn start(alloc: Global, m: &Machine) -> Result<u64, RegisterFail>
-    requires { (k : ℕ) × HasShortOrder m.now k }
+///
+/// The machine has this order, and its register at most 12 latches.
+pub fn start(alloc: Global, m: &Machine, order: usize) -> Result<u64, RegisterFail>
+    requires { HasShortOrder m.now order }
     ensures start { IfOk result (λ number. (k : ℕ) → IsOrder m.now k → WritesStart m.now k number) }
     ensures refused { IfErr result (IsRegisterCause m.now) }
 {
-    let held = register_contents(alloc, m)?;
+    let held = register_contents(alloc, m, order)?;
     start_among(m, &held)
 }

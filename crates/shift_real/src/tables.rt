@@ -19,7 +19,7 @@ pub(crate) fn state_table(
     requires contents { AreContents m.now k contents.now }
     ensures { IfOk result (λ table. IsStateTable m.now k table.items) }
 {
-    let _states = m.states();
+    m.keeps_its_states();
     let size = 1usize << (k * usize::from(m.inputs()));
     let mut table = vec![in alloc; 0u16; size]?;
     for content in contents {

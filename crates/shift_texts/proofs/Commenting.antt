@@ -5,8 +5,8 @@ use Rattle.std.specs.List.{AllByRecursion, flat_map}
 use Rattle.list_facts.specs.Laws.Everywhere.{each_append, each_weaker}
 use Rattle.blif_out.specs.Comments.{AreComments}
 use Rattle.blif_out.specs.Head.{comment_text}
-use Rattle.blif_out.proofs.Visible.{AreVisible, decimal_visible}
-use Rattle.blif_out.proofs.Words.{name_word}
+use Rattle.blif_out.specs.Laws.Visible.{AreVisible, decimal_visible}
+use Rattle.blif_out.specs.Laws.Words.{name_word}
 use Rattle.hs_io.specs.Spelling.{IsComment, IsFieldByte, spaced}
 use Rattle.shift_texts.specs.ShiftText.{shift_comments, shift_fields}
 

@@ -5,8 +5,8 @@ use Rattle.blif_out.specs.declared.networks.CommentedNetwork.{CommentedNetwork}
 use Rattle.blif_out.specs.NetworkText.{CanBeWritten, CanBeText}
 use Rattle.state_reduce.specs.declared.work.WorkMachine.{WorkMachine}
 use Rattle.state_reduce.specs.Work.{IsWork}
-use Rattle.decomposition.proofs.Carrying.{IsImage, image_of}
-use Rattle.decomposition.proofs.Writable.{AreSignalNames, file_names}
+use Rattle.decomposition.specs.Laws.Carrying.{IsImage, image_of}
+use Rattle.decomposition.specs.Laws.Writable.{AreSignalNames, file_names}
 use Rattle.kiss_file.specs.declared.file.KissFile.{KissFile}
 use Rattle.kiss_file.specs.LawfulFile.{IsLawful}
 use Rattle.kiss_file.specs.Machine.{Conflicting, answers}

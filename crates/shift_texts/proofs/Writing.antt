@@ -10,7 +10,7 @@ use Rattle.std.proofs.lemmas.Option.{get_or_from_slice_get}
 use Rattle.list_facts.specs.Laws.Everywhere.{all_from_map}
 use Rattle.blif_out.specs.Order.{HasKnownStarts, HasRowsInOrder}
 use Rattle.blif_out.specs.Writable.{IsPlane, IsSignalName, IsWritable, IsWritableGate, IsWritableLatch}
-use Rattle.decomposition.proofs.Writable.{AreSignalNames, cover_planes, known_starts, plane_character}
+use Rattle.decomposition.specs.Laws.Writable.{AreSignalNames, cover_planes, known_starts, plane_character}
 use Rattle.dependence.specs.declared.sets.ReadSet.{ReadSet}
 use Rattle.kiss_file.specs.declared.file.KissFile.{KissFile}
 use Rattle.net_core.specs.declared.Gate.{Gate}

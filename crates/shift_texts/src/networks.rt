@@ -12,7 +12,6 @@ ghost use Rattle.shift_texts.specs.Inner.Registers.{IsRegisterOf};
 
 use answers::Refusal;
 use hs_io::Name;
-use kiss_file::KissFile;
 use net_core::Network;
 use realise::names;
 use shift_real::{RegisterFail, register};
@@ -23,32 +22,31 @@ use std::alloc::{AllocError, Global};
 /// signals have the names of the file.
 pub(crate) fn register_of(
     alloc: Global,
-    file: &KissFile,
     work: &WorkMachine,
     order: usize,
 ) -> Result<Network, Refusal>
-    requires lawful { IsLawful file.now }
-    requires no_conflict { Conflicting file.now → ⊥ }
-    requires work { (reduce : Bool) × IsWork reduce file.now work.now }
+    requires lawful { IsLawful work.now.file.now }
+    requires no_conflict { Conflicting work.now.file.now → ⊥ }
+    requires work { (reduce : Bool) × IsWork reduce work.now.file.now work.now }
     requires order { HasShortOrder work.now.machine order }
-    ensures { IsJudged (NeverInReset work.now.machine) (IsRegisterOf file.now work.now.machine order) result }
+    ensures { IsJudged (NeverInReset work.now.machine) (IsRegisterOf work.now.file.now work.now.machine order) result }
 {
     let bits = order * usize::from(work.machine.inputs());
-    let signals = names(alloc, file, bits)?;
-    match register(alloc, &work.machine, &signals) {
+    let signals = names(alloc, work.file, bits)?;
+    match register(alloc, &work.machine, order, &signals) {
         Ok(net) => Ok(net),
-        Err(RegisterFail::NotReached) => Err(not_reached(alloc, file, work)?),
+        Err(RegisterFail::NotReached) => Err(not_reached(alloc, work)?),
         Err(RegisterFail::NoMemory) => Err(Refusal::NoMemory),
     }
 }
 
 /// The refusal of a machine in whose reset state no word of as many symbols as its order ends.
-fn not_reached(alloc: Global, file: &KissFile, work: &WorkMachine) -> Result<Refusal, AllocError>
-    requires work { (reduce : Bool) × IsWork reduce file.now work.now }
+fn not_reached(alloc: Global, work: &WorkMachine) -> Result<Refusal, AllocError>
+    requires work { (reduce : Bool) × IsWork reduce work.now.file.now work.now }
     requires none { (k : ℕ) × IsOrder work.now.machine k × IsNotReached work.now.machine k }
     ensures { IfOk result (NeverInReset work.now.machine) }
 {
-    let reset = state_name(file, work, work.machine.reset());
+    let reset = state_name(work, work.machine.reset());
     Ok(Refusal::NotReached {
         reset: Name::new(alloc, reset)?,
     })

@@ -7,7 +7,6 @@ ghost use Rattle.shift_real.specs.Register.{HasShortOrder};
 ghost use Rattle.shift_texts.specs.Causes.{HasNoShortOrder};
 
 use answers::Refusal;
-use kiss_file::KissFile;
 use machine_reports::order_of;
 use state_reduce::WorkMachine;
 use std::alloc::Global;
@@ -16,16 +15,12 @@ use std::alloc::Global;
 const MOST_BITS: usize = 12;
 
 /// The order of the machine that is worked on, if its register has few bits.
-pub(crate) fn short_order(
-    alloc: Global,
-    file: &KissFile,
-    work: &WorkMachine,
-) -> Result<usize, Refusal>
-    requires work { (reduce : Bool) × IsWork reduce file.now work.now }
+pub(crate) fn short_order(alloc: Global, work: &WorkMachine) -> Result<usize, Refusal>
+    requires work { (reduce : Bool) × IsWork reduce work.now.file.now work.now }
     ensures { IsJudged (HasNoShortOrder work.now.machine) (HasShortOrder work.now.machine) result }
 {
-    let k = order_of(alloc, file, work)?;
-    let _states = work.machine.states();
+    let k = order_of(alloc, work)?;
+    work.machine.keeps_its_states();
     let bits = k * usize::from(work.machine.inputs());
     if bits > MOST_BITS {
         return Err(Refusal::CodeTooLong { bits });

@@ -44,20 +44,19 @@ pub fn shift(
         (λ made. CanBeText made × IsShiftNetwork reduce file.now made) result }
 {
     let work = work_machine(alloc, file, machine, fill, reduce)?;
-    shift_of(alloc, file, &work)
+    shift_of(alloc, &work)
 }
 
-/// The network of the shift register of a machine that `work_machine` gives for the file, with comments that give its
-/// order.
-fn shift_of(alloc: Global, file: &KissFile, work: &WorkMachine) -> Result<CommentedNetwork, Refusal>
-    requires lawful { IsLawful file.now }
-    requires no_conflict { Conflicting file.now → ⊥ }
-    requires work { (reduce : Bool) × IsWork reduce file.now work.now }
-    ensures { (reduce : Bool) → IsWork reduce file.now work.now
-        → IsJudged (RefusesShift reduce file.now)
-        (λ made. CanBeText made × IsShiftNetwork reduce file.now made) result }
+/// The network of the shift register of a machine that `work_machine` gives, with comments that give its order.
+fn shift_of(alloc: Global, work: &WorkMachine) -> Result<CommentedNetwork, Refusal>
+    requires lawful { IsLawful work.now.file.now }
+    requires no_conflict { Conflicting work.now.file.now → ⊥ }
+    requires work { (reduce : Bool) × IsWork reduce work.now.file.now work.now }
+    ensures { (reduce : Bool) → IsWork reduce work.now.file.now work.now
+        → IsJudged (RefusesShift reduce work.now.file.now)
+        (λ made. CanBeText made × IsShiftNetwork reduce work.now.file.now made) result }
 {
-    let register = register_of_work(alloc, file, work)?;
+    let register = register_of_work(alloc, work)?;
     Ok(commented(alloc, register)?)
 }
 
@@ -70,21 +69,16 @@ fn commented(alloc: Global, register: OrderedRegister) -> Result<CommentedNetwor
     Ok(CommentedNetwork { comments, network })
 }
 
-/// The shift register of a machine that `work_machine` gives for the file. The machine can serve for networks of other
-/// kinds.
-pub fn register_of_work(
-    alloc: Global,
-    file: &KissFile,
-    work: &WorkMachine,
-) -> Result<OrderedRegister, Refusal>
-    requires lawful { IsLawful file.now }
-    requires no_conflict { Conflicting file.now → ⊥ }
-    requires work { (reduce : Bool) × IsWork reduce file.now work.now }
-    ensures { (reduce : Bool) → IsWork reduce file.now work.now
-        → IsJudged (RefusesShift reduce file.now)
-        (λ made. CanBeText (with_comments made) × IsOrderedRegister reduce file.now made) result }
+/// The shift register of a machine that `work_machine` gives. The machine can serve for networks of other kinds.
+pub fn register_of_work(alloc: Global, work: &WorkMachine) -> Result<OrderedRegister, Refusal>
+    requires lawful { IsLawful work.now.file.now }
+    requires no_conflict { Conflicting work.now.file.now → ⊥ }
+    requires work { (reduce : Bool) × IsWork reduce work.now.file.now work.now }
+    ensures { (reduce : Bool) → IsWork reduce work.now.file.now work.now
+        → IsJudged (RefusesShift reduce work.now.file.now)
+        (λ made. CanBeText (with_comments made) × IsOrderedRegister reduce work.now.file.now made) result }
 {
-    let order = short_order(alloc, file, work)?;
-    let network = register_of(alloc, file, work, order)?;
+    let order = short_order(alloc, work)?;
+    let network = register_of(alloc, work, order)?;
     Ok(OrderedRegister { order, network })
 }

@@ -59,7 +59,8 @@ module _ (W : KissFile) (parts : List Part) (n : ℕ) (count : n ≡ length W.st
         inr (inr (apart_leaves_none W parts fault.0, inl (bits, refl, fault.1, fault.2)))
 
 -- ---- the network
-pub of_parts : (F : KissFile) (work : WorkMachine) (kind : Kind) (parts : List Part) (result : Result HeadedNetwork AllocError) → ((reduce : Bool) → IsWork reduce F work → IfOk result (IsDecomposed reduce F work.machine kind parts))
-    → IfOk result (IsOfParts F work kind parts)
-of_parts F work kind parts (Ok made) is = is
-of_parts F work kind parts (Err wanting) is = tt
+pub of_parts : (work : WorkMachine) (kind : Kind) (parts : List Part) (result : Result HeadedNetwork AllocError)
+    → ((reduce : Bool) → IsWork reduce work.file.now work → IfOk result (IsDecomposed reduce work.file.now work.machine kind parts))
+    → IfOk result (IsOfParts work kind parts)
+of_parts work kind parts (Ok made) is = is
+of_parts work kind parts (Err wanting) is = tt

@@ -11,6 +11,7 @@ use Rattle.blif_out.specs.NetworkText.{CanBeHeaded}
 use Rattle.state_reduce.specs.declared.work.WorkMachine.{WorkMachine}
 use Rattle.decomposition.specs.Decomposition.{HasGates, IsDecomposed}
 use Rattle.state_reduce.specs.Work.{IsWork, IsWorkOf}
+use Rattle.state_reduce.specs.Laws.Works.{with_its_file}
 use Rattle.kiss_file.specs.declared.file.KissFile.{KissFile}
 use Rattle.kiss_file.specs.LawfulFile.{IsLawful}
 use Rattle.kiss_file.specs.Machine.{Conflicting}
@@ -96,7 +97,10 @@ module _ (kind : Kind) (text : List ℕ) (reduce : Bool) (F : KissFile) (work : 
         promises_kept kind text work.machine split.parts codes N (λ refusal bad. plan.0 refusal (inl bad)) plan.1.made code
         (read_by_rule F work codes lawful no_conflict code.written.states (short codes none apart code) reduce is_work split.parts N gates)
 
-    pub judged_network : (result : Result HeadedNetwork Refusal) → IsJudged (HasNoCode work.machine split.parts) (λ made. AreApart (length work.machine.states) split.parts × CanBeHeaded made × IsOfParts F work split.kind split.parts made) result
+    of_work : (made : HeadedNetwork) → IsOfParts work split.kind split.parts made → IsDecomposed reduce F work.machine split.kind split.parts made
+    of_work made is = subst (λ (G : KissFile). IsDecomposed reduce G work.machine split.kind split.parts made) is_work.file (is reduce (with_its_file reduce F work is_work))
+
+    pub judged_network : (result : Result HeadedNetwork Refusal) → IsJudged (HasNoCode work.machine split.parts) (λ made. AreApart (length work.machine.states) split.parts × CanBeHeaded made × IsOfParts work split.kind split.parts made) result
         → IsJudged (IsNotWritten kind text reduce F) (λ made. CanBeHeaded made × IsOfKind kind text reduce F made) result
     judged_network (Err refusal) stop = stop_of_code refusal stop
     judged_network (Ok made) (none, (apart, ready, is)) = (
@@ -107,7 +111,7 @@ module _ (kind : Kind) (text : List ℕ) (reduce : Bool) (F : KissFile) (work : 
           work.machine,
           split.parts,
           record { made = plan.1.made; apart = apart },
-          subst (λ (k : Kind). IsDecomposed reduce F work.machine k split.parts made) plan.1.same_kind (is reduce is_work),
+          subst (λ (k : Kind). IsDecomposed reduce F work.machine k split.parts made) plan.1.same_kind (of_work made is),
           kept none apart,
         ),
       ),

@@ -44,6 +44,6 @@ pub record AreCodes (n : ℕ) (parts : List Part) (codes : Codes) : Type 0 where
   pub distinct : AreDistinct n codes.words
   pub short : codes.bits ≤ 64
 
--- the network and its header are those of the parts, whichever machine of the file the command works on
-abbrev pub IsOfParts : KissFile → WorkMachine → Kind → List Part → HeadedNetwork → Type 0
-IsOfParts F work kind parts made = (reduce : Bool) → IsWork reduce F work → IsDecomposed reduce F work.machine kind parts made
+-- the network and its header are those of the parts, whichever machine of its file the command works on
+abbrev pub IsOfParts : WorkMachine → Kind → List Part → HeadedNetwork → Type 0
+IsOfParts work kind parts made = (reduce : Bool) → IsWork reduce work.file.now work → IsDecomposed reduce work.file.now work.machine kind parts made

@@ -40,26 +40,25 @@ pub fn decompose(
         (λ made. CanBeHeaded made × IsOfKind kind text.now reduce file.now made) result }
 {
     let work = work_machine(alloc, file, machine, fill, reduce)?;
-    decompose_work(alloc, kind, text, file, &work)
+    decompose_work(alloc, kind, text, &work)
 }
 
-/// The network of the decomposition of a kind, with its header, of a machine that `work_machine` gives for the file.
+/// The network of the decomposition of a kind, with its header, of a machine that `work_machine` gives.
 /// The machine can serve for further kinds.
 pub fn decompose_work(
     alloc: Global,
     kind: Kind,
     text: &[u8],
-    file: &KissFile,
     work: &WorkMachine,
 ) -> Result<HeadedNetwork, Refusal>
     requires few { kind ≡ kinds.Assign → HasFewParts text.now }
-    requires lawful { IsLawful file.now }
-    requires no_conflict { Conflicting file.now → ⊥ }
-    requires work { (reduce : Bool) × IsWork reduce file.now work.now }
-    ensures { (reduce : Bool) → IsWork reduce file.now work.now
-        → IsJudged (IsNotWritten kind text.now reduce file.now)
-        (λ made. CanBeHeaded made × IsOfKind kind text.now reduce file.now made) result }
+    requires lawful { IsLawful work.now.file.now }
+    requires no_conflict { Conflicting work.now.file.now → ⊥ }
+    requires work { (reduce : Bool) × IsWork reduce work.now.file.now work.now }
+    ensures { (reduce : Bool) → IsWork reduce work.now.file.now work.now
+        → IsJudged (IsNotWritten kind text.now reduce work.now.file.now)
+        (λ made. CanBeHeaded made × IsOfKind kind text.now reduce work.now.file.now made) result }
 {
     let split = plan(alloc, kind, text, &work.machine)?;
-    network_of_plan(alloc, file, work, split)
+    network_of_plan(alloc, work, split)
 }

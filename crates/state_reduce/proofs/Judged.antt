@@ -1,5 +1,5 @@
 -- What is demanded of states that are together, over symbols as lists of bits.
-use Rattle.std.proofs.Common.{◌≡◌, ℕ, ◌<◌, ◌⊎◌, inl, inr, Bool, List, length, refl, sym, subst, arith}
+use Rattle.std.proofs.Common.{◌≡◌, ℕ, inl, inr, Bool, List, length, refl, sym, subst, arith}
 use Rattle.std.proofs.lemmas.Bool.{cases_order}
 use Rattle.cubes.specs.Symbol.{symbol_of}
 use Rattle.cubes.specs.Laws.Numbers.{length-symbol_of}

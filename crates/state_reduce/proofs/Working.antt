@@ -1,8 +1,7 @@
 -- The machine that a job works on answers as that of its file.
-use Rattle.std.proofs.Common.{◌≡◌, ℕ, ◌<◌, Bool, true, false, List, length, ap, ◌∙◌}
+use Rattle.std.proofs.Common.{ℕ, true, false, List, ap, ◌∙◌}
 use Rattle.kiss_file.specs.declared.file.KissFile.{KissFile}
-use Rattle.kiss_file.specs.LawfulFile.{IsLawful}
-use Rattle.kiss_file.specs.Machine.{Conflicting, answers}
+use Rattle.kiss_file.specs.Machine.{answers}
 use Rattle.kiss_file.specs.Laws.Machine.{next_is_a_state}
 use Rattle.machine_table.specs.NextStates.{NeverLeaves}
 use Rattle.machine_table.specs.Table.{IsTable}

@@ -21,9 +21,10 @@ pub alike_of : (M F : KissFile) (p : List ℕ) → M ≡ F → IsEquivalence M p
 alike_of M F p is alike = subst (λ (H : KissFile). IsEquivalence H p) is alike
 
 -- the machine of the classes is the work machine
-pub reduced_is : (F Q : KissFile) (work : WorkMachine) (p : List ℕ) → IsEquivalence F p → IsQuotient F p Q → AreBlocksInOrder F p Q → work.machine ≡ Q → work.classes ≡ Some p → work.names ≡ Some Q.states → IsWork true F work
-reduced_is F Q work p alike quotient in_order machine classes names =
+pub reduced_is : (F Q : KissFile) (work : WorkMachine) (p : List ℕ) → work.file.now ≡ F → IsEquivalence F p → IsQuotient F p Q → AreBlocksInOrder F p Q → work.machine ≡ Q → work.classes ≡ Some p → work.names ≡ Some Q.states → IsWork true F work
+reduced_is F Q work p file alike quotient in_order machine classes names =
     record {
+      file = file;
       class = block_number F p;
       machine = record { classes = p; alike = alike; quotient = subst (IsQuotient F p) (sym machine) quotient; in_order = subst (AreBlocksInOrder F p) (sym machine) in_order; class_of = λ s. refl };
       classes = subst (AreClasses true F) (sym classes) alike;
@@ -31,9 +32,10 @@ reduced_is F Q work p alike quotient in_order machine classes names =
     }
 
 -- and so is that of the file itself
-pub file_is : (F : KissFile) (work : WorkMachine) → work.machine ≡ F → work.classes ≡ None → work.names ≡ None → IsWork false F work
-file_is F work machine classes names =
+pub file_is : (F : KissFile) (work : WorkMachine) → work.file.now ≡ F → work.machine ≡ F → work.classes ≡ None → work.names ≡ None → IsWork false F work
+file_is F work file machine classes names =
     record {
+      file = file;
       class = λ s. s;
       machine = record { file = machine; class_of = λ s. refl };
       classes = subst (AreClasses false F) (sym classes) refl;

@@ -16,8 +16,10 @@ abbrev pub AreWorkNames : KissFile → KissFile → Option (List (List ℕ)) →
 AreWorkNames F W None = W.states ≡ F.states
 AreWorkNames F W (Some names) = names ≡ W.states
 
--- the machine is the work machine of the file, with the class that each state of the file has there
+-- the machine is the work machine of the file, which stands beside it, with the class that each state of the file has
+-- there
 pub record IsWork (reduce : Bool) (F : KissFile) (work : WorkMachine) : Type 0 where
+  pub file : work.file.now ≡ F
   pub class : ℕ → ℕ
   pub machine : IsWorkMachine reduce F work.machine class
   pub classes : AreClasses reduce F work.classes

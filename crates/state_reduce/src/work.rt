@@ -14,11 +14,12 @@ use machine_table::Machine;
 use partition::Partition;
 use std::alloc::{AllocError, Global};
 
-/// The machine that a command works on: the machine of its file, or the machine of the classes of the file's
-/// alike states. In the second case there are also the partition of the file's states into these classes, and
+/// The machine that a command works on, with its file: the machine of the file, or the machine of the classes of the
+/// file's alike states. In the second case there are also the partition of the file's states into these classes, and
 /// the names of the classes.
 #[derive(Drop)]
-pub struct WorkMachine {
+pub struct WorkMachine<'a> {
+    pub file: &'a KissFile,
     pub machine: Machine,
     pub classes: Option<Partition>,
     pub names: Option<StateNames>,
@@ -26,13 +27,13 @@ pub struct WorkMachine {
 
 /// The machine that a command works on. With `reduce` its states are the classes of alike states of the file's
 /// machine, in the order of their least states; without, it is the file's machine.
-pub fn work_machine(
+pub fn work_machine<'a>(
     alloc: Global,
-    file: &KissFile,
+    file: &'a KissFile,
     machine: Machine,
     fill: Fill,
     reduce: bool,
-) -> Result<WorkMachine, AllocError>
+) -> Result<WorkMachine<'a>, AllocError>
     requires lawful { IsLawful file.now }
     requires accepted { Accepted file.now fill }
     requires machine { machine ≡ file.now }
@@ -42,6 +43,7 @@ pub fn work_machine(
         reduced(alloc, file, &machine, fill)
     } else {
         Ok(WorkMachine {
+            file,
             machine,
             classes: None,
             names: None,
@@ -50,24 +52,24 @@ pub fn work_machine(
 }
 
 /// The name of a state of the machine that a command works on: a class has the name of its least state.
-pub fn state_name<'a>(file: &'a KissFile, work: &'a WorkMachine, s: usize) -> &'a [u8]
-    requires work { (reduce : Bool) × IsWork reduce file.now work.now }
+pub fn state_name<'a>(work: &'a WorkMachine<'_>, s: usize) -> &'a [u8]
+    requires work { (reduce : Bool) × IsWork reduce work.now.file.now work.now }
     requires state { s < length work.now.machine.states }
     ensures { slice_get work.now.machine.states s ≡ Some result.now }
 {
     match &work.names {
         Some(names) => names.name(s),
-        None => file.states.name(s),
+        None => work.file.states.name(s),
     }
 }
 
 /// The machine of the classes of alike states.
-fn reduced(
+fn reduced<'a>(
     alloc: Global,
-    file: &KissFile,
+    file: &'a KissFile,
     machine: &Machine,
     fill: Fill,
-) -> Result<WorkMachine, AllocError>
+) -> Result<WorkMachine<'a>, AllocError>
     requires lawful { IsLawful file.now }
     requires accepted { Accepted file.now fill }
     requires machine { machine.now ≡ file.now }
@@ -77,6 +79,7 @@ fn reduced(
     let quotient = file_of_classes(alloc, file, machine, &classes, fill)?;
     let machine = Machine::of_accepted(alloc, &quotient, fill)?;
     Ok(WorkMachine {
+        file,
         machine,
         classes: Some(classes),
         names: Some(quotient.states),

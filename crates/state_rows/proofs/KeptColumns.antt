@@ -7,7 +7,7 @@ use Rattle.std.proofs.lemmas.List.{get_or_default}
 use Rattle.std.proofs.lemmas.List.Elements.{Contains-append_left, Contains-get_or, Contains-push, Contains-push_cases}
 use Rattle.kiss_file.specs.declared.file.KissRow.{KissRow}
 use Rattle.list_facts.specs.Laws.Places.{each_pushed}
-use Rattle.state_rows.specs.Columns.{AreColumns, AreKept, ArePicked, HaveSameCubes, IsAtPlace, IsKept, IsLedBy, NameOne, RepresentBoth, RepresentColumns}
+use Rattle.state_rows.specs.Columns.{AreColumns, AreKept, ArePicked, HaveSameCubes, IsAtPlace, IsNamedByKept, IsLedBy, NameOne, RepresentBoth, RepresentColumns}
 use Rattle.state_rows.specs.Places.{ListRows, places_of}
 
 -- what compares as the same is the same
@@ -86,8 +86,8 @@ module _ (leaders : List ℕ) (leader n : ℕ) (states : List ℕ) (known : (i :
         ]
 
 -- what is kept stays kept with one more place
-pub kept_still : (rows : List KissRow) (places : List (List ℕ)) (states kept : List ℕ) (one k : ℕ) → IsKept rows places states kept k
-    → IsKept rows places states (kept ++ one ∷ []) k
+pub kept_still : (rows : List KissRow) (places : List (List ℕ)) (states kept : List ℕ) (one k : ℕ) → IsNamedByKept rows places states kept k
+    → IsNamedByKept rows places states (kept ++ one ∷ []) k
 kept_still rows places states kept one k (j, among, same) = (j, Contains-append_left kept (one ∷ []) j among, same)
 
 -- the row of a place names what it names
@@ -97,25 +97,25 @@ names_itself rows numbers k row other first second =
     let same : row ≡ other = cc in
     ap (λ (r : KissRow). r.to) same
 
-pub kept_itself : (rows : List KissRow) (places : List (List ℕ)) (states kept : List ℕ) (one : ℕ) → IsKept rows places states (kept ++ one ∷ []) one
+pub kept_itself : (rows : List KissRow) (places : List (List ℕ)) (states kept : List ℕ) (one : ℕ) → IsNamedByKept rows places states (kept ++ one ∷ []) one
 kept_itself rows places states kept one = (one, Contains-push kept one, λ s is. names_itself rows (places_of places s) one)
 
 -- one more place of an order is kept
 pub kept_next : (rows : List KissRow) (places : List (List ℕ)) (states order kept more : List ℕ) (n : ℕ) → n < length order
-    → ((k : ℕ) → IsKept rows places states kept k → IsKept rows places states more k) → IsKept rows places states more (get_or order n 0)
-    → ((i d : ℕ) → i < n → IsKept rows places states kept (get_or order i d)) → (i d : ℕ) → i < n + 1 → IsKept rows places states more (get_or order i d)
+    → ((k : ℕ) → IsNamedByKept rows places states kept k → IsNamedByKept rows places states more k) → IsNamedByKept rows places states more (get_or order n 0)
+    → ((i d : ℕ) → i < n → IsNamedByKept rows places states kept (get_or order i d)) → (i d : ℕ) → i < n + 1 → IsNamedByKept rows places states more (get_or order i d)
 kept_next rows places states order kept more n inside still now known i d below =
     elim (cases_lt i n) [
       | inl before ↦ still (get_or order i d) (known i d before)
       | inr last ↦
           let at : n ≡ i = omega arith in
           let same : get_or order n 0 ≡ get_or order i d = get_or_default order n 0 d inside ∙ ap (λ (k : ℕ). get_or order k d) at in
-          subst (IsKept rows places states more) same now
+          subst (IsNamedByKept rows places states more) same now
     ]
 
 -- what is kept of the places below a count
 pub represent_kept : (rows : List KissRow) (places : List (List ℕ)) (states order kept : List ℕ) (count : ℕ) → ((k : ℕ) → Contains order k ↔ (k < count))
-    → ((j : ℕ) → Contains kept j → Contains order j) → ((k : ℕ) → Contains order k → IsKept rows places states kept k)
+    → ((j : ℕ) → Contains kept j → Contains order j) → ((k : ℕ) → Contains order k → IsNamedByKept rows places states kept k)
     → RepresentColumns rows places (Contains states) count kept
 represent_kept rows places states order kept count all within each = record {
   within = λ j among. (all j).0 (within j among);

@@ -22,8 +22,8 @@ abbrev pub NameOne : List KissRow → List ℕ → ℕ → ℕ → Type 0
 NameOne rows numbers k j = (row other : KissRow) → IsAtPlace rows numbers k row → IsAtPlace rows numbers j other → row.to ≡ other.to
 
 -- at a kept place each of the states names the same next state as at the place
-abbrev pub IsKept : List KissRow → List (List ℕ) → (states kept : List ℕ) → ℕ → Type 0
-IsKept rows places states kept k = (j : ℕ) × Contains kept j × ((s : ℕ) → Contains states s → NameOne rows (places_of places s) k j)
+abbrev pub IsNamedByKept : List KissRow → List (List ℕ) → (states kept : List ℕ) → ℕ → Type 0
+IsNamedByKept rows places states kept k = (j : ℕ) × Contains kept j × ((s : ℕ) → Contains states s → NameOne rows (places_of places s) k j)
 
 -- the kept places are below the count, and for each place below the count there is a kept one at which each state of that
 -- kind names the same next state

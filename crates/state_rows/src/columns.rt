@@ -9,7 +9,7 @@ ghost use Rattle.state_rows.specs.Columns.{
   ArePicked,
   HaveSameCubes,
   IsAtPlace,
-  IsKept,
+  IsNamedByKept,
   IsLedBy,
   NameOne,
   RepresentColumns,
@@ -104,7 +104,7 @@ fn is_new_column(
     place: usize,
 ) -> bool
     requires { All (λ s. s < length places.now) states.now }
-    ensures { (result ≡ false) → IsKept rows.now places.now states.now kept.now place }
+    ensures { (result ≡ false) → IsNamedByKept rows.now places.now states.now kept.now place }
 {
     match kept.last() {
         Some(last) => !are_equal_columns(rows, places, states, place, *last),
@@ -139,7 +139,7 @@ fn kept_among(
     requires { All (λ s. s < length places.now) states.now }
     ensures within { IfOk result (λ kept. (j : ℕ) → Contains kept.items j → Contains order.now j) }
     ensures each { IfOk result
-        (λ kept. (k : ℕ) → Contains order.now k → IsKept rows.now places.now states.now kept.items k) }
+        (λ kept. (k : ℕ) → Contains order.now k → IsNamedByKept rows.now places.now states.now kept.items k) }
 {
     let mut kept = Vec::new(alloc);
     for place in order {

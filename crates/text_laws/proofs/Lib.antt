@@ -1,4 +1,3 @@
-pub mod Nets
 pub mod Headers
 pub mod Texts
 mod OneText

@@ -24,8 +24,8 @@ use Rattle.split_texts.specs.Laws.Names.{names_once}
 use Rattle.shift_texts.specs.ShiftText.{IsShiftOf}
 use Rattle.state_reduce.specs.Laws.Works.{one_work}
 use Rattle.text_laws.specs.Rows.{EqualButForRows, HasSameSignals, RegistersDifferInRows, ShiftRowsAloneDiffer}
-use Rattle.decomposition.proofs.Lists.{same_ascending, zip_at}
-use Rattle.text_laws.proofs.Nets.{same_latches}
+use Rattle.decomposition.specs.Laws.Lists.{same_ascending, zip_at}
+use Rattle.text_laws.specs.Laws.Nets.{same_latches}
 
 -- ---- the start content
 same_front : (x y : Bool) (xs ys : List Bool) → ◌≡◌ {A = List Bool} (x ∷ xs) (y ∷ ys) → (x ≡ y) × (xs ≡ ys)

@@ -1,6 +1,6 @@
 -- Two networks of one job have one header and are equal but for the rows of their gates. So two texts of one job
 -- differ only there.
-use Rattle.std.proofs.Common.{◌≡◌, ◌∙◌, ℕ, Bool, List, length, sym, subst, arith}
+use Rattle.std.proofs.Common.{◌≡◌, ◌∙◌, ℕ, Bool, List, length, refl, sym, subst, arith}
 use Rattle.blif_out.specs.declared.header.Header.{Header}
 use Rattle.blif_out.specs.declared.networks.HeadedNetwork.{HeadedNetwork}
 use Rattle.blif_out.specs.Head.{header_text}
@@ -26,10 +26,11 @@ use Rattle.state_codes.specs.Code.{IsCode}
 use Rattle.state_codes.specs.Laws.Codes.{codes_are_one}
 use Rattle.state_reduce.specs.WorkMachine.{IsWorkMachine}
 use Rattle.text_laws.specs.Rows.{EqualButForRows, HasSameSignals, NetworksDifferInRows, RowsAloneDiffer}
-use Rattle.text_laws.proofs.Headers.{class_once, classes_once, notes_once, same_header, words_once}
-use Rattle.decomposition.proofs.Lists.{zip_each}
-use Rattle.text_laws.proofs.Nets.{equal_nets}
-use Rattle.decomposition.proofs.ReadOnce.{reads_once}
+use Rattle.text_laws.proofs.Headers.{class_once, classes_once, same_header, words_once}
+use Rattle.decomposition.specs.Laws.Lists.{zip_each}
+use Rattle.text_laws.specs.Laws.Nets.{equal_nets}
+use Rattle.text_laws.specs.Laws.Notes.{notes_once}
+use Rattle.decomposition.specs.Laws.ReadOnce.{reads_once}
 
 -- the gates of one code
 nets_of : (F W : KissFile) (parts : List Part) (codes : Codes) (N M : Network) → HasGates F W parts codes N → HasGates F W parts codes M → EqualButForRows N M
@@ -38,7 +39,7 @@ nets_of F W parts codes N M one other =
     let names : one.names ≡ other.names = names_once F codes.bits one.names other.names one.own other.own in
     let moved : IsRealised W codes.bits codes.words one.sets other.names M =
     subst (λ (sets : Reads). IsRealised W codes.bits codes.words sets other.names M) (sym sets) other.realised in
-    equal_nets W codes.bits codes.words one.sets one.names N M one.by_rule.latch_count one.by_rule.output_count one.realised
+    equal_nets W W refl refl codes.bits codes.words one.sets one.names N M one.by_rule.latch_count one.by_rule.output_count one.realised
     (subst (λ (names : SignalNames). IsRealised W codes.bits codes.words one.sets names M) (sym names) moved)
 
 -- what is said of the second text, of the codes and the parts of the first
@@ -74,12 +75,13 @@ module _ (reduce : Bool) (F W : KissFile) (class more_class : ℕ → ℕ) (code
       parts
       (one.named.states ∙ sym two.named.states)
       (words_once F class more_class codes H K (class_once reduce F W class more_class work more_work) one.printed second.printed)
-      (notes_once W codes N M nets.latches
+      (notes_once W W refl codes.words N M nets.latches
       (λ i gate twin there there_too. (zip_each HasSameSignals N.gates M.gates nets.gates i gate twin there there_too).inputs)
-      F class more_class H K
+      H.latches K.latches (one.printed.bits ∙ sym second.printed.bits)
       (one.gates.realised.gate_count ∙ sym second.gates.realised.gate_count)
-      (omega (arith, one.gates.realised.gate_count))
-      one.printed second.printed one.pairs second.pairs)
+      (omega (arith, one.printed.bits, one.gates.realised.gate_count))
+      (λ i note another there there_too. one.printed.owners i note there ∙ sym (second.printed.owners i another there_too))
+      one.pairs second.pairs)
 
   pub differ : (H ≡ K) × EqualButForRows N M
   differ = (headers, nets)

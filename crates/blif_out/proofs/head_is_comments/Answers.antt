@@ -1,4 +1,4 @@
-use Rattle.blif_out.proofs.Visible.{head_comments}
+use Rattle.blif_out.specs.Laws.Visible.{head_comments}
 use Rattle.blif_out.proofs.head_is_comments.Goals as goal
 
 pub returns : goal.returns

@@ -1,4 +1,4 @@
-use Rattle.blif_out.proofs.Designs as designs
+use Rattle.blif_out.specs.Laws.Designs as designs
 use Rattle.blif_out.proofs.plain_design_is_lawful.Goals as goal
 
 pub returns : goal.returns

@@ -10,6 +10,7 @@ use Rattle.partition.specs.Partition.{IsPartition, IsStateCount, IsZero, Togethe
 use Rattle.partition.specs.MeetAndJoin.{IsJoin}
 use Rattle.partition.specs.NestedBlocks.{least_of}
 use Rattle.partition.specs.Laws.Chains.{join_is_least, together_itself, together_turned, together_on}
+use Rattle.partition.specs.Laws.Generating.{IsZeroOf}
 use Rattle.partition.specs.Laws.Extremes.{zero_of_is_zero, zero_of_is_partition}
 use Rattle.partition.specs.Laws.Labels.{same_labels}
 use Rattle.partition.specs.Laws.World.{join_fits}
@@ -17,15 +18,11 @@ use Rattle.partition.specs.Laws.Least.{least_of-le, least_of-same, least_holds}
 use Rattle.closed_lattice.specs.ClosedPartitions.{HasPrincipal, IsClosedPartition, IsPrincipal}
 use Rattle.machine_table.specs.NextStates.{NeverLeaves}
 
--- zero, as the world of joins has it
-abbrev pub IsZeroOf : KissFile → List ℕ → Type 0
-IsZeroOf F p = p ≡ zero_of (length F.states)
-
 -- the joins of lists of partitions of the states
 abbrev pub IsMade : KissFile → List (List ℕ) → List ℕ → Type 0
-IsMade F generators p = IsGenerated (IsZeroOf F) IsJoin generators p
+IsMade F generators p = IsGenerated (IsZeroOf (length F.states)) IsJoin generators p
 
-pub zero_closed : (F : KissFile) (p : List ℕ) → NeverLeaves F → IsStateCount (length F.states) → IsZeroOf F p → IsClosedPartition F p
+pub zero_closed : (F : KissFile) (p : List ℕ) → NeverLeaves F → IsStateCount (length F.states) → IsZeroOf (length F.states) p → IsClosedPartition F p
 zero_closed F p inside count is =
     let lawful : IsPartition (length F.states) p = subst (IsPartition (length F.states)) (sym is) (zero_of_is_partition (length F.states) count) in
     (lawful, zero_pairs F p p inside lawful lawful (subst IsZero (sym is) (zero_of_is_zero (length F.states))))
@@ -38,7 +35,7 @@ join_closed F p q r left right is =
 -- joins of closed partitions are closed
 pub made_closed : (F : KissFile) (generators : List (List ℕ)) (p : List ℕ) → NeverLeaves F → IsStateCount (length F.states) → All (IsClosedPartition F) generators → IsMade F generators p → IsClosedPartition F p
 made_closed F generators p inside count closed made =
-    IsGenerated-has (IsZeroOf F) IsJoin (IsClosedPartition F) generators p (λ q is. zero_closed F q inside count is) (λ a b c left right joined. join_closed F a b c left right joined) closed made
+    IsGenerated-has (IsZeroOf (length F.states)) IsJoin (IsClosedPartition F) generators p (λ q is. zero_closed F q inside count is) (λ a b c left right joined. join_closed F a b c left right joined) closed made
 
 -- what is below one partition is below a greater one
 each_le : (p q : List ℕ) → Le p q → (xs : List (List ℕ)) → AllByRecursion (λ x. Le x p) xs → AllByRecursion (λ x. Le x q) xs
@@ -46,7 +43,7 @@ each_le p q le [] below = tt
 each_le p q le (x ∷ xs) (one, rest) = ((λ s t held. le s t (one s t held)), each_le p q le xs rest)
 
 -- a join of partitions is above each of them
-joined_above : (F : KissFile) → IsStateCount (length F.states) → (xs : List (List ℕ)) (p : List ℕ) → AllByRecursion (IsPartition (length F.states)) xs → IsJoinOf (IsZeroOf F) IsJoin xs p → IsPartition (length F.states) p × AllByRecursion (λ x. Le x p) xs
+joined_above : (F : KissFile) → IsStateCount (length F.states) → (xs : List (List ℕ)) (p : List ℕ) → AllByRecursion (IsPartition (length F.states)) xs → IsJoinOf (IsZeroOf (length F.states)) IsJoin xs p → IsPartition (length F.states) p × AllByRecursion (λ x. Le x p) xs
 joined_above F count [] p lawful is = (subst (IsPartition (length F.states)) (sym is) (zero_of_is_partition (length F.states) count), tt)
 joined_above F count (x ∷ xs) p (one, rest) (q, of, joined) =
     let so_far = joined_above F count xs q rest of in
@@ -97,13 +94,13 @@ module _ (F : KissFile) (generators : List (List ℕ)) (z : List ℕ) (closed : 
       ]
 
   -- a closed partition is the join of the least closed ones that hold two of its states together
-  pub made_by_pairs : IsStateCount (length F.states) → HaveJoins (IsZeroOf F) IsJoin generators → IsMade F generators z
+  pub made_by_pairs : IsStateCount (length F.states) → HaveJoins (IsZeroOf (length F.states)) IsJoin generators → IsMade F generators z
   made_by_pairs count joins =
       let all = ties (length F.states) (omega arith) in
       let join = joins all.chosen all.among in
       let y = join.0 in
       let above = joined_above F count all.chosen y all.lawful join.1 in
-      let below = IsJoinOf-has (IsZeroOf F) IsJoin (λ x. IsPartition (length F.states) x × Le x z)
+      let below = IsJoinOf-has (IsZeroOf (length F.states)) IsJoin (λ x. IsPartition (length F.states) x × Le x z)
       (λ x is. (subst (IsPartition (length F.states)) (sym is) (zero_of_is_partition (length F.states) count), zero_le x is))
       (λ a b c left right joined. (join_fits (length F.states) a b c left.0 joined, (join_is_least a b c (right.0.length ∙ sym left.0.length) joined).least z (subst (λ (n : ℕ). IsPartition n z) (sym left.0.length) closed.0) left.1 right.1))
       all.chosen y all.below join.1 in
@@ -111,9 +108,9 @@ module _ (F : KissFile) (generators : List (List ℕ)) (z : List ℕ) (closed : 
         (λ held. below.1 s t held),
         (λ held. tied_together all above.0 above.1 s t held),
       )) in
-      (all.chosen, all.among, subst (IsJoinOf (IsZeroOf F) IsJoin all.chosen) same join.1)
+      (all.chosen, all.among, subst (IsJoinOf (IsZeroOf (length F.states)) IsJoin all.chosen) same join.1)
     where
-      zero_le : (x : List ℕ) → IsZeroOf F x → Le x z
+      zero_le : (x : List ℕ) → IsZeroOf (length F.states) x → Le x z
       zero_le x is s t held =
           let same : s ≡ t = zero_of_is_zero (length F.states) s t (subst (λ (zero' : List ℕ). Together zero' s t) is held) in
           let size : length x ≡ length F.states = ap length is ∙ (zero_of_is_partition (length F.states) closed.0.count).length in
@@ -126,7 +123,7 @@ module _ (F : KissFile) (generators : List (List ℕ)) (z : List ℕ) (closed : 
           together_on y s (least_of z s) t (together_turned y (least_of z s) s one) (subst (λ (k : ℕ). Together y k t) (sym (least_of-same z s t held.2)) two)
 
 -- a closed partition is the join of least closed ones
-pub closed_made : (F : KissFile) (generators : List (List ℕ)) → ((s t : ℕ) → s < t → t < length F.states → HasPrincipal F generators s t) → (z : List ℕ) → IsClosedPartition F z → IsStateCount (length F.states) → HaveJoins (IsZeroOf F) IsJoin generators → IsMade F generators z
+pub closed_made : (F : KissFile) (generators : List (List ℕ)) → ((s t : ℕ) → s < t → t < length F.states → HasPrincipal F generators s t) → (z : List ℕ) → IsClosedPartition F z → IsStateCount (length F.states) → HaveJoins (IsZeroOf (length F.states)) IsJoin generators → IsMade F generators z
 closed_made F generators have z closed count joins = made_by_pairs F generators z closed (λ s t order below held. have s t order below) count joins
 
 -- there is one least closed partition

@@ -12,16 +12,16 @@ pub record AreMarks (width : ℕ) (terms : List Term) (marks : List ℕ) : Type 
   pub zero : (x : ℕ) → x < 2 ^ width → (slice_index_or marks x 0 ≡ 0) ⊎ IsCovered terms x
 
 -- the table is of at most 16 columns and has the marks of its terms
-pub record IsTable (table : Table) : Type 0 where
+pub record IsMarkTable (table : Table) : Type 0 where
   pub few : table.width ≤ 16
   pub told : AreMarks table.width table.terms.items table.marks.items
 
 -- the table is right, with those terms and this number of columns
-pub record IsTableOf (width : ℕ) (terms : List Term) (table : Table) : Type 0 where
+pub record IsMarkTableOf (width : ℕ) (terms : List Term) (table : Table) : Type 0 where
   pub columns : table.width ≡ width
   pub items : table.terms.items ≡ terms
-  pub right : IsTable table
+  pub right : IsMarkTable table
 
 -- the table with one more term
 abbrev pub IsOneMore : Table → Term → Table → Type 0
-IsOneMore before term after = IsTableOf before.width (before.terms.items ++ term ∷ []) after
+IsOneMore before term after = IsMarkTableOf before.width (before.terms.items ++ term ∷ []) after

@@ -1,6 +1,6 @@
 -- Which blocks have a state.
 use Rattle.std.specs.Prelude.{◌≡◌, ℕ, ◌<◌, AllPairs, Contains, List, [], length, slice_index_or}
-use Rattle.cover_split.specs.Cover.{Has, IsWithin}
+use Rattle.cover_split.specs.StateCover.{Has, IsWithin}
 
 -- the numbers of the first count blocks that have the state, ascending
 pub record AreHolders (blocks : List (List ℕ)) (s count : ℕ) (holders : List ℕ) : Type 0 where

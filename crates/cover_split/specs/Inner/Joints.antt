@@ -6,7 +6,7 @@ use Rattle.cubes.specs.Symbol.{bit}
 use Rattle.kiss_file.specs.declared.file.KissFile.{KissFile}
 use Rattle.machine_table.specs.declared.pieces.Piece.{Piece}
 use Rattle.machine_table.specs.Pieces.{IsHeldByPiece, IsPiece}
-use Rattle.cover_split.specs.Cover.{block_at}
+use Rattle.cover_split.specs.StateCover.{block_at}
 use Rattle.cover_split.specs.declared.joint.Joint.{Joint}
 use Rattle.cover_split.specs.declared.joint.Division.{Division}
 use Rattle.cover_split.specs.declared.joint.Division.TheVariants.{Halve, Whole}

@@ -2,10 +2,10 @@
 use Rattle.std.specs.Prelude.{◌≡◌, ℕ, ◌<◌, List, length, map}
 use Rattle.std.specs.Fmt.{decimal}
 use Rattle.partition.specs.Text.{pieces_of}
-use Rattle.cover_split.specs.Cover.{IsBlock}
+use Rattle.cover_split.specs.StateCover.{IsBlock}
 use Rattle.cover_split.specs.Refusal.{IsStatePiece}
-use Rattle.cover_split.specs.declared.cover.CoverFail.{CoverFail}
-use Rattle.cover_split.specs.declared.cover.CoverFail.TheVariants.{BadText, Contained, Missing, TooMany, Trivial, NoMemory}
+use Rattle.cover_split.specs.declared.state_cover.CoverFail.{CoverFail}
+use Rattle.cover_split.specs.declared.state_cover.CoverFail.TheVariants.{BadText, Contained, Missing, TooMany, Trivial, NoMemory}
 
 -- the text has the numbers of the states of the block
 pub record IsBlockText (n : ℕ) (text block : List ℕ) : Type 0 where

@@ -6,7 +6,7 @@ use Rattle.kiss_file.specs.declared.file.KissFile.{KissFile}
 use Rattle.kiss_file.specs.declared.file.KissRow.{KissRow}
 use Rattle.kiss_file.specs.Machine.{out}
 use Rattle.kiss_file.specs.NumberedNames.{numbered_names}
-use Rattle.cover_split.specs.Cover.{block_at}
+use Rattle.cover_split.specs.StateCover.{block_at}
 use Rattle.cover_split.specs.Expansion.{IsFirstCopy, IsNextPair, IsPair, pairs_of}
 
 -- a row of the pair with the number i

@@ -6,7 +6,7 @@ use Rattle.std.proofs.lemmas.List.Elements.{All-get_or, All-head, All-tail}
 use Rattle.std.proofs.lemmas.List.Sums.{sum_by-cons}
 use Rattle.std.proofs.lemmas.Option.{get_or_from_slice_get, none-some, same_Some, slice_get_within, slice_get-get_or}
 use Rattle.list_facts.specs.Laws.Places.{get_behind}
-use Rattle.cover_split.specs.Cover.{Has, IsBlock, block_at, places_of}
+use Rattle.cover_split.specs.StateCover.{Has, IsBlock, block_at, places_of}
 use Rattle.cover_split.specs.Expansion.{IsPair, pairs_from, pairs_of, pairs_with}
 
 -- where the pairs of the block of that number begin

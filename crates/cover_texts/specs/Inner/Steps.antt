@@ -3,9 +3,9 @@ use Rattle.std.specs.Prelude.{◌≡◌, ℕ, ◌≤◌, All, List, Some, length
 use Rattle.answers.specs.declared.refusals.CoverFlaw.TheVariants.{Lacks, Leaves, Place, Places, Trivial, Within}
 use Rattle.answers.specs.declared.refusals.Refusal.{Refusal}
 use Rattle.answers.specs.declared.refusals.Refusal.TheVariants.{BadCover, NoMemory}
-use Rattle.cover_split.specs.declared.cover.CoverFail.{CoverFail}
-use Rattle.cover_split.specs.declared.cover.CoverFail.TheVariants as fails
-use Rattle.cover_split.specs.Cover.{IsCover}
+use Rattle.cover_split.specs.declared.state_cover.CoverFail.{CoverFail}
+use Rattle.cover_split.specs.declared.state_cover.CoverFail.TheVariants as fails
+use Rattle.cover_split.specs.StateCover.{IsStateCover}
 use Rattle.cover_split.specs.Expansion.{AnswersAlike, IsClosedCover, IsExpansion, IsFirstLeaving, pairs_of}
 use Rattle.cover_split.specs.Parts.{IsClosedFront, IsSplitByBlock}
 use Rattle.cover_split.specs.Refusal.{CoverFault, SpellsBlocks}
@@ -30,8 +30,8 @@ IsFailRefusal F fails.NoMemory refusal = refusal ≡ NoMemory
 -- the blocks are the cover that the text gives, and the only one
 pub record IsRead (n : ℕ) (text : List ℕ) (blocks : List (List ℕ)) : Type 0 where
   pub spelled : SpellsBlocks n text blocks
-  pub cover : IsCover n blocks
-  pub alone : (others : List (List ℕ)) → SpellsBlocks n text others → IsCover n others → blocks ≡ others
+  pub cover : IsStateCover n blocks
+  pub alone : (others : List (List ℕ)) → SpellsBlocks n text others → IsStateCover n others → blocks ≡ others
   pub faultless : (fail : CoverFail) → CoverFault n text fail → ⊥
 
 -- E is the machine of the pairs of a closed cover

@@ -1,7 +1,6 @@
 -- The network of a file's split, and the network with its header.
 use Rattle.std.specs.Prelude.{◌≡◌, ℕ, List, Option}
 use Rattle.blif_out.specs.declared.networks.HeadedNetwork.{HeadedNetwork}
-use Rattle.kiss_file.specs.declared.file.KissFile.{KissFile}
 use Rattle.net_core.specs.declared.SignalNames.{SignalNames}
 use Rattle.realise.specs.Names.{AreNames}
 use Rattle.state_codes.specs.declared.Codes.{Codes}
@@ -11,10 +10,10 @@ use Rattle.decomposition.specs.declared.network.SplitNetwork.{SplitNetwork}
 use Rattle.decomposition.specs.Inner.Header.{IsHeaderOf}
 use Rattle.decomposition.specs.Network.{IsNetworkOf}
 
--- the network of the split, for some names of the file's signals
-pub record IsNamedNetwork (F : KissFile) (work : WorkMachine) (split : Split) (codes : Codes) (made : SplitNetwork) : Type 0 where
+-- the network of the split, for some names of the signals of the work machine's file
+pub record IsNamedNetwork (work : WorkMachine) (split : Split) (codes : Codes) (made : SplitNetwork) : Type 0 where
   pub names : SignalNames
-  pub own : AreNames F codes.bits names
+  pub own : AreNames work.file.now codes.bits names
   pub net : IsNetworkOf work.machine split.parts codes names made.network made.notes
 
 -- the network, with the header of the split, its codes and its notes

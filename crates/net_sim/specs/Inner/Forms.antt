@@ -13,7 +13,7 @@ use Rattle.net_sim.specs.Inner.GateValues.{value_for}
 use Rattle.net_sim.specs.Inner.Pieces.{IsWide}
 
 -- the table has at each number the value of the gate for the bits of this number
-pub record IsTable (gate : NumberedGate) (table : List Bool) : Type 0 where
+pub record IsValueTable (gate : NumberedGate) (table : List Bool) : Type 0 where
   pub few : length gate.inputs.items ≤ 12
   pub whole : length table ≡ 2 ^ length gate.inputs.items
   pub values : (k : ℕ) → k < length table → slice_index_or table k false ≡ value_for gate (symbol_of (length gate.inputs.items) k)
@@ -37,7 +37,7 @@ pub record IsSmall (gate : NumberedGate) (small : SmallGate) : Type 0 where
 -- the form gives the values of the gate
 abbrev pub IsForm : NumberedGate → GateForm → Type 0
 IsForm gate (Small small) = IsSmall gate small
-IsForm gate (Table table) = IsTable gate table
+IsForm gate (Table table) = IsValueTable gate table
 IsForm gate (Cubes cubes) = IsCubes gate cubes
 IsForm gate (Wide rows) = (length gate.inputs.items ≤ 256) × IsWide gate rows
 IsForm gate Rows = ⊤

@@ -1,7 +1,7 @@
 -- A job has one split, and what a part reads is one set.
 use Rattle.std.proofs.Common.{◌≡◌, Bool, ℕ, List, length, refl, sym, subst}
-use Rattle.decomposition.proofs.Lists.{same_ascending}
-use Rattle.decomposition.proofs.ReadOnce.{reads_once}
+use Rattle.decomposition.specs.Laws.Lists.{same_ascending}
+use Rattle.decomposition.specs.Laws.ReadOnce.{reads_once}
 use Rattle.dependence.specs.declared.sets.ReadSet.{ReadSet}
 use Rattle.dependence.specs.declared.sets.Reads.{Reads}
 use Rattle.dependence.specs.Reads.{AreReads}

@@ -1,6 +1,6 @@
 -- Right sides are the joins of generators, for any relation of members that go together, in the world of partitions and
 -- in that of Mm pairs.
-use Rattle.std.proofs.Common.{◌≡◌, ℕ, zero, suc, ◌<◌, ◌≤◌, inl, inr, All, Contains, List, [], ◌∷◌, length, refl, sym, ◌∙◌, subst, arith}
+use Rattle.std.proofs.Common.{◌≡◌, ℕ, zero, suc, ◌<◌, ◌≤◌, inl, inr, All, Contains, List, [], ◌∷◌, length, map, refl, sym, ◌∙◌, subst, arith}
 use Rattle.std.specs.List.{AllByRecursion}
 use Rattle.std.proofs.lemmas.Bool.{cases_eq, cases_lt}
 use Rattle.hs_lattice.specs.JoinWorld.{IsJoinOf, IsGenerated, HaveJoins}
@@ -147,6 +147,14 @@ fit_made members values Going going grow generators fit have joins z is =
 -- zero, as the world of partitions has it
 abbrev pub IsZeroOf : ℕ → List ℕ → Type 0
 IsZeroOf n q = q ≡ zero_of n
+
+-- the partition is the join of some of the generators, as `join_closure` writes them
+abbrev pub IsJoinOfSome : ℕ → List (List ℕ) → List ℕ → Type 0
+IsJoinOfSome n generators q = IsGenerated (IsZeroOf n) IsJoin (map (λ r. r) generators) q
+
+-- and each list of them has a join
+abbrev pub HaveJoinsOf : ℕ → List (List ℕ) → Type 0
+HaveJoinsOf n generators = HaveJoins (IsZeroOf n) IsJoin (map (λ r. r) generators)
 
 -- a right side of an Mm pair is a join of right sides of two members
 pub right_generated_by : (members values : ℕ) (Going : List ℕ → ℕ → ℕ → Type 0) → IsGoing Going → (found : List (List ℕ))

@@ -5,7 +5,7 @@ use Rattle.std.specs.List.Sorted.{IsSorted}
 use Rattle.std.specs.Ordering.{nat_cmp}
 use Rattle.gate_rows.specs.declared.demands.Demand.{Demand}
 use Rattle.gate_rows.specs.Columns.{column_count}
-use Rattle.gate_rows.specs.Covers.{IsGoodCover}
+use Rattle.gate_rows.specs.GateCovers.{IsGoodCover}
 use Rattle.gate_rows.specs.Demands.{IsAsked}
 use Rattle.gate_rows.specs.Names.{name_at}
 use Rattle.net_core.specs.declared.Gate.{Gate}

@@ -4,20 +4,14 @@ use Rattle.std.proofs.lemmas.Bool.{cases_lt}
 use Rattle.std.proofs.lemmas.Option.{slice_get-get_or}
 use Rattle.kiss_file.specs.declared.file.KissFile.{KissFile}
 use Rattle.shift_real.specs.declared.contents.Content.{Content}
-use Rattle.shift_real.specs.DefiniteMachine.{AreFirstApart, IsOrder}
+use Rattle.shift_real.specs.DefiniteMachine.{IsOrder}
 use Rattle.shift_real.specs.Inner.Contents.{AreContents}
-use Rattle.shift_real.specs.Register.{HasShortOrder, IsNotReached, word_number}
+use Rattle.shift_real.specs.Register.{IsNotReached, word_number}
 use Rattle.shift_real.specs.Start.{WritesStart}
 
 -- there is one order
 pub order_once : (F : KissFile) (j k : ℕ) → IsOrder F j → IsOrder F k → j ≡ k
 order_once F j k is other = omega (arith, is.least k other.definite, other.least j is.definite)
-
-pub short_bits : (F : KissFile) (k : ℕ) → (j : ℕ) × HasShortOrder F j → IsOrder F k → k * F.inputs ≤ 12
-short_bits F k (j, has) is = subst (λ (n : ℕ). n * F.inputs ≤ 12) (order_once F j k has.order is) has.short
-
-pub none_apart : (F : KissFile) (s t : ℕ) → (j : ℕ) × HasShortOrder F j → AreFirstApart F s t → ⊥
-none_apart F s t (j, has) apart = apart.apart j (has.order.definite s t apart.first_state apart.second_state)
 
 module _ (F : KissFile) (k : ℕ) (contents : List Content) (are : AreContents F k contents) where
   start_here : (first : ℕ) (content : Content) → slice_get contents first ≡ Some content → content.state ≡ F.reset

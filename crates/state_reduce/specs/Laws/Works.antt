@@ -7,7 +7,8 @@ use Rattle.partition.specs.Laws.Labels.{same_labels}
 use Rattle.state_reduce.specs.AlikeStates.{IsEquivalence}
 use Rattle.state_reduce.specs.Quotient.{IsQuotient}
 use Rattle.state_reduce.specs.WorkMachine.{IsWorkMachine}
-use Rattle.state_reduce.specs.Work.{IsWorkOf}
+use Rattle.state_reduce.specs.declared.work.WorkMachine.{WorkMachine}
+use Rattle.state_reduce.specs.Work.{IsWork, IsWorkOf}
 
 -- there is only one partition into alike states
 held_by : (F : KissFile) (p q : List ℕ) → IsEquivalence F p → IsEquivalence F q → (s t : ℕ) → Together p s t → Together q s t
@@ -42,3 +43,7 @@ work_once false F W V class other_class one other = one.file ∙ sym other.file
 -- a command works on one machine, with `--reduce` and without
 pub one_work : (reduce : Bool) (F W V : KissFile) → IsWorkOf reduce F W → IsWorkOf reduce F V → W ≡ V
 one_work reduce F W V (class, one) (other_class, other) = work_once reduce F W V class other_class one other
+
+-- what is the work machine of a file is that of the file that stands beside it
+pub with_its_file : (reduce : Bool) (F : KissFile) (work : WorkMachine) → IsWork reduce F work → IsWork reduce work.file.now work
+with_its_file reduce F work is = subst (λ (G : KissFile). IsWork reduce G work) (sym is.file) is

@@ -1,4 +1,4 @@
-use Rattle.blif_out.proofs.Designs.{by_ends, by_inner}
+use Rattle.blif_out.specs.Laws.Designs.{by_ends, by_inner}
 use Rattle.blif_out.proofs.design.is_signal.Goals as goal
 
 pub returns-then-is_end : goal.returns-then-is_end

@@ -3,7 +3,7 @@ use Rattle.std.proofs.lemmas.Result.{IfOk-weaker}
 use Rattle.net_core.specs.Denotation.{Denotes}
 use Rattle.blif_out.specs.Design.{plain_design}
 use Rattle.blif_out.specs.Head.{Head}
-use Rattle.blif_out.proofs.Designs.{plain_design_is_lawful}
+use Rattle.blif_out.specs.Laws.Designs.{plain_design_is_lawful}
 use Rattle.blif_out.proofs.Whole.{head_begins, whole_denotes}
 use Rattle.blif_out.proofs.writing.text.Goals as goal
 

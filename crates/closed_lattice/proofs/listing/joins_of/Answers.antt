@@ -6,9 +6,10 @@ use Rattle.machine_table.specs.NextStates.{NeverLeaves}
 use Rattle.partition.specs.Order.{Before}
 use Rattle.partition.specs.MeetAndJoin.{IsJoin}
 use Rattle.partition.specs.Partition.{IsPartition}
+use Rattle.partition.specs.Laws.Generating.{IsZeroOf}
 use Rattle.closed_lattice.specs.ClosedPartitions.{IsClosedPartition}
 use Rattle.closed_lattice.specs.Inner.Generators.{AreGenerators}
-use Rattle.closed_lattice.specs.Laws.Generating.{IsMade, IsZeroOf, closed_made, made_closed, states_counted}
+use Rattle.closed_lattice.specs.Laws.Generating.{IsMade, closed_made, made_closed, states_counted}
 use Rattle.closed_lattice.specs.Laws.Listed.{listed, evident, unevident}
 use Rattle.closed_lattice.proofs.listing.joins_of.Goals as goal
 
@@ -16,7 +17,7 @@ module _ (F : KissFile) (n : ℕ) (size : n ≡ length F.states) (inside : Never
   made_are : All (IsClosedPartition F) found → (p : List ℕ) → IsMade F generators p → IsClosedPartition F p
   made_are closed p made = made_closed F generators p inside (states_counted F n size some few) (subst (All (IsClosedPartition F)) (sym same) closed) made
 
-  are_made : AreGenerators F found → HaveJoins (IsZeroOf F) IsJoin generators → (p : List ℕ) → IsClosedPartition F p → IsMade F generators p
+  are_made : AreGenerators F found → HaveJoins (IsZeroOf (length F.states)) IsJoin generators → (p : List ℕ) → IsClosedPartition F p → IsMade F generators p
   are_made are joins p is = closed_made F generators (rw same are.each) p is (states_counted F n size some few) joins
 
 pub returns-clause-whole : goal.returns-clause-whole

@@ -9,9 +9,9 @@ loop-kind-init c = λ reduce is. ([], tt, c.new-text.ensures.items)
 
 pub loop-kind-preserved : goal.loop-kind-preserved
 loop-kind-preserved c = λ reduce is.
-    kinds_more reduce c.args.file.now c.args.compared.now c.loop-kind.kind-index Code c.in_ok-line.line.items c.loop-kind.text.items c.append_line.new.text.items c.loop-kind-test.true
+    kinds_more reduce c.args.work.now.file.now c.args.compared.now c.loop-kind.kind-index Code c.in_ok-line.line.items c.loop-kind.text.items c.append_line.new.text.items c.loop-kind-test.true
     (c.loop-kind.invariant reduce is) (c.in_ok-line.ensures reduce is)
     (c.in_ok-append_line.ensures ∙ ap (λ (line : List ℕ). c.loop-kind.text.items ++ ended line) c.as_slice.ensures.value)
 
 pub returns : goal.returns
-returns c = λ reduce is. kinds_all reduce c.args.file.now c.args.compared.now c.loop-kind.kind-index c.loop-kind.text.items c.loop-kind-test.false (c.loop-kind.invariant reduce is)
+returns c = λ reduce is. kinds_all reduce c.args.work.now.file.now c.args.compared.now c.loop-kind.kind-index c.loop-kind.text.items c.loop-kind-test.false (c.loop-kind.invariant reduce is)

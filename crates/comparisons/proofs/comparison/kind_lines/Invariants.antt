@@ -4,4 +4,4 @@ use Rattle.state_reduce.specs.Work.{IsWork}
 use Rattle.comparisons.proofs.comparison.kind_lines.Given as goal
 
 abbrev pub invariant-loop-kind : goal.invariant-loop-kind
-invariant-loop-kind l = (reduce : Bool) → IsWork reduce l.file l.work → HasKindLines reduce l.file (take l.kind-index l.compared) l.text.items
+invariant-loop-kind l = (reduce : Bool) → IsWork reduce l.work.file.now l.work → HasKindLines reduce l.work.file.now (take l.kind-index l.compared) l.text.items

@@ -1,7 +1,7 @@
 use Rattle.std.proofs.Common.{ℕ, ◌≡◌, List, length, subst, sym}
 use Rattle.std.proofs.lemmas.Result.{err_from_is_err_and}
 use Rattle.kiss_file.specs.declared.file.KissFile.{KissFile}
-use Rattle.cover_split.specs.Cover.{IsCover}
+use Rattle.cover_split.specs.StateCover.{IsStateCover}
 use Rattle.cover_split.specs.Expansion.{Caused, IsClosedCover}
 use Rattle.cover_split.specs.Inner.Rows.{IsBuilt}
 use Rattle.cover_split.proofs.Expanded.{answers_alike, answers_as_states, expansion, lawful, no_conflict, numbered, specified, table_of}
@@ -60,4 +60,4 @@ returns-in_err-file-clause-caused c =
     rw (p.1, p.2) (subst (λ (b : List (List ℕ)). Caused c.args.m.now b c.in_err-file.field-0.0) c.as_slice.ensures c.in_err-file.ensures.caused)
 
 pub file_of_pairs-requires : goal.file_of_pairs-requires
-file_of_pairs-requires c = subst (IsCover (length c.args.m.now.states)) (sym c.as_slice.ensures) c.requires
+file_of_pairs-requires c = subst (IsStateCover (length c.args.m.now.states)) (sym c.as_slice.ensures) c.requires

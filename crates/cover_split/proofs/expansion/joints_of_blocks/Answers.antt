@@ -4,7 +4,7 @@ use Rattle.std.proofs.lemmas.List.{length_push}
 use Rattle.std.proofs.lemmas.List.Elements.{All-get_or}
 use Rattle.machine_table.specs.Pairs.{AtEachSymbol}
 use Rattle.cover_split.specs.declared.joint.Joint.{Joint}
-use Rattle.cover_split.specs.Cover.{IsBlock, block_at}
+use Rattle.cover_split.specs.StateCover.{IsBlock, block_at}
 use Rattle.cover_split.specs.Expansion.{StaysWithin}
 use Rattle.cover_split.specs.Inner.Joints.{AllLead, AreJoints, AreJointsOfEach, IsLeastLeaving}
 use Rattle.cover_split.proofs.JointLemmas.{first_leaving_from, joints_more, no_joints, stays_from_lead}

@@ -1,6 +1,6 @@
 use Rattle.std.proofs.Common.{ℕ, ◌≡◌, inl, inr, subst, arith}
 use Rattle.std.proofs.lemmas.Bool.{cases_lt}
-use Rattle.cover_split.specs.Cover.{IsWithin}
+use Rattle.cover_split.specs.StateCover.{IsWithin}
 use Rattle.cover_split.proofs.holders.first_contained.Goals as goal
 
 pub loop-a-preserved : goal.loop-a-preserved

@@ -1,5 +1,5 @@
 use Rattle.std.proofs.Common.{ℕ, ◌<◌}
-use Rattle.cover_split.specs.Cover.{IsWithin}
+use Rattle.cover_split.specs.StateCover.{IsWithin}
 use Rattle.cover_split.proofs.holders.first_contained.Given as goal
 
 abbrev pub invariant-loop-a : goal.invariant-loop-a

@@ -1,7 +1,7 @@
 use Rattle.std.proofs.Common.{ℕ, ◌≡◌, ◌<◌, List, get_or, length, subst, sym, ap, ◌∙◌}
 use Rattle.std.proofs.lemmas.Bool.{false≢true}
 use Rattle.std.proofs.lemmas.List.Elements.{Contains-get_or}
-use Rattle.cover_split.specs.Cover.{block_at}
+use Rattle.cover_split.specs.StateCover.{block_at}
 use Rattle.cover_split.specs.Inner.Holders.{AreHolders, AreHoldersOf}
 use Rattle.cover_split.proofs.Holding.{around_more, first_below, first_of, least_found, none_around}
 use Rattle.cover_split.proofs.holders.least_around.Goals as goal

@@ -1,7 +1,7 @@
 use Rattle.std.proofs.Common.{ℕ, ◌<◌, List, [], AllPairs, subst, sym}
 use Rattle.std.proofs.lemmas.Bool.{false≢true}
 use Rattle.std.proofs.lemmas.List.Elements.{All-get_or}
-use Rattle.cover_split.specs.Cover.{IsBlock}
+use Rattle.cover_split.specs.StateCover.{IsBlock}
 use Rattle.cover_split.proofs.Holding.{in_from_within, within_from_in}
 use Rattle.cover_split.proofs.holders.lies_within.Goals as goal
 

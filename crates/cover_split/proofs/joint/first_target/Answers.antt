@@ -1,6 +1,6 @@
 use Rattle.std.proofs.Common.{below_more, subst, sym, ◌∙◌, arith}
 use Rattle.std.proofs.lemmas.Bool.{false≢true}
-use Rattle.cover_split.specs.Cover.{block_at}
+use Rattle.cover_split.specs.StateCover.{block_at}
 use Rattle.cover_split.specs.Inner.Joints.{HasEachNext}
 use Rattle.cover_split.proofs.joint.first_target.Goals as goal
 

@@ -1,5 +1,5 @@
 use Rattle.std.proofs.Common.{ℕ, ◌<◌}
-use Rattle.cover_split.specs.Cover.{block_at}
+use Rattle.cover_split.specs.StateCover.{block_at}
 use Rattle.cover_split.specs.Inner.Joints.{HasEachNext}
 use Rattle.cover_split.proofs.joint.first_target.Given as goal
 

@@ -1,6 +1,6 @@
 use Rattle.std.proofs.Common.{ℕ, List, Contains, below_more, subst, sym, ◌∙◌, arith}
 use Rattle.std.proofs.lemmas.Bool.{false≢true}
-use Rattle.cover_split.specs.Cover.{Has}
+use Rattle.cover_split.specs.StateCover.{Has}
 use Rattle.cover_split.proofs.pairs.first_with.Goals as goal
 
 pub loop-j-preserved : goal.loop-j-preserved

@@ -1,6 +1,6 @@
 use Rattle.std.proofs.Common.{is_some, subst, sym, ap}
 use Rattle.std.proofs.lemmas.List.Elements.{All-get_or}
-use Rattle.cover_split.specs.Cover.{block_at}
+use Rattle.cover_split.specs.StateCover.{block_at}
 use Rattle.cover_split.specs.Inner.Joints.{IsJoint}
 use Rattle.cover_split.proofs.RowLemmas.{no_rows_for, rows_for_more, rows_of_pair}
 use Rattle.cover_split.proofs.rows.add_rows.Goals as goal

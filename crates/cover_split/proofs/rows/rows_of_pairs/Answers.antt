@@ -1,5 +1,5 @@
 use Rattle.std.proofs.Common.{ℕ, ◌≡◌, ◌<◌, List, Contains, get_or, length, slice_get, Some, subst, sym, ap, ◌∙◌, arith}
-use Rattle.cover_split.specs.Cover.{block_at}
+use Rattle.cover_split.specs.StateCover.{block_at}
 use Rattle.cover_split.specs.Expansion.{IsPair, pairs_of}
 use Rattle.cover_split.specs.Inner.Rows.{AreRowsBelow, IsPlaceOf}
 use Rattle.cover_split.specs.Laws.Pairs.{length-pairs_of, pair_has}

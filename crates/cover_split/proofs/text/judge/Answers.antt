@@ -1,13 +1,13 @@
 use Rattle.std.proofs.Common.{◌≡◌, ℕ, ◌<◌, List, [], length, inr, sym, ◌∙◌, subst, arith}
 use Rattle.std.proofs.lemmas.Bool.{false≢true}
-use Rattle.cover_split.specs.Cover.{IsCovered, block_at}
+use Rattle.cover_split.specs.StateCover.{IsInSomeBlock, block_at}
 use Rattle.cover_split.specs.Inner.Holders.{AreHoldersOf}
 use Rattle.cover_split.specs.Refusal.{IsFirstMissing}
 use Rattle.cover_split.proofs.Holding.{covered_from_some, first_missing_from}
 use Rattle.cover_split.proofs.text.judge.Goals as goal
 
 -- no state is missing
-whole : (blocks lists read : List (List ℕ)) (n : ℕ) → AreHoldersOf blocks n lists → read ≡ lists → ((t : ℕ) → t < length read → 0 < length (block_at read t)) → (s : ℕ) → s < n → IsCovered blocks s
+whole : (blocks lists read : List (List ℕ)) (n : ℕ) → AreHoldersOf blocks n lists → read ≡ lists → ((t : ℕ) → t < length read → 0 < length (block_at read t)) → (s : ℕ) → s < n → IsInSomeBlock blocks s
 whole blocks lists read n are same none s within =
     let held = subst (λ (xs : List (List ℕ)). (t : ℕ) → t < length xs → 0 < length (block_at xs t)) same none in
     covered_from_some blocks n lists are s within (held s (omega (arith, are.size)))

@@ -1,7 +1,7 @@
 use Rattle.std.proofs.Common.{◌≡◌, ◌⊎◌, ℕ, List, inl, inr, subst}
 use Rattle.std.proofs.lemmas.Result.{err_from_is_err_and}
-use Rattle.cover_split.specs.declared.cover.CoverFail.{CoverFail}
-use Rattle.cover_split.specs.declared.cover.CoverFail.TheVariants.{NoMemory}
+use Rattle.cover_split.specs.declared.state_cover.CoverFail.{CoverFail}
+use Rattle.cover_split.specs.declared.state_cover.CoverFail.TheVariants.{NoMemory}
 use Rattle.cover_split.specs.Refusal.{BlocksFault, CoverFault, SpellsBlocks}
 use Rattle.cover_split.proofs.Outcomes.{text_fault}
 use Rattle.cover_split.proofs.text.read_cover.Goals as goal

@@ -4,11 +4,11 @@ use Rattle.decomposition.proofs.headed_networks.network_of_file.Goals as goal
 
 pub network_of_split-requires-clause-counted : goal.network_of_split-requires-clause-counted
 network_of_split-requires-clause-counted c =
-    counted c.args.file.now c.args.work.now c.args.codes.now c.requires.lawful c.requires.no_conflict c.requires.code.written.states c.requires.short c.in_ok-signals.signals c.in_ok-signals.ensures c.requires.work.0 c.requires.work.1
+    counted c.args.work.now.file.now c.args.work.now c.args.codes.now c.requires.lawful c.requires.no_conflict c.requires.code.written.states c.requires.short c.in_ok-signals.signals c.in_ok-signals.ensures c.requires.work.0 c.requires.work.1
 
 pub network_of_split-requires-clause-apart : goal.network_of_split-requires-clause-apart
 network_of_split-requires-clause-apart c =
-    apart c.args.file.now c.args.work.now c.args.codes.now c.requires.lawful c.requires.no_conflict c.requires.code.written.states c.requires.short c.in_ok-signals.signals c.in_ok-signals.ensures
+    apart c.args.work.now.file.now c.args.work.now c.args.codes.now c.requires.lawful c.requires.no_conflict c.requires.code.written.states c.requires.short c.in_ok-signals.signals c.in_ok-signals.ensures
 
 pub returns : goal.returns
 returns c =

@@ -1,4 +1,4 @@
-use Rattle.gate_rows.proofs.ReadNumbers.{term_read}
+use Rattle.gate_rows.specs.Laws.ReadNumbers.{term_read}
 use Rattle.gate_rows.proofs.columns.term_of.Goals as goal
 
 pub returns : goal.returns

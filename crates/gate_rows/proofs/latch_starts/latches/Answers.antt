@@ -1,7 +1,7 @@
 use Rattle.std.proofs.Common.{[], arith}
-use Rattle.gate_rows.proofs.Ranges.{map-range-push}
+use Rattle.gate_rows.specs.Laws.Ranges.{map-range-push}
 use Rattle.gate_rows.specs.Latches.{latch_of}
-use Rattle.gate_rows.proofs.LatchNames.{latches_at}
+use Rattle.gate_rows.specs.Laws.LatchNames.{latches_at}
 use Rattle.gate_rows.proofs.latch_starts.latches.Goals as goal
 
 pub loop-i-preserved : goal.loop-i-preserved

@@ -2,7 +2,7 @@ use Rattle.std.proofs.Common.{◌≡◌, ap, ◌∙◌, map, take, arith}
 use Rattle.std.proofs.lemmas.List.{take_all}
 use Rattle.std.proofs.lemmas.Result.{IfOk-weaker}
 use Rattle.gate_rows.specs.Inner.Texts.{row_text}
-use Rattle.gate_rows.proofs.RowTexts.{names_in_order, names_moved}
+use Rattle.gate_rows.specs.Laws.RowTexts.{names_in_order, names_moved}
 use Rattle.gate_rows.proofs.texts.row_texts.Goals as goal
 
 pub returns-clause-in_order : goal.returns-clause-in_order

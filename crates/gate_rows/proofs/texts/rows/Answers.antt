@@ -1,5 +1,5 @@
 use Rattle.std.proofs.lemmas.Result.{IfOk-weaker}
-use Rattle.gate_rows.proofs.TermCovers.{texts_cover, texts_widths}
+use Rattle.gate_rows.specs.Laws.TermCovers.{texts_cover, texts_widths}
 use Rattle.gate_rows.proofs.texts.rows.Goals as goal
 
 pub returns-clause-cover : goal.returns-clause-cover

@@ -1,6 +1,6 @@
 use Rattle.std.proofs.Common.{[]}
 use Rattle.gate_rows.specs.Inner.Texts.{byte_at}
-use Rattle.gate_rows.proofs.Ranges.{map-range-push}
+use Rattle.gate_rows.specs.Laws.Ranges.{map-range-push}
 use Rattle.gate_rows.proofs.texts.text_of.Goals as goal
 
 pub loop-column-preserved : goal.loop-column-preserved

@@ -12,11 +12,11 @@ returns-clause-ready c =
     let (figures, are, summary) = c.in_ok-summary.ensures in
     IfOk-from_both c.with_summary.result c.with_summary.ensures.comments c.with_summary.ensures.network
     (λ made comments network.
-    trial_ready c.args.numbers.seed c.args.numbers.a c.args.numbers.b c.args.numbers.k c.args.file.now c.args.work.now c.args.coded.split figures c.in_ok-summary.summary.items c.in_ok-made.made made summary comments network c.in_ok-made.ensures.ready)
+    trial_ready c.args.numbers.seed c.args.numbers.a c.args.numbers.b c.args.numbers.k c.args.work.now.file.now c.args.work.now c.args.coded.split figures c.in_ok-summary.summary.items c.in_ok-made.made made summary comments network c.in_ok-made.ensures.ready)
 
 pub returns-clause-trial : goal.returns-clause-trial
 returns-clause-trial c =
     let (figures, are, summary) = c.in_ok-summary.ensures in
     IfOk-from_both c.with_summary.result c.with_summary.ensures.comments c.with_summary.ensures.network
     (λ made comments network.
-    trial_network c.args.numbers.seed c.args.numbers.a c.args.numbers.b c.args.numbers.k c.args.file.now c.args.work.now c.args.coded.split figures c.in_ok-summary.summary.items c.in_ok-made.made made summary comments network c.requires.work c.requires.coded.planned are c.in_ok-made.ensures.made)
+    trial_network c.args.numbers.seed c.args.numbers.a c.args.numbers.b c.args.numbers.k c.args.work.now.file.now c.args.work.now c.args.coded.split figures c.in_ok-summary.summary.items c.in_ok-made.made made summary comments network c.requires.work c.requires.coded.planned are c.in_ok-made.ensures.made)

@@ -1,6 +1,6 @@
 use Rattle.std.proofs.Common.{◌≡◌, ℕ, Result, Ok, IfOk, false, subst, sym}
 use Rattle.hs_io.specs.Counts.{Rose}
-use Rattle.hsdec_core.specs.Inner.JobOutcome.{IsMadeFor}
+use Rattle.hsdec_core.specs.Inner.JobOutcome.{IsOutcomeOfWords}
 use Rattle.hsdec_core.specs.Operands.{takes_file}
 use Rattle.hsdec_core.specs.Task.{task_of}
 use Rattle.hsdec_core.proofs.Making.{made_of_page}
@@ -25,7 +25,7 @@ perform_job-requires-clause-sizes g c = sizes_are_sizes c.args.words.now c.in-Ok
 
 pub returns-in_ok-page_of-in-Ok-clause-made : goal.returns-in_ok-page_of-in-Ok-clause-made
 returns-in_ok-page_of-in-Ok-clause-made g c =
-    subst (λ (job : Result Job ℕ). IsMadeFor job (g.F.Shelf.holds c.args.shelf.now) (Rose (g.F.Shelf.faults c.args.shelf.now) (g.F.Shelf.faults c.perform_job.new.shelf)) (Ok c.in_ok-page_of-in-Ok.field-0)) (sym c.in-Ok.ensures.job)
+    subst (λ (job : Result Job ℕ). IsOutcomeOfWords job (g.F.Shelf.holds c.args.shelf.now) (Rose (g.F.Shelf.faults c.args.shelf.now) (g.F.Shelf.faults c.perform_job.new.shelf)) (Ok c.in_ok-page_of-in-Ok.field-0)) (sym c.in-Ok.ensures.job)
     (made_of_page c.in-Ok.job (g.F.Shelf.holds c.args.shelf.now) (Rose (g.F.Shelf.faults c.args.shelf.now) (g.F.Shelf.faults c.perform_job.new.shelf)) c.in_ok-report-in-Ok.report c.in_ok-page_of-in-Ok.field-0 c.in_ok-report-in-Ok.ensures.made c.in_ok-page_of-in-Ok.ensures)
 
 pub returns-in_err-page_of-in-Ok-clause-no_operand : goal.returns-in_err-page_of-in-Ok-clause-no_operand

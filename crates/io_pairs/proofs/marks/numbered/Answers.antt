@@ -1,6 +1,6 @@
 use Rattle.std.proofs.Common.{◌<◌, ℕ, List, length, refl, sym, subst, arith}
 use Rattle.partition.specs.Laws.Labels.{blocks_of-le}
-use Rattle.partition.proofs.FirstAppearance.{IsNumbering, numbering_none}
+use Rattle.partition.specs.Laws.FirstAppearance.{IsNumbering, numbering_none}
 use Rattle.io_pairs.specs.Inner.Marks.{seen_in}
 use Rattle.io_pairs.proofs.Marking.{Takes, marks_kept, marks_step, marks_turned, none_seen}
 use Rattle.io_pairs.proofs.marks.numbered.Goals as goal

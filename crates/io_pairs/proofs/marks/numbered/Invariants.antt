@@ -1,5 +1,5 @@
 use Rattle.std.proofs.Common.{◌≡◌, ◌+◌, length}
-use Rattle.partition.proofs.FirstAppearance.{IsNumbering}
+use Rattle.partition.specs.Laws.FirstAppearance.{IsNumbering}
 use Rattle.io_pairs.specs.Inner.Marks.{AreMarksBefore, seen_in}
 use Rattle.io_pairs.proofs.marks.numbered.Given as goal
 

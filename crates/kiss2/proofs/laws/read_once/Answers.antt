@@ -2,7 +2,7 @@ use Rattle.std.proofs.Common.{inl, inr}
 use Rattle.kiss2.specs.Kiss.{lines_read}
 use Rattle.kiss2.proofs.Exact.{machine_or_fault, one_file}
 use Rattle.kiss2.proofs.OneFault.{fault_or_none, one_fault}
-use Rattle.kiss2.proofs.Made.{a_record}
+use Rattle.kiss2.specs.Laws.Made.{a_record}
 use Rattle.kiss2.proofs.laws.read_once.Goals as goal
 
 pub returns-clause-one_fault : goal.returns-clause-one_fault

@@ -1,5 +1,5 @@
 use Rattle.std.proofs.Common.{Contains, sym, ◌∙◌, subst}
-use Rattle.kiss2.proofs.Closing.{reset_known, reset_missing}
+use Rattle.kiss2.specs.Laws.Closing.{reset_known, reset_missing}
 use Rattle.kiss2.specs.Laws.Finding.{contained_at, not_contained}
 use Rattle.kiss2.proofs.reader.closing.Goals as goal
 

@@ -2,7 +2,7 @@ use Rattle.std.proofs.Common.{◌≡◌, ◌+◌, ◌++◌, [], ◌∷◌, lengt
 use Rattle.std.proofs.lemmas.List.{take_more}
 use Rattle.kiss2.specs.Inner.ReaderState.{once_after}
 use Rattle.kiss2.specs.Standing.{names_in_column}
-use Rattle.kiss2.proofs.Building.{column_few, row_added}
+use Rattle.kiss2.specs.Laws.Building.{column_few, row_added}
 use Rattle.kiss2.proofs.record.add_column.Goals as goal
 
 pub field_of-requires : goal.field_of-requires

@@ -3,7 +3,7 @@ use Rattle.std.specs.List.{AllZip}
 use Rattle.std.proofs.lemmas.List.{take_more}
 use Rattle.kiss2.specs.Inner.FaultlessLines.{IsGoodRow, IsKnownRow}
 use Rattle.kiss2.specs.Kiss.{IsRowOf}
-use Rattle.kiss2.proofs.Building.{zip_push}
+use Rattle.kiss2.specs.Laws.Building.{zip_push}
 use Rattle.kiss2.proofs.record.add_rows.Goals as goal
 
 pub row_of-requires-clause-good : goal.row_of-requires-clause-good

@@ -1,5 +1,5 @@
 use Rattle.std.proofs.Common.{Err, ap, ◌∙◌}
-use Rattle.kiss2.proofs.Building.{parsed}
+use Rattle.kiss2.specs.Laws.Building.{parsed}
 use Rattle.kiss2.proofs.record.cube_of.Goals as goal
 
 pub unreachable-requires : goal.unreachable-requires

@@ -9,9 +9,9 @@ use Rattle.kiss2.specs.Inner.FaultlessLines.{IsGoodRow, IsKnownRow}
 use Rattle.kiss2.specs.Inner.ReaderState.{Keeps, names_in_columns, once_after}
 use Rattle.kiss2.specs.Kiss.{IsRowOf, closing_fault}
 use Rattle.kiss2.specs.Standing.{inputs_said, names_in_column, row_lines, state_names}
-use Rattle.kiss2.proofs.Building.{columns, columns_named, once_after-longer}
-use Rattle.kiss2.proofs.Closing.{reset_is_known, reset_number, some_rows, zip_some}
-use Rattle.kiss2.proofs.GoodLines.{counts_there, few, inputs_range, outputs_range, rows_good, rows_known}
+use Rattle.kiss2.specs.Laws.Building.{columns, columns_named, once_after-longer}
+use Rattle.kiss2.specs.Laws.Closing.{reset_is_known, reset_number, some_rows, zip_some}
+use Rattle.kiss2.specs.Laws.GoodLines.{counts_there, few, inputs_range, outputs_range, rows_good, rows_known}
 use Rattle.kiss2.proofs.record.fill_table.Goals as goal
 
 -- the rows have four fields

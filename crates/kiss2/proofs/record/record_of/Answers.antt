@@ -1,8 +1,8 @@
 use Rattle.std.proofs.Common.{List, sym, ◌∙◌, subst}
 use Rattle.hs_io.specs.declared.lines.Line.{Line}
 use Rattle.kiss2.specs.Inner.ReaderState.{Keeps}
-use Rattle.kiss2.proofs.Closing.{some_rows}
-use Rattle.kiss2.proofs.GoodLines.{counts_there}
+use Rattle.kiss2.specs.Laws.Closing.{some_rows}
+use Rattle.kiss2.specs.Laws.GoodLines.{counts_there}
 use Rattle.kiss2.proofs.record.record_of.Goals as goal
 
 pub counts_of-counts-requires : goal.counts_of-counts-requires

@@ -9,7 +9,7 @@ use Rattle.kiss2.specs.Standing.{each_once, state_names}
 use Rattle.kiss2.specs.Words.{kind_of_field}
 use Rattle.kiss2_laws.specs.Worked.{passing_lines, text}
 use Rattle.kiss2.specs.Laws.Faultless.{faultless_none}
-use Rattle.kiss2.proofs.Made.{a_record}
+use Rattle.kiss2.specs.Laws.Made.{a_record}
 use Rattle.kiss2_laws.proofs.Scanning.{scanned_none, three_mapped, three_rows}
 use Rattle.kiss2.specs.Laws.SameRecord.{next_once, number_once, states_distinct}
 use Rattle.kiss2_laws.proofs.worked.worked_counts.Goals as goal

@@ -11,7 +11,7 @@ use Rattle.kiss2.specs.Standing.{each_once, state_names}
 use Rattle.kiss2.specs.Words.{care_in, kind_of_field, value_in}
 use Rattle.kiss2_laws.specs.Worked.{text, worked_lines}
 use Rattle.kiss2.specs.Laws.Faultless.{faultless_none}
-use Rattle.kiss2.proofs.Made.{a_record}
+use Rattle.kiss2.specs.Laws.Made.{a_record}
 use Rattle.kiss2_laws.proofs.Scanning.{scanned_none, three_mapped, three_rows}
 use Rattle.kiss2.specs.Laws.SameRecord.{next_once, number_once, states_distinct}
 use Rattle.kiss2_laws.proofs.worked.worked_text.Goals as goal

@@ -6,8 +6,9 @@ use Rattle.machine_table.specs.NextStates.{NeverLeaves}
 use Rattle.partition.specs.Order.{Before}
 use Rattle.partition.specs.MeetAndJoin.{IsJoin}
 use Rattle.partition.specs.Partition.{IsPartition, Together}
+use Rattle.partition.specs.Laws.Generating.{IsZeroOf}
 use Rattle.closed_lattice.specs.ClosedPartitions.{HasPrincipal, IsPrincipalWithin}
-use Rattle.closed_lattice.specs.Laws.Generating.{IsMade, IsZeroOf, states_counted}
+use Rattle.closed_lattice.specs.Laws.Generating.{IsMade, states_counted}
 use Rattle.closed_lattice.specs.Laws.Listed.{listed, evident, unevident}
 use Rattle.state_reduce.specs.AlikeStates.{IsEquivalence}
 use Rattle.output_consistent.specs.Outputs.{IsClosedAndConsistent}
@@ -20,7 +21,7 @@ module _ (F : KissFile) (n : ℕ) (size : n ≡ length F.states) (inside : Never
   are_consistent p made =
       made_consistent F generators p inside (states_counted F n size some few) (principals_consistent F alike generators inside equivalence (subst (All (IsPrincipalWithin F alike)) (sym same) members)) made
 
-  are_made : ((s t : ℕ) → s < t → Together alike s t → HasPrincipal F found s t) → HaveJoins (IsZeroOf F) IsJoin generators → (p : List ℕ) → IsClosedAndConsistent F p → IsMade F generators p
+  are_made : ((s t : ℕ) → s < t → Together alike s t → HasPrincipal F found s t) → HaveJoins (IsZeroOf (length F.states)) IsJoin generators → (p : List ℕ) → IsClosedAndConsistent F p → IsMade F generators p
   are_made each joins p is = consistent_made F alike generators equivalence (states_counted F n size some few) (rw same each) joins p is
 
 pub join_closure-requires-clause-generators : goal.join_closure-requires-clause-generators

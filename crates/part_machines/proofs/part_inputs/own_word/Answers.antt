@@ -5,7 +5,7 @@ use Rattle.state_codes.specs.declared.which.Which.{Which}
 use Rattle.state_codes.specs.declared.which.Which.TheVariants.{Part as Numbered}
 use Rattle.part_machines.specs.Inner.Gathered.{IsWordOfOwner}
 use Rattle.part_machines.specs.Which.{own_bits}
-use Rattle.part_machines.proofs.Blocks.{own_bit, own_from}
+use Rattle.part_machines.specs.Laws.Blocks.{own_bit, own_from}
 use Rattle.part_machines.proofs.part_inputs.own_word.Goals as goal
 
 -- the bits whose owner is the part are those of the part

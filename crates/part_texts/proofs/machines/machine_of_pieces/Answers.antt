@@ -14,20 +14,20 @@ partition_of-requires-clause-there c = (
 
 pub rows_of_part-requires-clause-inputs : goal.rows_of_part-requires-clause-inputs
 rows_of_part-requires-clause-inputs c =
-    inputs_low c.args.file.now c.args.work.now c.args.made.now c.requires.made c.requires.lawful c.requires.no_conflict c.requires.work.0 c.requires.work.1 c.args.which c.args.set.now c.requires.set
+    inputs_low c.args.work.now.file.now c.args.work.now c.args.made.now c.requires.made c.requires.lawful c.requires.no_conflict c.requires.work.0 c.requires.work.1 c.args.which c.args.set.now c.requires.set
 
 pub rows_of_part-requires-clause-latches : goal.rows_of_part-requires-clause-latches
 rows_of_part-requires-clause-latches c =
-    latches_small c.args.file.now c.args.work.now c.args.made.now c.requires.made c.requires.lawful c.requires.no_conflict c.requires.work.0 c.requires.work.1 c.args.which c.args.set.now c.requires.set
+    latches_small c.args.work.now.file.now c.args.work.now c.args.made.now c.requires.made c.requires.lawful c.requires.no_conflict c.requires.work.0 c.requires.work.1 c.args.which c.args.set.now c.requires.set
 
 pub rows_of_part-requires-clause-some : goal.rows_of_part-requires-clause-some
 rows_of_part-requires-clause-some c =
-    reads_some c.args.file.now c.args.work.now c.args.made.now c.requires.made c.requires.lawful c.requires.no_conflict c.requires.work.0 c.requires.work.1 c.args.which c.args.set.now c.requires.set
+    reads_some c.args.work.now.file.now c.args.work.now c.args.made.now c.requires.made c.requires.lawful c.requires.no_conflict c.requires.work.0 c.requires.work.1 c.args.which c.args.set.now c.requires.set
 
 pub overflow_cast-result-2 : goal.overflow_cast-result-2
 overflow_cast-result-2 c =
     let few : length c.args.names.outputs ≤ 64 =
-    outputs_few c.args.file.now c.args.work.now c.args.made.now c.requires.made c.requires.lawful c.requires.no_conflict c.requires.work.0 c.requires.work.1 c.args.which c.args.set.now c.requires.set c.args.names c.requires.names in
+    outputs_few c.args.work.now.file.now c.args.work.now c.args.made.now c.requires.made c.requires.lawful c.requires.no_conflict c.requires.work.0 c.requires.work.1 c.args.which c.args.set.now c.requires.set c.args.names c.requires.names in
     omega (arith, few, ap length c.as_slice-4.ensures)
 
 pub returns : goal.returns
@@ -36,7 +36,7 @@ returns c =
     subst (λ (list : List Part). partition_of c.args.work.now.machine list c.args.which ≡ Some c.in_ok-p.p) c.as_slice.ensures c.in_ok-p.ensures.partition in
     let rows : ArePartRows c.args.work.now.machine c.args.made.now.codes c.in_ok-p.p c.args.set.now c.args.which c.from.result =
     subst (ArePartRows c.args.work.now.machine c.args.made.now.codes c.in_ok-p.p c.args.set.now c.args.which) (sym c.from.ensures) c.in_ok-rows.ensures in
-    made_of c.args.file.now c.args.work.now c.args.made.now c.requires.made c.requires.lawful c.requires.no_conflict c.requires.work.0 c.requires.work.1 c.args.which c.args.set.now c.requires.set c.args.names c.requires.names
+    made_of c.args.work.now.file.now c.args.work.now c.args.made.now c.requires.made c.requires.lawful c.requires.no_conflict c.requires.work.0 c.requires.work.1 c.args.which c.args.set.now c.requires.set c.args.names c.requires.names
     c.in_ok-p.p
     (record {
       inputs = length c.as_slice-2.result.now + length c.as_slice-3.result.now;

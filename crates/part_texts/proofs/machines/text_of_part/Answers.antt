@@ -7,19 +7,19 @@ use Rattle.part_texts.proofs.Making.{bits_counted, inputs_named, latches_named}
 use Rattle.part_texts.proofs.machines.text_of_part.Goals as goal
 
 pub set_of_part-requires : goal.set_of_part-requires
-set_of_part-requires c = (c.args.file.now, c.args.work.now.machine, c.keeps_its_states.ensures.table, c.requires.made)
+set_of_part-requires c = (c.args.work.now.file.now, c.args.work.now.machine, c.keeps_its_states.ensures.table, c.requires.made)
 
 pub names_of_part-requires-clause-inputs : goal.names_of_part-requires-clause-inputs
 names_of_part-requires-clause-inputs c =
-    inputs_named c.args.file.now c.args.work.now c.args.made.now c.requires.made c.requires.lawful c.requires.no_conflict c.requires.work.0 c.requires.work.1 c.args.which c.in_ok-set.set c.in_ok-set.ensures.1
+    inputs_named c.args.work.now.file.now c.args.work.now c.args.made.now c.requires.made c.requires.lawful c.requires.no_conflict c.requires.work.0 c.requires.work.1 c.args.which c.in_ok-set.set c.in_ok-set.ensures.1
 
 pub names_of_part-requires-clause-latches : goal.names_of_part-requires-clause-latches
 names_of_part-requires-clause-latches c =
-    latches_named c.args.file.now c.args.work.now c.args.made.now c.requires.made c.requires.lawful c.requires.no_conflict c.requires.work.0 c.requires.work.1 c.args.which c.in_ok-set.set c.in_ok-set.ensures.1
+    latches_named c.args.work.now.file.now c.args.work.now c.args.made.now c.requires.made c.requires.lawful c.requires.no_conflict c.requires.work.0 c.requires.work.1 c.args.which c.in_ok-set.set c.in_ok-set.ensures.1
 
 pub names_of_part-requires-clause-bits : goal.names_of_part-requires-clause-bits
 names_of_part-requires-clause-bits c =
-    bits_counted c.args.file.now c.args.work.now c.args.made.now c.requires.made c.requires.lawful c.requires.no_conflict c.requires.work.0 c.requires.work.1
+    bits_counted c.args.work.now.file.now c.args.work.now c.args.made.now c.requires.made c.requires.lawful c.requires.no_conflict c.requires.work.0 c.requires.work.1
 
 pub returns-in_err-set : goal.returns-in_err-set
 returns-in_err-set c =

@@ -1,6 +1,6 @@
 use Rattle.std.proofs.Common.{arith}
 use Rattle.partition.specs.Laws.Labels.{blocks_of-le}
-use Rattle.partition.proofs.FirstAppearance.{numbering_step}
+use Rattle.partition.specs.Laws.FirstAppearance.{numbering_step}
 use Rattle.partition.proofs.numbering.numbered.Goals as goal
 
 pub label_for-label-requires-clause-room : goal.label_for-label-requires-clause-room

@@ -1,5 +1,5 @@
 use Rattle.std.proofs.Common.{◌≡◌, length}
-use Rattle.partition.proofs.FirstAppearance.{IsNumbering}
+use Rattle.partition.specs.Laws.FirstAppearance.{IsNumbering}
 use Rattle.partition.proofs.numbering.numbered.Given as goal
 
 abbrev pub invariant-loop-value : goal.invariant-loop-value

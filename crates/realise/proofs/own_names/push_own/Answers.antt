@@ -1,4 +1,4 @@
-use Rattle.gate_rows.proofs.Ranges.{map-range-push}
+use Rattle.gate_rows.specs.Laws.Ranges.{map-range-push}
 use Rattle.realise.specs.Names.{own_name}
 use Rattle.realise.proofs.own_names.push_own.Goals as goal
 

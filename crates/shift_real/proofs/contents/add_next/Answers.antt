@@ -1,7 +1,7 @@
 use Rattle.std.proofs.Common.{◌≡◌, ℕ, ◌+◌, ◌*◌, ◌^◌, ap, ◌∙◌, arith}
 use Rattle.std.proofs.lemmas.Nat.{one_shl}
 use Rattle.cubes.specs.Symbol.{symbol_of}
-use Rattle.gate_rows.proofs.Ranges.{map-range-push}
+use Rattle.gate_rows.specs.Laws.Ranges.{map-range-push}
 use Rattle.kiss_file.specs.Machine.{next}
 use Rattle.shift_real.specs.Inner.Contents.{content_after, turned_bits}
 use Rattle.shift_real.proofs.ContentLists.{next_content_is}

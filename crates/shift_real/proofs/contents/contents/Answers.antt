@@ -25,4 +25,4 @@ lengthened-requires-clause-states c =
 
 pub symbols-preserved : goal.symbols-preserved
 symbols-preserved c =
-    contents_step c.args.m.now c.symbols.counter c.symbols.contents.items c.deref.result.now c.in_ok-contents.contents.items c.states-states.ensures.inside c.symbols.invariant c.deref.ensures.value c.in_ok-contents.ensures
+    contents_step c.args.m.now c.symbols.counter c.symbols.contents.items c.deref.result.now c.in_ok-contents.contents.items c.keeps_its_states.ensures.next c.symbols.invariant c.deref.ensures.value c.in_ok-contents.ensures

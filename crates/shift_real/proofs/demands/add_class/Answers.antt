@@ -31,4 +31,4 @@ loop-number-init c = record {
 }
 
 pub add_rows-requires : goal.add_rows-requires
-add_rows-requires c = omega (arith, c.requires.output, c.outputs-outputs.ensures.count, c.outputs-outputs.ensures.limit)
+add_rows-requires c = omega (arith, c.requires.output, c.keeps_its_states.ensures.table.outputs)

@@ -1,5 +1,5 @@
 use Rattle.std.proofs.Common.{ap, ◌∙◌}
-use Rattle.gate_rows.proofs.Ranges.{map-range-push}
+use Rattle.gate_rows.specs.Laws.Ranges.{map-range-push}
 use Rattle.shift_real.specs.Gates.{taking}
 use Rattle.shift_real.specs.Inner.Latches.{latch_gate, taken_by}
 use Rattle.shift_real.proofs.latches.add_latch_gates.Goals as goal

@@ -4,18 +4,18 @@ use Rattle.std.specs.List.Sorted.{IsSorted}
 use Rattle.std.specs.Ordering.{nat_cmp}
 use Rattle.gate_rows.specs.declared.demands.Demand.{Demand}
 use Rattle.gate_rows.specs.Columns.{column_count}
-use Rattle.gate_rows.specs.Covers.{IsGoodCover}
+use Rattle.gate_rows.specs.GateCovers.{IsGoodCover}
 use Rattle.net_core.specs.declared.SignalNames.{SignalNames}
 use Rattle.shift_real.specs.Inner.DemandedGate.{IsGateOfDemands}
 use Rattle.net_core.specs.declared.Gate.{Gate}
 use Rattle.gate_rows.specs.Names.{name_at}
-use Rattle.gate_rows.specs.Demands.{AreApart, CanBeRead, IsAsked}
+use Rattle.gate_rows.specs.Demands.{NeverContradict, CanBeRead, IsAsked}
 use Rattle.shift_real.proofs.output_gates.gate_of_demands.Goals as goal
 
 pub demanded_rows-requires-clause-apart : goal.demanded_rows-requires-clause-apart
 demanded_rows-requires-clause-apart c =
-    subst (λ (list : List ℕ). AreApart list c.as_slice-latches.result.now c.args.demands.now) (sym c.as_slice-inputs.ensures)
-    (subst (λ (list : List ℕ). AreApart c.args.set.now.inputs list c.args.demands.now) (sym c.as_slice-latches.ensures) c.requires.apart)
+    subst (λ (list : List ℕ). NeverContradict list c.as_slice-latches.result.now c.args.demands.now) (sym c.as_slice-inputs.ensures)
+    (subst (λ (list : List ℕ). NeverContradict c.args.set.now.inputs list c.args.demands.now) (sym c.as_slice-latches.ensures) c.requires.apart)
 
 pub name_from-requires : goal.name_from-requires
 name_from-requires c = omega (arith, c.from.ensures, c.requires.output)

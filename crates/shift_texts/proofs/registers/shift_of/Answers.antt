@@ -10,4 +10,4 @@ returns-in_err-register c = λ reduce is.
 pub returns : goal.returns
 returns c = λ reduce is.
     let register = c.in_ok-register.ensures reduce is in
-    (register.0, commented_is reduce c.args.file.now c.in_ok-register.register _ c.in_ok-commented.ensures register.1)
+    (register.0, commented_is reduce c.args.work.now.file.now c.in_ok-register.register _ c.in_ok-commented.ensures register.1)

@@ -7,5 +7,5 @@ file_of_classes-requires-clause-alike c = alike_of c.args.machine.now c.args.fil
 
 pub returns : goal.returns
 returns c =
-    reduced_is c.args.file.now c.in_ok-quotient.quotient _ c.in_ok-classes.classes (alike_of c.args.machine.now c.args.file.now c.in_ok-classes.classes c.requires.machine c.in_ok-classes.ensures)
+    reduced_is c.args.file.now c.in_ok-quotient.quotient _ c.in_ok-classes.classes refl (alike_of c.args.machine.now c.args.file.now c.in_ok-classes.classes c.requires.machine c.in_ok-classes.ensures)
     c.in_ok-quotient.ensures.quotient c.in_ok-quotient.ensures.in_order c.in_ok-machine.ensures refl refl

@@ -4,7 +4,7 @@ use Rattle.state_reduce.specs.Work.{IsWork}
 use Rattle.state_reduce.proofs.Works.{file_is}
 use Rattle.state_reduce.proofs.work.work_machine.Goals as goal
 
-pub returns-else-reduce : goal.returns-else-reduce
-returns-else-reduce c =
-    let work : WorkMachine = record { machine = c.args.machine; classes = None; names = None } in
-    subst (λ (reduce : Bool). IsWork reduce c.args.file.now work) (sym c.if-reduce.false) (file_is c.args.file.now work c.requires.machine refl refl)
+pub returns : goal.returns
+returns c =
+    let work : WorkMachine = record { file = c.args.file; machine = c.args.machine; classes = None; names = None } in
+    subst (λ (reduce : Bool). IsWork reduce c.args.file.now work) (sym c.if-reduce.false) (file_is c.args.file.now work refl c.requires.machine refl refl)

@@ -3,7 +3,7 @@ use Rattle.std.proofs.Common.{◌≡◌, ◌+◌, ◌∙◌, List, [], ◌∷◌
 use Rattle.std.proofs.lemmas.List.{take_all, take_more}
 use Rattle.cover_terms.specs.declared.term.Term.{Term}
 use Rattle.cover_terms.specs.Term.{FitsWidth}
-use Rattle.cover_logic.specs.Inner.Tables.{IsTableOf}
+use Rattle.cover_logic.specs.Inner.Tables.{IsMarkTableOf}
 use Rattle.cover_logic.proofs.table.Table.of.Goals as goal
 
 pub loop-term-init : goal.loop-term-init
@@ -33,7 +33,7 @@ loop-term-preserved c =
 
 pub returns : goal.returns
 returns c =
-    subst (λ (ts : List Term). IsTableOf c.args.width ts c.loop-term.table) (take_all c.loop-term.term-index c.args.terms.now c.loop-term-test.false) c.loop-term.invariant
+    subst (λ (ts : List Term). IsMarkTableOf c.args.width ts c.loop-term.table) (take_all c.loop-term.term-index c.args.terms.now c.loop-term-test.false) c.loop-term.invariant
 
 pub new-requires : goal.new-requires
 new-requires c = c.requires.few

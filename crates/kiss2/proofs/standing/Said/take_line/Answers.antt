@@ -2,7 +2,7 @@ use Rattle.std.proofs.Common.{◌<◌, ◌^◌, ℕ, List, All, length, refl, sy
 use Rattle.std.proofs.lemmas.List.Elements.{All-drop}
 use Rattle.std.proofs.lemmas.Result.{on_ok_weaker}
 use Rattle.kiss2.specs.declared.line_kind.LineKind.TheVariants.{Blank, End, Unknown}
-use Rattle.kiss2.proofs.Stood.{fault_bad, fault_form, stands_on}
+use Rattle.kiss2.specs.Laws.Stood.{fault_bad, fault_form, stands_on}
 use Rattle.kiss2.proofs.Taken.{input_names_taken, inputs_taken, on_ok, output_names_taken, outputs_taken, row_word_taken, state_word_taken}
 use Rattle.kiss2.proofs.standing.Said.take_line.Goals as goal
 

@@ -6,7 +6,7 @@ use Rattle.kiss2.specs.declared.line_kind.LineKind.TheVariants.{Reset}
 use Rattle.kiss2.specs.Faults.{operand_of, reset_fault}
 use Rattle.kiss2.specs.Standing.{has_stood}
 use Rattle.kiss2.specs.Inner.ReaderState.{reset_line}
-use Rattle.kiss2.proofs.Stood.{fault_again, fault_form, is_some-map, operand_field, own, stay}
+use Rattle.kiss2.specs.Laws.Stood.{fault_again, fault_form, is_some-map, operand_field, own, stay}
 use Rattle.kiss2.proofs.standing.Said.take_reset.Goals as goal
 
 pub returns-then-is_some-clause-judged : goal.returns-then-is_some-clause-judged

@@ -1,0 +1,12 @@
+mod Ascending
+mod Orders
+mod Chains
+mod Held
+mod Texts
+mod ReadAlike
+mod Expansions
+mod Covers
+mod Trials
+mod Reports
+mod Networks
+mod Comparisons

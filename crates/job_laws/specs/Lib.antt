@@ -1,0 +1,4 @@
+pub mod Jobs
+pub mod Reports
+pub mod Networks
+pub mod Comparisons
