@@ -4,6 +4,7 @@ ghost use Rattle.cover_terms.specs.Pair.{Includes};
 ghost use Rattle.cover_logic.specs.Inner.Sides.{is_on_side};
 ghost use Rattle.cover_logic.specs.Inner.Nodes.{IsAdded, IsNested, IsNested-prop};
 
+use crate::column_counts::ColumnCounts;
 use cover_terms::Term;
 use std::alloc::{AllocError, Global};
 
@@ -138,8 +139,11 @@ fn add_parts(
     requires nested { IsNested nodes.old.items }
     ensures { OnOk result (IsAdded nodes.old.items terms.now nodes.new.items) }
 {
+    if depth == 0 || terms.len() <= 4 {
+        return add_each(nodes, terms);
+    }
     let column = best_column(terms, width);
-    if depth == 0 || column == 0 || terms.len() <= 4 {
+    if column == 0 {
         return add_each(nodes, terms);
     }
     add_part(alloc, nodes, terms, column, Side::Zero, width, depth - 1)?;
@@ -229,34 +233,16 @@ fn part(alloc: Global, terms: &[Term], column: u128, side: Side) -> Result<Vec<T
 fn best_column(terms: &[Term], width: u8) -> u128
     requires { width ≤ 128 }
 {
+    let counts = ColumnCounts::new(terms);
     let mut best = 0;
     let mut best_gain = 0;
     for column in 0..u32::from(width) {
         let bit = 1u128 << column;
-        let gain = gain(terms, bit);
+        let gain = counts.gain(bit);
         if gain > best_gain {
             best = bit;
             best_gain = gain;
         }
     }
     best
-}
-
-/// How well a column splits the terms: best into halves without dashes; 0 where all stay together.
-fn gain(terms: &[Term], column: u128) -> usize {
-    let mut ones = 0usize;
-    let mut zeros = 0usize;
-    for term in terms {
-        if term.value & column != 0 {
-            ones = ones.saturating_add(1);
-        } else if term.care & column != 0 {
-            zeros = zeros.saturating_add(1);
-        }
-    }
-    let most = ones.max(zeros);
-    if most == terms.len() {
-        0
-    } else {
-        ones.min(zeros).saturating_mul(4).saturating_add(most)
-    }
 }

@@ -41,6 +41,7 @@ ghost use Rattle.cover_logic.specs.TermCover.{CanCover, IsTermCover};
 ghost use Rattle.cover_logic.specs.Inner.Rows.{AreNeededPrimes, IsClear};
 
 mod bundles;
+mod column_counts;
 mod dense_gates;
 mod index;
 mod lasts;

@@ -58,6 +58,7 @@ pub(crate) fn codes_of_pairs(
     requires parts { AreParts cover.now.blocks split.now.parts }
     ensures { IfOk result (AreCodesOfPairs cover.now.blocks split.now.parts) }
 {
+    // The proof knows the list of blocks only after a question to it, which does nothing.
     let _ = cover.blocks.as_slice();
     match encode(alloc, split, n) {
         Ok(codes) => Ok(codes),

@@ -13,4 +13,5 @@ pub mod ReadSymbols
 pub mod WorkedRuns
 pub mod WideRows
 pub mod SmallGates
+pub mod ValueTables
 pub mod WorkedRefusals

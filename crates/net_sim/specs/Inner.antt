@@ -3,6 +3,7 @@ pub mod SymbolLine
 pub mod GateValues
 pub mod Pieces
 pub mod Forms
+pub mod ValueTables
 pub mod RunProgress
 pub mod Failures
 pub mod Numbers

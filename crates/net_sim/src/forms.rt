@@ -4,11 +4,12 @@ ghost use Rattle.std.specs.Prelude.{◌≡◌, ◌<◌, ◌≤◌, ◌^◌, ◌|
 ghost use Rattle.std.specs.List.{list_any};
 ghost use Rattle.cubes.specs.Cube.{holds};
 ghost use Rattle.net_core.specs.Step.{row_holds};
-ghost use Rattle.net_sim.specs.Inner.Forms.{AreForms, HasValues, IsCubes, IsForm, IsSmall, IsValueTable};
+ghost use Rattle.net_sim.specs.Inner.Forms.{AreForms, HasValues, IsCubes, IsForm, IsSmall};
 
 use crate::gate_values::value_of_cubes;
 use crate::pieces::{Pieces, wide_rows};
 use crate::small_gates::{MOST_SMALL, SmallGate};
+use crate::value_tables::table_of;
 use cubes::Cube;
 use hs_list::Items;
 use net_core::NumberedGate;
@@ -30,7 +31,7 @@ pub(crate) enum GateForm {
 }
 
 /// The greatest number of inputs of a gate with a table.
-const MOST_TABLE: usize = 12;
+const MOST_TABLE: usize = 16;
 
 /// The greatest number of inputs of a gate with one cube for each row.
 const MOST_CUBES: usize = 32;
@@ -38,7 +39,9 @@ const MOST_CUBES: usize = 32;
 /// The greatest number of inputs of a gate with cubes.
 const MOST_PIECES: usize = 256;
 
-/// A table has at most this many times as many values as the gate's rows and one more row have bytes.
+/// A table has at most this many times as many values as the gate's rows and one more row have bytes. The text of
+/// a network has these rows, and the names of a gate are no shorter than a row. So all tables of a network take at
+/// most 16 bytes for each byte of its text: at most 64 MiB for a text of 4 MiB.
 const MOST_SPREAD: usize = 16;
 
 /// The form of each gate, for a run on at most this many symbols.
@@ -80,7 +83,7 @@ fn form_of(alloc: Global, gate: &NumberedGate, symbols: usize) -> Result<GateFor
 /// Whether the gate gets a table: it has few inputs, and the table is neither much longer than its rows nor
 /// longer than the list of symbols.
 fn has_table(gate: &NumberedGate, symbols: usize) -> bool
-    ensures { result ≡ true → length gate.now.inputs.items ≤ 12 }
+    ensures { result ≡ true → length gate.now.inputs.items ≤ 16 }
 {
     let inputs = gate.inputs.len();
     inputs <= MOST_TABLE
@@ -117,19 +120,6 @@ fn push_row(cubes: &mut Items<Cube>, row: &[u8], width: u8) -> Result<(), AllocE
         Ok(cube) => cubes.push(cube),
         Err(_) => Ok(()),
     }
-}
-
-/// The values of a gate, by the numbers whose bits are those of its inputs.
-fn table_of(alloc: Global, gate: &NumberedGate, cubes: &[Cube]) -> Result<Items<bool>, AllocError>
-    requires few { length gate.now.inputs.items ≤ 12 }
-    requires cubes { IsCubes gate.now cubes.now }
-    ensures { IfOk result (IsValueTable gate.now) }
-{
-    let mut table = Items::new(alloc);
-    for number in 0..1 << gate.inputs.len() {
-        table.push(value_of_cubes(gate, cubes, number))?;
-    }
-    Ok(table)
 }
 
 /// A gate with its values in a word.

@@ -29,6 +29,7 @@ mod starts;
 mod step;
 mod symbol_line;
 mod symbols;
+mod value_tables;
 
 pub use bit_texts::append_answer;
 pub use causes::SimFail;

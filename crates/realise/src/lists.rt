@@ -42,7 +42,7 @@ pub fn gate_rows_of(
     ensures widths { IfOk result (All (λ row. length row ≡ width_of set.now)) }
     ensures in_order { IfOk result (IsSorted (slice_cmp nat_cmp)) }
 {
-    let _limits = (m.inputs(), m.outputs());
+    m.keeps_its_states();
     let demands = demands_of(alloc, m, filled, words, bit)?;
     demanded_rows(
         alloc,
@@ -65,7 +65,7 @@ fn demands_of(
     requires place { HasPlace bit }
     ensures { IfOk result (λ demands. demands.items ≡ filter_map (asked_by words.now bit) filled.now) }
 {
-    let _inputs = m.inputs();
+    m.keeps_its_states();
     let mut demands = Vec::new(alloc);
     for row in filled {
         if let Some(given) = said_bit(row, words, bit) {

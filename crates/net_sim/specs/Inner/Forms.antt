@@ -14,7 +14,7 @@ use Rattle.net_sim.specs.Inner.Pieces.{IsWide}
 
 -- the table has at each number the value of the gate for the bits of this number
 pub record IsValueTable (gate : NumberedGate) (table : List Bool) : Type 0 where
-  pub few : length gate.inputs.items ≤ 12
+  pub few : length gate.inputs.items ≤ 16
   pub whole : length table ≡ 2 ^ length gate.inputs.items
   pub values : (k : ℕ) → k < length table → slice_index_or table k false ≡ value_for gate (symbol_of (length gate.inputs.items) k)
 

@@ -1,5 +1,5 @@
 use Rattle.std.proofs.lemmas.Result.{IfOk-from_err}
-use Rattle.std.proofs.Common.{◌≡◌, ℕ, ◌+◌, ◌∙◌, ◌∷◌, [], ◌++◌, true, false, drop, set, ap, sym, subst, rules}
+use Rattle.std.proofs.Common.{◌≡◌, ℕ, ◌+◌, ◌∙◌, ◌∷◌, [], ◌++◌, false, drop, set, ap, sym, subst, rules}
 use Rattle.cover_terms.specs.declared.term.Term.{Term}
 use Rattle.cover_terms.specs.Term.{FitsWidth}
 use Rattle.cover_logic.specs.Inner.Bundles.{IsSoleLeft, entries_of, terms_in_bundles}

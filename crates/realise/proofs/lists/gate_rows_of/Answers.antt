@@ -1,4 +1,4 @@
-use Rattle.std.proofs.Common.{◌≡◌, ℕ, ◌∙◌, All, List, length, ap, subst, arith}
+use Rattle.std.proofs.Common.{◌≡◌, ℕ, ◌∙◌, All, List, length, ap, subst}
 use Rattle.std.proofs.lemmas.Result.{IfOk-weaker}
 use Rattle.gate_rows.specs.Columns.{column_count}
 use Rattle.realise.proofs.AskedRows.{are_apart_at, can_be_read_at, gives_cover_at}
@@ -8,7 +8,7 @@ pub demanded_rows-requires-clause-read : goal.demanded_rows-requires-clause-read
 demanded_rows-requires-clause-read c =
     can_be_read_at c.args.m.now c.args.words.now c.args.bits c.args.set.now c.args.bit c.args.filled.now c.requires.filled c.requires.within c.requires.bit
     c.as_slice.result.now c.as_slice-2.result.now c.deref.result.now c.as_slice.ensures c.as_slice-2.ensures (c.deref.ensures.value ∙ c.in_ok-demands.ensures)
-    (omega (arith, c.inputs.ensures.count, c.inputs.ensures.limit)) c.requires.short
+    c.keeps_its_states.ensures.table.inputs c.requires.short
 
 pub demanded_rows-requires-clause-apart : goal.demanded_rows-requires-clause-apart
 demanded_rows-requires-clause-apart c =
